@@ -52,7 +52,7 @@ ROADS = (
         (
             ("pigyelund_c", "rpki_extensions", "rpki_resources", "rpki_family", "rpki_ipres"),
             ("rpki_ipres", "rpki_chain", "rpki_chains"),
-            ("rpki_ipres", "rpki_ip_block", "rpki_ip", "rpki_base", "rpki_der"),
+            ("rpki_ipres", "rpki_ip_block", "rpki_ip", "rpki_der"),
         ),
     ),
     Road("a route: OriginTable::origin", "#4f8a5b", (("roa_origin", "rpki_prefix", "rpki_addr"),)),

@@ -26,10 +26,10 @@ class Room:
 
 # From the ground up; a crate is in the first room that has its name.
 ROOMS = (
-    Room("texts, shared", ("rpki_text", "rpki_base"), 3),
+    Room("texts", ("rpki_text",), 3),
     Room("DER", ("rpki_der",), 0),
     Room("blocks and sets", ("rpki_block", "rpki_chains", "rpki_chain"), 2),
-    Room("AS numbers", ("rpki_as_block", "rpki_as"), 1),
+    Room("AS numbers", ("rpki_base", "rpki_as_block", "rpki_as"), 1),
     Room("addresses, prefixes", ("rpki_addr", "rpki_cover", "rpki_prefix"), 5),
     Room("sets of addresses", ("rpki_ip", "rpki_ip_block", "rpki_ipres", "rpki_family"), 4),
     Room("all kinds, certificates", ("rpki_resources", "rpki_extensions"), 1),

@@ -4,8 +4,8 @@ use rpki_as::block::AsBlock;
 use rpki_as::blocks::AsBlocks;
 use rpki_as::range::AsRange;
 use rpki_base::asn::Asn;
-use rpki_base::der::encode_sequence;
 use rpki_base::memory::OrMemory;
+use rpki_der::sequences::encode_sequence;
 use rpki_der::{Cursor, DerError};
 use std::alloc::{AllocError, Global};
 

@@ -1,7 +1,7 @@
 //! Sets of addresses.
 use crate::measure::Set;
-use rpki_base::der::encode_sequence;
 use rpki_base::memory::OrMemory;
+use rpki_der::sequences::encode_sequence;
 use rpki_der::{Cursor, DerError};
 use rpki_ip::addr::Addr;
 use rpki_ip::range::AddressRange;

@@ -5,8 +5,8 @@ use Rattle.rpki_text.specs.Digits.{octets_of}
 use Rattle.rpki_addr.specs.Prefixes.{PrefixValue}
 use Rattle.rpki_chain.specs.Runs.{Runs, Holds}
 use Rattle.rpki_cover.specs.Covers.{IsShortestCover}
-use Rattle.rpki_base.specs.declared.family.AddressFamily.{AddressFamily}
-use Rattle.rpki_base.specs.declared.family.AddressFamily.TheVariants.{Ipv4, Ipv6}
+use Rattle.rpki_der.specs.declared.family.AddressFamily.{AddressFamily}
+use Rattle.rpki_der.specs.declared.family.AddressFamily.TheVariants.{Ipv4, Ipv6}
 use Rattle.rpki_resources.specs.Triples.{Triple, set_of_family}
 use Rattle.rpki_extensions.specs.declared.encoding.Encoding.{Encoding}
 use Rattle.pigyelund_c.specs.Numbers.{encoding_number}

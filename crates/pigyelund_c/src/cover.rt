@@ -1,7 +1,7 @@
 //! The shortest cover of a set's addresses of a family, as octets.
 ghost use Rattle.std.specs.Prelude.{◌≡◌, [], ◌++◌, IfOk, OnOk, MatchResult};
 ghost use Rattle.rpki_text.specs.Memory.{IfRefused};
-ghost use Rattle.rpki_base.specs.declared.family.AddressFamily.TheVariants.{Ipv4, Ipv6};
+ghost use Rattle.rpki_der.specs.declared.family.AddressFamily.TheVariants.{Ipv4, Ipv6};
 ghost use Rattle.pigyelund_c.specs.Covers.{IsCoverIn, IsCover, IsNoCover, AreCoverOctets, prefix_octets, uncovered_status};
 ghost use Rattle.pigyelund_c.specs.Sets.{IsNoSet};
 

@@ -13,7 +13,7 @@ pub use Rattle.rpki_as.specs.AsDer.{IsAsResources}
 pub use Rattle.rpki_as.specs.AsDerReading.{as_choice_at}
 pub use Rattle.rpki_as.specs.ListText.{as_list_text}
 pub use Rattle.rpki_as_block.specs.Faults.{as_from_str_error_text}
-pub use Rattle.rpki_base.specs.declared.family.AddressFamily.{AddressFamily}
+pub use Rattle.rpki_der.specs.declared.family.AddressFamily.{AddressFamily}
 pub use Rattle.rpki_chain.specs.Claims.{Claim, claim_of}
 pub use Rattle.rpki_chain.specs.Runs.{Holds, IsRunsOfBlocks, Runs}
 pub use Rattle.rpki_der.specs.Faults.{fault_text}

@@ -6,8 +6,8 @@ use Rattle.rpki_der.specs.Views.{left}
 use Rattle.rpki_der.specs.declared.cursor.Cursor.{Cursor}
 use Rattle.rpki_der.specs.declared.error.DerError.{DerError}
 use Rattle.rpki_der.specs.declared.error.DerError.TheVariants.{TrailingData}
-use Rattle.rpki_base.specs.DerReading.{only}
-use Rattle.rpki_base.specs.DerViews.{ReadsOrMemory, TakesSaidOrMemory}
+use Rattle.rpki_der.specs.SequenceReading.{only}
+use Rattle.rpki_der.specs.SequenceViews.{ReadsOrMemory, TakesSaidOrMemory}
 use Rattle.respath_lines.proofs.HexadecimalLemmas.{one_octets}
 
 module _ {X Y : Type 0} (G : List ℕ → X → Type 0) (reading : List ℕ → Result (Y × List ℕ) DerError) where

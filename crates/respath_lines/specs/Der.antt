@@ -8,8 +8,8 @@ use Rattle.rpki_as_block.specs.Faults as AsFaults
 use Rattle.rpki_as.specs.ResourcesText.{IsAsResourcesText, HasAsResourcesFault}
 use Rattle.rpki_ip.specs.Faults as IpFaults
 use Rattle.rpki_ip.specs.declared.error.FromStrError.{FromStrError}
-use Rattle.rpki_base.specs.declared.family.AddressFamily.{AddressFamily}
-use Rattle.rpki_base.specs.declared.family.AddressFamily.TheVariants.{Ipv4, Ipv6}
+use Rattle.rpki_der.specs.declared.family.AddressFamily.{AddressFamily}
+use Rattle.rpki_der.specs.declared.family.AddressFamily.TheVariants.{Ipv4, Ipv6}
 use Rattle.rpki_ip_block.specs.ListText.{HasBlocks, HasBlocksFault}
 use Rattle.rpki_ipres.specs.ResourcesDer.{ip_families_der}
 use Rattle.rpki_ipres.specs.SetText.{IsSetOf}

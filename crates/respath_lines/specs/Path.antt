@@ -18,8 +18,8 @@ use Rattle.rpki_as.specs.Faults as AsFaults
 use Rattle.rpki_as_block.specs.Faults as AsBlockFaults
 use Rattle.rpki_as.specs.ListText.{IsAsListText, HasAsListFault, as_list_text}
 use Rattle.rpki_ip.specs.Faults as IpFaults
-use Rattle.rpki_base.specs.declared.family.AddressFamily.{AddressFamily}
-use Rattle.rpki_base.specs.declared.family.AddressFamily.TheVariants.{Ipv4, Ipv6}
+use Rattle.rpki_der.specs.declared.family.AddressFamily.{AddressFamily}
+use Rattle.rpki_der.specs.declared.family.AddressFamily.TheVariants.{Ipv4, Ipv6}
 use Rattle.rpki_ip_block.specs.ListText.{HasBlocks, HasBlocksFault}
 use Rattle.rpki_ipres.specs.SetText as IpTexts
 use Rattle.rpki_ipres.specs.SetText.{IsSetOf, set_text}

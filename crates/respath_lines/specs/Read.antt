@@ -4,7 +4,7 @@ use Rattle.rpki_der.specs.Der.{HasNone}
 use Rattle.rpki_der.specs.Faults.{fault_text}
 use Rattle.rpki_der.specs.declared.error.DerError.{DerError}
 use Rattle.rpki_der.specs.declared.error.DerError.TheVariants.{TrailingData}
-use Rattle.rpki_base.specs.DerReading.{only}
+use Rattle.rpki_der.specs.SequenceReading.{only}
 use Rattle.rpki_text.specs.declared.memory.OrMemory.{OrMemory}
 use Rattle.rpki_text.specs.declared.memory.OrMemory.TheVariants.{Refused, Memory}
 use Rattle.rpki_chain.specs.Claims.{Claim}
@@ -12,9 +12,9 @@ use Rattle.rpki_chain.specs.declared.choice.ResourcesChoice.TheVariants.{Missing
 use Rattle.rpki_as.specs.AsDer.{IsAsResources}
 use Rattle.rpki_as.specs.AsDerReading.{as_choice_at}
 use Rattle.rpki_as.specs.ResourcesText.{as_resources_text}
-use Rattle.rpki_base.specs.FamiliesDer.{ByFamily, of_family}
-use Rattle.rpki_base.specs.declared.family.AddressFamily.{AddressFamily}
-use Rattle.rpki_base.specs.declared.family.AddressFamily.TheVariants.{Ipv4, Ipv6}
+use Rattle.rpki_der.specs.FamiliesDer.{ByFamily, of_family}
+use Rattle.rpki_der.specs.declared.family.AddressFamily.{AddressFamily}
+use Rattle.rpki_der.specs.declared.family.AddressFamily.TheVariants.{Ipv4, Ipv6}
 use Rattle.rpki_ipres.specs.ResourcesDer.{IsIpFamilies, ip_families_at}
 use Rattle.rpki_ipres.specs.SetText.{set_text}
 use Rattle.respath_lines.specs.Hexadecimal.{IsHexadecimal}

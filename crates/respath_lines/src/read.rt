@@ -5,7 +5,7 @@ ghost use Rattle.rpki_der.specs.Views.{left};
 ghost use Rattle.rpki_text.specs.Memory.{IfRefused};
 ghost use Rattle.rpki_as.specs.AsDer.{IsAsResources};
 ghost use Rattle.rpki_as.specs.AsDerReading.{as_choice_at};
-ghost use Rattle.rpki_base.specs.FamiliesDer.{of_family};
+ghost use Rattle.rpki_der.specs.FamiliesDer.{of_family};
 ghost use Rattle.rpki_ipres.specs.ResourcesDer.{IsIpFamilies, ip_families_at};
 ghost use Rattle.respath_lines.specs.Read.{HasFault, IsEnded, IsReadAnswer, IsReadAs, IsReadIp, ShowsFamily, family_text};
 

@@ -6,7 +6,7 @@ use Rattle.rpki_addr.specs.declared.addr.IpAddr.TheVariants.{V4, V6}
 use Rattle.rpki_addr.specs.Prefixes.{last_of}
 use Rattle.rpki_chains.specs.Sets.{IsWithin}
 use Rattle.rpki_chain.specs.Runs.{Holds}
-use Rattle.rpki_base.specs.Families.{family_of}
+use Rattle.rpki_ip.specs.AddrText.{family_of}
 use Rattle.rpki_prefix.specs.MaxLen.{MaxLenValue}
 use Rattle.rpki_prefix.specs.Values.{FamilyPrefix, interval, width}
 use Rattle.rpki_resources.specs.Triples.{Triple, set_of_family}

@@ -1,12 +1,11 @@
 -- Routes that are sought beside each other, some after others.
-use Rattle.route_calls.proofs.Common.{List, [], ap, arith, get_or, length, subst, sym, take, ℕ, ◌++◌, ◌+◌, ◌<◌, ◌∙◌, ◌∷◌, ◌≡◌, Some, AreEach, IsFirstNone, IsOrigin, Route}
+use Rattle.route_calls.proofs.Common.{List, [], ap, arith, get_or, length, subst, sym, take, ℕ, ◌++◌, ◌+◌, ◌<◌, ◌∙◌, ◌∷◌, ◌≡◌, Some, AreEach, IsFirstNone, IsOrigin, Route, IsNoRoute}
 use Rattle.std.specs.Prelude.{drop, slice_range}
 use Rattle.std.proofs.Math.Seq.{take-add}
 use Rattle.std.proofs.lemmas.List.{get_or-drop, get_or-take, length-drop, length-take, take-take}
 use Rattle.roa_origin.specs.Payloads.{Payload}
 use Rattle.roa_origin.specs.Soughts.{SoughtRoute}
 use Rattle.route_calls.proofs.OriginLemmas.{joined}
-use Rattle.route_calls.specs.Routes.{IsNoRoute}
 use Rattle.route_calls.specs.Soughts.{AreBegun, IsSoughtIn, TellsSought}
 use Rattle.route_calls.specs.declared.route.Unrouted.{Unrouted}
 

@@ -1,7 +1,7 @@
 -- The number of a family.
 use Rattle.std.specs.Prelude.{ℕ}
-use Rattle.rpki_base.specs.declared.family.AddressFamily.{AddressFamily}
-use Rattle.rpki_base.specs.declared.family.AddressFamily.TheVariants.{Ipv4, Ipv6}
+use Rattle.rpki_der.specs.declared.family.AddressFamily.{AddressFamily}
+use Rattle.rpki_der.specs.declared.family.AddressFamily.TheVariants.{Ipv4, Ipv6}
 
 -- as in IP address blocks (RFC 3779, 2.2.3.3)
 abbrev pub family_number : AddressFamily → ℕ

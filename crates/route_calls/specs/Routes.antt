@@ -3,8 +3,8 @@ use Rattle.std.specs.Prelude.{◌≡◌, ◌≢◌, ℕ, List, Some, slice_range
 use Rattle.std.specs.Int.{from_be_bytes, w32, w128}
 use Rattle.rpki_addr.specs.declared.addr.IpAddr.{IpAddr}
 use Rattle.rpki_addr.specs.declared.addr.IpAddr.TheVariants.{V4, V6}
-use Rattle.rpki_base.specs.declared.family.AddressFamily.{AddressFamily}
-use Rattle.rpki_base.specs.declared.family.AddressFamily.TheVariants.{Ipv4, Ipv6}
+use Rattle.rpki_der.specs.declared.family.AddressFamily.{AddressFamily}
+use Rattle.rpki_der.specs.declared.family.AddressFamily.TheVariants.{Ipv4, Ipv6}
 use Rattle.rpki_prefix.specs.MaxLen.{HasMaxLenError, IsMaxLenOf}
 use Rattle.rpki_prefix.specs.Values.{FamilyPrefix, HasPrefixError, IsPrefixOf}
 use Rattle.rpki_prefix.specs.declared.error.MaxLenError.{MaxLenError}

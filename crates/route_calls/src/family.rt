@@ -1,9 +1,9 @@
 //! The number of a family.
 ghost use Rattle.std.specs.Prelude.{◌≡◌, ◌≢◌, MatchOption};
-ghost use Rattle.rpki_base.specs.declared.family.AddressFamily.{AddressFamily as Family};
+ghost use Rattle.rpki_der.specs.declared.family.AddressFamily.{AddressFamily as Family};
 ghost use Rattle.route_calls.specs.Families.{family_number};
 
-use rpki_base::family::AddressFamily;
+use rpki_der::family::AddressFamily;
 
 /// The family that a number chooses, as it is numbered in IP address blocks (RFC 3779, 2.2.3.3). None where it is of
 /// none.

@@ -6,8 +6,8 @@ ghost use Rattle.route_calls.specs.Tellings.{IsCovering, IsMismatch, address_fam
 
 use crate::family::family_of;
 use crate::status;
-use rpki_base::family::AddressFamily;
 use rpki_base::{Asn, IpAddr, Ipv4Addr, Ipv6Addr};
+use rpki_der::family::AddressFamily;
 use rpki_prefix::{MaxLenPrefix, Prefix};
 
 /// Why octets and numbers are no payload, or no route.

@@ -12,9 +12,8 @@ pub use Rattle.std.proofs.lemmas.Fmt.{decimal_is_IsNumeral}
 pub use Rattle.std.proofs.lemmas.Int.Digits.{digits_value-lt, number_after_append, number_push}
 pub use Rattle.std.proofs.lemmas.List.{append_cancel_left, length-replicate}
 pub use Rattle.std.proofs.lemmas.List.Elements.{All-append, All-from_recursion, All-nil, All-weaker, Contains-append_left, Contains-append_right}
-pub use Rattle.std.proofs.lemmas.Nat.{and_mask, div_below, mod_below, mul-add-lt, or_lt, pow-add, pow_below, pow_pos, shr_le, shr_split}
+pub use Rattle.std.proofs.lemmas.Nat.{and_mask, div_below, mod_below, mul-add-lt, pow-add, pow_below, pow_pos, shr_split}
 pub use Rattle.std.proofs.lemmas.Option.{none-some, same_Some}
-pub use Rattle.std.proofs.lemmas.Result.{err_from_is_err_and}
 pub use Rattle.std.specs.Char.{digit_value}
 pub use Rattle.std.specs.Int.{IsInRange}
 pub use Rattle.std.specs.Int.Digits.{AllBelowBase, number_from_digits_after}
@@ -28,7 +27,6 @@ unfoldable pub use Rattle.std.specs.Net.Text.{hex, hex_groups_text}
 pub use Rattle.std.specs.Str.Parse.{AllDigits, digits_value}
 pub use Rattle.rpki_text.proofs.DigitLemmas.{below_power, last_digit_below, last_digits_below, length-last_digits, next_below, number-last_digits}
 pub use Rattle.rpki_text.specs.Digits.{from_groups, from_octets, groups_of, octets_of}
-pub use Rattle.rpki_addr.specs.AddrText.{IsFirstOf}
 pub use Rattle.rpki_addr.specs.AddressReading.{numbered, with_octets}
 unfoldable pub use Rattle.rpki_addr.specs.AddressReading.{hex_value}
 pub use Rattle.rpki_addr.specs.AddressText.{AreGroups, AreGroupsAtEnd, IsGroupText, IsGroupsText, IsIpText, IsIpv4Text, IsIpv6Text, dotted}

@@ -1,5 +1,4 @@
 -- Lemmas on the texts of addresses, and on masks.
-pub mod AddrTextLemmas
 pub mod AddressBytes
 pub mod AddressFronts
 pub mod AddressLemmas

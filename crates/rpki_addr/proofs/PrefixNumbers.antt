@@ -1,9 +1,8 @@
 -- On the numbers of prefixes.
-use Rattle.rpki_addr.proofs.Common.{arith, ℕ, ◌*◌, ◌<◌, ◌^◌, ◌≡◌, ◌≤◌, pow-le-pow_right, two-pow-succ, cases_order, mod_below, pow_below, pow_pos, shr_split}
+use Rattle.rpki_addr.proofs.Common.{arith, ℕ, ◌*◌, ◌<◌, ◌^◌, ◌≡◌, ◌≤◌, pow-le-pow_right, two-pow-succ, cases_order, mod_below, pow_below, pow_pos, shr_split, IpAddr}
 use Rattle.std.proofs.Math.Nat.{mul-mod_left}
 use Rattle.rpki_addr.specs.Bits.{cleared}
 use Rattle.rpki_addr.specs.Prefixes.{PrefixValue, IsPrefix, IsIn, width}
-use Rattle.rpki_addr.specs.declared.addr.IpAddr.{IpAddr}
 
 -- no address has more than 128 bits
 pub width_small : (a : IpAddr) → width a ≤ 128

@@ -1,5 +1,4 @@
--- Definitions: the texts of addresses, read and printed, and addresses of either family as numbers of 128 bits.
-pub mod AddrText
+-- Definitions: the texts of addresses, read and printed, and prefixes of every width.
 pub mod AddressFronts
 pub mod AddressReading
 pub mod AddressText

@@ -19,9 +19,9 @@ pub use Rattle.rpki_as_block.specs.Blocks.{as_bounds, new_as_block}
 pub use Rattle.rpki_as_block.specs.Numbers.{IsListOf, IsSizeOf, numbers_of, numbers_within}
 pub use Rattle.rpki_as_block.specs.declared.block.AsBlock.{AsBlock}
 pub use Rattle.rpki_as_block.specs.declared.error.FromStrError.{FromStrError}
-pub use Rattle.rpki_base.proofs.SaidInModes.{IsSaidInModes, enclosed_said, one_said, said_alike, taken_said, written_said}
-pub use Rattle.rpki_base.specs.DerReading.{Encloses, IsSequenceFrom, IsSequenceOf, enclosed_at, values_of}
-unfoldable pub use Rattle.rpki_base.specs.DerReading.{only}
+pub use Rattle.rpki_der.proofs.SaidInModes.{IsSaidInModes, enclosed_said, one_said, said_alike, taken_said, written_said}
+pub use Rattle.rpki_der.specs.SequenceReading.{Encloses, IsSequenceFrom, IsSequenceOf, enclosed_at, values_of}
+unfoldable pub use Rattle.rpki_der.specs.SequenceReading.{only}
 pub use Rattle.rpki_chain.proofs.Ascending.{listed_are}
 pub use Rattle.rpki_chain.proofs.BlocksInModes.{AreBlocksInModes, choice_said, set_said}
 pub use Rattle.rpki_chain.proofs.ClaimLemmas.{claims_decide, empty_set}

@@ -7,8 +7,8 @@ use Rattle.rpki_chain.specs.Choices.{ListsBy}
 use Rattle.rpki_chain.specs.Claims.{Claim, IsClaim}
 use Rattle.rpki_chain.specs.Runs.{Runs, IsRunsOfBlocks}
 use Rattle.rpki_der.specs.Der.{Refines, sequence_value, value}
-use Rattle.rpki_base.specs.DerReading.{Encloses, IsSequenceOf}
-use Rattle.rpki_base.specs.DerWriting.{octets_of_all, sequence_octets}
+use Rattle.rpki_der.specs.SequenceReading.{Encloses, IsSequenceOf}
+use Rattle.rpki_der.specs.SequenceWriting.{octets_of_all, sequence_octets}
 use Rattle.rpki_as.specs.Blocks.{IsAsSet}
 use Rattle.rpki_as_block.specs.AsDer.{IsAsBlock, as_block_octets}
 use Rattle.rpki_as_block.specs.Blocks.{as_bounds, new_as_block}

@@ -1,7 +1,7 @@
 -- Reading sequences of blocks of AS numbers and AS resources from left to right, with the first fault that is met.
 use Rattle.std.specs.Prelude.{ℕ, Bool, List, Option, Some, None, Result}
 use Rattle.rpki_der.specs.declared.error.DerError.{DerError}
-use Rattle.rpki_base.specs.DerReading.{enclosed_at, sequence_from, sequence_of, values_from, values_of}
+use Rattle.rpki_der.specs.SequenceReading.{enclosed_at, sequence_from, sequence_of, values_from, values_of}
 use Rattle.rpki_chain.specs.declared.choice.ResourcesChoice.{ResourcesChoice}
 use Rattle.rpki_chain.specs.ChoiceDer.{choice_at}
 use Rattle.rpki_as_block.specs.AsDerReading.{as_block_at, next_block_by}

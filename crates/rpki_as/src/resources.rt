@@ -10,7 +10,7 @@ ghost use Rattle.rpki_chain.specs.Choices.{MatchChoice, IsRefused};
 ghost use Rattle.rpki_chain.specs.ChoiceDer.{choice_octets};
 ghost use Rattle.rpki_chain.specs.Claims.{Claim, IsClaim, ListsSome, claim_of};
 ghost use Rattle.rpki_chain.specs.declared.choice.ResourcesChoice.TheVariants.{Missing, Inherit};
-ghost use Rattle.rpki_base.specs.DerWriting.{sequence_octets};
+ghost use Rattle.rpki_der.specs.SequenceWriting.{sequence_octets};
 ghost use Rattle.rpki_as.specs.AsDer.{as_sequence_octets};
 ghost use Rattle.rpki_as_block.specs.AsDer.{as_block_octets};
 ghost use Rattle.rpki_as.specs.Blocks.{IsAsSet};

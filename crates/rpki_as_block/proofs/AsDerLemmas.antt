@@ -1,6 +1,6 @@
 -- What is written of blocks of AS numbers.
 use Rattle.rpki_as_block.proofs.Common.{List, Ok, Option, Result, Some, arith, length, refl, subst, sym, true, ℕ, ◌++◌, ◌<◌, ◌^◌, ◌≡◌, ◌≤◌, length-append, as_number_octets, IsNew, same_reading, length-header, u32_is, value_is, IsReading, optional, HasAsNumbers, IsAsBlock, IsSetBlock, as_block_octets, as_range_content, as_block_has_octets, as_block_reading, as_block_modal, IsStrictBlock, as_block_at, as_block_by, as_bounds, new_as_block, AsBlock, Id, Range}
-use Rattle.rpki_base.proofs.DerModes.{optional_back_by}
+use Rattle.rpki_der.proofs.SequenceModes.{optional_back_by}
 use Rattle.rpki_der.specs.Der.{Spells, header, integer}
 use Rattle.rpki_der.specs.Views.{Takes, is_strict, left}
 use Rattle.rpki_der.specs.declared.error.DerError.{DerError}

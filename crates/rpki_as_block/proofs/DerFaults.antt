@@ -1,8 +1,8 @@
 -- Where a range of AS numbers is reversed, and that no fault of lists is one of a block.
 use Rattle.rpki_as_block.proofs.Common.{Err, List, Ok, ap, arith, is_ok, true, ℕ, ◌<◌, ◌↔◌, ◌≡◌, lt-ltb, ltb-true, as_number_at, passing, refined, unsigned, value_at, ◌>>=◌, as_block_at, as_block_by, as_block_of, as_id_in, as_range_block_in, as_range_in, is_new_form, range_of, Id, Range}
 use Rattle.rpki_der.specs.declared.error.DerError.TheVariants.{NotCanonical, ReversedRange}
-use Rattle.rpki_base.specs.DerFaults.{BeginsWithTwo, BeginsWithValue}
-use Rattle.rpki_base.proofs.DerFaults.{NamesTo, bind_fails, bind_names, by_tag_names, cond_fails, cond_names, mapped_fails, names_more, not_named, number_names, pair_fails, pair_names, refined_names, sequence_fails, unsigned_names, value_names}
+use Rattle.rpki_der.specs.SequenceFaults.{BeginsWithTwo, BeginsWithValue}
+use Rattle.rpki_der.proofs.SequenceFaults.{NamesTo, bind_fails, bind_names, by_tag_names, cond_fails, cond_names, mapped_fails, names_more, not_named, number_names, pair_fails, pair_names, refined_names, sequence_fails, unsigned_names, value_names}
 
 -- ---- which faults are named
 

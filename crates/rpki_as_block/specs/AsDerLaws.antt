@@ -11,8 +11,8 @@ use Rattle.rpki_der.proofs.Lists.{HasOctets, value_has_octets}
 use Rattle.rpki_der.proofs.Readings.{fits_content, same_reading, u32_reading}
 use Rattle.rpki_der.proofs.Steps.{IsCheck, ok_is, passed}
 use Rattle.rpki_base.specs.AsnDer.{IsAsNumber, SaysAsNumber, as_number_at, skip_number}
-use Rattle.rpki_base.specs.DerReading.{SaysByTag, SaysPair}
-use Rattle.rpki_base.proofs.DerReadings.{by_tag_reading, mapped_check, pair_check}
+use Rattle.rpki_der.specs.SequenceReading.{SaysByTag, SaysPair}
+use Rattle.rpki_der.proofs.SequenceReadings.{by_tag_reading, mapped_check, pair_check}
 use Rattle.rpki_as_block.specs.AsDer.{IsAsBlock, IsBlockInAnyOrder}
 use Rattle.rpki_as_block.specs.AsDerReading.{as_block_at, as_id_in, as_range_block_in, as_range_in, range_of, skip_block_at, skip_pair}
 use Rattle.rpki_as_block.specs.declared.block.AsBlock.{AsBlock}

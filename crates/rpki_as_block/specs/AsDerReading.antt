@@ -7,7 +7,7 @@ use Rattle.rpki_der.specs.declared.error.DerError.TheVariants.{ReversedRange}
 use Rattle.rpki_der.specs.Der.{Tlv}
 use Rattle.rpki_der.specs.Reading.{◌>>=◌, passing, refined, unsigned, value_at}
 use Rattle.rpki_base.specs.AsnDer.{as_number_at, skip_number}
-use Rattle.rpki_base.specs.DerReading.{by_tag, pair_in}
+use Rattle.rpki_der.specs.SequenceReading.{by_tag, pair_in}
 use Rattle.rpki_as_block.specs.Blocks.{as_bounds}
 use Rattle.rpki_as_block.specs.declared.block.AsBlock.{AsBlock}
 use Rattle.rpki_as_block.specs.declared.block.AsBlock.TheVariants.{Id, Range}

@@ -4,7 +4,7 @@ ghost use Rattle.rpki_block.specs.Ranges.{RangeValue};
 ghost use Rattle.rpki_der.specs.Der.{OneFront};
 ghost use Rattle.rpki_der.specs.declared.error.DerError.TheVariants.{NotCanonical, ReversedRange};
 ghost use Rattle.rpki_base.specs.AsnDer.{as_number_at};
-ghost use Rattle.rpki_base.specs.DerFaults.{BeginsWithTwo, BeginsWithValue};
+ghost use Rattle.rpki_der.specs.SequenceFaults.{BeginsWithTwo, BeginsWithValue};
 ghost use Rattle.rpki_as_block.specs.AsDer.{HasAsNumbers, IsAsBlock, as_block_octets};
 ghost use Rattle.rpki_as_block.specs.AsDerReading.{as_block_at, as_block_by, as_range_in};
 ghost use Rattle.rpki_as_block.specs.declared.block.AsBlock.{AsBlock};

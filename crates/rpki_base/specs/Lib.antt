@@ -1,15 +1,6 @@
 pub mod AsnDer
 pub mod AsnPlaces
 pub mod AsnText
-pub mod DerFaults
-pub mod DerReading
-pub mod DerViews
-pub mod DerWriting
-pub mod Families
-pub mod FamiliesDer
-pub mod FamiliesFaults
-pub mod FamiliesReading
-pub mod FamilyDer
 pub mod SmallSet
 pub mod Steps
 pub mod Walks

@@ -4,7 +4,7 @@ ghost use Rattle.std.specs.Ordering.{nat_cmp};
 ghost use Rattle.rpki_der.specs.declared.error.DerError.TheVariants.{NotCanonical};
 ghost use Rattle.rpki_der.specs.Reading.{bit_string_at, bit_string_by, value_at};
 ghost use Rattle.rpki_base.specs.AsnDer.{as_number_at};
-ghost use Rattle.rpki_base.specs.FamilyDer.{family_at};
+ghost use Rattle.rpki_der.specs.FamilyDer.{family_at};
 ghost use Rattle.rpki_base.specs.SmallSet.{IsSmallSet};
 
 use crate::asn::Asn;
@@ -46,7 +46,7 @@ pub fn one_small_set()
 /// Octets are refused as not canonical by a strict cursor alone, and never as a value of any tag, an AS number or a
 /// family, which are read alike in both modes. As a BIT STRING a strict cursor refuses them so only where a lenient one
 /// finds it: each other fault of it comes first.
-#[tactic(auto, using(crate::proofs::DerFaults::value_faults, crate::proofs::FamilyLemmas::family_names, rpki_der::proofs::Steps::ok_or_err), unfolding(rpki_der::specs::Reading::refined, rpki_der::specs::Reading::bits_by))]
+#[tactic(auto, using(rpki_der::proofs::SequenceFaults::value_faults, rpki_der::proofs::FamilyLemmas::family_names, rpki_der::proofs::Steps::ok_or_err), unfolding(rpki_der::specs::Reading::refined, rpki_der::specs::Reading::bits_by))]
 pub fn not_canonical()
     ensures value { (bytes : List ℕ) → value_at bytes ≢ Err NotCanonical }
     ensures number { (bytes : List ℕ) → as_number_at bytes ≢ Err NotCanonical }

@@ -1,5 +1,5 @@
-//! What every layer above shares: number texts, addresses, AS numbers, lists of texts, sequences in DER, and the
-//! answer of a call that may want memory.
+//! What the layers above share: AS numbers and small sets of them, and what crates below have, number texts, addresses,
+//! lists of texts and the answer of a call that may want memory.
 //!
 //! The AS number behind another is asked for where there is one, as in `example_calls::conditions::behind`:
 //!
@@ -12,8 +12,6 @@
 #![tactic(auto)]
 
 pub mod asn;
-pub mod der;
-pub mod family;
 pub mod laws;
 pub mod small_set;
 

@@ -4,7 +4,7 @@ use Rattle.std.proofs.lemmas.List.Folds.{flat_map-map}
 use Rattle.std.proofs.lemmas.List.Kept.{AllPairs-cons}
 use Rattle.rpki_block.specs.Beyond.{IsBeyond}
 use Rattle.rpki_der.proofs.Written.{value_is}
-use Rattle.rpki_base.specs.DerWriting.{octets_of_all, sequence_octets}
+use Rattle.rpki_der.specs.SequenceWriting.{octets_of_all, sequence_octets}
 use Rattle.rpki_chain.proofs.LawLemmas.{empty_set}
 use Rattle.rpki_chain.proofs.RunLists.{IsRunsOf-unique, IsRunsOfBlocks-bounds}
 use Rattle.rpki_chain.proofs.SetLemmas.{IsBlockSet-from_chain, made_again, made_of_set}

@@ -6,12 +6,12 @@ use Rattle.rpki_der.specs.Der.{Each}
 use Rattle.rpki_der.specs.Reading.{refined, tagged_at}
 use Rattle.rpki_der.specs.Views.{is_strict, left}
 use Rattle.rpki_der.specs.declared.cursor.Cursor.{Cursor}
-use Rattle.rpki_base.specs.DerReading.{IsSequenceOf, sequence_from, values_from, values_of}
-use Rattle.rpki_base.specs.DerWriting.{sequence_octets}
-use Rattle.rpki_base.proofs.DerModes.{strict_values_check, values_stateless, values_tighten}
-use Rattle.rpki_base.proofs.DerReadings.{sequence_reading, values_check}
-use Rattle.rpki_base.proofs.DerWriting.{content_shorter}
-use Rattle.rpki_base.proofs.SaidInModes.{IsSaidInModes, ordered_modal, strictly_found}
+use Rattle.rpki_der.specs.SequenceReading.{IsSequenceOf, sequence_from, values_from, values_of}
+use Rattle.rpki_der.specs.SequenceWriting.{sequence_octets}
+use Rattle.rpki_der.proofs.SequenceModes.{strict_values_check, values_stateless, values_tighten}
+use Rattle.rpki_der.proofs.SequenceReadings.{sequence_reading, values_check}
+use Rattle.rpki_der.proofs.SequenceWriting.{content_shorter}
+use Rattle.rpki_der.proofs.SaidInModes.{IsSaidInModes, ordered_modal, strictly_found}
 use Rattle.rpki_block.specs.Beyond.{IsBeyond}
 use Rattle.rpki_chain.specs.ChoiceDer.{choice_octets}
 use Rattle.rpki_chain.specs.Claims.{IsClaim}

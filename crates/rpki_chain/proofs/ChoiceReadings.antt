@@ -4,8 +4,8 @@ use Rattle.rpki_der.proofs.Contents.{nothing_check}
 use Rattle.rpki_der.proofs.Modes.{bind_tightens, looked_tightens}
 use Rattle.rpki_der.proofs.Readings.{same_reading}
 use Rattle.rpki_der.proofs.Steps.{IsCheck, bind_ok}
-use Rattle.rpki_base.proofs.DerModes.{by_tag_tightens}
-use Rattle.rpki_base.proofs.DerReadings.{by_tag_reading, mapped_check}
+use Rattle.rpki_der.proofs.SequenceModes.{by_tag_tightens}
+use Rattle.rpki_der.proofs.SequenceReadings.{by_tag_reading, mapped_check}
 
 -- blocks of which the first has a number have numbers
 pub has_numbers : {B : Type 0} (f : B → ℕ × ℕ) (xs : List B) (set : Runs) → xs ≢ []

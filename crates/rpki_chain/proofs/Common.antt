@@ -7,8 +7,8 @@ pub use Rattle.std.proofs.lemmas.List.Elements.{All-cons, All-contains, All-cont
 pub use Rattle.std.proofs.lemmas.Result.{IfOk-weaker}
 pub use Rattle.std.specs.Bool.{Decides}
 pub use Rattle.std.specs.Prelude.{All, AllPairs, Contains, Err, IfErr, IsErrAnd, IsOk, MatchResult, ⊤}
-pub use Rattle.rpki_base.specs.DerReading.{IsSequenceFrom, SaysByTag}
-unfoldable pub use Rattle.rpki_base.specs.DerReading.{by_tag}
+pub use Rattle.rpki_der.specs.SequenceReading.{IsSequenceFrom, SaysByTag}
+unfoldable pub use Rattle.rpki_der.specs.SequenceReading.{by_tag}
 pub use Rattle.rpki_block.specs.Equality.{is_same_pair}
 pub use Rattle.rpki_chains.proofs.Chains.{Covers-nil, IsChain-from, IsChain-nil, IsChainOf-itself}
 pub use Rattle.rpki_chains.proofs.Unique.{Covers-cons_cases, Covers-head, Covers-tail, IsChain-unique}

@@ -4,7 +4,7 @@ use Rattle.rpki_der.specs.declared.error.DerError.{DerError}
 use Rattle.rpki_der.specs.declared.error.DerError.TheVariants.{EmptyBlocks}
 use Rattle.rpki_der.specs.Der.{IsNull, Refines, Tlv, null_value}
 use Rattle.rpki_der.specs.Reading.{◌>>=◌, nothing, refined, value_at}
-use Rattle.rpki_base.specs.DerReading.{by_tag}
+use Rattle.rpki_der.specs.SequenceReading.{by_tag}
 use Rattle.rpki_chain.specs.declared.choice.ResourcesChoice.{ResourcesChoice}
 use Rattle.rpki_chain.specs.declared.choice.ResourcesChoice.TheVariants.{Missing, Inherit, Blocks}
 use Rattle.rpki_chain.specs.Choices.{ListsBy}

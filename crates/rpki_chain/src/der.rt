@@ -3,9 +3,9 @@
 ghost use Rattle.std.specs.Prelude.{◌≡◌, ◌≢◌, ◌≤◌, ◌<◌, ◌+◌, ◌^◌, ◌++◌, true, [], length, vec_len, IfOk, IfSome, IfNone, OnOk, OnErr, IsOk, ⊤};
 ghost use Rattle.std.specs.Vec.{vec_capacity};
 ghost use Rattle.rpki_der.specs.Views.{is_strict, left};
-ghost use Rattle.rpki_base.specs.DerReading.{values_from};
-ghost use Rattle.rpki_base.specs.DerViews.{GivesOrMemory, TakesSaidOrMemory};
-ghost use Rattle.rpki_base.specs.DerWriting.{octets_of_all, sequence_octets};
+ghost use Rattle.rpki_der.specs.SequenceReading.{values_from};
+ghost use Rattle.rpki_der.specs.SequenceViews.{GivesOrMemory, TakesSaidOrMemory};
+ghost use Rattle.rpki_der.specs.SequenceWriting.{octets_of_all, sequence_octets};
 ghost use Rattle.rpki_chain.specs.Choices.{ListsBy, MatchChoice};
 ghost use Rattle.rpki_chain.specs.ChoiceDer.{choice_at, choice_octets, some_in};
 ghost use Rattle.rpki_chain.specs.Claims.{ListsSome};
@@ -14,8 +14,10 @@ ghost use Rattle.rpki_chains.specs.Sets.{IsChain};
 
 use crate::choice::ResourcesChoice;
 use crate::set::BlockSet;
-use rpki_base::der::{Encode, ReadNext, append_sequence, encode_sequence, len_of_all, read_values};
 use rpki_chains::block::Block;
+use rpki_der::sequences::{
+    Encode, ReadNext, append_sequence, encode_sequence, len_of_all, read_values,
+};
 use rpki_der::{Cursor, DerError, append_null, header_len, null_len, put_null, tag};
 use rpki_text::memory::OrMemory;
 use std::alloc::{AllocError, Allocator};
@@ -26,7 +28,7 @@ use std::alloc::{AllocError, Allocator};
 /// `Refused` with the first fault: one of [`Cursor::take_value`], `BadTag` where neither stands there, `BadNull` for a
 /// NULL with content, the fault of a block, or `EmptyBlocks` for a SEQUENCE of none. `Memory` where there is no memory
 /// for the blocks. The cursor then stays.
-#[tactic(auto, unfolding(rpki_der::specs::Reading::refined, rpki_base::specs::DerReading::by_tag))]
+#[tactic(auto, unfolding(rpki_der::specs::Reading::refined, rpki_der::specs::SequenceReading::by_tag))]
 pub fn take_listed<R: ReadNext, A: Allocator + Copy>(
     alloc: A,
     reader: &R,

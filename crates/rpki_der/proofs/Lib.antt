@@ -1,4 +1,5 @@
 pub mod Words
+pub mod Below
 pub mod Common
 pub mod Steps
 pub mod Numbers
@@ -9,3 +10,18 @@ pub mod Lists
 pub mod Cursors
 pub mod Modes
 pub mod Written
+pub mod FamiliesFaults
+pub mod FamiliesGathering
+pub mod FamiliesInModes
+pub mod FamiliesLoops
+pub mod FamiliesMembers
+pub mod FamiliesModes
+pub mod FamiliesSaid
+pub mod FamilyLemmas
+pub mod SaidInModes
+pub mod SequenceCursors
+pub mod SequenceFaults
+pub mod SequenceModes
+pub mod SequenceReadings
+pub mod SequenceWriting
+pub mod WritingLemmas

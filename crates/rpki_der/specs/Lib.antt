@@ -1,5 +1,14 @@
 pub mod Der
+pub mod Families
+pub mod FamiliesDer
+pub mod FamiliesFaults
+pub mod FamiliesReading
+pub mod FamilyDer
 pub mod Faults
 pub mod FrontLaws
 pub mod Reading
+pub mod SequenceFaults
+pub mod SequenceReading
+pub mod SequenceViews
+pub mod SequenceWriting
 pub mod Views

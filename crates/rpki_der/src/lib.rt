@@ -1,5 +1,5 @@
-//! The part of DER (X.690) that RFC 3779 needs: a cursor that takes values from octets, and
-//! writers that append them.
+//! The part of DER (X.690) that RFC 3779 needs: a cursor that takes values from octets, writers that append them, and
+//! what stands in SEQUENCEs: values of any kind, and families of addresses, each with its claim.
 //!
 //! Values have a tag of one octet and a definite length in the fewest octets. A [`Cursor`] takes
 //! them one after another, and a refused take leaves it where it was. A [`Content`] is read by the
@@ -21,7 +21,9 @@
 mod content;
 mod cursor;
 mod error;
+pub mod family;
 pub mod laws;
+pub mod sequences;
 pub mod tag;
 mod value;
 mod write;

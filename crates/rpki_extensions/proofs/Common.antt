@@ -2,9 +2,9 @@
 pub use Rattle.std.proofs.Common.{Bool, Err, IfOk, IsErr, List, MatchResult, None, Ok, Option, Result, Some, [], ap, arith, get_or, inr, length, option_map, refl, rules, subst, sym, take, ℕ, ◌++◌, ◌+◌, ◌<◌, ◌∙◌, ◌∷◌, ◌≡◌, ◌≢◌}
 pub use Rattle.std.proofs.lemmas.List.{append-nil, get_or_default, take_all}
 pub use Rattle.std.specs.Prelude.{IfSome, ◌^◌}
-pub use Rattle.rpki_base.specs.FamiliesDer.{ByFamily, families_der}
-pub use Rattle.rpki_base.specs.declared.family.AddressFamily.{AddressFamily}
-pub use Rattle.rpki_base.specs.declared.family.AddressFamily.TheVariants.{Ipv4, Ipv6}
+pub use Rattle.rpki_der.specs.FamiliesDer.{ByFamily, families_der}
+pub use Rattle.rpki_der.specs.declared.family.AddressFamily.{AddressFamily}
+pub use Rattle.rpki_der.specs.declared.family.AddressFamily.TheVariants.{Ipv4, Ipv6}
 pub use Rattle.rpki_chain.specs.Claims.{Claim}
 pub use Rattle.rpki_chain.specs.Runs.{Holds, IsRunsOfBlocks, Runs}
 pub use Rattle.rpki_chain.specs.declared.choice.ResourcesChoice.TheVariants.{Missing}

@@ -4,8 +4,8 @@ use Rattle.rpki_der.specs.declared.cursor.Cursor.{Cursor}
 use Rattle.rpki_der.specs.Der.{Front, HasNone, OneFront, Spells}
 use Rattle.rpki_der.specs.FrontLaws.{none_where_more, none_where_no_front, whole_value}
 use Rattle.rpki_der.specs.Views.{Lenient, Strict, is_strict, left}
-use Rattle.rpki_base.specs.DerReading.{only}
-use Rattle.rpki_base.specs.DerViews.{ReadsOrMemory, TakesSaidOrMemory}
+use Rattle.rpki_der.specs.SequenceReading.{only}
+use Rattle.rpki_der.specs.SequenceViews.{ReadsOrMemory, TakesSaidOrMemory}
 use Rattle.rpki_extensions.proofs.EndLemmas.{nothing_left, something_left}
 
 -- the fault of a take is that of all octets

@@ -2,9 +2,9 @@
 use Rattle.std.specs.Prelude.{◌≡◌, ℕ, Bool, true, false, List, Err}
 use Rattle.rpki_der.specs.Der.{HasNone, Spells}
 use Rattle.rpki_der.specs.declared.error.DerError.{DerError}
-use Rattle.rpki_base.specs.DerReading.{only}
+use Rattle.rpki_der.specs.SequenceReading.{only}
 use Rattle.rpki_chain.specs.Claims.{Claim}
-use Rattle.rpki_base.specs.FamiliesDer.{ByFamily, families_der}
+use Rattle.rpki_der.specs.FamiliesDer.{ByFamily, families_der}
 use Rattle.rpki_as.specs.AsDer.{IsAsResources, IsPresentAsClaim, as_resources_octets}
 use Rattle.rpki_as.specs.AsDerReading.{as_choice_by}
 use Rattle.rpki_ipres.specs.Modes.{ip_families_by}

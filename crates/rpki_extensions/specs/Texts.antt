@@ -2,7 +2,7 @@
 use Rattle.std.specs.Prelude.{ℕ, List, ◌++◌, codes, decimal}
 use Rattle.rpki_der.specs.Faults.{fault_text}
 use Rattle.rpki_as.specs.Faults.{overclaimed_as_text}
-use Rattle.rpki_base.specs.declared.family.AddressFamily.TheVariants.{Ipv4 as v4, Ipv6 as v6}
+use Rattle.rpki_der.specs.declared.family.AddressFamily.TheVariants.{Ipv4 as v4, Ipv6 as v6}
 use Rattle.rpki_ipres.specs.SetText.{overclaimed_ip_text}
 use Rattle.rpki_extensions.specs.declared.error.RefusedBelow.{RefusedBelow}
 use Rattle.rpki_extensions.specs.declared.error.RefusedBelow.TheVariants.{Anchor, Certificate}

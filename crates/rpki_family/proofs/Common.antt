@@ -4,7 +4,7 @@ pub use Rattle.std.proofs.lemmas.List.{map-append, take_more}
 pub use Rattle.std.proofs.lemmas.List.Elements.{All-head, All-map, All-push, All-tail}
 pub use Rattle.std.specs.List.{All}
 pub use Rattle.std.specs.Slice.Iter.{iter_rest}
-pub use Rattle.rpki_base.specs.Families.{family_of}
+pub use Rattle.rpki_ip.specs.AddrText.{family_of}
 pub use Rattle.rpki_chain.specs.Runs.{Holds, IsRunsOfBlocks, Runs}
 pub use Rattle.rpki_chains.specs.Sets.{IsWithin}
 pub use Rattle.rpki_cover.specs.Covers.{IsShortestCover, IsV4CoverList, widened}

@@ -1,12 +1,12 @@
 -- What is of a family: by cases, IPv4 where addresses are whole, and IPv6 where there is nothing to show.
 use Rattle.rpki_family.proofs.Common.{List, map, ◌≡◌, All, arith, family_of, Holds, IsRunsOfBlocks, Runs, ip_bounds, new_ip_block, prefix_bounds, IpBlock, IsFamilySet, IsIpSet, HasBoundsIn, IsCoverListIn, IsShortestCover}
-use Rattle.rpki_base.specs.declared.family.AddressFamily.{AddressFamily}
-use Rattle.rpki_base.specs.declared.family.AddressFamily.TheVariants.{Ipv4, Ipv6}
+use Rattle.rpki_der.specs.declared.family.AddressFamily.{AddressFamily}
+use Rattle.rpki_der.specs.declared.family.AddressFamily.TheVariants.{Ipv4, Ipv6}
 use Rattle.rpki_chain.specs.Claims.{Claim}
 use Rattle.rpki_chain.specs.Paths.{IsUncovered}
 use Rattle.rpki_family.proofs.CoverLemmas.{v4_covered}
 use Rattle.rpki_prefix.specs.Values.{FamilyPrefix, IsFamilyPrefix}
-use Rattle.rpki_addr.specs.AddrText.{first_of}
+use Rattle.rpki_ip.specs.AddrText.{first_of}
 use Rattle.rpki_addr.specs.Prefixes.{PrefixValue}
 use Rattle.rpki_ip_block.proofs.WholeReadings.{whole_family_prefix}
 use Rattle.rpki_ipres.proofs.SetTextLemmas.{blocks_of_family}

@@ -4,8 +4,8 @@ use Rattle.rpki_addr.specs.Prefixes.{PrefixValue}
 use Rattle.rpki_chain.specs.Runs.{Runs, Holds}
 use Rattle.rpki_cover.specs.Covers.{IsV4CoverList}
 use Rattle.rpki_ip.specs.Whole.{HasWholeBounds}
-use Rattle.rpki_base.specs.declared.family.AddressFamily.{AddressFamily}
-use Rattle.rpki_base.specs.declared.family.AddressFamily.TheVariants.{Ipv4, Ipv6}
+use Rattle.rpki_der.specs.declared.family.AddressFamily.{AddressFamily}
+use Rattle.rpki_der.specs.declared.family.AddressFamily.TheVariants.{Ipv4, Ipv6}
 
 -- the bounds are those of a block of the family
 abbrev pub HasBoundsIn : AddressFamily → ℕ × ℕ → Type 0

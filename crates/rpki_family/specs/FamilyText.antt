@@ -2,7 +2,7 @@
 use Rattle.std.specs.Prelude.{◌≡◌, ℕ, List, Some, Result, MatchResult}
 use Rattle.rpki_text.specs.Reading.{Answers}
 use Rattle.rpki_ip.specs.declared.error.FromStrError.{FromStrError}
-use Rattle.rpki_base.specs.declared.family.AddressFamily.{AddressFamily}
+use Rattle.rpki_der.specs.declared.family.AddressFamily.{AddressFamily}
 use Rattle.rpki_ip_block.specs.Blocks.{ip_bounds}
 use Rattle.rpki_ip_block.specs.BlockText.{IsIpBlockText, HasIpBlockFault}
 use Rattle.rpki_ip_block.specs.PrintedBlocks.{IsBlockOf, ip_block_text}

@@ -1,8 +1,8 @@
 -- Blocks of a family that are prefixes.
 use Rattle.std.specs.Prelude.{◌≡◌, ◌≢◌, Option, MatchOption}
-use Rattle.rpki_addr.specs.AddrText.{first_of}
-use Rattle.rpki_base.specs.Families.{family_of}
-use Rattle.rpki_base.specs.declared.family.AddressFamily.{AddressFamily}
+use Rattle.rpki_ip.specs.AddrText.{first_of}
+use Rattle.rpki_ip.specs.AddrText.{family_of}
+use Rattle.rpki_der.specs.declared.family.AddressFamily.{AddressFamily}
 use Rattle.rpki_ip_block.specs.declared.block.IpBlock.{IpBlock}
 use Rattle.rpki_ip_block.specs.declared.block.IpBlock.TheVariants.{Prefix}
 use Rattle.rpki_prefix.specs.Values.{FamilyPrefix}

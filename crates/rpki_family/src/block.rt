@@ -11,7 +11,7 @@ ghost use Rattle.rpki_family.specs.PrefixBlocks.{IsPrefixBlock};
 
 use crate::family::Family;
 use crate::iter::BlockOfSet;
-use rpki_base::addr::IpAddr;
+use rpki_addr::addr::IpAddr;
 use rpki_ip::error::FromStrError;
 use rpki_ip::family::AddressFamily;
 use rpki_ipres::block::IpBlock;

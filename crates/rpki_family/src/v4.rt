@@ -1,6 +1,6 @@
 //! Blocks and sets of IPv4 addresses.
 ghost use Rattle.std.specs.Prelude.{◌≡◌, ◌+◌, ◌-◌, ◌*◌, ◌^◌};
-ghost use Rattle.rpki_base.specs.declared.family.AddressFamily.TheVariants.{Ipv4};
+ghost use Rattle.rpki_der.specs.declared.family.AddressFamily.TheVariants.{Ipv4};
 ghost use Rattle.rpki_chain.specs.Runs.{Holds};
 ghost use Rattle.rpki_ip.specs.Whole.{IsWhole, HasWholeBounds};
 ghost use Rattle.rpki_ip_block.specs.Blocks.{ip_bounds};
@@ -8,8 +8,8 @@ ghost use Rattle.rpki_ip_block.specs.PrintedBlocks.{IsBlockOf};
 
 use crate::block::FamilyBlock;
 use crate::blocks::FamilyBlocks;
-use rpki_base::addr::Ipv4Addr;
-pub use rpki_base::family::Ipv4Family;
+use rpki_addr::addr::Ipv4Addr;
+pub use rpki_der::family::Ipv4Family;
 use rpki_ipres::blocks::IpBlocks;
 use std::alloc::{Allocator, Global};
 

@@ -1,13 +1,13 @@
 //! Blocks and sets of IPv6 addresses.
 ghost use Rattle.std.specs.Prelude.{◌≡◌};
-ghost use Rattle.rpki_base.specs.declared.family.AddressFamily.TheVariants.{Ipv6};
+ghost use Rattle.rpki_der.specs.declared.family.AddressFamily.TheVariants.{Ipv6};
 ghost use Rattle.rpki_ip_block.specs.Blocks.{ip_bounds};
 ghost use Rattle.rpki_ip_block.specs.PrintedBlocks.{IsBlockOf};
 
 use crate::block::FamilyBlock;
 use crate::blocks::FamilyBlocks;
-use rpki_base::addr::Ipv6Addr;
-pub use rpki_base::family::Ipv6Family;
+use rpki_addr::addr::Ipv6Addr;
+pub use rpki_der::family::Ipv6Family;
 use rpki_ipres::blocks::IpBlocks;
 use std::alloc::{Allocator, Global};
 

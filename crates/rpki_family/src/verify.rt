@@ -8,11 +8,11 @@ ghost use Rattle.rpki_ipres.specs.Families.{IsClaimIn};
 
 use crate::blocks::FamilyBlocks;
 use crate::family::Family;
-use rpki_base::memory::OrMemory;
 use rpki_chain::path::{Overclaim, PathRefusal};
 use rpki_ipres::overclaim::OverclaimedFamilyResources;
 use rpki_ipres::resources::IpResources;
 use rpki_ipres::verify::IpStep;
+use rpki_text::memory::OrMemory;
 use std::alloc::{AllocError, Allocator};
 
 /// In IPv4 what a claim lists consists of whole addresses, as it does where it was read for IPv4 or made by a set of

@@ -1,18 +1,21 @@
 -- What the proofs of this crate use of std, of the crates below and of its own definitions, passed on by one name.
-pub use Rattle.std.proofs.Common.{Bool, Err, IsTrue, List, None, Ok, Result, Some, [], ap, append_assoc, arith, bit_and, cond, drop, get_or, inl, inr, is_ok, length, length-drop, lit<, map, refl, replicate, rules, subst, suc, sym, take, true, zero, ℕ, ◌%◌, ◌*◌, ◌++◌, ◌+◌, ◌-◌, ◌/◌, ◌<◌, ◌^◌, ◌↔◌, ◌∙◌, ◌∷◌, ◌≡◌, ◌≤◌}
+pub use Rattle.std.proofs.Common.{Bool, Err, IsTrue, List, None, Ok, Result, Some, [], ap, append_assoc, arith, bit_and, bit_or, cond, drop, get_or, inl, inr, is_ok, length, length-drop, lit<, map, refl, replicate, rules, subst, suc, sym, take, true, zero, ℕ, ◌%◌, ◌*◌, ◌++◌, ◌+◌, ◌-◌, ◌/◌, ◌<◌, ◌^◌, ◌↔◌, ◌∙◌, ◌∷◌, ◌≡◌, ◌≤◌}
 pub use Rattle.std.proofs.Math.Nat.{div-div-eq-div-mul, mod-eq_of_lt, mod_self, mul-add-mod_self_right, mul-div_cancel, mul-mod_left, mul_assoc, pow-le-pow_right, pow-suc, two-pow-succ, zero-div}
 pub use Rattle.std.proofs.lemmas.Bool.{and_parts, cases_lt, cases_order, eqb-true, le-leb, le-ltb, leb-true, lt-ltb, ltb-false, ltb-true, or_from, or_parts}
 pub use Rattle.std.proofs.lemmas.List.{drop-replicate, length-append, length-take, take-append-drop}
 pub use Rattle.std.proofs.lemmas.List.Elements.{All-head, All-rest}
-pub use Rattle.std.proofs.lemmas.Nat.{and_block, and_comm, and_mask, div-add-mod', div-mul-add, field_of, leading_length, pow-add, pow_below, pow_pos, shl-shr, shl_below, shr-shr, shr_below, shr_split, trailing_le}
+pub use Rattle.std.proofs.lemmas.Nat.{and_block, and_comm, and_mask, div-add-mod', div-mul-add, field_of, leading_length, pow-add, or_lt, pow_below, pow_pos, shl-shr, shl_below, shr-shr, shr_below, shr_le, shr_split, trailing_le}
+pub use Rattle.std.proofs.lemmas.Result.{err_from_is_err_and}
 pub use Rattle.std.proofs.lemmas.Str.Pattern.{split_parts}
 pub use Rattle.std.specs.Int.{bit_not, byte_at, bytes_high_first, from_be_bytes, to_be_bytes, trailing_ones, trailing_zeros, w128}
 pub use Rattle.std.specs.Int.Count.{count_leading_zeros, count_trailing_zeros}
+pub use Rattle.rpki_addr.proofs.Masks.{clear_host, host_ones, set_host}
 pub use Rattle.rpki_addr.proofs.PrefixNumbers.{cleared_first, power_is, width_small}
+pub use Rattle.rpki_addr.specs.AddressText.{IsIpv4Text, IsIpv6Text}
 pub use Rattle.rpki_addr.specs.Bits.{cleared}
 pub use Rattle.rpki_addr.specs.Prefixes.{IsPrefix, PrefixValue, last_of, width}
-pub use Rattle.rpki_base.proofs.FamilyLemmas.{family_reading, family_written, renamed}
-pub use Rattle.rpki_base.specs.Families.{bits_of}
+pub use Rattle.rpki_der.proofs.FamilyLemmas.{family_reading, family_written, renamed}
+pub use Rattle.rpki_der.specs.Families.{bits_of}
 pub use Rattle.rpki_block.specs.Bounds.{IsWithin}
 pub use Rattle.rpki_cover.proofs.Multiples.{IsMultiple, mod_multiple, multiple_diff, multiple_gap, multiple_least, multiple_mod, multiple_self, multiple_smaller, multiple_sum, zeros_divide, zeros_greatest}
 pub use Rattle.rpki_cover.proofs.Shortest.{cover_prefixes}
@@ -32,6 +35,7 @@ pub use Rattle.rpki_der.specs.Views.{Lenient, LenientIn, NotCanonicalInOr, NotCa
 pub use Rattle.rpki_der.specs.declared.error.DerError.{DerError}
 pub use Rattle.rpki_der.specs.declared.error.DerError.TheVariants.{BadPrefix, NotCanonical, ReversedRange}
 pub use Rattle.rpki_text.specs.Cuts.{dash, slash}
+pub use Rattle.rpki_ip.specs.AddrText.{IsFirstOf}
 pub use Rattle.rpki_ip.specs.BlockText.{HasPrefixFault, HasRangeFault, IsIpRangeBetween, IsPrefixAt, IsPrefixBetween}
 pub use Rattle.rpki_ip.specs.PrefixDer.{IsPrefixContent, IsPrefixDer, IsPrefixWithin, IsStrictContent, SaysPrefix, is_longer, octet_count, prefix_at, prefix_bits, prefix_by, prefix_der}
 unfoldable pub use Rattle.rpki_ip.specs.PrefixDer.{prefix_in, prefix_in_by, prefix_of, prefix_of_by}

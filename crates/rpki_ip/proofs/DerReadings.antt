@@ -1,6 +1,6 @@
 -- The readings find the families, prefixes and ranges of the grammars, whatever follows them, and no others.
 use Rattle.rpki_ip.proofs.Common.{Ok, arith, ℕ, ◌≡◌, PrefixValue, bits_check, IsTagged, content_reading, on_bytes, same_reading, IsCheck, bind_ok, IsBits, IsBytes, Refines, IsReading, refined, tagged_at, IsPrefixContent, IsPrefixDer, SaysPrefix, prefix_at, prefix_in, prefix_of, IsRangeDer, IsSpan, SaysRange, range_in, span_of, RangeValue}
-use Rattle.rpki_base.proofs.DerReadings.{pair_check}
+use Rattle.rpki_der.proofs.SequenceReadings.{pair_check}
 
 -- ---- prefixes
 

@@ -4,7 +4,7 @@ use Rattle.std.specs.Str.Parse.{AllDigits, digits_value}
 use Rattle.std.proofs.lemmas.Str.Parse.{without_leading_plus_none, digit_at}
 use Rattle.rpki_text.specs.Numbers.{IsNumberText, AreDigitsFrom}
 use Rattle.rpki_addr.specs.AddressFronts.{IsAtFront}
-use Rattle.rpki_addr.specs.AddrText.{first_of}
+use Rattle.rpki_ip.specs.AddrText.{first_of}
 use Rattle.rpki_addr.specs.declared.addr.IpAddr.{IpAddr}
 
 -- digits are a number text

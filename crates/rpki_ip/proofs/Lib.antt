@@ -1,3 +1,4 @@
+pub mod AddrTextLemmas
 pub mod Common
 pub mod CoverLemmas
 pub mod DerFaults
@@ -5,6 +6,7 @@ pub mod DerModes
 pub mod DerReadings
 pub mod DerWritten
 pub mod FrontLemmas
+pub mod Masks
 pub mod PrefixBits
 pub mod RangeLemmas
 pub mod Shortest

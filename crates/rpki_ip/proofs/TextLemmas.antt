@@ -12,12 +12,12 @@ use Rattle.rpki_text.proofs.NumberTexts.{IsNumberText-one}
 use Rattle.rpki_text.proofs.CutLemmas.{HasNo-no_cut, around_at, none_around}
 use Rattle.rpki_text.proofs.NumberLemmas.{number_answers}
 pub use Rattle.rpki_text.proofs.ReadingLemmas.{answers_by_one}
-use Rattle.rpki_addr.specs.AddrText.{first_of, greatest_of}
+use Rattle.rpki_ip.specs.AddrText.{first_of, greatest_of}
 use Rattle.rpki_ip.specs.BlockText.{IsAddressText, HasAddressFault, IsPrefixBetween, HasPrefixFault, IsRangeFrom, IsIpRangeBetween, HasRangeFault, IsSingleText, IsIpPrefixText, HasIpPrefixTextFault, IsRangeText, HasRangeTextFault, HasFaultAround}
 use Rattle.rpki_ip.specs.Ranges.{RangeValue}
 use Rattle.rpki_ip.specs.declared.error.FromStrError.{FromStrError}
 use Rattle.rpki_ip.specs.declared.error.FromStrError.TheVariants as Fault
-use Rattle.rpki_base.specs.declared.family.AddressFamily.{AddressFamily}
+use Rattle.rpki_der.specs.declared.family.AddressFamily.{AddressFamily}
 
 -- two answers that are right are one
 abbrev AtMostOne : {X : Type 0} → (X → Type 0) → (FromStrError → Type 0) → Type 0

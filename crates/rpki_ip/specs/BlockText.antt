@@ -11,13 +11,13 @@ use Rattle.rpki_addr.specs.declared.addr.AddrParseError.TheVariants as Address
 use Rattle.rpki_addr.specs.declared.addr.IpAddr.{IpAddr}
 use Rattle.rpki_text.specs.declared.number.ParseIntError.{ParseIntError}
 use Rattle.rpki_text.specs.declared.number.ParseIntError.TheVariants.{PosOverflow}
-use Rattle.rpki_addr.specs.AddrText.{first_of, greatest_of}
-use Rattle.rpki_base.specs.Families.{family_of}
+use Rattle.rpki_ip.specs.AddrText.{first_of, greatest_of}
+use Rattle.rpki_ip.specs.AddrText.{family_of}
 use Rattle.rpki_ip.specs.Ranges.{RangeValue}
 use Rattle.rpki_ip.specs.declared.error.FromStrError.{FromStrError}
 use Rattle.rpki_ip.specs.declared.error.FromStrError.TheVariants as Fault
-use Rattle.rpki_base.specs.declared.family.AddressFamily.{AddressFamily}
-use Rattle.rpki_base.specs.declared.family.AddressFamily.TheVariants.{Ipv4, Ipv6}
+use Rattle.rpki_der.specs.declared.family.AddressFamily.{AddressFamily}
+use Rattle.rpki_der.specs.declared.family.AddressFamily.TheVariants.{Ipv4, Ipv6}
 
 -- the address is of a family that is wanted
 abbrev pub IsWanted : Option AddressFamily → IpAddr → Type 0

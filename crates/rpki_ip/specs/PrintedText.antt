@@ -5,10 +5,10 @@ use Rattle.rpki_addr.specs.Prefixes.{PrefixValue}
 use Rattle.rpki_addr.specs.PrintedAddress.{ip_text}
 use Rattle.rpki_addr.specs.declared.addr.IpAddr.{IpAddr}
 use Rattle.rpki_addr.specs.declared.addr.IpAddr.TheVariants.{V4, V6}
-use Rattle.rpki_base.specs.Families.{bits_of}
+use Rattle.rpki_der.specs.Families.{bits_of}
 use Rattle.rpki_ip.specs.Ranges.{RangeValue}
-use Rattle.rpki_base.specs.declared.family.AddressFamily.{AddressFamily}
-use Rattle.rpki_base.specs.declared.family.AddressFamily.TheVariants.{Ipv4, Ipv6}
+use Rattle.rpki_der.specs.declared.family.AddressFamily.{AddressFamily}
+use Rattle.rpki_der.specs.declared.family.AddressFamily.TheVariants.{Ipv4, Ipv6}
 
 -- the bits that an address of the family has: in IPv4 the first 32
 abbrev pub shown_bits : AddressFamily → ℕ → ℕ

@@ -2,7 +2,7 @@
 use Rattle.std.specs.Prelude.{◌≡◌, ℕ, ◌+◌, ◌-◌, ◌%◌, ◌^◌, ◌≤◌, Bool, ◌==◌, ◌&&◌, List, ◌++◌, Result, Ok, Err, nat_lt, if◌then◌else◌}
 use Rattle.std.specs.Int.{w128, trailing_zeros, trailing_ones}
 use Rattle.rpki_addr.specs.Prefixes.{PrefixValue, IsPrefix, last_of}
-use Rattle.rpki_base.specs.DerReading.{SaysPair, pair_in}
+use Rattle.rpki_der.specs.SequenceReading.{SaysPair, pair_in}
 use Rattle.rpki_der.specs.declared.error.DerError.{DerError}
 use Rattle.rpki_der.specs.declared.error.DerError.TheVariants.{ReversedRange}
 use Rattle.rpki_der.specs.Der.{IsSequence, Refines, sequence_value}

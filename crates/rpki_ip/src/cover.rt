@@ -6,9 +6,9 @@ ghost use Rattle.rpki_cover.specs.Covers.{IsShortestCover, IsV4CoverList};
 ghost use Rattle.rpki_ip.specs.Ranges.{range_bounds};
 ghost use Rattle.rpki_ip.specs.Whole.{HasWholeBounds};
 
+use crate::addr::Addr;
 use crate::prefix::Prefix;
 use crate::range::AddressRange;
-use rpki_addr::bits::Addr;
 use rpki_cover::cover::Cover;
 use std::marker::Model;
 

@@ -5,4 +5,4 @@ mod prefix;
 mod range;
 
 pub use error::DecodePrefixError;
-pub use rpki_base::family::DecodeFamilyError;
+pub use rpki_der::family::DecodeFamilyError;

@@ -3,8 +3,8 @@ ghost use Rattle.std.specs.Prelude.{◌≡◌, Some};
 ghost use Rattle.rpki_ip.specs.Faults.{ip_from_str_error_text};
 ghost use Rattle.rpki_ip.specs.declared.error.FromStrError.TheVariants.{Addr, PrefixLen};
 
-use rpki_base::addr::AddrParseError;
-use rpki_base::number::ParseIntError;
+use rpki_addr::addr::AddrParseError;
+use rpki_text::number::ParseIntError;
 use std::error::Error;
 use std::fmt;
 

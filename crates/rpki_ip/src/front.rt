@@ -6,14 +6,14 @@ ghost use Rattle.std.specs.Str.Parse.{AllDigits};
 ghost use Rattle.rpki_addr.specs.AddressFronts.{IsAtFront};
 ghost use Rattle.rpki_ip.specs.BlockText.{IsAddressText, IsPrefixAt, IsRangeFrom, WithAddress};
 
+use crate::addr::Addr;
 use crate::family::AddressFamily;
 use crate::prefix::Prefix;
 use crate::range::AddressRange;
 use crate::text::{greatest, range_from};
-use rpki_addr::bits::Addr;
-use rpki_base::addr::IpAddr;
-use rpki_base::addr::front::{ipv4_front, ipv6_front};
-use rpki_base::number::digits_from;
+use rpki_addr::addr::IpAddr;
+use rpki_addr::addr::front::{ipv4_front, ipv6_front};
+use rpki_text::number::digits_from;
 
 /// The address of a family whose text stands at the front, and what stands behind that.
 #[inline(always)]

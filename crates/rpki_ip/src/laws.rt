@@ -4,9 +4,9 @@ ghost use Rattle.std.specs.Ordering.{nat_cmp};
 ghost use Rattle.rpki_addr.specs.Prefixes.{PrefixValue};
 ghost use Rattle.rpki_ip.specs.Ranges.{RangeValue};
 
+use crate::addr::Addr;
 use crate::prefix::Prefix;
 use crate::range::AddressRange;
-use rpki_addr::bits::Addr;
 
 /// Addresses are in order as their numbers. Addresses, prefixes and ranges are equal exactly where they are the same:
 /// by their numbers, by the first address and the length, by the bounds.

@@ -1,4 +1,4 @@
-//! Prefixes and ranges of addresses of both families, which are numbers (RFC 3779, section 2), and the texts of these.
+//! Addresses of both families as numbers, prefixes and ranges of them (RFC 3779, section 2), and their texts.
 //!
 //! A range is read, and becomes the fewest prefixes, as in the program `rows_values`:
 //!
@@ -11,6 +11,7 @@
 //! ```
 #![tactic(auto)]
 
+pub mod addr;
 pub mod cover;
 pub mod der;
 pub mod error;
@@ -20,13 +21,12 @@ pub mod prefix;
 pub mod range;
 pub mod text;
 
+pub use addr::Addr;
 pub use cover::{V4Prefixes, V6Prefixes};
 pub use error::FromStrError;
 pub use prefix::Prefix;
 pub use range::AddressRange;
 
-/// Families, in which claims are listed too, and addresses stand in crates below this one.
-pub use rpki_addr::bits as addr;
-pub use rpki_addr::bits::Addr;
-pub use rpki_base::family;
-pub use rpki_base::family::AddressFamily;
+/// Families, in which claims are listed too, stand in a crate below this one.
+pub use rpki_der::family;
+pub use rpki_der::family::AddressFamily;

@@ -3,8 +3,8 @@ ghost use Rattle.std.specs.Prelude.{◌≡◌, ◌/◌, ◌^◌, ◌≤◌};
 ghost use Rattle.rpki_addr.specs.Bits.{cleared};
 ghost use Rattle.rpki_addr.specs.Prefixes.{IsPrefix, last_of};
 
-use rpki_addr::bits::Addr;
-use rpki_base::addr::{Ipv4Addr, Ipv6Addr};
+use crate::addr::Addr;
+use rpki_addr::addr::{Ipv4Addr, Ipv6Addr};
 use std::marker::Model;
 
 /// The addresses that begin with the same bits (RFC 3779, 2.2.3.8).

@@ -5,8 +5,8 @@ ghost use Rattle.rpki_block.specs.Bounds.{IsWithin};
 ghost use Rattle.rpki_ip.specs.Ranges.{IsRange, IsRangeOf, range_bounds};
 ghost use Rattle.rpki_ip.specs.Whole.{IsWhole, HasWholeBounds};
 
+use crate::addr::Addr;
 use crate::prefix::Prefix;
-use rpki_addr::bits::Addr;
 use rpki_block::block::Block;
 use std::marker::Model;
 

@@ -5,19 +5,19 @@
 ghost use Rattle.std.specs.Prelude.{◌≡◌, ◌≤◌, ◌↔◌, IsTrue, None, Some, MatchResult, length, take};
 ghost use Rattle.std.specs.Fmt.{WritesOnOk};
 ghost use Rattle.rpki_text.specs.Reading.{Answers};
-ghost use Rattle.rpki_addr.specs.AddrText.{greatest_of};
+ghost use Rattle.rpki_ip.specs.AddrText.{greatest_of};
 ghost use Rattle.rpki_ip.specs.BlockText.{IsAddressText, address_fault, IsPrefixBetween, HasPrefixFault, IsRangeFrom, HasPairFault, IsIpRangeBetween, HasRangeFault, IsSingleText, HasAddressFault, IsIpPrefixText, HasIpPrefixTextFault, IsRangeText, HasRangeTextFault};
 ghost use Rattle.rpki_ip.specs.PrintedText.{shown_bits, as_ip, ip_prefix_text, ip_range_text};
-ghost use Rattle.rpki_base.specs.declared.family.AddressFamily.TheVariants.{Ipv4, Ipv6};
+ghost use Rattle.rpki_der.specs.declared.family.AddressFamily.TheVariants.{Ipv4, Ipv6};
 
+use crate::addr::Addr;
 use crate::error::FromStrError;
 use crate::family::AddressFamily;
 use crate::prefix::Prefix;
 use crate::range::AddressRange;
 use rpki_addr::addr::print::{IP_ROOM, PREFIX_ROOM, put, put_ip, put_with_length, write_front};
-use rpki_addr::bits::Addr;
-use rpki_base::addr::{AddrParseError, IpAddr, Ipv4Addr, Ipv6Addr};
-use rpki_base::number::{ParseIntError, parse_u8};
+use rpki_addr::addr::{AddrParseError, IpAddr, Ipv4Addr, Ipv6Addr};
+use rpki_text::number::{ParseIntError, parse_u8};
 use std::fmt;
 use std::str::FromStr;
 

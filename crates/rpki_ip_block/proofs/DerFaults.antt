@@ -1,7 +1,7 @@
 -- Where a block of addresses is a reversed range, and that no fault of lists is one of a block.
 use Rattle.rpki_ip_block.proofs.Common.{Err, List, Ok, arith, ℕ, ◌<◌, ◌↔◌, ◌≡◌, last_of, value_at, prefix_at, prefix_in, range_in, ip_block_at, ip_block_of, prefix_block_in, range_block_in, Prefix, Range}
-use Rattle.rpki_base.specs.DerFaults.{BeginsWithTwo, BeginsWithValue}
-use Rattle.rpki_base.proofs.DerFaults.{NamesTo, bind_names, by_tag_names, mapped_fails, names_more, not_named, refined_names, sequence_fails, value_names}
+use Rattle.rpki_der.specs.SequenceFaults.{BeginsWithTwo, BeginsWithValue}
+use Rattle.rpki_der.proofs.SequenceFaults.{NamesTo, bind_names, by_tag_names, mapped_fails, names_more, not_named, refined_names, sequence_fails, value_names}
 use Rattle.rpki_der.specs.declared.error.DerError.TheVariants.{NotCanonical, ReversedRange}
 use Rattle.rpki_ip.proofs.DerFaults.{prefix_content_names, range_fails, range_names}
 

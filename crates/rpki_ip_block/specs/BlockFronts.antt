@@ -5,7 +5,7 @@ use Rattle.std.specs.List.{AllByRecursion}
 use Rattle.std.specs.Str.Parse.{AllDigits}
 use Rattle.rpki_addr.specs.AddressFronts.{IsAtFront}
 use Rattle.rpki_addr.specs.declared.addr.IpAddr.{IpAddr}
-use Rattle.rpki_base.specs.declared.family.AddressFamily.{AddressFamily}
+use Rattle.rpki_der.specs.declared.family.AddressFamily.{AddressFamily}
 use Rattle.rpki_ip.specs.BlockText.{IsPrefixAt, IsRangeFrom, WithAddress}
 use Rattle.rpki_ip_block.specs.ListText.{IsElementText}
 use Rattle.rpki_ip_block.specs.declared.block.IpBlock.{IpBlock}

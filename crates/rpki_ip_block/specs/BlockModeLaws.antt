@@ -1,8 +1,8 @@
 -- What the readings of blocks of addresses find in either mode. Readers of lists rest on it.
 use Rattle.std.proofs.Common.{◌≡◌, ℕ, Bool, true, List, Option, Ok, refl, sym, subst, arith, inl, inr}
-use Rattle.rpki_base.specs.DerReading.{SaysByTag}
-use Rattle.rpki_base.proofs.DerModes.{by_tag_tightens, tested_pair_check, tested_pair_tightens}
-use Rattle.rpki_base.proofs.DerReadings.{by_tag_reading, mapped_check}
+use Rattle.rpki_der.specs.SequenceReading.{SaysByTag}
+use Rattle.rpki_der.proofs.SequenceModes.{by_tag_tightens, tested_pair_check, tested_pair_tightens}
+use Rattle.rpki_der.proofs.SequenceReadings.{by_tag_reading, mapped_check}
 use Rattle.rpki_block.specs.Beyond.{IsBeyond, is_beyond}
 use Rattle.rpki_block.proofs.Beyond.{beyond_is, is_beyond_of}
 use Rattle.rpki_der.specs.Der.{IsBytes, IsTlv, IsValue, Refines, bit_content}

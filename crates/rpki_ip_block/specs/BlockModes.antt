@@ -1,6 +1,6 @@
 -- What strict cursors take of blocks of addresses.
 use Rattle.std.specs.Prelude.{◌≡◌, ℕ, true, List, Option}
-use Rattle.rpki_base.specs.DerReading.{SaysPair}
+use Rattle.rpki_der.specs.SequenceReading.{SaysPair}
 use Rattle.rpki_block.specs.Beyond.{IsBeyond}
 use Rattle.rpki_der.specs.Der.{IsSequence, Refines, Where}
 use Rattle.rpki_ip.specs.RangeDer.{IsSpan}

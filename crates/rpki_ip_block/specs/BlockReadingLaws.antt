@@ -6,8 +6,8 @@ use Rattle.rpki_der.specs.Reading.{IsReading}
 use Rattle.rpki_der.proofs.Lists.{value_has_octets}
 use Rattle.rpki_der.proofs.Readings.{same_reading}
 use Rattle.rpki_der.proofs.Steps.{IsCheck}
-use Rattle.rpki_base.proofs.DerReadings.{by_tag_reading, mapped_check, sequence_reading}
-use Rattle.rpki_base.specs.DerReading.{IsSequenceOf, SaysByTag}
+use Rattle.rpki_der.proofs.SequenceReadings.{by_tag_reading, mapped_check, sequence_reading}
+use Rattle.rpki_der.specs.SequenceReading.{IsSequenceOf, SaysByTag}
 use Rattle.rpki_ip.specs.PrefixDer.{IsPrefixContent, prefix_in}
 use Rattle.rpki_ip.specs.RangeDer.{SaysRange, range_in}
 use Rattle.rpki_ip.proofs.DerReadings.{prefix_check, range_check}

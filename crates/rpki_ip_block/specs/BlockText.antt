@@ -4,7 +4,7 @@ use Rattle.std.specs.Prelude.{◌⊎◌, List, ℕ, Option}
 use Rattle.rpki_text.specs.Cuts.{HasNo, Around, slash, dash}
 use Rattle.rpki_ip.specs.BlockText.{IsIpPrefixText, IsRangeText, IsSingleText, HasAddressFault, HasPrefixFault, HasRangeFault}
 use Rattle.rpki_ip.specs.declared.error.FromStrError.{FromStrError}
-use Rattle.rpki_base.specs.declared.family.AddressFamily.{AddressFamily}
+use Rattle.rpki_der.specs.declared.family.AddressFamily.{AddressFamily}
 use Rattle.rpki_ip_block.specs.declared.block.IpBlock.{IpBlock}
 use Rattle.rpki_ip_block.specs.declared.block.IpBlock.TheVariants.{Prefix, Range}
 

@@ -3,8 +3,8 @@ use Rattle.std.specs.Prelude.{◌≡◌, ℕ, ◌⊎◌, List, Some, Contains}
 use Rattle.rpki_text.specs.Lists.{elements, HaveValues, HasFirstFault}
 use Rattle.rpki_ip.specs.declared.error.FromStrError.{FromStrError}
 use Rattle.rpki_ip.specs.declared.error.FromStrError.TheVariants.{FamilyMismatch}
-use Rattle.rpki_base.specs.declared.family.AddressFamily.{AddressFamily}
-use Rattle.rpki_base.specs.declared.family.AddressFamily.TheVariants.{Ipv4, Ipv6}
+use Rattle.rpki_der.specs.declared.family.AddressFamily.{AddressFamily}
+use Rattle.rpki_der.specs.declared.family.AddressFamily.TheVariants.{Ipv4, Ipv6}
 use Rattle.rpki_ip_block.specs.BlockText.{IsIpBlockText, HasIpBlockFault}
 use Rattle.rpki_ip_block.specs.declared.block.IpBlock.{IpBlock}
 

@@ -180,7 +180,7 @@ impl From<Prefix> for IpBlock {
 /// The addresses of the prefix: those of an IPv4 prefix with any 96 bits behind.
 impl From<FamilyPrefix> for IpBlock {
     ghost use Rattle.std.specs.Prelude.{◌≡◌};
-    ghost use Rattle.rpki_addr.specs.AddrText.{first_of};
+    ghost use Rattle.rpki_ip.specs.AddrText.{first_of};
     ghost use Rattle.rpki_ip_block.specs.declared.block.IpBlock.TheVariants.{Prefix};
 
     ghost from_gives = { λ prefix block. block

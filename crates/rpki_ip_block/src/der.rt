@@ -2,16 +2,16 @@
 ghost use Rattle.std.specs.Prelude.{◌≡◌, IfOk};
 ghost use Rattle.rpki_der.specs.Reading.{Gives};
 ghost use Rattle.rpki_der.specs.Views.{is_strict, left};
-ghost use Rattle.rpki_base.specs.Families.{bits_of};
+ghost use Rattle.rpki_der.specs.Families.{bits_of};
 ghost use Rattle.rpki_ip.specs.RangeDer.{span_of};
 ghost use Rattle.rpki_ip_block.specs.BlockReading.{is_set_range, range_in_by, span};
 
 pub mod laws;
 
 use crate::block::IpBlock;
-use rpki_addr::bits::Addr;
-use rpki_base::der::{Encode, ReadNext};
+use rpki_der::sequences::{Encode, ReadNext};
 use rpki_der::{Content, Cursor, DerError, tag};
+use rpki_ip::addr::Addr;
 use rpki_ip::family::AddressFamily;
 use rpki_ip::prefix::Prefix;
 use rpki_ip::range::AddressRange;
@@ -24,7 +24,7 @@ impl IpBlock {
     ghost use Rattle.rpki_der.specs.Der.{Spells};
     ghost use Rattle.rpki_der.specs.Reading.{optional};
     ghost use Rattle.rpki_der.specs.Views.{Lenient, NotCanonicalOr, ReadsOptional, Strict, Takes, is_strict, left};
-    ghost use Rattle.rpki_base.specs.Families.{bits_of};
+    ghost use Rattle.rpki_der.specs.Families.{bits_of};
     ghost use Rattle.rpki_ip_block.specs.BlockDer.{IsBlockWithin, IsIpBlockDer, IsSetIpBlock, ip_block_der};
     ghost use Rattle.rpki_ip_block.specs.BlockReading.{ip_block_at, ip_block_by};
     ghost use Rattle.rpki_ip_block.specs.Blocks.{ip_bounds, new_ip_block};
@@ -148,7 +148,7 @@ impl IpBlock {
     ghost use Rattle.rpki_block.specs.Beyond.{is_beyond};
     ghost use Rattle.rpki_der.specs.Reading.{Gives, optional};
     ghost use Rattle.rpki_der.specs.Views.{Takes, is_strict, is_strict_in, tlv};
-    ghost use Rattle.rpki_base.specs.Families.{bits_of};
+    ghost use Rattle.rpki_der.specs.Families.{bits_of};
     ghost use Rattle.rpki_ip_block.specs.BlockReading.{ip_block_by, ip_block_of_by, next_ip_block_by};
     ghost use Rattle.rpki_ip_block.specs.Blocks.{ip_bounds};
 
@@ -202,7 +202,7 @@ impl IpBlock {
         }
     }
 
-    #[tactic(auto, unfolding(rpki_base::specs::DerReading::by_tag))]
+    #[tactic(auto, unfolding(rpki_der::specs::SequenceReading::by_tag))]
     fn of_value(value: &Content<'_>, family: AddressFamily) -> Result<IpBlock, DerError>
         ensures by_mode { Gives (λ block. block) result
             (ip_block_of_by (is_strict_in value.now) (bits_of family) (tlv value.now)) }
@@ -218,7 +218,7 @@ impl IpBlock {
 }
 
 /// The range in the content of a SEQUENCE.
-#[tactic(auto, unfolding(rpki_base::specs::DerReading::pair_by, rpki_der::specs::Reading::passing))]
+#[tactic(auto, unfolding(rpki_der::specs::SequenceReading::pair_by, rpki_der::specs::Reading::passing))]
 fn range_within(content: Cursor<'_>, family: AddressFamily) -> Result<AddressRange, DerError>
     ensures by_mode { Gives (λ range. range) result
         (range_in_by (is_strict content.entry) (bits_of family) (left content.entry)) }
@@ -266,7 +266,7 @@ pub struct IpBlockReader {
 }
 
 impl ReadNext for IpBlockReader {
-    ghost use Rattle.rpki_base.specs.Families.{bits_of};
+    ghost use Rattle.rpki_der.specs.Families.{bits_of};
     ghost use Rattle.std.specs.Prelude.{Some, None};
     ghost use Rattle.rpki_ip_block.specs.BlockDer.{IsIpBlockDer};
     ghost use Rattle.rpki_ip_block.specs.BlockModes.{IsNextIpBlock};

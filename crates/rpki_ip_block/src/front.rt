@@ -4,7 +4,7 @@ ghost use Rattle.rpki_ip_block.specs.ListText.{HasBlocks};
 ghost use Rattle.rpki_ip_block.specs.BlockFronts.{IsBlockAtFront, IsRangeBehind, IsPrefixBehind, IsBehindSpace, IsSpaceOrNothing};
 
 use crate::block::IpBlock;
-use rpki_base::addr::IpAddr;
+use rpki_addr::addr::IpAddr;
 use rpki_ip::family::AddressFamily;
 use rpki_ip::front::{address_front, prefix_to_front, range_of, range_to_front};
 use std::alloc::{AllocError, Allocator};

@@ -5,7 +5,7 @@
 ghost use Rattle.std.specs.Prelude.{◌≡◌, ◌↔◌, IsTrue, Some, Contains, MatchResult};
 ghost use Rattle.std.specs.Fmt.{WritesOnOk};
 ghost use Rattle.rpki_text.specs.Reading.{Answers};
-ghost use Rattle.rpki_base.specs.declared.family.AddressFamily.TheVariants.{Ipv4, Ipv6};
+ghost use Rattle.rpki_der.specs.declared.family.AddressFamily.TheVariants.{Ipv4, Ipv6};
 ghost use Rattle.rpki_ip_block.specs.BlockText.{IsIpBlockText, HasIpBlockFault};
 ghost use Rattle.rpki_ip_block.specs.Blocks.{ip_bounds};
 ghost use Rattle.rpki_ip_block.specs.PrintedBlocks.{ip_block_text, IsBlockOf, ReadsIpBlock};

@@ -7,20 +7,20 @@ pub use Rattle.std.proofs.lemmas.Nat.{pow_pos}
 pub use Rattle.std.proofs.lemmas.Result.{IfOk-weaker, err_from_is_err_and}
 pub use Rattle.std.specs.List.{All, AllByRecursion}
 pub use Rattle.std.specs.Prelude.{IfOk, IfSome}
-pub use Rattle.rpki_base.proofs.DerReadings.{one_front_said}
-pub use Rattle.rpki_base.proofs.DerWriting.{content_shorter, one_content, written_alike}
-pub use Rattle.rpki_base.proofs.FamiliesGathering.{IsThere, each_there}
-pub use Rattle.rpki_base.proofs.FamiliesSaid.{one_families, stands_for, stood_for}
-pub use Rattle.rpki_base.proofs.SaidInModes.{IsSaidInModes, taken_said, written_said}
-pub use Rattle.rpki_base.proofs.FamilyLemmas.{family_reading, family_written}
-pub use Rattle.rpki_base.specs.DerReading.{IsSequenceFrom, IsSequenceOf, values_of}
-pub use Rattle.rpki_base.specs.DerViews.{NotCanonicalOrMemory}
-pub use Rattle.rpki_base.specs.DerWriting.{octets_of_all, sequence_octets}
-pub use Rattle.rpki_base.specs.Families.{bits_of}
-pub use Rattle.rpki_base.specs.FamiliesDer.{ByFamily, IsFamilies, IsFamiliesInOrder, families_der, option_der}
-pub use Rattle.rpki_base.specs.FamilyDer.{IsFamilyDer, family_at, family_der}
-pub use Rattle.rpki_base.specs.declared.family.AddressFamily.{AddressFamily}
-pub use Rattle.rpki_base.specs.declared.family.AddressFamily.TheVariants.{Ipv4, Ipv6}
+pub use Rattle.rpki_der.proofs.SequenceReadings.{one_front_said}
+pub use Rattle.rpki_der.proofs.SequenceWriting.{content_shorter, one_content, written_alike}
+pub use Rattle.rpki_der.proofs.FamiliesGathering.{IsThere, each_there}
+pub use Rattle.rpki_der.proofs.FamiliesSaid.{one_families, stands_for, stood_for}
+pub use Rattle.rpki_der.proofs.SaidInModes.{IsSaidInModes, taken_said, written_said}
+pub use Rattle.rpki_der.proofs.FamilyLemmas.{family_reading, family_written}
+pub use Rattle.rpki_der.specs.SequenceReading.{IsSequenceFrom, IsSequenceOf, values_of}
+pub use Rattle.rpki_der.specs.SequenceViews.{NotCanonicalOrMemory}
+pub use Rattle.rpki_der.specs.SequenceWriting.{octets_of_all, sequence_octets}
+pub use Rattle.rpki_der.specs.Families.{bits_of}
+pub use Rattle.rpki_der.specs.FamiliesDer.{ByFamily, IsFamilies, IsFamiliesInOrder, families_der, option_der}
+pub use Rattle.rpki_der.specs.FamilyDer.{IsFamilyDer, family_at, family_der}
+pub use Rattle.rpki_der.specs.declared.family.AddressFamily.{AddressFamily}
+pub use Rattle.rpki_der.specs.declared.family.AddressFamily.TheVariants.{Ipv4, Ipv6}
 pub use Rattle.rpki_chain.proofs.Ascending.{listed_are}
 pub use Rattle.rpki_chain.proofs.ClaimLemmas.{claims_decide, lists_one}
 pub use Rattle.rpki_chain.proofs.RunLists.{IsRunsOf-unique, IsRunsOfBlocks-bounds, same_numbers}

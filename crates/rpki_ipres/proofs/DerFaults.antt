@@ -1,11 +1,11 @@
 -- Where resources of addresses are refused for a list of no blocks, for no family, for one that is there twice.
 use Rattle.rpki_ipres.proofs.Common.{Err, List, arith, ℕ, ◌↔◌, ◌≡◌, values_of, bits_of, tagged_at, ip_block_at, ip_blocks_at, IpBlock, ip_families_at, ip_resources_at}
 use Rattle.rpki_der.specs.declared.error.DerError.TheVariants.{DuplicateFamily, EmptyBlocks, NoFamily}
-use Rattle.rpki_base.specs.DerFaults.{BeginsEmpty, BeginsWithValue}
-use Rattle.rpki_base.proofs.DerFaults.{NamesTo, header_names, no_values, refined_names, values_names}
+use Rattle.rpki_der.specs.SequenceFaults.{BeginsEmpty, BeginsWithValue}
+use Rattle.rpki_der.proofs.SequenceFaults.{NamesTo, header_names, no_values, refined_names, values_names}
 use Rattle.rpki_chain.proofs.ChoiceFaults.{choice_fails, choice_names}
-use Rattle.rpki_base.specs.FamiliesFaults.{BeginsWithRepeat}
-use Rattle.rpki_base.proofs.FamiliesFaults.{families_names, family_twice, no_family}
+use Rattle.rpki_der.specs.FamiliesFaults.{BeginsWithRepeat}
+use Rattle.rpki_der.proofs.FamiliesFaults.{families_names, family_twice, no_family}
 use Rattle.rpki_ip_block.proofs.DerFaults.{block_names}
 
 blocks_names : (limit : ℕ) (content : List ℕ) → NamesTo {X = List IpBlock} 10 (values_of (ip_block_at limit) content)

@@ -1,7 +1,7 @@
 -- Sets and claims of a family: all of them in IPv6, and in IPv4 those of whole addresses.
 use Rattle.std.specs.Prelude.{⊤}
-use Rattle.rpki_base.specs.declared.family.AddressFamily.{AddressFamily}
-use Rattle.rpki_base.specs.declared.family.AddressFamily.TheVariants.{Ipv4, Ipv6}
+use Rattle.rpki_der.specs.declared.family.AddressFamily.{AddressFamily}
+use Rattle.rpki_der.specs.declared.family.AddressFamily.TheVariants.{Ipv4, Ipv6}
 use Rattle.rpki_chain.specs.Claims.{Claim}
 use Rattle.rpki_chain.specs.Runs.{Runs, Holds}
 use Rattle.rpki_ip.specs.Whole.{IsWhole}

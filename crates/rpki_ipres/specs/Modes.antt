@@ -1,13 +1,13 @@
 -- Reading sets and resources of addresses by the mode: strictly each block begins more than one above the greatest
 -- address of the one before, and IPv4 stands before IPv6.
 use Rattle.std.specs.Prelude.{ℕ, Bool, List, Option, Some, None, Result}
-use Rattle.rpki_base.specs.DerReading.{sequence_from, values_from}
+use Rattle.rpki_der.specs.SequenceReading.{sequence_from, values_from}
 use Rattle.rpki_chain.specs.ChoiceDer.{choice_at}
 use Rattle.rpki_chain.specs.declared.choice.ResourcesChoice.{ResourcesChoice}
-use Rattle.rpki_base.specs.FamiliesDer.{ByFamily}
-use Rattle.rpki_base.specs.FamiliesReading.{families_by}
+use Rattle.rpki_der.specs.FamiliesDer.{ByFamily}
+use Rattle.rpki_der.specs.FamiliesReading.{families_by}
 use Rattle.rpki_der.specs.declared.error.DerError.{DerError}
-use Rattle.rpki_base.specs.Families.{bits_of}
+use Rattle.rpki_der.specs.Families.{bits_of}
 use Rattle.rpki_ip_block.specs.BlockReading.{next_ip_block_by}
 use Rattle.rpki_ip_block.specs.Blocks.{ip_bounds}
 use Rattle.rpki_ip_block.specs.declared.block.IpBlock.{IpBlock}

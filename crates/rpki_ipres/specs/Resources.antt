@@ -4,9 +4,9 @@ use Rattle.rpki_chain.specs.Claims.{Claim, IsClaim}
 use Rattle.rpki_chain.specs.Runs.{Holds}
 use Rattle.rpki_chain.specs.declared.choice.ResourcesChoice.TheVariants.{Missing, Inherit, Blocks}
 use Rattle.rpki_ip.specs.Whole.{IsWhole}
-use Rattle.rpki_base.specs.FamiliesDer.{ByFamily}
-use Rattle.rpki_base.specs.declared.family.AddressFamily.{AddressFamily}
-use Rattle.rpki_base.specs.declared.family.AddressFamily.TheVariants.{Ipv4, Ipv6}
+use Rattle.rpki_der.specs.FamiliesDer.{ByFamily}
+use Rattle.rpki_der.specs.declared.family.AddressFamily.{AddressFamily}
+use Rattle.rpki_der.specs.declared.family.AddressFamily.TheVariants.{Ipv4, Ipv6}
 use Rattle.rpki_ipres.specs.SetText.{IsFamilySet, IsIpSet}
 
 -- what is listed is a set of addresses

@@ -1,17 +1,17 @@
 -- Resources of addresses in DER, of one family and by families (RFC 3779, 2.2.3.1 to 2.2.3.6).
 use Rattle.std.specs.Prelude.{ℕ, List, Result}
-use Rattle.rpki_base.specs.DerReading.{IsSequenceOf, values_of}
-use Rattle.rpki_base.specs.DerWriting.{octets_of_all}
+use Rattle.rpki_der.specs.SequenceReading.{IsSequenceOf, values_of}
+use Rattle.rpki_der.specs.SequenceWriting.{octets_of_all}
 use Rattle.rpki_chain.specs.ChoiceDer.{IsResourcesOf, choice_at, choice_octets}
 use Rattle.rpki_chain.specs.Choices.{ListsBy, if_present}
 use Rattle.rpki_chain.specs.Claims.{Claim}
 use Rattle.rpki_chain.specs.Runs.{IsRunsOfBlocks}
 use Rattle.rpki_chain.specs.declared.choice.ResourcesChoice.{ResourcesChoice}
-use Rattle.rpki_base.specs.FamiliesDer.{ByFamily, IsFamilies, SaysByFamily, families_der, option_der}
-use Rattle.rpki_base.specs.FamiliesReading.{families_at}
+use Rattle.rpki_der.specs.FamiliesDer.{ByFamily, IsFamilies, SaysByFamily, families_der, option_der}
+use Rattle.rpki_der.specs.FamiliesReading.{families_at}
 use Rattle.rpki_der.specs.declared.error.DerError.{DerError}
-use Rattle.rpki_base.specs.Families.{bits_of}
-use Rattle.rpki_base.specs.declared.family.AddressFamily.{AddressFamily}
+use Rattle.rpki_der.specs.Families.{bits_of}
+use Rattle.rpki_der.specs.declared.family.AddressFamily.{AddressFamily}
 use Rattle.rpki_ip_block.specs.BlockDer.{IsIpBlockDer}
 use Rattle.rpki_ip_block.specs.BlockReading.{ip_block_at}
 use Rattle.rpki_ip_block.specs.Blocks.{ip_bounds}

@@ -3,9 +3,9 @@
 use Rattle.std.proofs.Common.{ℕ, List, Option, None, subst}
 use Rattle.rpki_der.specs.Der.{Each, EachFrom}
 use Rattle.rpki_der.specs.Reading.{IsModal, IsReading}
-use Rattle.rpki_base.proofs.DerModes.{strict_values_check, values_stateless, values_tighten}
-use Rattle.rpki_base.proofs.DerReadings.{values_check}
-use Rattle.rpki_base.specs.DerReading.{IsSequenceFrom, IsSequenceOf, values_from, values_of}
+use Rattle.rpki_der.proofs.SequenceModes.{strict_values_check, values_stateless, values_tighten}
+use Rattle.rpki_der.proofs.SequenceReadings.{values_check}
+use Rattle.rpki_der.specs.SequenceReading.{IsSequenceFrom, IsSequenceOf, values_from, values_of}
 use Rattle.rpki_chain.specs.ChoiceDer.{IsChoiceOf, choice_at}
 use Rattle.rpki_chain.proofs.ChoiceReadings.{choice_modal, choice_reading}
 use Rattle.rpki_ip_block.specs.BlockDer.{IsIpBlockDer}

@@ -1,12 +1,12 @@
 -- Sequences of blocks of addresses in DER, alone and with their family (RFC 3779, 2.2.3.2 to 2.2.3.6).
 use Rattle.std.specs.Prelude.{ℕ, List, [], ◌∷◌, ◌++◌}
-use Rattle.rpki_base.specs.DerReading.{IsSequenceOf}
-use Rattle.rpki_base.specs.DerWriting.{sequence_octets}
+use Rattle.rpki_der.specs.SequenceReading.{IsSequenceOf}
+use Rattle.rpki_der.specs.SequenceWriting.{sequence_octets}
 use Rattle.rpki_chain.specs.Runs.{Runs, IsRunsOfBlocks}
 use Rattle.rpki_der.specs.Der.{Both, IsSequence, Refines, sequence_value}
-use Rattle.rpki_base.specs.declared.family.AddressFamily.{AddressFamily}
-use Rattle.rpki_base.specs.Families.{bits_of}
-use Rattle.rpki_base.specs.FamilyDer.{IsFamilyDer, family_der}
+use Rattle.rpki_der.specs.declared.family.AddressFamily.{AddressFamily}
+use Rattle.rpki_der.specs.Families.{bits_of}
+use Rattle.rpki_der.specs.FamilyDer.{IsFamilyDer, family_der}
 use Rattle.rpki_ip_block.specs.BlockDer.{IsIpBlockDer, ip_block_der}
 use Rattle.rpki_ip_block.specs.Blocks.{ip_bounds, new_ip_block}
 

@@ -3,8 +3,8 @@ use Rattle.std.specs.Prelude.{ℕ, List, ◌++◌, map, codes}
 use Rattle.rpki_chain.specs.BlockSets.{IsBlockSet}
 use Rattle.rpki_chain.specs.Runs.{Runs, Holds, IsSetOfBlocks}
 use Rattle.rpki_ip.specs.Whole.{IsWhole}
-use Rattle.rpki_base.specs.declared.family.AddressFamily.{AddressFamily}
-use Rattle.rpki_base.specs.declared.family.AddressFamily.TheVariants.{Ipv4, Ipv6}
+use Rattle.rpki_der.specs.declared.family.AddressFamily.{AddressFamily}
+use Rattle.rpki_der.specs.declared.family.AddressFamily.TheVariants.{Ipv4, Ipv6}
 use Rattle.rpki_ip_block.specs.Blocks.{ip_bounds, new_ip_block}
 use Rattle.rpki_ip_block.specs.PrintedBlocks.{block_list_text}
 use Rattle.rpki_ip_block.specs.declared.block.IpBlock.{IpBlock}

@@ -1,6 +1,6 @@
 //! Sets of addresses, to be displayed as those of a family.
 ghost use Rattle.std.specs.Prelude.{◌≡◌, Some};
-ghost use Rattle.rpki_base.specs.declared.family.AddressFamily.TheVariants.{Ipv4, Ipv6};
+ghost use Rattle.rpki_der.specs.declared.family.AddressFamily.TheVariants.{Ipv4, Ipv6};
 ghost use Rattle.rpki_ipres.specs.SetText.{set_text};
 
 use crate::blocks::IpBlocks;
@@ -21,7 +21,7 @@ pub struct IpBlocksForFamily<'a, A: Allocator = Global> {
 
 impl<'a, A: Allocator> Model for IpBlocksForFamily<'a, A> {
     ghost use Rattle.rpki_chain.specs.Runs.{Runs};
-    ghost use Rattle.rpki_base.specs.declared.family.AddressFamily.{AddressFamily};
+    ghost use Rattle.rpki_der.specs.declared.family.AddressFamily.{AddressFamily};
 
     ghost Value = { AddressFamily × Runs };
 

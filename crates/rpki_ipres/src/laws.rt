@@ -9,7 +9,7 @@ ghost use Rattle.rpki_chain.specs.declared.path.Overclaim.{Overclaim};
 ghost use Rattle.rpki_chain.specs.declared.path.PathRefusal.{PathRefusal};
 ghost use Rattle.rpki_chain.specs.declared.path.Step.{Step};
 ghost use Rattle.rpki_ip.specs.Whole.{IsWhole};
-ghost use Rattle.rpki_base.specs.declared.family.AddressFamily.TheVariants.{Ipv4, Ipv6};
+ghost use Rattle.rpki_der.specs.declared.family.AddressFamily.TheVariants.{Ipv4, Ipv6};
 ghost use Rattle.rpki_ip_block.specs.ListText.{HasBlocks, HasIpBlocks};
 ghost use Rattle.rpki_ipres.specs.Resources.{IsFamilyClaim, IsIpClaim, IsWholeClaim};
 ghost use Rattle.rpki_ipres.specs.SetText.{IsFamilySet, IsSetOf, set_text};

@@ -8,8 +8,8 @@ ghost use Rattle.rpki_ipres.specs.Families.{IsWholeIn};
 ghost use Rattle.rpki_ipres.specs.SetText.{overclaimed_ip_text};
 
 use crate::blocks::IpBlocks;
-use rpki_base::family::{AddressFamily, Family, Ipv4Family, Ipv6Family};
 use rpki_chain::set::BlockSet;
+use rpki_der::family::{AddressFamily, Family, Ipv4Family, Ipv6Family};
 use rpki_ip_block::block::IpBlock;
 use std::alloc::{AllocError, Allocator, Global};
 use std::error::Error;
@@ -131,7 +131,7 @@ pub struct OverclaimedForFamily<'a, A: Allocator = Global> {
 
 impl<'a, A: Allocator> Model for OverclaimedForFamily<'a, A> {
     ghost use Rattle.rpki_chain.specs.Runs.{Runs};
-    ghost use Rattle.rpki_base.specs.declared.family.AddressFamily.{AddressFamily};
+    ghost use Rattle.rpki_der.specs.declared.family.AddressFamily.{AddressFamily};
 
     ghost Value = { AddressFamily × Runs };
 

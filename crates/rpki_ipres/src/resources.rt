@@ -2,8 +2,8 @@
 ghost use Rattle.std.specs.Prelude.{◌≡◌, ◌≢◌, ◌↔◌, [], IsTrue, IsErr, IfOk, Ok, Some, MatchResult, codes, ⊤};
 ghost use Rattle.rpki_text.specs.Memory.{IsMemory};
 ghost use Rattle.rpki_chain.specs.Choices.{IsRefused, MatchChoice, if_present};
-ghost use Rattle.rpki_base.specs.DerWriting.{octets_of_all, sequence_octets};
-ghost use Rattle.rpki_base.specs.FamiliesDer.{option_der};
+ghost use Rattle.rpki_der.specs.SequenceWriting.{octets_of_all, sequence_octets};
+ghost use Rattle.rpki_der.specs.FamiliesDer.{option_der};
 ghost use Rattle.rpki_chains.specs.Equality.{same_runs};
 ghost use Rattle.rpki_chains.specs.EqualityLaws.{runs_per, runs_equiv};
 ghost use Rattle.rpki_chain.specs.ChoiceDer.{choice_octets};
@@ -16,11 +16,11 @@ ghost use Rattle.rpki_ipres.specs.Resources.{IsIpClaim, IsWholeClaim};
 ghost use Rattle.rpki_ipres.specs.ResourcesDer.{ip_content_der, ip_member_der, ip_resources_der};
 
 use crate::blocks::IpBlocks;
-use rpki_base::memory::OrMemory;
 use rpki_chain::choice::{InheritedResources, Listed, ResourcesChoice};
 use rpki_chain::path::Claims;
 use rpki_chain::set::BlockSet;
 use rpki_ip_block::block::IpBlock;
+use rpki_text::memory::OrMemory;
 use std::alloc::{AllocError, Allocator, Global};
 use std::error::Error;
 use std::fmt;

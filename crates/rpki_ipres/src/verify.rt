@@ -8,8 +8,8 @@ ghost use Rattle.rpki_chain.specs.Runs.{Holds};
 use crate::blocks::IpBlocks;
 use crate::overclaim::OverclaimedIpResources;
 use crate::resources::IpResources;
-use rpki_base::memory::OrMemory;
 use rpki_chain::path::{Claims, Overclaim, PathRefusal, Step};
+use rpki_text::memory::OrMemory;
 use std::alloc::{Allocator, Global};
 
 /// A step of a path: the addresses that are claimed, and what becomes of a claim that lists too many.

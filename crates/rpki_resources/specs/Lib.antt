@@ -5,7 +5,7 @@ pub mod TripleText
 -- The words of its public clauses that stand in the crates below: whoever calls this crate lists it alone.
 pub use Rattle.rpki_text.specs.Memory
 pub use Rattle.rpki_text.specs.Reading
-pub use Rattle.rpki_base.specs.declared.family.AddressFamily
+pub use Rattle.rpki_der.specs.declared.family.AddressFamily
 pub use Rattle.rpki_chains.specs.Sets
 pub use Rattle.rpki_chain.specs.Choices
 pub use Rattle.rpki_chain.specs.Claims

@@ -4,7 +4,7 @@ ghost use Rattle.rpki_text.specs.Memory.{IfRefused};
 ghost use Rattle.rpki_chain.specs.Claims.{IsClaim, claim_of};
 ghost use Rattle.rpki_chain.specs.Choices.{IsRefused};
 ghost use Rattle.rpki_as.specs.Blocks.{IsAsSet};
-ghost use Rattle.rpki_base.specs.declared.family.AddressFamily.TheVariants.{Ipv4, Ipv6};
+ghost use Rattle.rpki_der.specs.declared.family.AddressFamily.TheVariants.{Ipv4, Ipv6};
 ghost use Rattle.rpki_ipres.specs.Resources.{IsFamilyClaim, IsWholeClaim};
 ghost use Rattle.rpki_resources.specs.Triples.{AreListed, IsOneInherited};
 

@@ -4,7 +4,7 @@ ghost use Rattle.rpki_chains.specs.Sets.{IsWithin};
 ghost use Rattle.rpki_chain.specs.Runs.{Holds};
 ghost use Rattle.rpki_as.specs.Blocks.{IsAsSet};
 ghost use Rattle.rpki_ip.specs.Ranges.{range_bounds};
-ghost use Rattle.rpki_base.specs.declared.family.AddressFamily.TheVariants.{Ipv4, Ipv6};
+ghost use Rattle.rpki_der.specs.declared.family.AddressFamily.TheVariants.{Ipv4, Ipv6};
 ghost use Rattle.rpki_ipres.specs.SetText.{IsFamilySet};
 ghost use Rattle.rpki_resources.specs.Triples.{AreChanges, HasEachOf, HaveSameNumbers, IsDifferenceOf, IsIntersectionOf, IsTriple, IsUnionOf, all_resources, is_no_triple, is_same_triple, no_resources, set_of_family};
 ghost use Rattle.rpki_resources.specs.TripleLaws.{triples_equiv, triples_per};

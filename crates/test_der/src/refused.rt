@@ -3,7 +3,7 @@ use crate::checks::holds;
 use rpki_as::block::AsBlock;
 use rpki_as::blocks::AsBlocks;
 use rpki_base::asn::Asn;
-use rpki_base::der::{encode_all, encode_sequence};
+use rpki_der::sequences::{encode_all, encode_sequence};
 use rpki_der::{put_bit_string, put_header, put_null, put_octets, put_u32, tag};
 use rpki_ip::family::AddressFamily;
 use rpki_ip::prefix::Prefix;

@@ -3,7 +3,7 @@ use crate::checks::{holds, same};
 use rpki_as::block::AsBlock;
 use rpki_as::blocks::AsBlocks;
 use rpki_base::asn::Asn;
-use rpki_base::der::{encode_all, encode_sequence, sequence_len};
+use rpki_der::sequences::{encode_all, encode_sequence, sequence_len};
 use rpki_der::{
     Cursor, bit_string_len, header_len, null_len, octets_len, put_bit_string, put_header, put_null,
     put_octets, put_u32, tag, u32_len,

@@ -1,8 +1,8 @@
 //! Sets of AS numbers in DER: a SEQUENCE of blocks (RFC 3779, 3.2.3.4).
 use crate::blocks::AsBlocks;
 use rpki_as_block::der::AsBlockReader;
-use rpki_base::der::{encode_all, take_sequence_of};
 use rpki_base::memory::OrMemory;
+use rpki_der::sequences::{encode_all, take_sequence_of};
 use rpki_der::{Cursor, DerError};
 use std::alloc::{AllocError, Allocator};
 
@@ -12,7 +12,7 @@ impl<A: Allocator> AsBlocks<A> {
     ghost use Rattle.rpki_chain.specs.Runs.{Runs, IsRunsOfBlocks};
     ghost use Rattle.rpki_der.specs.Der.{Spells};
     ghost use Rattle.rpki_der.specs.Views.{Lenient, Strict, is_strict, left};
-    ghost use Rattle.rpki_base.specs.DerViews.{NotCanonicalOrMemory, ReadsOrMemory, TakesSaidOrMemory};
+    ghost use Rattle.rpki_der.specs.SequenceViews.{NotCanonicalOrMemory, ReadsOrMemory, TakesSaidOrMemory};
     ghost use Rattle.rpki_text.specs.Memory.{IsMemory};
     ghost use Rattle.rpki_as.specs.AsDer.{IsAsBlockSequence, as_sequence_octets, as_set_octets};
     ghost use Rattle.rpki_as.specs.AsDerReading.{as_blocks_at, as_blocks_by};

@@ -5,7 +5,7 @@ ghost use Rattle.rpki_chain.specs.Runs.{Runs, Holds};
 ghost use Rattle.rpki_chain.specs.declared.choice.ResourcesChoice.TheVariants.{Missing};
 ghost use Rattle.rpki_der.specs.Der.{OneFront};
 ghost use Rattle.rpki_der.specs.declared.error.DerError.TheVariants.{EmptyBlocks, NotCanonical};
-ghost use Rattle.rpki_base.specs.DerFaults.{BeginsEmpty, BeginsWithValue};
+ghost use Rattle.rpki_der.specs.SequenceFaults.{BeginsEmpty, BeginsWithValue};
 ghost use Rattle.rpki_as.specs.AsDer.{IsAsBlockSequence, IsAsResources, as_resources_octets, as_sequence_octets, as_set_octets};
 ghost use Rattle.rpki_as.specs.AsDerReading.{as_blocks_at, as_choice_at};
 ghost use Rattle.rpki_as_block.specs.AsDer.{IsAsBlock, IsBlockInAnyOrder};

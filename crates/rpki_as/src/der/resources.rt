@@ -20,7 +20,7 @@ impl<A: Allocator> AsResources<A> {
     ghost use Rattle.rpki_chain.specs.declared.choice.ResourcesChoice.TheVariants.{Missing};
     ghost use Rattle.rpki_der.specs.Der.{Spells};
     ghost use Rattle.rpki_der.specs.Views.{Lenient, Strict, is_strict, left};
-    ghost use Rattle.rpki_base.specs.DerViews.{NotCanonicalOrMemory, ReadsOrMemory, TakesSaidOrMemory};
+    ghost use Rattle.rpki_der.specs.SequenceViews.{NotCanonicalOrMemory, ReadsOrMemory, TakesSaidOrMemory};
     ghost use Rattle.rpki_text.specs.Memory.{IsMemory};
     ghost use Rattle.rpki_as.specs.AsDer.{IsAsResources, IsPresentAsClaim, as_resources_octets};
     ghost use Rattle.rpki_as.specs.AsDerReading.{as_choice_at, as_choice_by};
@@ -91,7 +91,7 @@ impl<A: Allocator> AsResources<A> {
     }
 
     // The reading behind `take_from`.
-    #[tactic(auto, unfolding(rpki_der::specs::Reading::refined, rpki_base::specs::DerReading::only))]
+    #[tactic(auto, unfolding(rpki_der::specs::Reading::refined, rpki_der::specs::SequenceReading::only))]
     fn next_resources(
         alloc: A,
         cursor: &mut Cursor<'_>,

@@ -10,7 +10,7 @@ ghost use Rattle.rpki_block.specs.Ranges.{range_bounds};
 use crate::block::AsBlock;
 use crate::range::AsRange;
 use rpki_base::asn::Asn;
-use rpki_base::der::{Encode, ReadNext};
+use rpki_der::sequences::{Encode, ReadNext};
 use rpki_der::{Content, Cursor, DerError, append_header, header_len, tag};
 use std::alloc::{AllocError, Allocator};
 
@@ -30,7 +30,7 @@ impl AsBlock {
     /// The faults are those of [`Cursor::take_value`] and `BadInteger`; `BadTag` also where neither an INTEGER nor a
     /// SEQUENCE stands there, `ReversedRange` where the first number of a range is above the second, and `TrailingData`
     /// where more than two numbers are in it. From a strict cursor also `NotCanonical` for a range of one number.
-    #[tactic(auto, using(crate::proofs::AsDerLemmas::block_back, crate::proofs::AsDerLemmas::set_block_reading, rpki_base::proofs::DerCursors::reads_optional_value_by))]
+    #[tactic(auto, using(crate::proofs::AsDerLemmas::block_back, crate::proofs::AsDerLemmas::set_block_reading, rpki_der::proofs::SequenceCursors::reads_optional_value_by))]
     pub fn take_opt_from(cursor: &mut Cursor<'_>) -> Result<Option<AsBlock>, DerError>
         ensures reads { Lenient cursor.old
             (ReadsOptional IsAsBlock (λ block. block) cursor.old cursor.new result) }
@@ -56,7 +56,7 @@ impl AsBlock {
 
     /// Passes over the next block; None at the end, and there alone. The faults are those of `take_opt_from` without
     /// `ReversedRange`: the numbers of a range may be in any order.
-    #[tactic(auto, using(crate::specs::AsDerLaws::skip_reading, rpki_base::proofs::DerCursors::reads_optional_value_by))]
+    #[tactic(auto, using(crate::specs::AsDerLaws::skip_reading, rpki_der::proofs::SequenceCursors::reads_optional_value_by))]
     pub fn skip_opt_in(cursor: &mut Cursor<'_>) -> Result<Option<()>, DerError>
         ensures reads { ReadsOptional IsBlockInAnyOrder (λ u. u) cursor.old cursor.new result }
         ensures exact { Takes (λ u. u) cursor.old cursor.new result (optional skip_block_at) }
@@ -197,7 +197,7 @@ impl AsBlock {
         }
     }
 
-    #[tactic(auto, unfolding(rpki_base::specs::DerReading::by_tag))]
+    #[tactic(auto, unfolding(rpki_der::specs::SequenceReading::by_tag))]
     fn of_value(value: &Content<'_>) -> Result<AsBlock, DerError>
         ensures exact { Gives (λ block. block) result (as_block_of (tlv value.now)) }
     {
@@ -222,7 +222,7 @@ impl AsBlock {
         Ok(Some(()))
     }
 
-    #[tactic(auto, unfolding(rpki_base::specs::DerReading::by_tag))]
+    #[tactic(auto, unfolding(rpki_der::specs::SequenceReading::by_tag))]
     fn pass_over_value(value: &Content<'_>) -> Result<(), DerError>
         ensures exact { Gives (λ u. u) result (skip_block_of (tlv value.now)) }
     {
@@ -235,7 +235,7 @@ impl AsBlock {
 }
 
 /// The range in the content of a SEQUENCE.
-#[tactic(auto, unfolding(rpki_base::specs::DerReading::pair_in, crate::specs::AsDerReading::range_of), using(std::proofs::lemmas::Bool::Decides::nat_tests, std::proofs::lemmas::Grind::common_steps, std::proofs::lemmas::Result::err_from_is_err_and))]
+#[tactic(auto, unfolding(rpki_der::specs::SequenceReading::pair_in, crate::specs::AsDerReading::range_of), using(std::proofs::lemmas::Bool::Decides::nat_tests, std::proofs::lemmas::Grind::common_steps, std::proofs::lemmas::Result::err_from_is_err_and))]
 fn range_within(content: Cursor<'_>) -> Result<AsRange, DerError>
     ensures exact { Gives (λ range. range) result (as_range_in (left content.entry)) }
 {
@@ -250,7 +250,7 @@ fn range_within(content: Cursor<'_>) -> Result<AsRange, DerError>
 }
 
 /// Passes over two AS numbers in the content of a SEQUENCE.
-#[tactic(auto, unfolding(rpki_base::specs::DerReading::pair_in))]
+#[tactic(auto, unfolding(rpki_der::specs::SequenceReading::pair_in))]
 fn skip_pair_within(content: Cursor<'_>) -> Result<(), DerError>
     ensures exact { Gives (λ u. u) result (skip_pair (left content.entry)) }
 {

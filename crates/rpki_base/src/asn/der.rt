@@ -10,8 +10,8 @@ impl Asn {
     ghost use Rattle.rpki_der.specs.Reading.{Gives, unsigned};
     ghost use Rattle.rpki_der.specs.Views.{Parses, ReadsValue, Takes, content_octets, is_strict, left};
     ghost use Rattle.rpki_base.specs.AsnDer.{IsAsNumber, SaysAsNumber, as_number_at, as_number_octets, skip_number};
-    ghost use Rattle.rpki_base.specs.DerReading.{Skips, if_tagged, skipping};
-    ghost use Rattle.rpki_base.specs.DerViews.{ReadsTagged};
+    ghost use Rattle.rpki_der.specs.SequenceReading.{Skips, if_tagged, skipping};
+    ghost use Rattle.rpki_der.specs.SequenceViews.{ReadsTagged};
 
     /// Takes an AS number.
     ///
@@ -32,7 +32,7 @@ impl Asn {
 
     /// Takes an AS number as `take_from` does where the next octet is the tag of an INTEGER; None where it isn't, and
     /// at the end.
-    #[tactic(auto, using(crate::proofs::DerCursors::reads_tagged_by, rpki_der::proofs::Readings::u32_reading))]
+    #[tactic(auto, using(rpki_der::proofs::SequenceCursors::reads_tagged_by, rpki_der::proofs::Readings::u32_reading))]
     pub fn take_opt_from(cursor: &mut Cursor<'_>) -> Result<Option<Asn>, DerError>
         ensures reads { ReadsTagged 2 IsAsNumber cursor.old cursor.new result }
         ensures exact { Takes (λ n. n) cursor.old cursor.new result (if_tagged 2 as_number_at) }
@@ -42,7 +42,7 @@ impl Asn {
     }
 
     /// Passes over an AS number, with the faults of `take_from`.
-    #[tactic(auto, using(rpki_der::proofs::Cursors::reads_by, crate::proofs::DerReadings::number_skipped))]
+    #[tactic(auto, using(rpki_der::proofs::Cursors::reads_by, rpki_der::proofs::SequenceReadings::number_skipped))]
     pub fn skip_in(cursor: &mut Cursor<'_>) -> Result<(), DerError>
         ensures reads { ReadsValue (Skips IsAsNumber) (λ u. u) cursor.old cursor.new result }
         ensures exact { Takes (λ u. u) cursor.old cursor.new result (skipping as_number_at) }
@@ -110,7 +110,7 @@ impl Asn {
     ghost use Rattle.std.specs.Prelude.{◌≡◌};
     ghost use Rattle.rpki_der.specs.Views.{Takes, is_strict};
     ghost use Rattle.rpki_base.specs.AsnDer.{as_number_at};
-    ghost use Rattle.rpki_base.specs.DerReading.{if_tagged, skipping};
+    ghost use Rattle.rpki_der.specs.SequenceReading.{if_tagged, skipping};
 
     #[inline]
     fn next(cursor: &mut Cursor<'_>) -> Result<Asn, DerError>
@@ -121,7 +121,7 @@ impl Asn {
         Ok(Asn(number))
     }
 
-    #[tactic(auto, unfolding(crate::specs::DerReading::if_tagged))]
+    #[tactic(auto, unfolding(rpki_der::specs::SequenceReading::if_tagged))]
     fn next_opt(cursor: &mut Cursor<'_>) -> Result<Option<Asn>, DerError>
         ensures exact { Takes (λ n. n) cursor.old cursor.new result (if_tagged 2 as_number_at) }
         ensures mode { is_strict cursor.new ≡ is_strict cursor.old }

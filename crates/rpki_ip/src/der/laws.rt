@@ -1,11 +1,11 @@
 //! What holds of the octets of families, prefixes and ranges, each law as the contract of a function that does nothing.
 ghost use Rattle.std.specs.Prelude.{◌≡◌, ◌≢◌, ◌↔◌, ℕ, ◌<◌, ◌≤◌, ◌^◌, List, Err, true, IsOk};
-ghost use Rattle.rpki_base.specs.DerFaults.{BeginsWithTwo};
+ghost use Rattle.rpki_der.specs.SequenceFaults.{BeginsWithTwo};
 ghost use Rattle.rpki_addr.specs.Prefixes.{IsPrefix, PrefixValue, last_of};
 ghost use Rattle.rpki_der.specs.Der.{Bits, IsBytes, OneFront};
 ghost use Rattle.rpki_der.specs.declared.error.DerError.TheVariants.{NotCanonical, ReversedRange};
-ghost use Rattle.rpki_base.specs.declared.family.AddressFamily.{AddressFamily};
-ghost use Rattle.rpki_base.specs.FamilyDer.{IsFamilyDer, family_der};
+ghost use Rattle.rpki_der.specs.declared.family.AddressFamily.{AddressFamily};
+ghost use Rattle.rpki_der.specs.FamilyDer.{IsFamilyDer, family_der};
 ghost use Rattle.rpki_ip.specs.PrefixDer.{IsPrefixDer, SaysPrefix, prefix_at, prefix_by, prefix_der};
 ghost use Rattle.rpki_ip.specs.RangeDer.{IsRangeDer, IsRangeWithin, IsShortestFrom, IsShortestTo, range_der, range_in, without_end_ones, without_end_zeros};
 ghost use Rattle.rpki_ip.specs.Ranges.{RangeValue};

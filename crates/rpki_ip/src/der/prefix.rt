@@ -3,10 +3,10 @@ ghost use Rattle.std.specs.Prelude.{◌≡◌, ◌≤◌, ◌-◌, ◌*◌, ◌^
 ghost use Rattle.rpki_der.specs.Der.{big_endian};
 ghost use Rattle.rpki_ip.specs.PrefixDer.{is_longer};
 
+use crate::addr::Addr;
 use crate::der::error::DecodePrefixError;
 use crate::family::AddressFamily;
 use crate::prefix::Prefix;
-use rpki_addr::bits::Addr;
 use rpki_der::{
     BitString, Content, Cursor, DerError, append_bit_string, bit_string_len, put_bit_string, tag,
 };
@@ -20,7 +20,7 @@ impl Prefix {
     ghost use Rattle.rpki_der.specs.Der.{Spells};
     ghost use Rattle.rpki_der.specs.Views.{Lenient, LenientIn, NotCanonicalInOr, NotCanonicalOr, Parses, ReadsValue, Strict, StrictIn, Takes, content_octets, is_strict, is_strict_in, left};
     ghost use Rattle.rpki_der.specs.Views.{bit_string_of};
-    ghost use Rattle.rpki_base.specs.Families.{bits_of};
+    ghost use Rattle.rpki_der.specs.Families.{bits_of};
     ghost use Rattle.rpki_ip.specs.PrefixDer.{IsPrefixContent, IsPrefixDer, IsPrefixWithin, IsStrictContent, SaysPrefix, prefix_at, prefix_by, prefix_der, prefix_in, prefix_in_by};
 
     /// The prefix whose addresses begin with the bits of a bit string (RFC 3779, 2.2.3.8), which has at most sixteen

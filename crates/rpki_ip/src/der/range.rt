@@ -2,9 +2,9 @@
 ghost use Rattle.std.specs.Prelude.{◌≡◌};
 ghost use Rattle.rpki_ip.specs.RangeDer.{IsShortestFrom, IsShortestTo, without_end_ones, without_end_zeros};
 
+use crate::addr::Addr;
 use crate::prefix::Prefix;
 use crate::range::AddressRange;
-use rpki_addr::bits::Addr;
 use rpki_der::{append_header, header_len, tag};
 use std::alloc::{AllocError, Allocator};
 

@@ -1,22 +1,22 @@
 //! Sets of addresses in DER: a SEQUENCE of blocks (RFC 3779, 2.2.3.6).
 ghost use Rattle.std.specs.Prelude.{◌≡◌, ◌≤◌, ◌<◌, ◌+◌, ◌^◌, ◌++◌, length, vec_len, OnOk, OnErr, IsOk};
 ghost use Rattle.std.specs.Vec.{vec_capacity};
-ghost use Rattle.rpki_base.specs.DerWriting.{octets_of_all, sequence_octets};
-ghost use Rattle.rpki_base.specs.FamiliesDer.{option_der};
+ghost use Rattle.rpki_der.specs.SequenceWriting.{octets_of_all, sequence_octets};
+ghost use Rattle.rpki_der.specs.FamiliesDer.{option_der};
 ghost use Rattle.rpki_chain.specs.ChoiceDer.{choice_octets};
-ghost use Rattle.rpki_base.specs.FamilyDer.{family_der};
+ghost use Rattle.rpki_der.specs.FamilyDer.{family_der};
 ghost use Rattle.rpki_ip_block.specs.BlockDer.{ip_block_der};
 ghost use Rattle.rpki_chain.specs.Choices.{if_present};
 
 use crate::blocks::IpBlocks;
-use rpki_base::der::{encode_sequence, take_sequence_of};
-use rpki_base::memory::OrMemory;
 use rpki_chain::choice::ResourcesChoice;
 use rpki_chain::der::{append_choice, choice_len, content_len};
+use rpki_der::sequences::{encode_sequence, take_sequence_of};
 use rpki_der::{Cursor, DerError, append_header, header_len, tag};
 use rpki_ip::family::AddressFamily;
 use rpki_ip_block::block::IpBlock;
 use rpki_ip_block::der::IpBlockReader;
+use rpki_text::memory::OrMemory;
 use std::alloc::{AllocError, Allocator};
 
 impl<A: Allocator> IpBlocks<A> {
@@ -25,11 +25,11 @@ impl<A: Allocator> IpBlocks<A> {
     ghost use Rattle.rpki_chain.specs.Runs.{Runs, Holds, IsRunsOfBlocks};
     ghost use Rattle.rpki_der.specs.Der.{Spells};
     ghost use Rattle.rpki_der.specs.Views.{Lenient, Strict, is_strict, left};
-    ghost use Rattle.rpki_base.specs.DerViews.{NotCanonicalOrMemory, ReadsOrMemory, TakesSaidOrMemory};
+    ghost use Rattle.rpki_der.specs.SequenceViews.{NotCanonicalOrMemory, ReadsOrMemory, TakesSaidOrMemory};
     ghost use Rattle.rpki_text.specs.Memory.{IsMemory};
-    ghost use Rattle.rpki_base.specs.Families.{bits_of};
+    ghost use Rattle.rpki_der.specs.Families.{bits_of};
     ghost use Rattle.rpki_ip.specs.Whole.{IsWhole};
-    ghost use Rattle.rpki_base.specs.declared.family.AddressFamily.TheVariants.{Ipv4};
+    ghost use Rattle.rpki_der.specs.declared.family.AddressFamily.TheVariants.{Ipv4};
     ghost use Rattle.rpki_ip_block.specs.BlockReading.{ip_blocks_at};
     ghost use Rattle.rpki_ip_block.specs.Blocks.{ip_bounds};
     ghost use Rattle.rpki_ipres.specs.Modes.{ip_blocks_by};

@@ -1,14 +1,14 @@
 //! What holds of the octets of sets and resources, each law as the contract of a function that does nothing.
 ghost use Rattle.std.specs.Prelude.{◌≡◌, ◌≢◌, ℕ, List, [], ◌<◌, ◌^◌, ◌↔◌, ◌++◌, Err, length};
-ghost use Rattle.rpki_base.specs.DerFaults.{BeginsEmpty, BeginsWithValue};
+ghost use Rattle.rpki_der.specs.SequenceFaults.{BeginsEmpty, BeginsWithValue};
 ghost use Rattle.rpki_chain.specs.Claims.{Claim, claim_of};
 ghost use Rattle.rpki_chain.specs.Runs.{Runs, Holds};
 ghost use Rattle.rpki_chain.specs.declared.choice.ResourcesChoice.TheVariants.{Missing};
-ghost use Rattle.rpki_base.specs.FamiliesFaults.{BeginsWithRepeat};
+ghost use Rattle.rpki_der.specs.FamiliesFaults.{BeginsWithRepeat};
 ghost use Rattle.rpki_der.specs.Der.{OneFront, sequence_value};
 ghost use Rattle.rpki_der.specs.declared.error.DerError.TheVariants.{DuplicateFamily, EmptyBlocks, NoFamily, NotCanonical};
-ghost use Rattle.rpki_base.specs.Families.{bits_of};
-ghost use Rattle.rpki_base.specs.declared.family.AddressFamily.TheVariants.{Ipv4, Ipv6};
+ghost use Rattle.rpki_der.specs.Families.{bits_of};
+ghost use Rattle.rpki_der.specs.declared.family.AddressFamily.TheVariants.{Ipv4, Ipv6};
 ghost use Rattle.rpki_ip_block.specs.BlockReading.{ip_blocks_at};
 ghost use Rattle.rpki_ipres.specs.SetDer.{IsIpBlockSequence, IsIpFamily, ip_family_der, ip_set_der};
 ghost use Rattle.rpki_ipres.specs.Resources.{IsFamilyClaim, IsIpClaim};

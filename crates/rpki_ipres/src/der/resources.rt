@@ -1,12 +1,12 @@
 //! Resources of addresses in DER: of one family, and by families (RFC 3779, 2.2.3.1 to 2.2.3.6).
 use crate::der::blocks::{append_family, family_len, put_family};
 use crate::resources::IpResources;
-use rpki_base::der::{ReadClaim, take_families};
-use rpki_base::memory::OrMemory;
 use rpki_chain::der::{content_len, encode_choice, make_sets, take_listed};
+use rpki_der::sequences::{ReadClaim, take_families};
 use rpki_der::{Cursor, DerError, append_header, header_len, tag};
 use rpki_ip::family::AddressFamily;
 use rpki_ip_block::der::IpBlockReader;
+use rpki_text::memory::OrMemory;
 use std::alloc::{AllocError, Allocator};
 
 impl<A: Allocator> IpResources<A> {
@@ -15,13 +15,13 @@ impl<A: Allocator> IpResources<A> {
     ghost use Rattle.rpki_text.specs.Memory.{IsMemory};
     ghost use Rattle.rpki_der.specs.Der.{Spells};
     ghost use Rattle.rpki_der.specs.Views.{Lenient, Strict, is_strict, left};
-    ghost use Rattle.rpki_base.specs.DerViews.{NotCanonicalOrMemory, ReadsOrMemory, TakesSaidOrMemory};
+    ghost use Rattle.rpki_der.specs.SequenceViews.{NotCanonicalOrMemory, ReadsOrMemory, TakesSaidOrMemory};
     ghost use Rattle.rpki_chain.specs.Claims.{Claim};
     ghost use Rattle.rpki_chain.specs.declared.choice.ResourcesChoice.TheVariants.{Missing};
-    ghost use Rattle.rpki_base.specs.Families.{bits_of};
-    ghost use Rattle.rpki_base.specs.declared.family.AddressFamily.TheVariants.{Ipv4, Ipv6};
+    ghost use Rattle.rpki_der.specs.Families.{bits_of};
+    ghost use Rattle.rpki_der.specs.declared.family.AddressFamily.TheVariants.{Ipv4, Ipv6};
     ghost use Rattle.rpki_ipres.specs.Modes.{ip_families_by, ip_resources_by};
-    ghost use Rattle.rpki_base.specs.FamiliesDer.{families_der};
+    ghost use Rattle.rpki_der.specs.FamiliesDer.{families_der};
     ghost use Rattle.rpki_ipres.specs.Resources.{ArePresentClaims, IsPresentFamilyClaim, IsFamilyClaim, IsIpClaim, IsWholeClaim};
     ghost use Rattle.rpki_chain.specs.Choices.{if_present};
     ghost use Rattle.rpki_ipres.specs.ResourcesDer.{IsIpFamilies, IsIpResources, SaysClaimOf, SaysClaims, ip_families_at, ip_families_der, ip_member_der, ip_resources_at, ip_resources_der};
@@ -222,10 +222,10 @@ struct IpResourcesReader<A: Allocator> {
 
 impl<A: Allocator + Copy> ReadClaim for IpResourcesReader<A> {
     ghost use Rattle.std.specs.Prelude.{List, None};
-    ghost use Rattle.rpki_base.specs.DerReading.{IsSequenceFrom, IsSequenceOf};
+    ghost use Rattle.rpki_der.specs.SequenceReading.{IsSequenceFrom, IsSequenceOf};
     ghost use Rattle.rpki_chain.specs.ChoiceDer.{IsChoiceOf};
     ghost use Rattle.rpki_chain.specs.declared.choice.ResourcesChoice.{ResourcesChoice};
-    ghost use Rattle.rpki_base.specs.Families.{bits_of};
+    ghost use Rattle.rpki_der.specs.Families.{bits_of};
     ghost use Rattle.rpki_ip_block.specs.BlockDer.{IsIpBlockDer};
     ghost use Rattle.rpki_ip_block.specs.declared.block.IpBlock.{IpBlock};
     ghost use Rattle.rpki_ipres.specs.ResourcesDer.{SaysClaimOf, ip_resources_at};

@@ -5,7 +5,7 @@ use std::marker::PhantomData;
 
 pub const ADDR: Names<resources::Addr, 2> = [
     PhantomData::<there::Addr>,
-    PhantomData::<rpki_addr::bits::Addr>,
+    PhantomData::<rpki_ip::addr::Addr>,
 ];
 
 pub const ADDRESS_FAMILY: Names<resources::AddressFamily, 2> = [

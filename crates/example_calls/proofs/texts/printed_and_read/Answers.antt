@@ -1,6 +1,6 @@
 use Rattle.example_calls.proofs.Common.{ap, subst, ◌∙◌, ◌≡◌, Runs, IsMemory}
-use Rattle.rpki_base.specs.declared.family.AddressFamily.{AddressFamily}
-use Rattle.rpki_base.specs.declared.family.AddressFamily.TheVariants.{Ipv6}
+use Rattle.rpki_der.specs.declared.family.AddressFamily.{AddressFamily}
+use Rattle.rpki_der.specs.declared.family.AddressFamily.TheVariants.{Ipv6}
 use Rattle.rpki_ipres.specs.SetText.{set_text}
 use Rattle.example_calls.proofs.texts.printed_and_read.Goals as goal
 

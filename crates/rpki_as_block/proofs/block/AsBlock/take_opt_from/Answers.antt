@@ -1,5 +1,5 @@
 -- What the reading gives is the value of the grammar of the mode.
-use Rattle.rpki_base.proofs.DerCursors.{reads_optional_value_by}
+use Rattle.rpki_der.proofs.SequenceCursors.{reads_optional_value_by}
 use Rattle.rpki_der.proofs.Modes.{exact_optional_by, refused_optional_by}
 use Rattle.rpki_as_block.proofs.Common.{IsAsBlock, as_block_reading, as_block_modal, IsStrictBlock, as_block_at, as_block_by}
 use Rattle.rpki_as_block.proofs.block.AsBlock.take_opt_from.Goals as goal

@@ -1,6 +1,0 @@
--- What the reading gives is what the octets say by the rule.
-use Rattle.rpki_base.proofs.FamilyLemmas.{family_check, renamed}
-use Rattle.rpki_base.proofs.family.AddressFamily.from_octets.Goals as goal
-
-pub returns : goal.returns
-returns c = renamed _ _ _ _ _ _ _ family_check tt c.named_by.ensures.exact c.map_err.ensures.cases

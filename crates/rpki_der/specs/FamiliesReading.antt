@@ -1,0 +1,90 @@
+-- Reading families from left to right, with the first fault that is met: a family that was there
+-- before is a fault before its claim is read, and none at all is one before whatever follows.
+use Rattle.std.specs.Prelude.{◌≡◌, ℕ, zero, suc, Bool, true, not, List, [], ◌∷◌, length, Some, None, is_some, Result, Ok, Err, ◌==◌, if◌then◌else◌}
+use Rattle.rpki_der.specs.declared.error.DerError.{DerError}
+use Rattle.rpki_der.specs.declared.error.DerError.TheVariants.{DuplicateFamily, NoFamily, Truncated}
+use Rattle.rpki_der.specs.Reading.{◌>>=◌, ended, passing, refined, tagged_at}
+use Rattle.rpki_der.specs.declared.family.AddressFamily.{AddressFamily}
+use Rattle.rpki_der.specs.declared.family.AddressFamily.TheVariants.{Ipv4, Ipv6}
+use Rattle.rpki_der.specs.FamilyDer.{family_at}
+use Rattle.rpki_der.specs.FamiliesDer.{ByFamily}
+
+-- whether IPv4 has something, and whether IPv6 has
+abbrev pub seen : {X : Type 0} → ByFamily X → Bool × Bool
+seen fs = (is_some fs.0, is_some fs.1)
+
+-- whether the family has
+abbrev pub was_seen : Bool × Bool → AddressFamily → Bool
+was_seen before Ipv4 = before.0
+was_seen before Ipv6 = before.1
+
+-- the same, and for a family this
+abbrev pub with_claim : {X : Type 0} → ByFamily X → AddressFamily → X → ByFamily X
+with_claim fs Ipv4 x = (Some x, fs.1)
+with_claim fs Ipv6 x = (fs.0, Some x)
+
+-- a member of a family that wasn't there before
+unfoldable pub member_in : {X : Type 0} → (AddressFamily → List ℕ → Result (X × List ℕ) DerError) → Bool × Bool → List ℕ
+    → Result (AddressFamily × X) DerError
+member_in claim_at before content = do
+  family ← family_at content
+  if was_seen before family.0 then Err DuplicateFamily else claim_at family.0 family.1 >>= λ claim. ended claim.1 >>= λ end. Ok (family.0, claim.0)
+
+abbrev pub member_at : {X : Type 0} → (AddressFamily → List ℕ → Result (X × List ℕ) DerError) → Bool × Bool → List ℕ
+    → Result ((AddressFamily × X) × List ℕ) DerError
+member_at claim_at before = refined (tagged_at 48) (member_in claim_at before)
+
+-- members to the end of the octets, beside what was found before; a member has an octet at least,
+-- so the number of the octets is enough for steps
+unfoldable pub members_by : {X : Type 0} → (Bool × Bool → List ℕ → Result ((AddressFamily × X) × List ℕ) DerError) → ℕ
+    → ByFamily X → List ℕ → Result (ByFamily X) DerError
+members_by member steps found [] = Ok found
+members_by member zero found (b ∷ bytes) = Err Truncated
+members_by member (suc steps) found (b ∷ bytes) = do
+  one ← member (seen found) (b ∷ bytes)
+  members_by member steps (with_claim found one.0.0 one.0.1) one.1
+
+abbrev pub members_in : {X : Type 0} → (AddressFamily → List ℕ → Result (X × List ℕ) DerError) → ℕ → ByFamily X → List ℕ
+    → Result (ByFamily X) DerError
+members_in claim_at = members_by (member_at claim_at)
+
+abbrev pub none_found : {X : Type 0} → ByFamily X
+none_found = (None, None)
+
+unfoldable pub families_in : {X : Type 0} → (AddressFamily → List ℕ → Result (X × List ℕ) DerError) → List ℕ
+    → Result (ByFamily X) DerError
+families_in claim_at content = if length content == 0 then Err NoFamily else members_in claim_at (length content) none_found content
+
+abbrev pub families_at : {X : Type 0} → (AddressFamily → List ℕ → Result (X × List ℕ) DerError) → List ℕ
+    → Result (ByFamily X × List ℕ) DerError
+families_at claim_at = refined (tagged_at 48) (families_in claim_at)
+
+-- ---- by the mode: strictly, IPv4 doesn't stand behind IPv6, which is looked at once its family was read
+
+abbrev pub is_in_order : Bool × Bool → AddressFamily → Bool
+is_in_order before Ipv4 = not before.1
+is_in_order before Ipv6 = true
+
+unfoldable pub member_in_by : {X : Type 0} → Bool → (AddressFamily → List ℕ → Result (X × List ℕ) DerError)
+    → Bool × Bool → List ℕ → Result (AddressFamily × X) DerError
+member_in_by strict claim_at before content = do
+  family ← family_at content
+  if was_seen before family.0 then Err DuplicateFamily else passing strict (is_in_order before) family.0 >>= λ ordered. claim_at family.0 family.1 >>= λ claim. ended claim.1 >>= λ end. Ok (family.0, claim.0)
+
+abbrev pub member_by : {X : Type 0} → Bool → (AddressFamily → List ℕ → Result (X × List ℕ) DerError) → Bool × Bool
+    → List ℕ → Result ((AddressFamily × X) × List ℕ) DerError
+member_by strict claim_at before = refined (tagged_at 48) (member_in_by strict claim_at before)
+
+unfoldable pub families_in_by : {X : Type 0} → Bool → (AddressFamily → List ℕ → Result (X × List ℕ) DerError) → List ℕ
+    → Result (ByFamily X) DerError
+families_in_by strict claim_at content = if length content == 0 then Err NoFamily else members_by (member_by strict claim_at) (length content) none_found content
+
+abbrev pub families_by : {X : Type 0} → Bool → (AddressFamily → List ℕ → Result (X × List ℕ) DerError) → List ℕ
+    → Result (ByFamily X × List ℕ) DerError
+families_by strict claim_at = refined (tagged_at 48) (families_in_by strict claim_at)
+
+-- ---- what is read says what is answered
+
+-- of a member: its family, and what its claim says
+abbrev pub SaysClaim : {X Y : Type 0} → (Y → X → Type 0) → AddressFamily × Y → AddressFamily × X → Type 0
+SaysClaim C found member = (found.0 ≡ member.0) × C found.1 member.1

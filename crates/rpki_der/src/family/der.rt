@@ -1,0 +1,172 @@
+//! Address families in DER.
+use crate::cursor::Cursor;
+use crate::error::DerError;
+use crate::family::{AddressFamily, DecodeFamilyError};
+use crate::tag;
+use crate::write::{append_octets, octets_len, put_octets};
+use std::alloc::{AllocError, Allocator};
+
+impl AddressFamily {
+    ghost use Rattle.std.specs.Prelude.{◌≡◌, ℕ, List, Ok, ◌≤◌, ◌+◌, ◌++◌, length, vec_len, OnOk, OnErr, IsOk, MatchResult};
+    ghost use Rattle.rpki_der.specs.SequenceReading.{Skips, if_tagged, skipping};
+    ghost use Rattle.rpki_der.specs.SequenceViews.{ReadsTagged};
+    ghost use Rattle.rpki_der.specs.declared.family.AddressFamily.{AddressFamily as SomeFamily};
+    ghost use Rattle.std.specs.Vec.{vec_capacity};
+    ghost use Rattle.rpki_der.specs.Views.{ReadsValue, Takes, is_strict, left};
+    ghost use Rattle.rpki_der.specs.FamilyDer.{IsFamilyDer, SaysFamily, family_at, family_der, family_octets};
+
+    /// The family that two octets name (RFC 3779, 2.2.3.3): 0 and 1 for IPv4, 0 and 2 for IPv6. Any others are refused
+    /// by [`DecodeFamilyError`].
+    pub fn from_octets(octets: &[u8]) -> Result<AddressFamily, DecodeFamilyError>
+        ensures { MatchResult result (SaysFamily octets.now)
+            (λ _. (family : SomeFamily) → ¬ SaysFamily octets.now family) }
+    {
+        Self::named_by(octets).map_err(|_| DecodeFamilyError)
+    }
+
+    /// Takes the OCTET STRING of a family (RFC 3779, 2.2.3.3; RFC 6487, 4.8.10).
+    ///
+    /// The faults are those of [`Cursor::take_value`]; `BadTag` also where another value stands there, and `BadFamily`
+    /// where its octets name no family.
+    #[tactic(auto, using(crate::proofs::Cursors::reads_by, crate::proofs::FamilyLemmas::family_reading, crate::proofs::FamilyLemmas::family_again))]
+    pub fn take_from(cursor: &mut Cursor<'_>) -> Result<AddressFamily, DerError>
+        ensures reads { ReadsValue IsFamilyDer (λ f. f) cursor.old cursor.new result }
+        ensures exact { Takes (λ f. f) cursor.old cursor.new result family_at }
+        // What is written of a family is read as that family, whatever follows it.
+        ensures reads_back { (family : SomeFamily) (rest : List ℕ)
+            → left cursor.old ≡ family_der family ++ rest
+            → (result ≡ Ok family) × (left cursor.new ≡ rest) }
+        ensures mode { is_strict cursor.new ≡ is_strict cursor.old }
+    {
+        Self::next(cursor)
+    }
+
+    /// Takes a family as `take_from` does where the next octet is the tag of an OCTET STRING; None where it isn't, and
+    /// at the end.
+    #[tactic(auto, using(crate::proofs::SequenceCursors::reads_tagged_by, crate::proofs::FamilyLemmas::family_reading))]
+    pub fn take_opt_from(cursor: &mut Cursor<'_>) -> Result<Option<AddressFamily>, DerError>
+        ensures reads { ReadsTagged 4 IsFamilyDer cursor.old cursor.new result }
+        ensures exact { Takes (λ f. f) cursor.old cursor.new result (if_tagged 4 family_at) }
+        ensures mode { is_strict cursor.new ≡ is_strict cursor.old }
+    {
+        Self::next_opt(cursor)
+    }
+
+    /// Passes over what `take_opt_from` takes, with the same faults.
+    #[tactic(auto, using(crate::proofs::SequenceCursors::reads_tagged_by, crate::proofs::FamilyLemmas::family_skipped))]
+    pub fn skip_opt_in(cursor: &mut Cursor<'_>) -> Result<Option<()>, DerError>
+        ensures reads { ReadsTagged 4 (Skips IsFamilyDer) cursor.old cursor.new result }
+        ensures exact { Takes (λ u. u) cursor.old cursor.new result
+            (if_tagged 4 (skipping family_at)) }
+        ensures mode { is_strict cursor.new ≡ is_strict cursor.old }
+    {
+        Self::pass_over_opt(cursor)
+    }
+
+    /// How many octets `encode` appends.
+    #[tactic(auto, using(crate::proofs::FamilyLemmas::length_family))]
+    pub fn encoded_len(&self) -> usize
+        ensures len { result ≡ length (family_der self.now) }
+        ensures short { result ≡ 4 }
+    {
+        octets_len(self.octets())
+    }
+
+    /// Appends the OCTET STRING of the family. `AllocError` where there is no memory for it; then the octets stay as
+    /// they were.
+    #[tactic(auto, using(crate::proofs::FamilyLemmas::family_again))]
+    pub fn encode<A: Allocator>(&self, out: &mut Vec<u8, A>) -> Result<(), AllocError>
+        ensures ok { OnOk result (out.new.items ≡ out.old.items ++ family_der self.now) }
+        ensures err { OnErr result (out.new.items ≡ out.old.items) }
+        ensures succeeds { vec_len out.old + length (family_der self.now) ≤ vec_capacity out.old
+            → IsOk result }
+        ensures capacity { vec_capacity out.old ≤ vec_capacity out.new }
+        // It is read back, whatever follows it.
+        ensures read_back { (rest : List ℕ)
+            → family_at (family_der self.now ++ rest) ≡ Ok (self.now, rest) }
+    {
+        put_octets(out, self.octets())
+    }
+
+    /// Appends what `encode` does, where there is room for it.
+    pub fn append<A: Allocator>(&self, out: &mut Vec<u8, A>)
+        requires room { vec_len out.old + length (family_der self.now) ≤ vec_capacity out.old }
+        ensures items { out.new.items ≡ out.old.items ++ family_der self.now }
+        ensures capacity { vec_capacity out.old ≤ vec_capacity out.new }
+    {
+        append_octets(out, self.octets())
+    }
+
+    // The octets that name the family.
+    fn octets(&self) -> &'static [u8]
+        ensures { result.now ≡ family_octets self.now }
+    {
+        match self {
+            AddressFamily::Ipv4 => &[0, 1],
+            AddressFamily::Ipv6 => &[0, 2],
+        }
+    }
+}
+
+// The readings behind the calls.
+impl AddressFamily {
+    ghost use Rattle.std.specs.Prelude.{◌≡◌};
+    ghost use Rattle.rpki_der.specs.SequenceReading.{if_tagged, skipping};
+    ghost use Rattle.rpki_der.specs.Reading.{Gives};
+    ghost use Rattle.rpki_der.specs.Views.{Takes, is_strict};
+    ghost use Rattle.rpki_der.specs.FamilyDer.{family_at, family_of_octets};
+
+    #[tactic(auto, unfolding(crate::specs::FamilyDer::family_of_octets))]
+    fn named_by(octets: &[u8]) -> Result<AddressFamily, DerError>
+        ensures exact { Gives (λ f. f) result (family_of_octets octets.now) }
+    {
+        match octets {
+            [0, 1] => Ok(AddressFamily::Ipv4),
+            [0, 2] => Ok(AddressFamily::Ipv6),
+            _ => Err(DerError::BadFamily),
+        }
+    }
+
+    #[tactic(auto, unfolding(crate::specs::Reading::refined))]
+    fn next(cursor: &mut Cursor<'_>) -> Result<AddressFamily, DerError>
+        ensures exact { Takes (λ f. f) cursor.old cursor.new result family_at }
+        ensures mode { is_strict cursor.new ≡ is_strict cursor.old }
+    {
+        let mut ahead = *cursor;
+        let family = Self::named_by(ahead.take_octets()?)?;
+        *cursor = ahead;
+        Ok(family)
+    }
+
+    #[tactic(auto, unfolding(crate::specs::SequenceReading::if_tagged))]
+    fn next_opt(cursor: &mut Cursor<'_>) -> Result<Option<AddressFamily>, DerError>
+        ensures exact { Takes (λ f. f) cursor.old cursor.new result (if_tagged 4 family_at) }
+        ensures mode { is_strict cursor.new ≡ is_strict cursor.old }
+    {
+        if cursor.peek_tag() != Some(tag::OCTET_STRING) {
+            return Ok(None);
+        }
+        Ok(Some(Self::next(cursor)?))
+    }
+
+    #[tactic(auto, unfolding(crate::specs::SequenceReading::if_tagged))]
+    fn pass_over_opt(cursor: &mut Cursor<'_>) -> Result<Option<()>, DerError>
+        ensures exact { Takes (λ u. u) cursor.old cursor.new result
+            (if_tagged 4 (skipping family_at)) }
+        ensures mode { is_strict cursor.new ≡ is_strict cursor.old }
+    {
+        if cursor.peek_tag() != Some(tag::OCTET_STRING) {
+            return Ok(None);
+        }
+        Ok(Some(Self::pass_over(cursor)?))
+    }
+
+    #[tactic(auto, unfolding(crate::specs::Reading::refined))]
+    fn pass_over(cursor: &mut Cursor<'_>) -> Result<(), DerError>
+        ensures exact { Takes (λ u. u) cursor.old cursor.new result (skipping family_at) }
+        ensures mode { is_strict cursor.new ≡ is_strict cursor.old }
+    {
+        Self::next(cursor)?;
+        Ok(())
+    }
+}

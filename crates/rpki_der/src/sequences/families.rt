@@ -1,0 +1,235 @@
+//! Reading the SEQUENCE of families of addresses, each with its claim (RFC 3779, 2.2.3; RFC 6487, 4.8.10), whatever a
+//! claim is.
+ghost use Rattle.std.specs.Prelude.{◌≡◌, ℕ, Bool, List, Result, length};
+ghost use Rattle.rpki_der.specs.declared.error.DerError.{DerError as Fault};
+ghost use Rattle.rpki_der.specs.Der.{Refines};
+ghost use Rattle.rpki_der.specs.Reading.{Gives, IsModal, IsReading, passing};
+ghost use Rattle.rpki_der.specs.Views.{Lenient, is_strict, left};
+ghost use Rattle.rpki_der.specs.SequenceViews.{GivesSaidOrMemory, ReadsOrMemory, TakesSaidOrMemory};
+ghost use Rattle.rpki_der.specs.declared.family.AddressFamily.{AddressFamily as SomeFamily};
+ghost use Rattle.rpki_der.specs.FamiliesDer.{IsFamilies, SaysByFamily};
+ghost use Rattle.rpki_der.specs.FamiliesReading.{SaysClaim, families_at, families_by, families_in_by, is_in_order, member_by, member_in_by, members_by, none_found, seen, was_seen, with_claim};
+
+use crate::cursor::Cursor;
+use crate::error::DerError;
+use crate::family::AddressFamily;
+use rpki_text::memory::OrMemory;
+
+/// What IPv4 has and what IPv6 has, if they have something.
+pub type ByFamily<C> = (Option<C>, Option<C>);
+
+/// Reads the claim of a family.
+pub trait ReadClaim {
+    /// What is read.
+    type Claim: Drop;
+
+    // What the octets say, before it is made a claim.
+    ghost Found: { Type 0 };
+
+    // What the octets say is this claim.
+    ghost says: { Self → Found → Self.Claim → Type 0 };
+
+    // The octets are a claim of the family.
+    ghost grammar: { Self → SomeFamily → List ℕ → Found → Type 0 };
+
+    // The claim of the family at the front of octets and what follows it, or the first fault.
+    ghost reading: { Self → SomeFamily → List ℕ → Result (Found × List ℕ) Fault };
+
+    // The octets are a claim of the family that a strict cursor takes.
+    ghost strict_grammar: { Self → SomeFamily → List ℕ → Found → Type 0 };
+
+    // What `reading` gives, for a cursor that is strict or isn't.
+    ghost reading_by: { Self → Bool → SomeFamily → List ℕ → Result (Found × List ℕ) Fault };
+
+    /// Takes a claim of the family. The cursor stays where it is refused, and where memory is wanting.
+    fn take_claim(
+        &self,
+        family: AddressFamily,
+        cursor: &mut Cursor<'_>,
+    ) -> Result<Self::Claim, OrMemory<DerError>>
+        ensures exact { Lenient cursor.old
+            (TakesSaidOrMemory (says self.now) cursor.old cursor.new result
+            (reading self.now family)) }
+        // In either mode.
+        ensures by_mode { TakesSaidOrMemory (says self.now) cursor.old cursor.new result
+            (reading_by self.now (is_strict cursor.old) family) }
+        ensures mode { is_strict cursor.new ≡ is_strict cursor.old };
+
+    // The reading finds the claims of the grammar, whatever follows them, and no others.
+    ghost is_reading: { (reader : Self) (family : SomeFamily)
+        → IsReading (grammar reader family) (reading reader family) };
+
+    // Leniently it is `reading`; strictly it refuses by `NotCanonical` all but the claims of the strict grammar.
+    ghost is_modal: { (reader : Self) (family : SomeFamily)
+        → IsModal (strict_grammar reader family) (reading reader family)
+        (λ strict. reading_by reader strict family) };
+}
+
+/// Takes a SEQUENCE of families in any order, each at most once and with its claim, one at least.
+///
+/// `Refused` with the first fault: that of a SEQUENCE, of a family or of a claim; `DuplicateFamily` for a family that
+/// was there before, ahead of its claim; `TrailingData` for octets that are left behind a claim; `NoFamily` where the
+/// SEQUENCE is empty; from a strict cursor also `NotCanonical` for IPv4 behind IPv6, ahead of its claim. `Memory` where
+/// there is no memory for a claim. The cursor then stays.
+pub fn take_families<R: ReadClaim>(
+    reader: &R,
+    cursor: &mut Cursor<'_>,
+) -> Result<ByFamily<R::Claim>, OrMemory<DerError>>
+    ensures reads { Lenient cursor.old (ReadsOrMemory
+        (IsFamilies (λ family. Refines (R.grammar reader.now family) (R.says reader.now)))
+        (λ fs. fs) cursor.old cursor.new result) }
+    ensures exact { Lenient cursor.old (TakesSaidOrMemory
+        (SaysByFamily (R.says reader.now)) cursor.old cursor.new result
+        (families_at (R.reading reader.now))) }
+    // In either mode.
+    ensures by_mode { TakesSaidOrMemory
+        (SaysByFamily (R.says reader.now)) cursor.old cursor.new result
+        (families_by (is_strict cursor.old) (R.reading_by reader.now (is_strict cursor.old))) }
+    ensures mode { is_strict cursor.new ≡ is_strict cursor.old }
+{
+    next_families(reader, cursor)
+}
+
+// The reading behind the take, whose further clauses, `reads` and `exact`, follow from `by_mode` by theorems on the
+// grammar.
+#[tactic(auto, unfolding(crate::specs::Reading::refined))]
+fn next_families<R: ReadClaim>(
+    reader: &R,
+    cursor: &mut Cursor<'_>,
+) -> Result<ByFamily<R::Claim>, OrMemory<DerError>>
+    ensures by_mode { TakesSaidOrMemory
+        (SaysByFamily (R.says reader.now)) cursor.old cursor.new result
+        (families_by (is_strict cursor.old) (R.reading_by reader.now (is_strict cursor.old))) }
+    ensures mode { is_strict cursor.new ≡ is_strict cursor.old }
+{
+    let mut ahead = *cursor;
+    let found = families_within(reader, ahead.take_sequence()?)?;
+    *cursor = ahead;
+    Ok(found)
+}
+
+/// The families of a content, to its end.
+#[tactic(auto, unfolding(crate::specs::FamiliesReading::families_in_by))]
+fn families_within<R: ReadClaim>(
+    reader: &R,
+    content: Cursor<'_>,
+) -> Result<ByFamily<R::Claim>, OrMemory<DerError>>
+    ensures by_mode { GivesSaidOrMemory
+        (SaysByFamily (R.says reader.now)) result
+        (families_in_by (is_strict content.entry)
+        (R.reading_by reader.now (is_strict content.entry)) (left content.entry)) }
+{
+    if content.is_empty() {
+        return Err(OrMemory::Refused(DerError::NoFamily));
+    }
+    members_within(reader, content)
+}
+
+/// The members of a content, to its end, by their families.
+fn members_within<R: ReadClaim>(
+    reader: &R,
+    content: Cursor<'_>,
+) -> Result<ByFamily<R::Claim>, OrMemory<DerError>>
+    ensures by_mode { GivesSaidOrMemory
+        (SaysByFamily (R.says reader.now)) result
+        (members_by (member_by (is_strict content.entry)
+        (R.reading_by reader.now (is_strict content.entry))) (length (left content.entry))
+        none_found (left content.entry)) }
+{
+    let mut inside = content;
+    let mut found = (None, None);
+    while !inside.is_empty() {
+        let (family, claim) = next_member(reader, &mut inside, &found)?;
+        found = and_claim(found, family, claim);
+    }
+    Ok(found)
+}
+
+/// Takes a member of a family that isn't among those that were found.
+#[tactic(auto, unfolding(crate::specs::Reading::refined))]
+fn next_member<R: ReadClaim>(
+    reader: &R,
+    cursor: &mut Cursor<'_>,
+    found: &ByFamily<R::Claim>,
+) -> Result<(AddressFamily, R::Claim), OrMemory<DerError>>
+    ensures by_mode { TakesSaidOrMemory
+        (SaysClaim (R.says reader.now)) cursor.old cursor.new result
+        (member_by (is_strict cursor.old) (R.reading_by reader.now (is_strict cursor.old))
+        (seen found.now)) }
+    ensures mode { is_strict cursor.new ≡ is_strict cursor.old }
+{
+    let mut ahead = *cursor;
+    let member = member_within(reader, ahead.take_sequence()?, found)?;
+    *cursor = ahead;
+    Ok(member)
+}
+
+/// The member in the content of a SEQUENCE.
+#[tactic(auto, unfolding(crate::specs::FamiliesReading::member_in_by))]
+fn member_within<R: ReadClaim>(
+    reader: &R,
+    content: Cursor<'_>,
+    found: &ByFamily<R::Claim>,
+) -> Result<(AddressFamily, R::Claim), OrMemory<DerError>>
+    ensures by_mode { GivesSaidOrMemory
+        (SaysClaim (R.says reader.now)) result
+        (member_in_by (is_strict content.entry)
+        (R.reading_by reader.now (is_strict content.entry)) (seen found.now)
+        (left content.entry)) }
+{
+    let mut inside = content;
+    let family = AddressFamily::take_from(&mut inside)?;
+    if is_among(found, family) {
+        return Err(OrMemory::Refused(DerError::DuplicateFamily));
+    }
+    look_at_order(&content, found, family)?;
+    let claim = reader.take_claim(family, &mut inside)?;
+    inside.finish()?;
+    Ok((family, claim))
+}
+
+/// Whether the family was found.
+fn is_among<C>(found: &ByFamily<C>, family: AddressFamily) -> bool
+    ensures { result ≡ was_seen (seen found.now) family }
+{
+    match family {
+        AddressFamily::Ipv4 => found.0.is_some(),
+        AddressFamily::Ipv6 => found.1.is_some(),
+    }
+}
+
+/// Refuses IPv4 behind IPv6 in the content of a strict cursor.
+#[tactic(auto, unfolding(crate::specs::Reading::passing))]
+fn look_at_order<C>(
+    content: &Cursor<'_>,
+    found: &ByFamily<C>,
+    family: AddressFamily,
+) -> Result<(), DerError>
+    ensures exact { Gives (λ u. family) result
+        (passing (is_strict content.now) (is_in_order (seen found.now)) family) }
+{
+    if !is_in_order(found, family) && content.is_strict() {
+        return Err(DerError::NotCanonical);
+    }
+    Ok(())
+}
+
+/// Whether the family may stand behind those that were found.
+fn is_in_order<C>(found: &ByFamily<C>, family: AddressFamily) -> bool
+    ensures { result ≡ is_in_order (seen found.now) family }
+{
+    match family {
+        AddressFamily::Ipv4 => found.1.is_none(),
+        AddressFamily::Ipv6 => true,
+    }
+}
+
+/// What was found, and the claim of one family more.
+fn and_claim<C: Drop>(found: ByFamily<C>, family: AddressFamily, claim: C) -> ByFamily<C>
+    ensures { result ≡ with_claim found family claim }
+{
+    match family {
+        AddressFamily::Ipv4 => (Some(claim), found.1),
+        AddressFamily::Ipv6 => (found.0, Some(claim)),
+    }
+}

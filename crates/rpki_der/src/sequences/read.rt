@@ -1,0 +1,154 @@
+//! Reading the values of a SEQUENCE.
+ghost use Rattle.std.specs.Prelude.{◌≡◌, ◌<◌, ℕ, Bool, List, Result, length};
+ghost use Rattle.rpki_der.specs.declared.error.DerError.{DerError as Fault};
+ghost use Rattle.rpki_der.specs.Reading.{IsModal, IsReading, optional};
+ghost use Rattle.rpki_der.specs.Views.{Lenient, Takes, is_strict, left};
+ghost use Rattle.rpki_der.specs.SequenceReading.{IsSequenceFrom, sequence_from, values_from};
+ghost use Rattle.rpki_der.specs.SequenceViews.{GivesOrMemory, ReadsOrMemory, TakesOrMemory};
+
+use crate::cursor::Cursor;
+use crate::error::DerError;
+use rpki_text::memory::OrMemory;
+use std::alloc::Allocator;
+
+/// Reads values that stand one after another. What the next one may be can depend on a state, to which the values
+/// before it led.
+pub trait ReadNext {
+    /// What is read.
+    type Value: Drop;
+
+    /// What is remembered of the values before.
+    type State: Copy;
+
+    // The state before the first value.
+    ghost first: { Self → Self.State };
+
+    // The state after a value.
+    ghost after: { Self → Self.State → Self.Value → Self.State };
+
+    // The octets are a value, in this state.
+    ghost grammar: { Self → Self.State → List ℕ → Self.Value → Type 0 };
+
+    // The value at the front of octets and what follows it, or the first fault.
+    ghost reading: { Self → Self.State → List ℕ → Result (Self.Value × List ℕ) Fault };
+
+    // The octets are a value, in this state, that a strict cursor takes.
+    ghost strict_grammar: { Self → Self.State → List ℕ → Self.Value → Type 0 };
+
+    // What `reading` gives, for a cursor that is strict or isn't.
+    ghost reading_by: { Self → Bool → Self.State → List ℕ → Result (Self.Value × List ℕ) Fault };
+
+    /// The state before the first value.
+    fn first_state(&self) -> Self::State
+        ensures { result ≡ first self.now };
+
+    /// The state after a value.
+    fn state_after(&self, state: Self::State, value: &Self::Value) -> Self::State
+        ensures { result ≡ after self.now state value.now };
+
+    /// Takes the next value; None at the end, and there alone. The cursor stays where a value is refused.
+    fn take_next(
+        &self,
+        state: Self::State,
+        cursor: &mut Cursor<'_>,
+    ) -> Result<Option<Self::Value>, DerError>
+        ensures exact { Lenient cursor.old
+            (Takes (λ value. value) cursor.old cursor.new result
+            (optional (reading self.now state))) }
+        // In either mode.
+        ensures by_mode { Takes (λ value. value) cursor.old cursor.new result
+            (optional (reading_by self.now (is_strict cursor.old) state)) }
+        ensures mode { is_strict cursor.new ≡ is_strict cursor.old };
+
+    // The reading finds the values of the grammar, whatever follows them, and no others.
+    ghost is_reading: { (reader : Self) (state : Self.State)
+        → IsReading (grammar reader state) (reading reader state) };
+
+    // A value has an octet at least.
+    ghost has_octets: { (reader : Self) (state : Self.State) (front : List ℕ) (value : Self.Value)
+        → grammar reader state front value → 0 < length front };
+
+    // Leniently it is `reading`; strictly it refuses by `NotCanonical` all but the values of the strict grammar.
+    ghost is_modal: { (reader : Self) (state : Self.State)
+        → IsModal (strict_grammar reader state) (reading reader state)
+        (λ strict. reading_by reader strict state) };
+}
+
+/// All values of a content, to its end. `Refused` with the first fault, `Memory` where there is no memory for them.
+pub fn read_values<R: ReadNext, A: Allocator>(
+    alloc: A,
+    reader: &R,
+    content: Cursor<'_>,
+) -> Result<Vec<R::Value, A>, OrMemory<DerError>>
+    ensures exact { Lenient content.entry (GivesOrMemory (λ values. values.items) result
+        (values_from (R.after reader.now) (R.reading reader.now) (R.first reader.now)
+        (left content.entry))) }
+    // In either mode.
+    ensures by_mode { GivesOrMemory (λ values. values.items) result
+        (values_from (R.after reader.now) (R.reading_by reader.now (is_strict content.entry))
+        (R.first reader.now) (left content.entry)) }
+{
+    values_within(alloc, reader, content)
+}
+
+// The reading behind it, whose further clause, `exact`, follows from `by_mode`.
+fn values_within<R: ReadNext, A: Allocator>(
+    alloc: A,
+    reader: &R,
+    content: Cursor<'_>,
+) -> Result<Vec<R::Value, A>, OrMemory<DerError>>
+    ensures by_mode { GivesOrMemory (λ values. values.items) result
+        (values_from (R.after reader.now) (R.reading_by reader.now (is_strict content.entry))
+        (R.first reader.now) (left content.entry)) }
+{
+    let mut inside = content;
+    let mut values = Vec::new(alloc);
+    let mut state = reader.first_state();
+    while let Some(value) = reader.take_next(state, &mut inside)? {
+        state = reader.state_after(state, &value);
+        values.push(value)?;
+    }
+    Ok(values)
+}
+
+/// Takes a SEQUENCE of values, which may be none. `Refused` with the first fault, `Memory` where there is no memory for
+/// the values; the cursor then stays.
+pub fn take_sequence_of<R: ReadNext, A: Allocator>(
+    alloc: A,
+    reader: &R,
+    cursor: &mut Cursor<'_>,
+) -> Result<Vec<R::Value, A>, OrMemory<DerError>>
+    ensures reads { Lenient cursor.old
+        (ReadsOrMemory
+        (IsSequenceFrom (R.after reader.now) (R.grammar reader.now) (R.first reader.now))
+        (λ values. values.items) cursor.old cursor.new result) }
+    ensures exact { Lenient cursor.old
+        (TakesOrMemory (λ values. values.items) cursor.old cursor.new result
+        (sequence_from (R.after reader.now) (R.reading reader.now) (R.first reader.now))) }
+    // In either mode.
+    ensures by_mode { TakesOrMemory (λ values. values.items) cursor.old cursor.new result
+        (sequence_from (R.after reader.now) (R.reading_by reader.now (is_strict cursor.old))
+        (R.first reader.now)) }
+    ensures mode { is_strict cursor.new ≡ is_strict cursor.old }
+{
+    next_sequence(alloc, reader, cursor)
+}
+
+// The reading behind the take, whose further clauses, `reads` and `exact`, follow from `by_mode` by theorems on the
+// grammar.
+#[tactic(auto, unfolding(crate::specs::Reading::refined))]
+fn next_sequence<R: ReadNext, A: Allocator>(
+    alloc: A,
+    reader: &R,
+    cursor: &mut Cursor<'_>,
+) -> Result<Vec<R::Value, A>, OrMemory<DerError>>
+    ensures by_mode { TakesOrMemory (λ values. values.items) cursor.old cursor.new result
+        (sequence_from (R.after reader.now) (R.reading_by reader.now (is_strict cursor.old))
+        (R.first reader.now)) }
+    ensures mode { is_strict cursor.new ≡ is_strict cursor.old }
+{
+    let mut ahead = *cursor;
+    let values = read_values(alloc, reader, ahead.take_sequence()?)?;
+    *cursor = ahead;
+    Ok(values)
+}

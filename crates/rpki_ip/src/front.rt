@@ -1,77 +1,160 @@
 //! Addresses and what follows them at the front of a text, for lists that are read in one pass.
 //!
 //! A call answers None of other texts, some of which the readers of whole texts take.
-ghost use Rattle.std.specs.Prelude.{Some, IfSome};
+ghost use Rattle.std.specs.Prelude.{◌≡◌, Some, IfSome};
 ghost use Rattle.std.specs.Str.Parse.{AllDigits};
 ghost use Rattle.rpki_addr.specs.AddressFronts.{IsAtFront};
 ghost use Rattle.rpki_ip.specs.BlockText.{IsAddressText, IsPrefixAt, IsRangeFrom, WithAddress};
 
 use crate::addr::Addr;
-use crate::family::AddressFamily;
 use crate::prefix::Prefix;
 use crate::range::AddressRange;
-use crate::text::{greatest, range_from};
-use rpki_addr::addr::IpAddr;
 use rpki_addr::addr::front::{ipv4_front, ipv6_front};
+use rpki_addr::addr::{Ipv4Addr, Ipv6Addr};
 use rpki_text::number::digits_from;
 
-/// The address of a family whose text stands at the front, and what stands behind that.
-#[inline(always)]
-pub fn address_front(family: AddressFamily, text: &[u8]) -> Option<(IpAddr, &[u8])>
-    ensures { IfSome result
-        (λ found. IsAtFront (IsAddressText (Some family)) text.now found.0 found.1.now) }
-{
-    match family {
-        AddressFamily::Ipv4 => match ipv4_front(text) {
-            Some((addr, rest)) => Some((IpAddr::V4(addr), rest)),
-            None => None,
-        },
-        AddressFamily::Ipv6 => match ipv6_front(text) {
-            Some((addr, rest)) => Some((IpAddr::V6(addr), rest)),
-            None => None,
-        },
+/// An address whose type tells its family, so that what reads many of a family asks for the family once.
+pub trait FamilyAddr: Copy {
+    ghost use Rattle.std.specs.Prelude.{ℕ};
+    ghost use Rattle.rpki_addr.specs.Prefixes.{width};
+    ghost use Rattle.rpki_ip.specs.AddrText.{first_of, greatest_of};
+    ghost use Rattle.rpki_addr.specs.declared.addr.IpAddr.{IpAddr};
+    ghost use Rattle.rpki_ip.specs.AddrText.{family_of};
+    ghost use Rattle.rpki_der.specs.declared.family.AddressFamily.{AddressFamily};
+
+    // The family.
+    ghost family: { AddressFamily };
+
+    // The address, as one of either family.
+    ghost ip: { Self → IpAddr };
+
+    ghost BITS: { ℕ };
+
+    /// How many bits the addresses of the family have.
+    const BITS: u8;
+
+    /// The address whose text stands at the front, and what stands behind that.
+    fn at_front(text: &[u8]) -> Option<(Self, &[u8])>
+        ensures { IfSome result
+            (λ found. IsAtFront (IsAddressText (Some family)) text.now (ip found.0) found.1.now) };
+
+    /// The least number that the address stands for.
+    fn least(self) -> Addr
+        ensures { result ≡ first_of (ip self) };
+
+    /// The greatest number that the address stands for.
+    fn greatest(self) -> Addr
+        ensures { result ≡ greatest_of (ip self) };
+
+    // Each address is one of the family.
+    ghost has_family: { (a : Self) → family_of (ip a) ≡ family };
+
+    // It has that many bits.
+    ghost has_width: { (a : Self) → width (ip a) ≡ BITS };
+}
+
+impl FamilyAddr for Ipv4Addr {
+    ghost use Rattle.std.specs.Prelude.{refl};
+    ghost use Rattle.rpki_addr.specs.declared.addr.IpAddr.TheVariants.{V4};
+    ghost use Rattle.rpki_der.specs.declared.family.AddressFamily.TheVariants.{Ipv4};
+
+    ghost family = { Ipv4 };
+
+    ghost ip = { V4 };
+
+    ghost BITS = { 32 };
+
+    ghost has_family = { λ a. refl };
+
+    ghost has_width = { λ a. refl };
+
+    const BITS: u8 = 32;
+
+    #[inline(always)]
+    fn at_front(text: &[u8]) -> Option<(Ipv4Addr, &[u8])> {
+        ipv4_front(text)
+    }
+
+    #[inline(always)]
+    fn least(self) -> Addr {
+        Addr::from_v4(self)
+    }
+
+    #[inline(always)]
+    fn greatest(self) -> Addr {
+        Addr::from_v4(self).to_max(32)
     }
 }
 
-/// The range from an address to one of a family whose text stands at the front, and what stands behind that.
+impl FamilyAddr for Ipv6Addr {
+    ghost use Rattle.std.specs.Prelude.{refl};
+    ghost use Rattle.rpki_addr.specs.declared.addr.IpAddr.TheVariants.{V6};
+    ghost use Rattle.rpki_der.specs.declared.family.AddressFamily.TheVariants.{Ipv6};
+
+    ghost family = { Ipv6 };
+
+    ghost ip = { V6 };
+
+    ghost BITS = { 128 };
+
+    ghost has_family = { λ a. refl };
+
+    ghost has_width = { λ a. refl };
+
+    const BITS: u8 = 128;
+
+    #[inline(always)]
+    fn at_front(text: &[u8]) -> Option<(Ipv6Addr, &[u8])> {
+        ipv6_front(text)
+    }
+
+    #[inline(always)]
+    fn least(self) -> Addr {
+        Addr::from_v6(self)
+    }
+
+    #[inline(always)]
+    fn greatest(self) -> Addr {
+        Addr::from_v6(self)
+    }
+}
+
+/// The range from an address to one of its family whose text stands at the front, and what stands behind that.
 #[inline(always)]
-pub fn range_to_front(
-    family: AddressFamily,
-    first: IpAddr,
-    text: &[u8],
-) -> Option<(AddressRange, &[u8])>
+pub fn range_to_front<A: FamilyAddr>(first: A, text: &[u8]) -> Option<(AddressRange, &[u8])>
     ensures { IfSome result (λ found. IsAtFront
-        (λ t r. WithAddress (Some family) t (λ last. IsRangeFrom first last r))
+        (λ t r. WithAddress (Some A.family) t (λ last. IsRangeFrom (A.ip first) last r))
         text.now found.0 found.1.now) }
 {
-    let Some((last, rest)) = address_front(family, text) else {
+    let Some((last, rest)) = A::at_front(text) else {
         return None;
     };
-    match range_from(first, last) {
-        Ok(range) => Some((range, rest)),
-        Err(_) => None,
+    let (min, max) = (first.least(), last.greatest());
+    if min > max {
+        return None;
     }
+    Some((AddressRange::new(min, max), rest))
 }
 
 /// The prefix at an address whose length in digits stands at the front, and what stands behind that. The bits behind
 /// the length are cleared.
 #[inline(always)]
-pub fn prefix_to_front(first: IpAddr, text: &[u8]) -> Option<(Prefix, &[u8])>
+pub fn prefix_to_front<A: FamilyAddr>(first: A, text: &[u8]) -> Option<(Prefix, &[u8])>
     ensures { IfSome result
-        (λ found. IsAtFront (λ t p. AllDigits 10 t × IsPrefixAt first t p)
+        (λ found. IsAtFront (λ t p. AllDigits 10 t × IsPrefixAt (A.ip first) t p)
         text.now found.0 found.1.now) }
 {
     let (len, end) = digits_from(text, 0);
-    if end == 0 || len > u64::from(first.width()) {
+    if end == 0 || len > u64::from(A::BITS) {
         return None;
     }
-    Some((Prefix::new(Addr::from(first), len as u8), &text[end..]))
+    Some((Prefix::new(first.least(), len as u8), &text[end..]))
 }
 
 /// The range of the numbers of one address.
 #[inline(always)]
-pub fn range_of(addr: IpAddr) -> AddressRange
-    ensures { IsRangeFrom addr addr result }
+pub fn range_of<A: FamilyAddr>(addr: A) -> AddressRange
+    ensures { IsRangeFrom (A.ip addr) (A.ip addr) result }
 {
-    AddressRange::new(Addr::from(addr), greatest(&addr))
+    AddressRange::new(addr.least(), addr.greatest())
 }

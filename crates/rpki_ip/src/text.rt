@@ -22,7 +22,7 @@ use std::fmt;
 use std::str::FromStr;
 
 /// The greatest number that an address stands for.
-pub(crate) fn greatest(addr: &IpAddr) -> Addr
+fn greatest(addr: &IpAddr) -> Addr
     ensures { result ≡ greatest_of addr.now }
 {
     match addr {
@@ -82,7 +82,7 @@ pub fn range_between(
 
 /// The range from one address to another of its family. Where there is none, it is first their families that differ,
 /// and then their order.
-pub(crate) fn range_from(first: IpAddr, last: IpAddr) -> Result<AddressRange, FromStrError>
+fn range_from(first: IpAddr, last: IpAddr) -> Result<AddressRange, FromStrError>
     ensures { MatchResult result (IsRangeFrom first last) (HasPairFault first last) }
 {
     let (min, max) = match (&first, &last) {

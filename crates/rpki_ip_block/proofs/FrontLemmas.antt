@@ -1,6 +1,5 @@
 -- Blocks at the front of a text: the addresses that write one, and what stands round them.
-use Rattle.rpki_ip_block.proofs.Common.{IfSome, List, None, Option, Some, [], append_assoc, arith, inl, length, length-append, lit<, lit≤, refl, subst, ℕ, ◌++◌, ◌<◌, ◌∷◌, ◌≡◌, ◌≢◌, ◌≤◌, All-append, All-cons, All-contains, All-from_recursion, All-weaker, Contains-append_left, recursion_from_All, digit_from_value, IsDigitOrDot, IsInRange, AllByRecursion, PrefixValue, IpAddr, V4, V6, AddressFamily, Ipv4, Ipv6, IsAddressText, IsIpBlockText, IsPrefixAt, IsRangeFrom, RangeValue, HasNo, dash, slash, no_dash, no_slash, not_slash, IsBlockAtFront, IsPrefixBehind, IsRangeBehind, IsForeign, IpBlock, Prefix, Range, Around, IsCutAt, All, Contains}
-use Rattle.std.specs.Borrow.{Bor}
+use Rattle.rpki_ip_block.proofs.Common.{List, Some, [], append_assoc, arith, inl, length, length-append, lit<, lit≤, refl, subst, ℕ, ◌++◌, ◌<◌, ◌∷◌, ◌≡◌, ◌≢◌, ◌≤◌, All-append, All-cons, All-contains, All-from_recursion, All-weaker, Contains-append_left, recursion_from_All, digit_from_value, IsDigitOrDot, IsInRange, AllByRecursion, PrefixValue, IpAddr, V4, V6, AddressFamily, Ipv4, Ipv6, IsAddressText, IsIpBlockText, IsPrefixAt, IsRangeFrom, RangeValue, HasNo, dash, slash, no_dash, no_slash, not_slash, IsBlockAtFront, IsPrefixBehind, IsRangeBehind, IsForeign, IpBlock, Prefix, Range, Around, IsCutAt, All, Contains}
 use Rattle.std.specs.Str.Parse.{AllDigits}
 use Rattle.rpki_addr.specs.AddressFronts.{IsAtFront}
 use Rattle.rpki_addr.proofs.WrittenBytes.{IsWrittenByte, ipv4_written, ipv4_some, ipv6_written, ipv6_colon, wider}
@@ -126,23 +125,20 @@ single_front family text a rest r h is =
     at_front family text h.front (Range r) rest (plain_single family h.front a r h.writes is) h.split
 
 -- so is what is found behind a dash or a slash
-pub range_found : (family : AddressFamily) (text : List ℕ) (a : IpAddr) (rest last : List ℕ)
-    (found : Option (IpBlock × Bor (List ℕ))) → IsAtFront (IsAddressText (Some family)) text a rest → rest ≡ dash ∷ last
-    → IfSome found (λ f. IsRangeBehind family a last f.0 f.1.now)
-    → IfSome found (λ f. IsBlockAtFront family text f.0 f.1.now)
-range_found family text a rest last None h is k = tt
-range_found family text a rest last (Some (Range r, left)) h is k =
-    at_front family text (h.front ++ dash ∷ k.front) (Range r) left.now
+pub range_found : (family : AddressFamily) (text : List ℕ) (a : IpAddr) (rest last : List ℕ) (block : IpBlock)
+    (left : List ℕ) → IsAtFront (IsAddressText (Some family)) text a rest → rest ≡ dash ∷ last
+    → IsRangeBehind family a last block left → IsBlockAtFront family text block left
+range_found family text a rest last (Range r) left h is k =
+    at_front family text (h.front ++ dash ∷ k.front) (Range r) left
     (plain_range family h.front k.front a k.writes.0 r h.writes k.writes.1 k.writes.2)
     (grind (arith, append_assoc, h.split, k.split))
-range_found family text a rest last (Some (Prefix p, left)) h is k = absurd k
+range_found family text a rest last (Prefix p) left h is k = absurd k
 
-pub prefix_found : (family : AddressFamily) (text : List ℕ) (a : IpAddr) (rest len : List ℕ)
-    (found : Option (IpBlock × Bor (List ℕ))) → IsAtFront (IsAddressText (Some family)) text a rest → rest ≡ slash ∷ len
-    → IfSome found (λ f. IsPrefixBehind a len f.0 f.1.now) → IfSome found (λ f. IsBlockAtFront family text f.0 f.1.now)
-prefix_found family text a rest len None h is k = tt
-prefix_found family text a rest len (Some (Prefix p, left)) h is k =
-    at_front family text (h.front ++ slash ∷ k.front) (Prefix p) left.now
+pub prefix_found : (family : AddressFamily) (text : List ℕ) (a : IpAddr) (rest len : List ℕ) (block : IpBlock)
+    (left : List ℕ) → IsAtFront (IsAddressText (Some family)) text a rest → rest ≡ slash ∷ len
+    → IsPrefixBehind a len block left → IsBlockAtFront family text block left
+prefix_found family text a rest len (Prefix p) left h is k =
+    at_front family text (h.front ++ slash ∷ k.front) (Prefix p) left
     (plain_prefix family h.front k.front a p h.writes k.writes.0 k.writes.1)
     (grind (arith, append_assoc, h.split, k.split))
-prefix_found family text a rest len (Some (Range r, left)) h is k = absurd k
+prefix_found family text a rest len (Range r) left h is k = absurd k

@@ -4,9 +4,9 @@ ghost use Rattle.rpki_ip_block.specs.ListText.{HasBlocks};
 ghost use Rattle.rpki_ip_block.specs.BlockFronts.{IsBlockAtFront, IsRangeBehind, IsPrefixBehind, IsBehindSpace, IsSpaceOrNothing};
 
 use crate::block::IpBlock;
-use rpki_addr::addr::IpAddr;
+use rpki_addr::addr::{Ipv4Addr, Ipv6Addr};
 use rpki_ip::family::AddressFamily;
-use rpki_ip::front::{address_front, prefix_to_front, range_of, range_to_front};
+use rpki_ip::front::{FamilyAddr, prefix_to_front, range_of, range_to_front};
 use std::alloc::{AllocError, Allocator};
 
 /// What stands behind this byte at the front.
@@ -20,10 +20,11 @@ fn behind(byte: u8, text: &[u8]) -> Option<&[u8]>
 
 /// The range from an address to the one at the front, as a block, and what stands behind that.
 #[inline(always)]
-fn range_behind(family: AddressFamily, first: IpAddr, text: &[u8]) -> Option<(IpBlock, &[u8])>
-    ensures { IfSome result (λ found. IsRangeBehind family first text.now found.0 found.1.now) }
+fn range_behind<F: FamilyAddr>(first: F, text: &[u8]) -> Option<(IpBlock, &[u8])>
+    ensures { IfSome result
+        (λ found. IsRangeBehind F.family (F.ip first) text.now found.0 found.1.now) }
 {
-    match range_to_front(family, first, text) {
+    match range_to_front(first, text) {
         Some((range, rest)) => Some((IpBlock::Range(range), rest)),
         None => None,
     }
@@ -31,8 +32,8 @@ fn range_behind(family: AddressFamily, first: IpAddr, text: &[u8]) -> Option<(Ip
 
 /// The prefix at an address by the length at the front, as a block, and what stands behind that.
 #[inline(always)]
-fn prefix_behind(first: IpAddr, text: &[u8]) -> Option<(IpBlock, &[u8])>
-    ensures { IfSome result (λ found. IsPrefixBehind first text.now found.0 found.1.now) }
+fn prefix_behind<F: FamilyAddr>(first: F, text: &[u8]) -> Option<(IpBlock, &[u8])>
+    ensures { IfSome result (λ found. IsPrefixBehind (F.ip first) text.now found.0 found.1.now) }
 {
     match prefix_to_front(first, text) {
         Some((prefix, rest)) => Some((IpBlock::Prefix(prefix), rest)),
@@ -43,14 +44,15 @@ fn prefix_behind(first: IpAddr, text: &[u8]) -> Option<(IpBlock, &[u8])>
 /// The block that one address writes, or two round a dash, or one and a length behind a slash, and what stands behind
 /// it. Other texts of blocks may be nothing to this call.
 #[inline(always)]
-fn block_front(family: AddressFamily, text: &[u8]) -> Option<(IpBlock, &[u8])>
-    ensures { IfSome result (λ found. IsBlockAtFront family text.now found.0 found.1.now) }
+#[tactic(auto, using(crate::proofs::FrontLemmas::prefix_found, crate::proofs::FrontLemmas::range_found, crate::proofs::FrontLemmas::single_front))]
+fn block_front<F: FamilyAddr>(text: &[u8]) -> Option<(IpBlock, &[u8])>
+    ensures { IfSome result (λ found. IsBlockAtFront F.family text.now found.0 found.1.now) }
 {
-    let Some((first, rest)) = address_front(family, text) else {
+    let Some((first, rest)) = F::at_front(text) else {
         return None;
     };
     if let Some(last) = behind(b'-', rest) {
-        return range_behind(family, first, last);
+        return range_behind(first, last);
     }
     if let Some(len) = behind(b'/', rest) {
         return prefix_behind(first, len);
@@ -79,18 +81,17 @@ fn is_end(text: &[u8]) -> bool
 
 /// The blocks of a list whose elements all are of the usual form, each with one space before it or none, and the last
 /// with one behind it or none. None where an element is of another form, or is none.
-pub(crate) fn usual_blocks<A: Allocator>(
+fn usual_blocks_of<F: FamilyAddr, A: Allocator>(
     alloc: A,
-    family: AddressFamily,
     text: &[u8],
 ) -> Result<Option<Vec<IpBlock, A>>, AllocError>
     ensures { IfOk result
-        (λ found. IfSome found (λ blocks. HasBlocks family text.now blocks.items)) }
+        (λ found. IfSome found (λ blocks. HasBlocks F.family text.now blocks.items)) }
 {
     let mut blocks = Vec::new(alloc);
     let mut left = text;
     loop {
-        let Some((block, rest)) = block_front(family, behind_space(left)) else {
+        let Some((block, rest)) = block_front::<F>(behind_space(left)) else {
             return Ok(None);
         };
         blocks.push(block)?;
@@ -101,5 +102,20 @@ pub(crate) fn usual_blocks<A: Allocator>(
             return Ok(None);
         };
         left = more;
+    }
+}
+
+/// The blocks of a list of the family, as [`usual_blocks_of`] reads them.
+pub(crate) fn usual_blocks<A: Allocator>(
+    alloc: A,
+    family: AddressFamily,
+    text: &[u8],
+) -> Result<Option<Vec<IpBlock, A>>, AllocError>
+    ensures { IfOk result
+        (λ found. IfSome found (λ blocks. HasBlocks family text.now blocks.items)) }
+{
+    match family {
+        AddressFamily::Ipv4 => usual_blocks_of::<Ipv4Addr, A>(alloc, text),
+        AddressFamily::Ipv6 => usual_blocks_of::<Ipv6Addr, A>(alloc, text),
     }
 }

@@ -5,9 +5,10 @@ use Rattle.rpki_ip.proofs.FrontLemmas.{prefix_at}
 use Rattle.rpki_ip.proofs.front.prefix_to_front.Goals as goal
 
 pub returns : goal.returns
-returns c =
-    let small : c.digits_from-len.result.0 ≤ width c.args.first =
-    omega (arith, c.if-len-from.false, c.from.ensures, c.width.ensures) in
+returns g c =
+    let first = g.A.FamilyAddr.ip c.args.first in
+    let small : c.digits_from-len.result.0 ≤ width first =
+    omega (arith, c.if-len-from.false, c.from.ensures, g.met.A.FamilyAddr.has_width c.args.first) in
     rw (take_rest c.args.text.now c.digits_from-len.result.1)
-    (prefix_at c.args.first c.args.text.now _ _ c.new.result c.digits_from-len.ensures c.if-end-eq0.false small
-    (c.new.ensures.value ∙ rw c.from-2.ensures refl))
+    (prefix_at first c.args.text.now _ _ c.new.result c.digits_from-len.ensures c.if-end-eq0.false small
+    (c.new.ensures.value ∙ rw c.least.ensures refl))

@@ -1,6 +1,6 @@
 -- Each block completes those so far, and the last ends the list.
 use Rattle.rpki_ip_block.proofs.ListFronts.{all_read, less_left, one_more}
-use Rattle.rpki_ip_block.proofs.front.usual_blocks.Goals as goal
+use Rattle.rpki_ip_block.proofs.front.usual_blocks_of.Goals as goal
 
 pub returns-then-is_end : goal.returns-then-is_end
 returns-then-is_end g c = rw c.in_ok-push.ensures.items (all_read _ _ _ _ _ c.behind_space.ensures c.in-Some.ensures _ _ c.loop-block.invariant (c.is_end.ensures c.if-is_end.true))

@@ -2,12 +2,13 @@
 //!
 //! A text is read as one of IPv4, as one of IPv6, or as one of either family. It is printed as one of IPv4, by the
 //! first 32 bits of each address, or as one of IPv6.
-ghost use Rattle.std.specs.Prelude.{◌≡◌, ◌≤◌, ◌↔◌, IsTrue, None, Some, MatchResult, length, take};
+ghost use Rattle.std.specs.Prelude.{◌≡◌, ◌+◌, ◌≤◌, ◌↔◌, ◌++◌, IsTrue, None, Some, MatchResult, length, take};
 ghost use Rattle.std.specs.Fmt.{WritesOnOk};
 ghost use Rattle.rpki_text.specs.Reading.{Answers};
 ghost use Rattle.rpki_ip.specs.AddrText.{greatest_of};
 ghost use Rattle.rpki_ip.specs.BlockText.{IsAddressText, address_fault, IsPrefixBetween, HasPrefixFault, IsRangeFrom, HasPairFault, IsIpRangeBetween, HasRangeFault, IsSingleText, HasAddressFault, IsIpPrefixText, HasIpPrefixTextFault, IsRangeText, HasRangeTextFault};
-ghost use Rattle.rpki_ip.specs.PrintedText.{shown_bits, as_ip, ip_prefix_text, ip_range_text};
+ghost use Rattle.rpki_ip.specs.PrintedText.{shown_bits, as_ip, addr_text, ip_prefix_text, ip_range_text};
+ghost use Rattle.rpki_der.specs.Families.{bits_of};
 ghost use Rattle.rpki_der.specs.declared.family.AddressFamily.TheVariants.{Ipv4, Ipv6};
 
 use crate::addr::Addr;
@@ -15,7 +16,9 @@ use crate::error::FromStrError;
 use crate::family::AddressFamily;
 use crate::prefix::Prefix;
 use crate::range::AddressRange;
-use rpki_addr::addr::print::{IP_ROOM, PREFIX_ROOM, put, put_ip, put_with_length, write_front};
+use rpki_addr::addr::print::{
+    IP_ROOM, PREFIX_ROOM, put, put_ipv4, put_ipv6, put_length, write_front,
+};
 use rpki_addr::addr::{AddrParseError, IpAddr, Ipv4Addr, Ipv6Addr};
 use rpki_text::number::{ParseIntError, parse_u8};
 use std::fmt;
@@ -159,18 +162,32 @@ fn look_alike(family: AddressFamily, a: Addr, b: Addr) -> bool
 /// The most bytes of a range: two addresses and a dash.
 const RANGE_ROOM: usize = 2 * IP_ROOM + 1;
 
+/// Puts an address, as one of the family, and answers where it ends, and how many bits the family's addresses have.
+#[inline(always)]
+fn put_addr(out: &mut [u8], at: usize, family: AddressFamily, addr: Addr) -> (usize, u8)
+    requires { at + 40 ≤ length out.old }
+    ensures text { take result.0 out.new ≡ take at out.old ++ addr_text family addr }
+    ensures end { result.0 ≤ at + 40 }
+    ensures width { result.1 ≡ bits_of family }
+{
+    match family {
+        AddressFamily::Ipv4 => (put_ipv4(out, at, addr.to_v4().octets()), 32),
+        AddressFamily::Ipv6 => (put_ipv6(out, at, addr.to_bits()), 128),
+    }
+}
+
 /// Puts a prefix, as one of the family, in front of a buffer, and answers where it ends.
 fn put_prefix(out: &mut [u8], family: AddressFamily, prefix: Prefix) -> usize
     requires { 44 ≤ length out.old }
     ensures text { take result out.new ≡ ip_prefix_text family prefix }
     ensures end { result ≤ 44 }
 {
+    let (end, width) = put_addr(out, 0, family, prefix.addr());
     let len = prefix.addr_len();
-    let addr = shown_addr(family, prefix.addr());
-    if len == addr.width() {
-        return put_ip(out, 0, addr);
+    if len == width {
+        return end;
     }
-    put_with_length(out, 0, addr, len)
+    put_length(out, end, len)
 }
 
 /// Puts a range, as one of the family, in front of a buffer, and answers where it ends.
@@ -179,12 +196,13 @@ fn put_range(out: &mut [u8], family: AddressFamily, range: AddressRange) -> usiz
     ensures text { take result out.new ≡ ip_range_text family range }
     ensures end { result ≤ 81 }
 {
-    let end = put_ip(out, 0, shown_addr(family, range.min()));
+    let (end, _) = put_addr(out, 0, family, range.min());
     if look_alike(family, range.min(), range.max()) {
         return end;
     }
     let end = put(out, end, b'-');
-    put_ip(out, end, shown_addr(family, range.max()))
+    let (end, _) = put_addr(out, end, family, range.max());
+    end
 }
 
 impl Prefix {

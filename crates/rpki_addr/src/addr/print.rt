@@ -67,7 +67,7 @@ pub fn put_octet(out: &mut [u8], at: usize, octet: u8) -> usize
 
 /// Puts four octets in decimal with dots between them.
 #[tactic(auto, using(crate::proofs::AddressLemmas::dotted_octets, std::proofs::lemmas::Grind::common_steps))]
-pub(crate) fn put_ipv4(out: &mut [u8], at: usize, octets: [u8; 4]) -> usize
+pub fn put_ipv4(out: &mut [u8], at: usize, octets: [u8; 4]) -> usize
     requires { at + 15 ≤ length out.old }
     ensures text { take result out.new ≡ take at out.old ++ dotted octets }
     ensures end { result ≤ at + 15 }
@@ -206,7 +206,7 @@ fn put_mapped(out: &mut [u8], at: usize, low: Ipv4Addr) -> usize
 
 /// Puts the IPv6 address of these bits. An IPv4-mapped one ends in its IPv4 address (RFC 5952, 5).
 #[tactic(auto, using(crate::proofs::PrintedAddressLemmas::mapped_is, crate::proofs::PrintedAddressLemmas::unmapped_is, std::proofs::lemmas::Grind::common_steps))]
-pub(crate) fn put_ipv6(out: &mut [u8], at: usize, bits: u128) -> usize
+pub fn put_ipv6(out: &mut [u8], at: usize, bits: u128) -> usize
     requires { at + 40 ≤ length out.old }
     ensures text { take result out.new ≡ take at out.old ++ ipv6_text bits }
     ensures end { result ≤ at + 40 }
@@ -230,6 +230,17 @@ pub fn put_ip(out: &mut [u8], at: usize, addr: IpAddr) -> usize
     }
 }
 
+/// Puts a slash and the length of a prefix.
+#[inline(always)]
+pub fn put_length(out: &mut [u8], at: usize, len: u8) -> usize
+    requires { at + 4 ≤ length out.old }
+    ensures text { take result out.new ≡ take at out.old ++ slash ∷ decimal len }
+    ensures end { result ≤ at + 4 }
+{
+    let end = put(out, at, b'/');
+    put_octet(out, end, len)
+}
+
 /// Puts an address of either family, a slash and the length of a prefix.
 #[inline(always)]
 pub fn put_with_length(out: &mut [u8], at: usize, addr: IpAddr, len: u8) -> usize
@@ -238,8 +249,7 @@ pub fn put_with_length(out: &mut [u8], at: usize, addr: IpAddr, len: u8) -> usiz
     ensures end { result ≤ at + 44 }
 {
     let end = put_ip(out, at, addr);
-    let end = put(out, end, b'/');
-    put_octet(out, end, len)
+    put_length(out, end, len)
 }
 
 /// Writes what stands in a buffer before a place, at once.

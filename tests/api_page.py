@@ -44,6 +44,7 @@ SEAMS = (
     "rpki_der::encode_sequence",
     "rpki_der::family::AddressFamily::append",
     "rpki_der::len_of_all",
+    "rpki_der::read_some",
     "rpki_der::read_values",
     "rpki_der::sequence_len",
     "rpki_der::take_sequence_of",

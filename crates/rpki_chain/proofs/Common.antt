@@ -7,7 +7,7 @@ pub use Rattle.std.proofs.lemmas.List.Elements.{All-cons, All-contains, All-cont
 pub use Rattle.std.proofs.lemmas.Result.{IfOk-weaker}
 pub use Rattle.std.specs.Bool.{Decides}
 pub use Rattle.std.specs.Prelude.{All, AllPairs, Contains, Err, IfErr, IsErrAnd, IsOk, MatchResult, ⊤}
-pub use Rattle.rpki_der.specs.SequenceReading.{IsSequenceFrom, SaysByTag}
+pub use Rattle.rpki_der.specs.SequenceReading.{IsSequenceFrom, SaysByTag, some_in}
 unfoldable pub use Rattle.rpki_der.specs.SequenceReading.{by_tag}
 pub use Rattle.rpki_block.specs.Equality.{is_same_pair}
 pub use Rattle.rpki_chains.proofs.Chains.{Covers-nil, IsChain-from, IsChain-nil, IsChainOf-itself}
@@ -22,7 +22,7 @@ pub use Rattle.rpki_text.specs.Memory.{IfRefused}
 pub use Rattle.rpki_text.specs.declared.memory.OrMemory.{OrMemory}
 pub use Rattle.rpki_text.specs.declared.memory.OrMemory.TheVariants.{Memory, Refused}
 pub use Rattle.rpki_chain.specs.BlockSets.{IsBlockChain, IsBlockSet}
-pub use Rattle.rpki_chain.specs.ChoiceDer.{IsChoiceOf, choice_at, choice_in, inherited_in, listed_in, some_in}
+pub use Rattle.rpki_chain.specs.ChoiceDer.{IsChoiceOf, choice_at, choice_in, inherited_in, listed_in}
 pub use Rattle.rpki_chain.specs.Choices.{ListsBy, MatchChoice}
 pub use Rattle.rpki_chain.specs.Claims.{Claim, blocks_so_far}
 pub use Rattle.rpki_chain.specs.Operations.{IsDifference, IsIntersection}

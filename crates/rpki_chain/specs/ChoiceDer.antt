@@ -1,10 +1,9 @@
 -- Resources in DER (RFC 3779, 2.2.3.4 and 3.2.3.2), whatever their blocks are.
-use Rattle.std.specs.Prelude.{◌≢◌, ℕ, List, [], ◌∷◌, Result, Ok, Err}
+use Rattle.std.specs.Prelude.{◌≢◌, ℕ, List, [], Result, Ok}
 use Rattle.rpki_der.specs.declared.error.DerError.{DerError}
-use Rattle.rpki_der.specs.declared.error.DerError.TheVariants.{EmptyBlocks}
 use Rattle.rpki_der.specs.Der.{IsNull, Refines, Tlv, null_value}
 use Rattle.rpki_der.specs.Reading.{◌>>=◌, nothing, refined, value_at}
-use Rattle.rpki_der.specs.SequenceReading.{by_tag}
+use Rattle.rpki_der.specs.SequenceReading.{by_tag, some_in}
 use Rattle.rpki_chain.specs.declared.choice.ResourcesChoice.{ResourcesChoice}
 use Rattle.rpki_chain.specs.declared.choice.ResourcesChoice.TheVariants.{Missing, Inherit, Blocks}
 use Rattle.rpki_chain.specs.Choices.{ListsBy}
@@ -28,14 +27,6 @@ choice_octets octets Inherit = null_value
 choice_octets octets (Blocks y) = octets y
 
 -- ---- what is read, from left to right, with the first fault
-
--- one value at least
-abbrev pub some_of : {X : Type 0} → List X → Result (List X) DerError
-some_of [] = Err EmptyBlocks
-some_of (x ∷ xs) = Ok (x ∷ xs)
-
-abbrev pub some_in : {X : Type 0} → (List ℕ → Result (List X) DerError) → List ℕ → Result (List X) DerError
-some_in values content = values content >>= some_of
 
 abbrev pub inherited_in : {X : Type 0} → List ℕ → Result (ResourcesChoice X) DerError
 inherited_in content = nothing content >>= λ u. Ok Inherit

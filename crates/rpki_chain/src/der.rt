@@ -2,12 +2,12 @@
 //! 2.2.3.6, 3.2.3.2 to 3.2.3.4).
 ghost use Rattle.std.specs.Prelude.{◌≡◌, ◌≢◌, ◌≤◌, ◌<◌, ◌+◌, ◌^◌, ◌++◌, true, [], length, vec_len, IfOk, IfSome, IfNone, OnOk, OnErr, IsOk, ⊤};
 ghost use Rattle.std.specs.Vec.{vec_capacity};
-ghost use Rattle.rpki_der.specs.Views.{is_strict, left};
+ghost use Rattle.rpki_der.specs.Views.{is_strict};
 ghost use Rattle.rpki_der.specs.SequenceReading.{values_from};
-ghost use Rattle.rpki_der.specs.SequenceViews.{GivesOrMemory, TakesSaidOrMemory};
+ghost use Rattle.rpki_der.specs.SequenceViews.{TakesSaidOrMemory};
 ghost use Rattle.rpki_der.specs.SequenceWriting.{octets_of_all, sequence_octets};
 ghost use Rattle.rpki_chain.specs.Choices.{ListsBy, MatchChoice};
-ghost use Rattle.rpki_chain.specs.ChoiceDer.{choice_at, choice_octets, some_in};
+ghost use Rattle.rpki_chain.specs.ChoiceDer.{choice_at, choice_octets};
 ghost use Rattle.rpki_chain.specs.Claims.{ListsSome};
 ghost use Rattle.rpki_chain.specs.Runs.{IsRunsOfBlocks};
 ghost use Rattle.rpki_chains.specs.Sets.{IsChain};
@@ -16,7 +16,7 @@ use crate::choice::ResourcesChoice;
 use crate::set::BlockSet;
 use rpki_chains::block::Block;
 use rpki_der::sequences::{
-    Encode, ReadNext, append_sequence, encode_sequence, len_of_all, read_values,
+    Encode, ReadNext, append_sequence, encode_sequence, len_of_all, read_some,
 };
 use rpki_der::{Cursor, DerError, append_null, header_len, null_len, put_null, tag};
 use rpki_text::memory::OrMemory;
@@ -54,25 +54,6 @@ pub fn take_listed<R: ReadNext, A: Allocator + Copy>(
     };
     *cursor = ahead;
     Ok(listed)
-}
-
-/// The values of a content, one at least.
-fn read_some<R: ReadNext, A: Allocator + Copy>(
-    alloc: A,
-    reader: &R,
-    content: Cursor<'_>,
-) -> Result<Vec<R::Value, A>, OrMemory<DerError>>
-    ensures by_mode { GivesOrMemory (λ values. values.items) result
-        (some_in (values_from (R.after reader.now)
-        (R.reading_by reader.now (is_strict content.entry)) (R.first reader.now))
-        (left content.entry)) }
-    ensures some { IfOk result (λ values. values.items ≢ []) }
-{
-    let values = read_values(alloc, reader, content)?;
-    if values.is_empty() {
-        return Err(OrMemory::Refused(DerError::EmptyBlocks));
-    }
-    Ok(values)
 }
 
 /// The resources that list the set of the blocks. Blocks that are a chain already are taken as they stand, and others

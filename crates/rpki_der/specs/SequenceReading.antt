@@ -2,7 +2,7 @@
 -- is there if its tag is, values that are passed over, and a SEQUENCE of values (X.690, 8.9 and 8.10).
 use Rattle.std.specs.Prelude.{◌≡◌, ◌⊎◌, ℕ, Bool, false, List, [], ◌∷◌, length, Option, Some, None, Result, Ok, Err, ◌==◌, if◌then◌else◌}
 use Rattle.rpki_der.specs.declared.error.DerError.{DerError}
-use Rattle.rpki_der.specs.declared.error.DerError.TheVariants.{BadTag}
+use Rattle.rpki_der.specs.declared.error.DerError.TheVariants.{BadTag, EmptyBlocks}
 use Rattle.rpki_der.specs.Der.{Tlv, Both, Each, EachFrom, IsSequence, IsValue, Refines}
 use Rattle.rpki_der.specs.Reading.{◌>>=◌, each_from, ended, passing, refined, tagged_at}
 
@@ -99,6 +99,14 @@ IsSequenceOf G = Refines IsSequence (Each G)
 unfoldable pub values_from : {S X : Type 0} → (S → X → S) → (S → List ℕ → Result (X × List ℕ) DerError) → S → List ℕ
     → Result (List X) DerError
 values_from next reading state content = each_from next (length content) reading state content
+
+-- one value at least
+abbrev pub some_of : {X : Type 0} → List X → Result (List X) DerError
+some_of [] = Err EmptyBlocks
+some_of (x ∷ xs) = Ok (x ∷ xs)
+
+abbrev pub some_in : {X : Type 0} → (List ℕ → Result (List X) DerError) → List ℕ → Result (List X) DerError
+some_in values content = values content >>= some_of
 
 abbrev pub sequence_from : {S X : Type 0} → (S → X → S) → (S → List ℕ → Result (X × List ℕ) DerError) → S → List ℕ
     → Result (List X × List ℕ) DerError

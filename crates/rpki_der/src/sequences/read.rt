@@ -1,9 +1,9 @@
 //! Reading the values of a SEQUENCE.
-ghost use Rattle.std.specs.Prelude.{◌≡◌, ◌<◌, ℕ, Bool, List, Result, length};
+ghost use Rattle.std.specs.Prelude.{◌≡◌, ◌≢◌, ◌<◌, ℕ, Bool, List, [], Result, IfOk, length};
 ghost use Rattle.rpki_der.specs.declared.error.DerError.{DerError as Fault};
 ghost use Rattle.rpki_der.specs.Reading.{IsModal, IsReading, optional};
 ghost use Rattle.rpki_der.specs.Views.{Lenient, Takes, is_strict, left};
-ghost use Rattle.rpki_der.specs.SequenceReading.{IsSequenceFrom, sequence_from, values_from};
+ghost use Rattle.rpki_der.specs.SequenceReading.{IsSequenceFrom, sequence_from, some_in, values_from};
 ghost use Rattle.rpki_der.specs.SequenceViews.{GivesOrMemory, ReadsOrMemory, TakesOrMemory};
 
 use crate::cursor::Cursor;
@@ -107,6 +107,25 @@ fn values_within<R: ReadNext, A: Allocator>(
     while let Some(value) = reader.take_next(state, &mut inside)? {
         state = reader.state_after(state, &value);
         values.push(value)?;
+    }
+    Ok(values)
+}
+
+/// The values of a content as by [`read_values`], one at least: where there is none, `Refused` with `EmptyBlocks`.
+pub fn read_some<R: ReadNext, A: Allocator>(
+    alloc: A,
+    reader: &R,
+    content: Cursor<'_>,
+) -> Result<Vec<R::Value, A>, OrMemory<DerError>>
+    ensures by_mode { GivesOrMemory (λ values. values.items) result
+        (some_in (values_from (R.after reader.now)
+        (R.reading_by reader.now (is_strict content.entry)) (R.first reader.now))
+        (left content.entry)) }
+    ensures some { IfOk result (λ values. values.items ≢ []) }
+{
+    let values = read_values(alloc, reader, content)?;
+    if values.is_empty() {
+        return Err(OrMemory::Refused(DerError::EmptyBlocks));
     }
     Ok(values)
 }

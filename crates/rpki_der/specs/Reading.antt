@@ -1,5 +1,5 @@
 -- Reading octets from left to right: the value at the front and what follows it, or the first fault that is met.
-use Rattle.std.specs.Prelude.{◌≡◌, ◌⊎◌, ℕ, zero, suc, ◌-◌, ◌%◌, ◌^◌, Bool, true, not, List, [], ◌∷◌, ◌++◌, length, take, drop, slice_index, ◌&&◌, ◌||◌, Option, Some, None, Result, Ok, Err, nat_lt, nat_le, ◌==◌, if◌then◌else◌}
+use Rattle.std.specs.Prelude.{◌≡◌, ◌⊎◌, ℕ, zero, suc, ◌+◌, ◌-◌, ◌*◌, ◌%◌, ◌^◌, Bool, true, false, not, List, [], ◌∷◌, ◌++◌, length, take, drop, slice_index, ◌&&◌, ◌||◌, Option, Some, None, Result, Ok, Err, nat_lt, nat_le, ◌==◌, if◌then◌else◌}
 use Rattle.rpki_der.specs.declared.error.DerError.{DerError}
 use Rattle.rpki_der.specs.declared.error.DerError.TheVariants.{Truncated, BadTag, BadLength, BadInteger, BadBitString, BadNull, TrailingData, NotCanonical}
 use Rattle.rpki_der.specs.Der.{Tlv, Bits, IsBytes, Front, big_endian, last_octet}
@@ -52,6 +52,11 @@ unsigned content =
 unfoldable pub bits : List ℕ → Result Bits DerError
 bits [] = Err BadBitString
 bits (unused ∷ octets) = if nat_lt 7 unused || (nat_lt 0 unused && (length octets == 0)) then Err BadBitString else Ok (record { unused = unused; octets = octets })
+
+-- whether a content that may be a bit string has more bits than the limit
+abbrev pub is_longer : ℕ → List ℕ → Bool
+is_longer limit [] = false
+is_longer limit (unused ∷ octets) = nat_le unused 7 && nat_lt (limit + unused) (8 * length octets)
 
 unfoldable pub nothing : List ℕ → Result (Unit {0}) DerError
 nothing [] = Ok tt

@@ -29,7 +29,7 @@ pub struct BitString<'a> {
 impl<'a> Content<'a> {
     ghost use Rattle.std.specs.Prelude.{◌≡◌, Ok};
     ghost use Rattle.rpki_der.specs.Der.{IsBitContent, IsNothing, IsPadded, IsUnsigned, Where};
-    ghost use Rattle.rpki_der.specs.Reading.{Gives, bits, bits_by, nothing, unsigned};
+    ghost use Rattle.rpki_der.specs.Reading.{Gives, bits, bits_by, is_longer, nothing, unsigned};
     ghost use Rattle.rpki_der.specs.Views.{LenientIn, NotCanonicalInOr, Parses, StrictIn, bit_string_of, content_octets, is_strict, is_strict_in, left, tlv};
 
     /// The tag octet.
@@ -79,6 +79,18 @@ impl<'a> Content<'a> {
             (bits_by (is_strict_in self.now) (content_octets self.now)) }
     {
         self.parse_bit_string()
+    }
+
+    /// Whether the content, if it is that of a BIT STRING, has more bits than the limit; false of any other content.
+    pub fn has_more_bits_than(&self, limit: u8) -> bool
+        ensures { result ≡ is_longer limit (content_octets self.now) }
+    {
+        match self.octets {
+            [unused, octets @ ..] => {
+                *unused <= 7 && octets.len() > (limit as usize + *unused as usize) / 8
+            }
+            [] => false,
+        }
     }
 
     /// The content as an OCTET STRING (X.690, 8.7), which any octets are.

@@ -1,5 +1,5 @@
 -- What the proofs of this crate use of std, of the crates below and of its own definitions, passed on by one name.
-pub use Rattle.std.proofs.Common.{Bool, Err, IsTrue, List, None, Ok, Result, Some, [], ap, append_assoc, arith, bit_and, bit_or, cond, drop, get_or, inl, inr, is_ok, length, length-drop, lit<, map, refl, replicate, rules, subst, suc, sym, take, true, zero, ℕ, ◌%◌, ◌*◌, ◌++◌, ◌+◌, ◌-◌, ◌/◌, ◌<◌, ◌^◌, ◌↔◌, ◌∙◌, ◌∷◌, ◌≡◌, ◌≤◌}
+pub use Rattle.std.proofs.Common.{Bool, Err, IsTrue, List, None, Ok, Result, Some, [], ap, append_assoc, arith, bit_and, bit_or, cond, drop, false, get_or, inl, inr, is_ok, length, length-drop, lit<, map, refl, replicate, rules, subst, suc, sym, take, true, zero, ℕ, ◌%◌, ◌*◌, ◌++◌, ◌+◌, ◌-◌, ◌/◌, ◌<◌, ◌^◌, ◌↔◌, ◌∙◌, ◌∷◌, ◌≡◌, ◌≤◌}
 pub use Rattle.std.proofs.Math.Nat.{div-div-eq-div-mul, mod-eq_of_lt, mod_self, mul-add-mod_self_right, mul-div_cancel, mul-mod_left, mul_assoc, pow-le-pow_right, pow-suc, two-pow-succ, zero-div}
 pub use Rattle.std.proofs.lemmas.Bool.{and_parts, cases_lt, cases_order, eqb-true, le-leb, le-ltb, leb-true, lt-ltb, ltb-false, ltb-true, or_from, or_parts}
 pub use Rattle.std.proofs.lemmas.List.{drop-replicate, length-append, length-take, take-append-drop}
@@ -14,7 +14,7 @@ pub use Rattle.rpki_addr.proofs.PrefixNumbers.{cleared_first, power_is, width_sm
 pub use Rattle.rpki_addr.specs.AddressText.{IsIpv4Text, IsIpv6Text}
 pub use Rattle.rpki_addr.specs.Bits.{cleared}
 pub use Rattle.rpki_addr.specs.Prefixes.{IsPrefix, PrefixValue, last_of, width}
-pub use Rattle.rpki_der.proofs.FamilyLemmas.{family_reading, family_written, renamed}
+pub use Rattle.rpki_der.proofs.FamilyLemmas.{family_reading, family_written}
 pub use Rattle.rpki_der.specs.Families.{bits_of}
 pub use Rattle.rpki_block.specs.Bounds.{IsWithin}
 pub use Rattle.rpki_cover.proofs.Multiples.{IsMultiple, mod_multiple, multiple_diff, multiple_gap, multiple_least, multiple_mod, multiple_self, multiple_smaller, multiple_sum, zeros_divide, zeros_greatest}
@@ -29,15 +29,15 @@ pub use Rattle.rpki_der.proofs.Steps.{IsBytes-rest, IsCheck, bind_ok, fits_front
 pub use Rattle.rpki_der.proofs.Written.{value_is}
 pub use Rattle.rpki_der.specs.Der.{Bits, IsBitString, IsBits, IsBytes, IsPadded, IsSequence, Refines, Spells, Where, big_endian, big_endian_after, bit_content, bit_string_value, bits_with, last_octet}
 unfoldable pub use Rattle.rpki_der.specs.Der.{header, length_octets}
-pub use Rattle.rpki_der.specs.Reading.{Gives, IsModal, IsReading, Tightens, is_padded, tagged_at, ◌>>=◌}
+pub use Rattle.rpki_der.specs.Reading.{Gives, IsModal, IsReading, Tightens, is_longer, is_padded, tagged_at, ◌>>=◌}
 unfoldable pub use Rattle.rpki_der.specs.Reading.{bits, bits_by, passing, refined}
-pub use Rattle.rpki_der.specs.Views.{Lenient, LenientIn, NotCanonicalInOr, NotCanonicalOr, Parses, ReadsValue, Strict, StrictIn, Takes, bit_string_of, content_octets, is_strict, is_strict_in, left}
+pub use Rattle.rpki_der.specs.Views.{Lenient, LenientIn, NotCanonicalInOr, NotCanonicalOr, Parses, ReadsValue, Strict, StrictIn, Takes, content_octets, is_strict, is_strict_in, left}
 pub use Rattle.rpki_der.specs.declared.error.DerError.{DerError}
 pub use Rattle.rpki_der.specs.declared.error.DerError.TheVariants.{BadPrefix, NotCanonical, ReversedRange}
 pub use Rattle.rpki_text.specs.Cuts.{dash, slash}
 pub use Rattle.rpki_ip.specs.AddrText.{IsFirstOf}
 pub use Rattle.rpki_ip.specs.BlockText.{HasPrefixFault, HasRangeFault, IsIpRangeBetween, IsPrefixAt, IsPrefixBetween}
-pub use Rattle.rpki_ip.specs.PrefixDer.{IsPrefixContent, IsPrefixDer, IsPrefixWithin, IsStrictContent, SaysPrefix, is_longer, octet_count, prefix_at, prefix_bits, prefix_by, prefix_der}
+pub use Rattle.rpki_ip.specs.PrefixDer.{IsPrefixContent, IsPrefixDer, IsPrefixWithin, IsStrictContent, SaysPrefix, octet_count, prefix_at, prefix_bits, prefix_by, prefix_der}
 unfoldable pub use Rattle.rpki_ip.specs.PrefixDer.{prefix_in, prefix_in_by, prefix_of, prefix_of_by}
 pub use Rattle.rpki_ip.specs.RangeDer.{IsRangeDer, IsRangeWithin, IsShortestFrom, IsShortestTo, IsSpan, SaysRange, range_content, range_der, range_in, without_end_ones, without_end_zeros}
 unfoldable pub use Rattle.rpki_ip.specs.RangeDer.{span_of}

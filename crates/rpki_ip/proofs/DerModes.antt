@@ -1,5 +1,5 @@
 -- Prefixes in either mode: strictly, the octets are those that are written of them.
-use Rattle.rpki_ip.proofs.Common.{Bool, Err, List, Ok, Result, [], ap, arith, cond, drop, get_or, length, refl, subst, suc, sym, true, zero, ℕ, ◌%◌, ◌*◌, ◌++◌, ◌+◌, ◌-◌, ◌/◌, ◌<◌, ◌^◌, ◌∙◌, ◌∷◌, ◌≡◌, ◌≤◌, mul-div_cancel, mul_assoc, and_parts, eqb-true, le-leb, le-ltb, leb-true, lt-ltb, ltb-false, ltb-true, or_from, or_parts, take-append-drop, pow-add, pow_pos, shr_split, bytes_high_first, to_be_bytes, w128, IsPrefix, PrefixValue, bits_of, mod_multiple, multiple_gap, multiple_mod, multiple_self, multiple_smaller, multiple_sum, bits_check, bind_tightens, is_padded_of, looked_tightens, padded_is, passed_is, passes, then_passing, IsTagged, content_reading, fits_content, on_bytes, same_reading, IsBytes-rest, IsCheck, bind_ok, fits_front, value_is, Bits, IsBitString, IsBits, IsBytes, IsPadded, Refines, Spells, Where, big_endian, big_endian_after, bit_content, bit_string_value, last_octet, IsModal, IsReading, Tightens, bits, bits_by, is_padded, passing, ◌>>=◌, Takes, is_strict, left, DerError, BadPrefix, IsPrefixWithin, IsStrictContent, SaysPrefix, is_longer, octet_count, prefix_at, prefix_bits, prefix_by, prefix_der, prefix_in, prefix_in_by, prefix_of, prefix_of_by, IsRangeWithin, IsSpan, RangeValue, exact_by, parses_by, reads_by, refused_by, refused_in, same_found, Gives, content_octets, is_strict_in, IsPrefixContent, IsPrefixDer, Lenient, LenientIn, NotCanonicalInOr, NotCanonicalOr, Parses, ReadsValue, Strict, StrictIn, mul-add-mod_self_right, zero-div, field_of}
+use Rattle.rpki_ip.proofs.Common.{Bool, Err, List, Ok, Result, [], ap, arith, cond, drop, false, get_or, length, refl, subst, suc, sym, true, zero, ℕ, ◌%◌, ◌*◌, ◌++◌, ◌+◌, ◌-◌, ◌/◌, ◌<◌, ◌^◌, ◌∙◌, ◌∷◌, ◌≡◌, ◌≤◌, mul-div_cancel, mul_assoc, and_parts, eqb-true, le-leb, le-ltb, leb-true, lt-ltb, ltb-false, ltb-true, or_from, or_parts, take-append-drop, pow-add, pow_pos, shr_split, bytes_high_first, to_be_bytes, w128, IsPrefix, PrefixValue, bits_of, mod_multiple, multiple_gap, multiple_mod, multiple_self, multiple_smaller, multiple_sum, bits_check, bind_tightens, is_padded_of, looked_tightens, padded_is, passed_is, passes, then_passing, IsTagged, content_reading, fits_content, on_bytes, same_reading, IsBytes-rest, IsCheck, bind_ok, fits_front, value_is, Bits, IsBitString, IsBits, IsBytes, IsPadded, Refines, Spells, Where, big_endian, big_endian_after, bit_content, bit_string_value, last_octet, IsModal, IsReading, Tightens, bits, bits_by, is_padded, passing, ◌>>=◌, Takes, is_strict, left, DerError, BadPrefix, IsPrefixWithin, IsStrictContent, SaysPrefix, is_longer, octet_count, prefix_at, prefix_bits, prefix_by, prefix_der, prefix_in, prefix_in_by, prefix_of, prefix_of_by, IsRangeWithin, IsSpan, RangeValue, exact_by, parses_by, reads_by, refused_by, refused_in, same_found, Gives, content_octets, is_strict_in, IsPrefixContent, IsPrefixDer, Lenient, LenientIn, NotCanonicalInOr, NotCanonicalOr, Parses, ReadsValue, Strict, StrictIn, mul-add-mod_self_right, zero-div, field_of}
 use Rattle.rpki_der.specs.declared.cursor.Cursor.{Cursor}
 use Rattle.rpki_der.specs.declared.family.AddressFamily.{AddressFamily}
 use Rattle.rpki_der.proofs.SequenceModes.{value_back_by}
@@ -189,6 +189,12 @@ pub length_first : (strict : Bool) (limit : ℕ) (content : List ℕ) → limit 
 unfolding prefix_in_by prefix_of_by bits bits_by prefix_of passing
 length_first strict limit content le =
     grind (arith, and_parts, comparisons, either_order, eqb-true, or_from, or_parts)
+
+-- a content that isn't longer has few enough bits, and octets
+pub few_enough : (strict : Bool) (limit : ℕ) (content : List ℕ) (b : Bits) → is_longer limit content ≡ false
+    → bits_by strict content ≡ Ok b → 8 * length b.octets ≤ limit + b.unused
+unfolding bits bits_by passing
+few_enough strict limit content b short read = grind (arith, comparisons)
 
 -- the range from one prefix of limit bits to another
 pub within : (limit : ℕ) (p q : PrefixValue) (r : RangeValue) → limit ≤ 128 → IsPrefix 128 p → p.len ≤ limit

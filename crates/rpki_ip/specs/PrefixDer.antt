@@ -1,5 +1,5 @@
 -- A prefix in DER (RFC 3779, 2.2.3.8; X.690, 8.6 and 11.2).
-use Rattle.std.specs.Prelude.{◌≡◌, ℕ, ◌+◌, ◌-◌, ◌*◌, ◌/◌, ◌^◌, ◌≤◌, Bool, false, List, [], ◌∷◌, ◌||◌, ◌&&◌, length, take, Result, Ok, Err, nat_le, nat_lt, if◌then◌else◌}
+use Rattle.std.specs.Prelude.{◌≡◌, ℕ, ◌+◌, ◌-◌, ◌*◌, ◌/◌, ◌^◌, ◌≤◌, Bool, List, ◌||◌, length, take, Result, Ok, Err, nat_lt, if◌then◌else◌}
 use Rattle.std.specs.Int.{w128, to_be_bytes}
 use Rattle.rpki_addr.specs.Prefixes.{PrefixValue, IsPrefix}
 use Rattle.rpki_der.specs.declared.error.DerError.{DerError}
@@ -67,8 +67,3 @@ prefix_in_by strict limit content = bits content >>= prefix_of_by strict limit
 
 abbrev pub prefix_by : Bool → ℕ → List ℕ → Result (PrefixValue × List ℕ) DerError
 prefix_by strict limit = refined (tagged_at 3) (prefix_in_by strict limit)
-
--- whether a content that may be a bit string has more bits than the limit
-abbrev pub is_longer : ℕ → List ℕ → Bool
-is_longer limit [] = false
-is_longer limit (unused ∷ octets) = nat_le unused 7 && nat_lt (limit + unused) (8 * length octets)

@@ -1,7 +1,6 @@
 //! Prefixes in DER.
 ghost use Rattle.std.specs.Prelude.{◌≡◌, ◌≤◌, ◌-◌, ◌*◌, ◌^◌, length};
 ghost use Rattle.rpki_der.specs.Der.{big_endian};
-ghost use Rattle.rpki_ip.specs.PrefixDer.{is_longer};
 
 use crate::addr::Addr;
 use crate::der::error::DecodePrefixError;
@@ -25,11 +24,16 @@ impl Prefix {
 
     /// The prefix whose addresses begin with the bits of a bit string (RFC 3779, 2.2.3.8), which has at most sixteen
     /// octets, and else is refused by [`DecodePrefixError`]. Its unused bits may be set, and count as zero.
+    #[tactic(auto, using(crate::proofs::PrefixBits::used_bits))]
     pub fn from_bit_string(bits: &BitString<'_>) -> Result<Prefix, DecodePrefixError>
         ensures { MatchResult result (SaysPrefix 128 (bit_string_of bits.now))
             (λ _. (p : PrefixValue) → ¬ SaysPrefix 128 (bit_string_of bits.now) p) }
     {
-        Self::of_bits(bits, 128).map_err(|_| DecodePrefixError)
+        if bits.octet_len() > 16 {
+            return Err(DecodePrefixError);
+        }
+        let len = bits.bit_len() as u8;
+        Ok(Prefix::new(beginning_with(bits.octets()), len))
     }
 
     /// Takes the BIT STRING of a prefix (RFC 3779, 2.2.3.8). Its unused bits may be set, and count as zero.
@@ -54,7 +58,7 @@ impl Prefix {
             (prefix_by (is_strict cursor.old) 128) }
         ensures mode { is_strict cursor.new ≡ is_strict cursor.old }
     {
-        Self::next(cursor, 128)
+        Self::next(cursor, AddressFamily::Ipv6)
     }
 
     /// Takes the BIT STRING of a prefix of the family as `take_from` does. `BadPrefix` also for a prefix that is longer
@@ -81,7 +85,7 @@ impl Prefix {
             (prefix_by (is_strict cursor.old) (bits_of family)) }
         ensures mode { is_strict cursor.new ≡ is_strict cursor.old }
     {
-        Self::next(cursor, family.max_addr_len())
+        Self::next(cursor, family)
     }
 
     /// The content as the BIT STRING of a prefix, whatever the tag is.
@@ -101,7 +105,7 @@ impl Prefix {
         ensures by_mode { Gives (λ p. p) result
             (prefix_in_by (is_strict_in content.now) 128 (content_octets content.now)) }
     {
-        Self::of_content(content, 128)
+        Self::of_content(content, AddressFamily::Ipv6)
     }
 
     /// The content as the BIT STRING of a prefix of the family, whatever the tag is.
@@ -127,7 +131,7 @@ impl Prefix {
             (prefix_in_by (is_strict_in content.now) (bits_of family)
             (content_octets content.now)) }
     {
-        Self::of_content(content, family.max_addr_len())
+        Self::of_content(content, family)
     }
 
     /// How many octets `encode` appends.
@@ -188,42 +192,31 @@ impl Prefix {
 
 // The readings behind the calls.
 impl Prefix {
-    ghost use Rattle.std.specs.Prelude.{◌≡◌, ◌≤◌};
+    ghost use Rattle.std.specs.Prelude.{◌≡◌};
+    ghost use Rattle.rpki_der.specs.Families.{bits_of};
     ghost use Rattle.rpki_der.specs.Reading.{Gives};
-    ghost use Rattle.rpki_der.specs.Views.{Takes, bit_string_of, content_octets, is_strict, is_strict_in};
-    ghost use Rattle.rpki_ip.specs.PrefixDer.{prefix_by, prefix_in_by, prefix_of};
-
-    // The prefix of the bits, of at most `limit` bits.
-    #[tactic(auto, using(crate::proofs::PrefixBits::used_bits), unfolding(crate::specs::PrefixDer::prefix_of))]
-    fn of_bits(bits: &BitString<'_>, limit: u8) -> Result<Prefix, DerError>
-        requires { limit ≤ 128 }
-        ensures exact { Gives (λ p. p) result (prefix_of limit (bit_string_of bits.now)) }
-    {
-        let len = bits.bit_len();
-        if bits.octet_len() > 16 || len > limit as u128 {
-            return Err(DerError::BadPrefix);
-        }
-        Ok(Prefix::new(beginning_with(bits.octets()), len as u8))
-    }
+    ghost use Rattle.rpki_der.specs.Views.{Takes, content_octets, is_strict, is_strict_in};
+    ghost use Rattle.rpki_ip.specs.PrefixDer.{prefix_by, prefix_in_by};
 
     // The length is looked at before the unused bits are.
-    #[tactic(auto, using(crate::proofs::DerModes::length_first))]
-    fn of_content(content: &Content<'_>, limit: u8) -> Result<Prefix, DerError>
-        requires { limit ≤ 128 }
+    #[tactic(auto, using(crate::proofs::DerModes::length_first, crate::proofs::DerModes::few_enough, crate::proofs::PrefixBits::used_bits), unfolding(crate::specs::PrefixDer::prefix_of))]
+    fn of_content(content: &Content<'_>, family: AddressFamily) -> Result<Prefix, DerError>
         ensures by_mode { Gives (λ p. p) result
-            (prefix_in_by (is_strict_in content.now) limit (content_octets content.now)) }
+            (prefix_in_by (is_strict_in content.now) (bits_of family)
+            (content_octets content.now)) }
     {
-        if is_longer(content.bytes(), limit) {
+        if content.has_more_bits_than(family.max_addr_len()) {
             return Err(DerError::BadPrefix);
         }
-        Self::of_bits(&content.to_bit_string()?, limit)
+        let bits = content.to_bit_string()?;
+        let len = bits.bit_len() as u8;
+        Ok(Prefix::new(beginning_with(bits.octets()), len))
     }
 
     #[tactic(auto, unfolding(rpki_der::specs::Reading::refined, rpki_der::specs::Reading::tagged_at))]
-    fn next(cursor: &mut Cursor<'_>, limit: u8) -> Result<Prefix, DerError>
-        requires { limit ≤ 128 }
+    fn next(cursor: &mut Cursor<'_>, family: AddressFamily) -> Result<Prefix, DerError>
         ensures by_mode { Takes (λ p. p) cursor.old cursor.new result
-            (prefix_by (is_strict cursor.old) limit) }
+            (prefix_by (is_strict cursor.old) (bits_of family)) }
         ensures mode { is_strict cursor.new ≡ is_strict cursor.old }
     {
         let mut ahead = *cursor;
@@ -231,21 +224,9 @@ impl Prefix {
         if value.tag() != tag::BIT_STRING {
             return Err(DerError::BadTag);
         }
-        let prefix = Self::of_content(&value, limit)?;
+        let prefix = Self::of_content(&value, family)?;
         *cursor = ahead;
         Ok(prefix)
-    }
-}
-
-// Whether a content that may be a bit string has more bits than the limit.
-fn is_longer(content: &[u8], limit: u8) -> bool
-    ensures { result ≡ is_longer limit content.now }
-{
-    match content {
-        [unused, octets @ ..] => {
-            *unused <= 7 && octets.len() > (limit as usize + *unused as usize) / 8
-        }
-        [] => false,
     }
 }
 

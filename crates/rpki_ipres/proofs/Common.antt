@@ -1,7 +1,7 @@
 -- What the proofs of this crate use of std, of the crates below and of its own definitions, passed on by one name.
 pub use Rattle.std.proofs.Common.{Err, List, None, Ok, Option, Result, Some, [], ap, arith, eqb, false, get_or, inl, inr, length, map, refl, subst, sym, take, true, ℕ, ⊎_elim, ◌%◌, ◌++◌, ◌+◌, ◌-◌, ◌<◌, ◌^◌, ◌↔◌, ◌∙◌, ◌∷◌, ◌≡◌, ◌≢◌, ◌≤◌}
 pub use Rattle.std.proofs.lemmas.Bool.{cases_order}
-pub use Rattle.std.proofs.lemmas.List.{append_assoc, append_cancel_left, get_or-map, length-append, length-map}
+pub use Rattle.std.proofs.lemmas.List.{append_cancel_left, get_or-map, length-append, length-map}
 pub use Rattle.std.proofs.lemmas.List.Elements.{All-from_recursion, All-map, All-take, recursion_from_All}
 pub use Rattle.std.proofs.lemmas.Nat.{pow_pos}
 pub use Rattle.std.proofs.lemmas.Result.{IfOk-weaker, err_from_is_err_and}

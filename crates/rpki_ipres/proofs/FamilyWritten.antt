@@ -1,14 +1,9 @@
 -- What is written of sets, alone and behind their family, stands for them, and octets stand for one set at most.
-use Rattle.rpki_ipres.proofs.Common.{List, [], ap, arith, length, refl, subst, sym, ℕ, ◌++◌, ◌+◌, ◌<◌, ◌^◌, ◌↔◌, ◌∙◌, ◌∷◌, ◌≡◌, ◌≢◌, append_assoc, append_cancel_left, length-append, one_content, written_said, family_reading, family_written, IsSequenceOf, bits_of, IsFamilyDer, family_at, family_der, AddressFamily, Holds, IsRunsOfBlocks, Runs, value_is, OneFront, header, sequence_value, tagged_at, IsIpBlockDer, ip_blocks_at, blocks_reading, ip_bounds, IsIpBlockSequence, IsIpFamily, ip_family_der, ip_set_der, IsFamilySet, IsIpSet, one_front_said, content_shorter}
+use Rattle.rpki_ipres.proofs.Common.{List, [], ap, arith, length, refl, subst, sym, ℕ, ◌++◌, ◌<◌, ◌^◌, ◌↔◌, ◌∙◌, ◌∷◌, ◌≡◌, ◌≢◌, append_cancel_left, length-append, one_content, written_said, family_reading, family_written, IsSequenceOf, bits_of, IsFamilyDer, family_at, family_der, AddressFamily, Holds, IsRunsOfBlocks, Runs, value_is, OneFront, header, tagged_at, IsIpBlockDer, ip_blocks_at, blocks_reading, ip_bounds, IsIpBlockSequence, IsIpFamily, ip_family_der, ip_set_der, IsFamilySet, IsIpSet, one_front_said, content_shorter}
 use Rattle.rpki_der.proofs.Readings.{IsTagged, one_front, tagged_reading}
 use Rattle.rpki_ipres.proofs.Modes.{set_in_modes}
 use Rattle.rpki_ipres.proofs.SetTextLemmas.{alike_as_numbers, is_ip_set}
 use Rattle.rpki_ipres.proofs.SetWritten.{one_set, set_alike}
-
--- what is appended of two behind the header of a SEQUENCE
-pub two_written : (old one two : List ℕ) (n : ℕ) → n ≡ length one + length two
-    → old ++ header 48 n ++ one ++ two ≡ old ++ sequence_value (one ++ two)
-two_written old one two n long = grind (arith, append_assoc, length-append)
 
 -- ---- sets alone
 

@@ -1,7 +1,6 @@
 -- Resources of addresses in DER, of one family and by families (RFC 3779, 2.2.3.1 to 2.2.3.6).
 use Rattle.std.specs.Prelude.{ℕ, List, Result}
 use Rattle.rpki_der.specs.SequenceReading.{IsSequenceOf, values_of}
-use Rattle.rpki_der.specs.SequenceWriting.{octets_of_all}
 use Rattle.rpki_chain.specs.ChoiceDer.{IsResourcesOf, choice_at, choice_octets}
 use Rattle.rpki_chain.specs.Choices.{ListsBy, if_present}
 use Rattle.rpki_chain.specs.Claims.{Claim}
@@ -16,7 +15,7 @@ use Rattle.rpki_ip_block.specs.BlockDer.{IsIpBlockDer}
 use Rattle.rpki_ip_block.specs.BlockReading.{ip_block_at}
 use Rattle.rpki_ip_block.specs.Blocks.{ip_bounds}
 use Rattle.rpki_ip_block.specs.declared.block.IpBlock.{IpBlock}
-use Rattle.rpki_ipres.specs.SetDer.{ip_run_der, ip_set_der}
+use Rattle.rpki_ipres.specs.SetDer.{ip_set_der}
 
 -- a NULL for inherited resources, else a SEQUENCE of blocks, one at least, which stands for the set
 -- of their addresses (2.2.3.4 to 2.2.3.6); limit is the greatest length of a prefix
@@ -48,10 +47,6 @@ SaysClaims = SaysByFamily SaysClaimOf
 -- a NULL, or the runs of the set in one SEQUENCE; nothing for missing resources
 abbrev pub ip_resources_der : Claim → List ℕ
 ip_resources_der = choice_octets ip_set_der
-
--- the same without the header of that SEQUENCE
-abbrev pub ip_content_der : Claim → List ℕ
-ip_content_der = choice_octets (octets_of_all ip_run_der)
 
 -- the family and its resources in one SEQUENCE (2.2.3.2); nothing for missing resources
 abbrev pub ip_member_der : AddressFamily → Claim → List ℕ

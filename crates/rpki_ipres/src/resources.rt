@@ -2,7 +2,7 @@
 ghost use Rattle.std.specs.Prelude.{◌≡◌, ◌≢◌, ◌↔◌, [], IsTrue, IsErr, IfOk, Ok, Some, MatchResult, codes, ⊤};
 ghost use Rattle.rpki_text.specs.Memory.{IsMemory};
 ghost use Rattle.rpki_chain.specs.Choices.{IsRefused, MatchChoice, if_present};
-ghost use Rattle.rpki_der.specs.SequenceWriting.{octets_of_all, sequence_octets};
+ghost use Rattle.rpki_der.specs.SequenceWriting.{sequence_octets};
 ghost use Rattle.rpki_der.specs.FamiliesDer.{option_der};
 ghost use Rattle.rpki_chains.specs.Equality.{same_runs};
 ghost use Rattle.rpki_chains.specs.EqualityLaws.{runs_per, runs_equiv};
@@ -13,7 +13,7 @@ ghost use Rattle.rpki_chain.specs.Claims.{ListsSome, claim_of};
 ghost use Rattle.rpki_chain.specs.declared.choice.ResourcesChoice.TheVariants.{Missing, Inherit};
 ghost use Rattle.rpki_ip_block.specs.BlockDer.{ip_block_der};
 ghost use Rattle.rpki_ipres.specs.Resources.{IsIpClaim, IsWholeClaim};
-ghost use Rattle.rpki_ipres.specs.ResourcesDer.{ip_content_der, ip_member_der, ip_resources_der};
+ghost use Rattle.rpki_ipres.specs.ResourcesDer.{ip_member_der, ip_resources_der};
 
 use crate::blocks::IpBlocks;
 use rpki_chain::choice::{InheritedResources, Listed, ResourcesChoice};
@@ -153,8 +153,6 @@ impl<A: Allocator> IpResources<A> {
     pub(crate) fn as_choice(&self) -> ResourcesChoice<&[IpBlock]>
         ensures octets { choice_octets (λ blocks. sequence_octets ip_block_der blocks.now) result
             ≡ ip_resources_der self.now }
-        ensures content { choice_octets (λ blocks. octets_of_all ip_block_der blocks.now) result
-            ≡ ip_content_der self.now }
         ensures member { (family : _) → option_der
             (choice_octets (λ blocks. sequence_octets ip_block_der blocks.now)) family
             (if_present result) ≡ ip_member_der family self.now }

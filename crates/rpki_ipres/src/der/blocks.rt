@@ -1,10 +1,9 @@
 //! Sets of addresses in DER: a SEQUENCE of blocks (RFC 3779, 2.2.3.6).
-ghost use Rattle.std.specs.Prelude.{◌≡◌, ◌≤◌, ◌<◌, ◌+◌, ◌^◌, ◌++◌, length, vec_len, OnOk, OnErr, IsOk};
+ghost use Rattle.std.specs.Prelude.{◌≡◌, ◌≤◌, ◌+◌, ◌^◌, ◌++◌, length, vec_len, IfSome, IfNone, OnOk, OnErr, IsOk};
 ghost use Rattle.std.specs.Vec.{vec_capacity};
-ghost use Rattle.rpki_der.specs.SequenceWriting.{octets_of_all, sequence_octets};
+ghost use Rattle.rpki_der.specs.SequenceWriting.{sequence_octets};
 ghost use Rattle.rpki_der.specs.FamiliesDer.{option_der};
 ghost use Rattle.rpki_chain.specs.ChoiceDer.{choice_octets};
-ghost use Rattle.rpki_der.specs.FamilyDer.{family_der};
 ghost use Rattle.rpki_ip_block.specs.BlockDer.{ip_block_der};
 ghost use Rattle.rpki_chain.specs.Choices.{if_present};
 
@@ -18,6 +17,7 @@ use rpki_ip_block::block::IpBlock;
 use rpki_ip_block::der::IpBlockReader;
 use rpki_text::memory::OrMemory;
 use std::alloc::{AllocError, Allocator};
+use std::marker::Model;
 
 impl<A: Allocator> IpBlocks<A> {
     ghost use Rattle.std.specs.Prelude.{◌≡◌, ℕ, List, ◌≤◌, ◌+◌, ◌++◌, length, vec_len, OnOk, OnErr, IsOk, IfOk, MatchResult};
@@ -182,77 +182,91 @@ pub(crate) fn put_family<B: Allocator>(
         ≤ vec_capacity out.old → IsOk result }
     ensures capacity { vec_capacity out.old ≤ vec_capacity out.new }
 {
-    let Some(content_len) = content_len(resources) else {
+    let Some(member) = Member::new(family, resources) else {
         return Err(AllocError);
     };
-    out.reserve(family_len(family, resources, content_len))?;
-    append_family(family, resources, content_len, out);
+    out.reserve(member.len())?;
+    member.append(out);
     Ok(())
 }
 
-/// Appends what `put_family` does, where there is room for it, of resources whose content has `content_len` octets.
-pub(crate) fn append_family<B: Allocator>(
+/// A family and its resources, and how many octets they have: those of the blocks alone, and all that stand in their
+/// SEQUENCE.
+///
+/// Contracts see what is written of them, as `put_family` appends it.
+#[derive(Drop)]
+pub(crate) struct Member<'a> {
     family: AddressFamily,
-    resources: &ResourcesChoice<&[IpBlock]>,
+    resources: &'a ResourcesChoice<&'a [IpBlock]>,
+    blocks_len: usize,
     content_len: usize,
-    out: &mut Vec<u8, B>,
-)
-    requires len { content_len ≡ length (choice_octets
-        (λ blocks. octets_of_all ip_block_der blocks.now) resources.now) }
-    requires few { content_len < 2 ^ 63 }
-    requires room { vec_len out.old + length
-        (option_der (choice_octets (λ blocks. sequence_octets ip_block_der blocks.now)) family
-        (if_present resources.now))
-        ≤ vec_capacity out.old }
-    ensures items { out.new.items ≡ out.old.items
-        ++ option_der (choice_octets (λ blocks. sequence_octets ip_block_der blocks.now)) family
-        (if_present resources.now) }
-    ensures capacity { vec_capacity out.old ≤ vec_capacity out.new }
-{
-    if matches!(resources, ResourcesChoice::Missing) {
-        return;
-    }
-    append_header(
-        out,
-        tag::SEQUENCE,
-        family_content_len(family, resources, content_len),
-    );
-    family.append(out);
-    append_choice(resources, content_len, out);
 }
 
-/// How many octets a family and its resources have, whose content has `content_len`.
-fn family_content_len(
-    family: AddressFamily,
-    resources: &ResourcesChoice<&[IpBlock]>,
-    content_len: usize,
-) -> usize
-    requires len { content_len ≡ length (choice_octets
-        (λ blocks. octets_of_all ip_block_der blocks.now) resources.now) }
-    requires few { content_len < 2 ^ 63 }
-    ensures len { result ≡ length (family_der family
-        ++ choice_octets (λ blocks. sequence_octets ip_block_der blocks.now) resources.now) }
-    ensures short { result ≤ content_len + 14 }
-{
-    family.encoded_len() + choice_len(resources, content_len)
+impl<'a> Model for Member<'a> {
+    ghost use Rattle.std.specs.Prelude.{◌≡◌, ℕ, List, ◌<◌, ◌+◌, ◌^◌, ◌++◌, length};
+    ghost use Rattle.rpki_der.specs.SequenceWriting.{octets_of_all, sequence_octets};
+    ghost use Rattle.rpki_der.specs.FamiliesDer.{option_der};
+    ghost use Rattle.rpki_der.specs.FamilyDer.{family_der};
+    ghost use Rattle.rpki_chain.specs.ChoiceDer.{choice_octets};
+    ghost use Rattle.rpki_chain.specs.Choices.{if_present};
+    ghost use Rattle.rpki_ip_block.specs.BlockDer.{ip_block_der};
+
+    ghost Value = { List ℕ };
+
+    ghost view = { λ m. option_der (choice_octets (λ blocks. sequence_octets ip_block_der blocks.now)) m.family
+        (if_present m.resources.now) };
+
+    ghost invariant = { λ m.
+        (m.blocks_len ≡ length (choice_octets (λ blocks. octets_of_all ip_block_der blocks.now) m.resources.now))
+        × (m.content_len ≡ length (family_der m.family
+        ++ choice_octets (λ blocks. sequence_octets ip_block_der blocks.now) m.resources.now))
+        × (m.content_len < 2 ^ 63 + 14) };
 }
 
-/// How many octets `append_family` appends.
-pub(crate) fn family_len(
-    family: AddressFamily,
-    resources: &ResourcesChoice<&[IpBlock]>,
-    content_len: usize,
-) -> usize
-    requires len { content_len ≡ length (choice_octets
-        (λ blocks. octets_of_all ip_block_der blocks.now) resources.now) }
-    requires few { content_len < 2 ^ 63 }
-    ensures len { result ≡ length (option_der
-        (choice_octets (λ blocks. sequence_octets ip_block_der blocks.now)) family
-        (if_present resources.now)) }
-{
-    if matches!(resources, ResourcesChoice::Missing) {
-        return 0;
+impl<'a> Member<'a> {
+    /// The resources of a family; None where no vector can hold them.
+    pub(crate) fn new(
+        family: AddressFamily,
+        resources: &'a ResourcesChoice<&'a [IpBlock]>,
+    ) -> Option<Member<'a>>
+        ensures some { IfSome result (λ member. member
+            ≡ option_der (choice_octets (λ blocks. sequence_octets ip_block_der blocks.now)) family
+            (if_present resources.now)) }
+        ensures none { IfNone result (2 ^ 63 ≤ length
+            (option_der (choice_octets (λ blocks. sequence_octets ip_block_der blocks.now)) family
+            (if_present resources.now))) }
+    {
+        let blocks_len = content_len(resources)?;
+        let content_len = family.encoded_len() + choice_len(resources, blocks_len);
+        Some(Member {
+            family,
+            resources,
+            blocks_len,
+            content_len,
+        })
     }
-    let member_len = family_content_len(family, resources, content_len);
-    header_len(tag::SEQUENCE, member_len) + member_len
+
+    /// How many octets `append` appends.
+    pub(crate) fn len(&self) -> usize
+        ensures { result ≡ length self.now }
+    {
+        if matches!(self.resources, ResourcesChoice::Missing) {
+            return 0;
+        }
+        header_len(tag::SEQUENCE, self.content_len) + self.content_len
+    }
+
+    /// Appends what `put_family` does, where there is room for it.
+    pub(crate) fn append<B: Allocator>(&self, out: &mut Vec<u8, B>)
+        requires room { vec_len out.old + length self.now ≤ vec_capacity out.old }
+        ensures items { out.new.items ≡ out.old.items ++ self.now }
+        ensures capacity { vec_capacity out.old ≤ vec_capacity out.new }
+    {
+        if matches!(self.resources, ResourcesChoice::Missing) {
+            return;
+        }
+        append_header(out, tag::SEQUENCE, self.content_len);
+        self.family.append(out);
+        append_choice(self.resources, self.blocks_len, out);
+    }
 }

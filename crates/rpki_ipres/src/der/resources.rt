@@ -1,7 +1,7 @@
 //! Resources of addresses in DER: of one family, and by families (RFC 3779, 2.2.3.1 to 2.2.3.6).
-use crate::der::blocks::{append_family, family_len, put_family};
+use crate::der::blocks::{Member, put_family};
 use crate::resources::IpResources;
-use rpki_chain::der::{content_len, encode_choice, make_sets, take_listed};
+use rpki_chain::der::{encode_choice, make_sets, take_listed};
 use rpki_der::sequences::{ReadClaim, take_families};
 use rpki_der::{Cursor, DerError, append_header, header_len, tag};
 use rpki_ip::family::AddressFamily;
@@ -143,7 +143,6 @@ impl<A: Allocator> IpResources<A> {
     /// Appends the SEQUENCE of the families that have resources, IPv4 first, each as `encode_family` appends it. One of
     /// them at least isn't missing. `AllocError` where there is no memory for all of it; then the octets stay as they
     /// were.
-    #[tactic(auto, using(crate::proofs::FamilyWritten::two_written))]
     pub fn encode_families<B: Allocator>(
         v4: &IpResources<A>,
         v6: &IpResources<A>,
@@ -158,12 +157,13 @@ impl<A: Allocator> IpResources<A> {
         ensures claims { IsIpClaim v4.now × IsIpClaim v6.now }
     {
         let (v4, v6) = (v4.as_choice(), v6.as_choice());
-        let (Some(v4_len), Some(v6_len)) = (content_len(&v4), content_len(&v6)) else {
+        let (Some(v4), Some(v6)) = (
+            Member::new(AddressFamily::Ipv4, &v4),
+            Member::new(AddressFamily::Ipv6, &v6),
+        ) else {
             return Err(AllocError);
         };
-        let v4_member = family_len(AddressFamily::Ipv4, &v4, v4_len);
-        let v6_member = family_len(AddressFamily::Ipv6, &v6, v6_len);
-        let Some(content_len) = v4_member.checked_add(v6_member) else {
+        let Some(content_len) = v4.len().checked_add(v6.len()) else {
             return Err(AllocError);
         };
         let Some(total) = header_len(tag::SEQUENCE, content_len).checked_add(content_len) else {
@@ -171,8 +171,8 @@ impl<A: Allocator> IpResources<A> {
         };
         out.reserve(total)?;
         append_header(out, tag::SEQUENCE, content_len);
-        append_family(AddressFamily::Ipv4, &v4, v4_len, out);
-        append_family(AddressFamily::Ipv6, &v6, v6_len, out);
+        v4.append(out);
+        v6.append(out);
         Ok(())
     }
 

@@ -106,10 +106,10 @@ impl<A: Allocator> AsResources<A> {
         ensures { MatchChoice self.now (result ≡ Ok []) (IsRefused result)
             (λ listed. MatchResult result (λ set. set ≡ listed) IsMemory) }
     {
-        match self.choice.to_blocks() {
-            Ok(blocks) => Ok(blocks),
-            Err(OrMemory::Refused(inherited)) => Err(OrMemory::Refused(inherited.into())),
-            Err(OrMemory::Memory(error)) => Err(OrMemory::Memory(error)),
+        match &self.choice {
+            ResourcesChoice::Missing => Ok(AsBlocks::empty()),
+            ResourcesChoice::Inherit => Err(OrMemory::Refused(InheritedAsResources)),
+            ResourcesChoice::Blocks(listed) => Ok(listed.clone()?),
         }
     }
 

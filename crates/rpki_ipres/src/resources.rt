@@ -118,12 +118,10 @@ impl<A: Allocator> IpResources<A> {
         ensures { MatchChoice self.now (result ≡ Ok []) (IsRefused result)
             (λ listed. MatchResult result (λ set. set ≡ listed) IsMemory) }
     {
-        match self.choice.to_blocks() {
-            Ok(set) => Ok(set),
-            Err(OrMemory::Refused(fault)) => Err(OrMemory::Refused(InheritedIpResources::from(
-                fault,
-            ))),
-            Err(OrMemory::Memory(fault)) => Err(OrMemory::Memory(fault)),
+        match &self.choice {
+            ResourcesChoice::Missing => Ok(IpBlocks::empty()),
+            ResourcesChoice::Inherit => Err(OrMemory::Refused(InheritedIpResources)),
+            ResourcesChoice::Blocks(listed) => Ok(listed.clone()?),
         }
     }
 

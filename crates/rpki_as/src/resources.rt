@@ -1,18 +1,21 @@
 //! AS numbers that are missing, inherited from the issuer, or listed (RFC 3779, 3.2.3).
-ghost use Rattle.std.specs.Prelude.{◌≡◌, ◌≢◌, ◌↔◌, [], IsTrue, IfOk, Ok, Some, MatchResult};
+ghost use Rattle.std.specs.Prelude.{◌≡◌, ◌≢◌, ◌↔◌, true, [], IsTrue, IfOk, Ok, Some, MatchResult, ⊤};
 ghost use Rattle.rpki_text.specs.Memory.{IsMemory};
 ghost use Rattle.rpki_text.specs.Reading.{AnswersOrMemory};
 ghost use Rattle.rpki_chains.specs.Equality.{same_runs};
 ghost use Rattle.rpki_chains.specs.EqualityLaws.{runs_per, runs_equiv};
+ghost use Rattle.rpki_chains.specs.Sets.{IsChain};
 ghost use Rattle.rpki_chain.specs.ChoiceEquality.{choice_eq};
 ghost use Rattle.rpki_chain.specs.ChoiceEqualityLaws.{choice_equiv, choice_per};
-ghost use Rattle.rpki_chain.specs.Choices.{MatchChoice, IsRefused};
+ghost use Rattle.rpki_chain.specs.Choices.{ListsBy, MatchChoice, IsRefused};
 ghost use Rattle.rpki_chain.specs.ChoiceDer.{choice_octets};
-ghost use Rattle.rpki_chain.specs.Claims.{Claim, IsClaim, ListsSome, claim_of};
+ghost use Rattle.rpki_chain.specs.Claims.{Claim, IsClaim, claim_of};
+ghost use Rattle.rpki_chain.specs.Runs.{IsRunsOfBlocks};
 ghost use Rattle.rpki_chain.specs.declared.choice.ResourcesChoice.TheVariants.{Missing, Inherit};
 ghost use Rattle.rpki_der.specs.SequenceWriting.{sequence_octets};
 ghost use Rattle.rpki_as.specs.AsDer.{as_sequence_octets};
 ghost use Rattle.rpki_as_block.specs.AsDer.{as_block_octets};
+ghost use Rattle.rpki_as_block.specs.Blocks.{as_bounds, new_as_block};
 ghost use Rattle.rpki_as.specs.Blocks.{IsAsSet};
 ghost use Rattle.rpki_as.specs.ResourcesText.{IsAsResourcesText, HasAsResourcesFault, as_resources_text};
 
@@ -21,6 +24,7 @@ use crate::error::{FromStrError, InheritedAsResources};
 use rpki_as_block::block::AsBlock;
 use rpki_base::memory::OrMemory;
 use rpki_chain::choice::ResourcesChoice;
+use rpki_chain::der::make_set;
 use rpki_chain::path::Claims;
 use rpki_chain::set::BlockSet;
 use std::alloc::{AllocError, Allocator, Global};
@@ -121,14 +125,28 @@ impl<A: Allocator> AsResources<A> {
         Ok(AsResources { choice })
     }
 
-    /// Resources that list no empty set, as AS resources.
-    pub(crate) fn from_choice(choice: ResourcesChoice<BlockSet<AsBlock, A>>) -> AsResources<A>
-        requires { ListsSome choice }
-        ensures { result ≡ choice }
+    /// Resources as they were read, with the set that [`make_set`] makes of the blocks in their place. `AllocError`
+    /// where it answers it.
+    pub(crate) fn from_listed(
+        alloc: A,
+        listed: ResourcesChoice<Vec<AsBlock, A>>,
+        are_chain: bool,
+    ) -> Result<AsResources<A>, AllocError>
+        requires some { MatchChoice listed ⊤ ⊤ (λ blocks. blocks.items ≢ []) }
+        requires chain { are_chain ≡ true
+            → MatchChoice listed ⊤ ⊤ (λ blocks. IsChain as_bounds new_as_block blocks.items) }
+        ensures { IfOk result
+            (ListsBy (λ blocks set. IsRunsOfBlocks as_bounds blocks.items set) listed) }
     {
-        AsResources {
-            choice: choice.map_blocks(AsBlocks::from_set),
-        }
+        let choice = match listed {
+            ResourcesChoice::Missing => ResourcesChoice::Missing,
+            ResourcesChoice::Inherit => ResourcesChoice::Inherit,
+            ResourcesChoice::Blocks(blocks) => {
+                let set = make_set(alloc, blocks, are_chain)?;
+                ResourcesChoice::Blocks(AsBlocks::from_set(set))
+            }
+        };
+        Ok(AsResources { choice })
     }
 
     /// The blocks that are listed, each a run in the form that `new` gives.

@@ -8,7 +8,6 @@ ghost use Rattle.rpki_der.specs.SequenceViews.{TakesSaidOrMemory};
 ghost use Rattle.rpki_der.specs.SequenceWriting.{octets_of_all, sequence_octets};
 ghost use Rattle.rpki_chain.specs.Choices.{ListsBy, MatchChoice};
 ghost use Rattle.rpki_chain.specs.ChoiceDer.{choice_at, choice_octets};
-ghost use Rattle.rpki_chain.specs.Claims.{ListsSome};
 ghost use Rattle.rpki_chain.specs.Runs.{IsRunsOfBlocks};
 ghost use Rattle.rpki_chains.specs.Sets.{IsChain};
 
@@ -23,7 +22,7 @@ use rpki_text::memory::OrMemory;
 use std::alloc::{AllocError, Allocator};
 
 /// Takes resources: a NULL, or a SEQUENCE of blocks in any order, overlapping or not, and answers the blocks that are
-/// listed as they stand there; [`make_sets`] makes their set.
+/// listed as they stand there; [`make_set`] makes their set.
 ///
 /// `Refused` with the first fault: one of [`Cursor::take_value`], `BadTag` where neither stands there, `BadNull` for a
 /// NULL with content, the fault of a block, or `EmptyBlocks` for a SEQUENCE of none. `Memory` where there is no memory
@@ -56,31 +55,9 @@ pub fn take_listed<R: ReadNext, A: Allocator + Copy>(
     Ok(listed)
 }
 
-/// The resources that list the set of the blocks. Blocks that are a chain already are taken as they stand, and others
-/// are joined. `AllocError` where there is no memory for what the set's owners share.
-pub fn make_sets<T: Block, A: Allocator>(
-    alloc: A,
-    listed: ResourcesChoice<Vec<T, A>>,
-    are_chain: bool,
-) -> Result<ResourcesChoice<BlockSet<T, A>>, AllocError>
-    requires some { MatchChoice listed ⊤ ⊤ (λ blocks. blocks.items ≢ []) }
-    requires chain { are_chain ≡ true
-        → MatchChoice listed ⊤ ⊤ (λ blocks. IsChain T.bounds T.form blocks.items) }
-    ensures sets { IfOk result
-        (ListsBy (λ blocks set. IsRunsOfBlocks T.bounds blocks.items set) listed) }
-    ensures some { IfOk result ListsSome }
-{
-    match listed {
-        ResourcesChoice::Missing => Ok(ResourcesChoice::Missing),
-        ResourcesChoice::Inherit => Ok(ResourcesChoice::Inherit),
-        ResourcesChoice::Blocks(blocks) => {
-            Ok(ResourcesChoice::Blocks(make_set(alloc, blocks, are_chain)?))
-        }
-    }
-}
-
-/// The set of the blocks, of which there is one at least. They are joined where they are no chain yet.
-fn make_set<T: Block, A: Allocator>(
+/// The set of the blocks, of which there is one at least. Blocks that are a chain already are taken as they stand, and
+/// others are joined. `AllocError` where there is no memory for what the set's owners share.
+pub fn make_set<T: Block, A: Allocator>(
     alloc: A,
     blocks: Vec<T, A>,
     are_chain: bool,

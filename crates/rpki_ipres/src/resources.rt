@@ -1,22 +1,26 @@
 //! Resources of addresses: missing, inherited from the issuer, or listed.
-ghost use Rattle.std.specs.Prelude.{◌≡◌, ◌≢◌, ◌↔◌, [], IsTrue, IsErr, IfOk, Ok, Some, MatchResult, codes, ⊤};
+ghost use Rattle.std.specs.Prelude.{◌≡◌, ◌≢◌, ◌↔◌, true, [], IsTrue, IsErr, IfOk, Ok, Some, MatchResult, codes, ⊤};
 ghost use Rattle.rpki_text.specs.Memory.{IsMemory};
-ghost use Rattle.rpki_chain.specs.Choices.{IsRefused, MatchChoice, if_present};
+ghost use Rattle.rpki_chain.specs.Choices.{IsRefused, ListsBy, MatchChoice, if_present};
 ghost use Rattle.rpki_der.specs.SequenceWriting.{sequence_octets};
 ghost use Rattle.rpki_der.specs.FamiliesDer.{option_der};
 ghost use Rattle.rpki_chains.specs.Equality.{same_runs};
 ghost use Rattle.rpki_chains.specs.EqualityLaws.{runs_per, runs_equiv};
+ghost use Rattle.rpki_chains.specs.Sets.{IsChain};
 ghost use Rattle.rpki_chain.specs.ChoiceDer.{choice_octets};
 ghost use Rattle.rpki_chain.specs.ChoiceEquality.{choice_eq};
 ghost use Rattle.rpki_chain.specs.ChoiceEqualityLaws.{choice_per, choice_equiv};
 ghost use Rattle.rpki_chain.specs.Claims.{ListsSome, claim_of};
+ghost use Rattle.rpki_chain.specs.Runs.{IsRunsOfBlocks};
 ghost use Rattle.rpki_chain.specs.declared.choice.ResourcesChoice.TheVariants.{Missing, Inherit};
 ghost use Rattle.rpki_ip_block.specs.BlockDer.{ip_block_der};
+ghost use Rattle.rpki_ip_block.specs.Blocks.{ip_bounds, new_ip_block};
 ghost use Rattle.rpki_ipres.specs.Resources.{IsIpClaim, IsWholeClaim};
 ghost use Rattle.rpki_ipres.specs.ResourcesDer.{ip_member_der, ip_resources_der};
 
 use crate::blocks::IpBlocks;
 use rpki_chain::choice::{InheritedResources, Listed, ResourcesChoice};
+use rpki_chain::der::make_set;
 use rpki_chain::path::Claims;
 use rpki_chain::set::BlockSet;
 use rpki_ip_block::block::IpBlock;
@@ -136,14 +140,28 @@ impl<A: Allocator> IpResources<A> {
 
 // What the reader and the writer see.
 impl<A: Allocator> IpResources<A> {
-    /// A choice that was read. What it lists isn't empty.
-    pub(crate) fn from_choice(choice: ResourcesChoice<BlockSet<IpBlock, A>>) -> IpResources<A>
-        requires { ListsSome choice }
-        ensures { result ≡ choice }
+    /// Resources as they were read, with the set that [`make_set`] makes of the blocks in their place. `AllocError`
+    /// where it answers it.
+    pub(crate) fn from_listed(
+        alloc: A,
+        listed: ResourcesChoice<Vec<IpBlock, A>>,
+        are_chain: bool,
+    ) -> Result<IpResources<A>, AllocError>
+        requires some { MatchChoice listed ⊤ ⊤ (λ blocks. blocks.items ≢ []) }
+        requires chain { are_chain ≡ true
+            → MatchChoice listed ⊤ ⊤ (λ blocks. IsChain ip_bounds new_ip_block blocks.items) }
+        ensures { IfOk result
+            (ListsBy (λ blocks set. IsRunsOfBlocks ip_bounds blocks.items set) listed) }
     {
-        IpResources {
-            choice: choice.map_blocks(IpBlocks::from_set),
-        }
+        let choice = match listed {
+            ResourcesChoice::Missing => ResourcesChoice::Missing,
+            ResourcesChoice::Inherit => ResourcesChoice::Inherit,
+            ResourcesChoice::Blocks(blocks) => {
+                let set = make_set(alloc, blocks, are_chain)?;
+                ResourcesChoice::Blocks(IpBlocks::from_set(set))
+            }
+        };
+        Ok(IpResources { choice })
     }
 
     /// The blocks that are listed, ascending.

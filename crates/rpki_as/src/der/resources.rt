@@ -7,7 +7,7 @@ ghost use Rattle.rpki_der.specs.Views.{Takes, is_strict, left};
 use crate::resources::AsResources;
 use rpki_as_block::der::AsBlockReader;
 use rpki_base::memory::OrMemory;
-use rpki_chain::der::{append_choice, choice_len, content_len, make_sets, take_listed};
+use rpki_chain::der::{append_choice, choice_len, content_len, take_listed};
 use rpki_der::{Cursor, DerError, append_header, header_len, tag};
 use std::alloc::{AllocError, Allocator};
 
@@ -106,11 +106,11 @@ impl<A: Allocator> AsResources<A> {
         let mut inside = ahead.take_sequence()?;
         let mut tagged = take_tagged(&mut inside, tag::CONTEXT_0)?;
         let listed = take_listed(alloc, &AsBlockReader, &mut tagged)?;
-        let choice = make_sets(alloc, listed, cursor.is_strict())?;
+        let resources = AsResources::from_listed(alloc, listed, cursor.is_strict())?;
         tagged.finish()?;
         inside.finish()?;
         *cursor = ahead;
-        Ok(AsResources::from_choice(choice))
+        Ok(resources)
     }
 }
 

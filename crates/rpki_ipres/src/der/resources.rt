@@ -1,7 +1,7 @@
 //! Resources of addresses in DER: of one family, and by families (RFC 3779, 2.2.3.1 to 2.2.3.6).
 use crate::der::blocks::{Member, put_family};
 use crate::resources::IpResources;
-use rpki_chain::der::{encode_choice, make_sets, take_listed};
+use rpki_chain::der::{encode_choice, take_listed};
 use rpki_der::sequences::{ReadClaim, take_families};
 use rpki_der::{Cursor, DerError, append_header, header_len, tag};
 use rpki_ip::family::AddressFamily;
@@ -190,9 +190,9 @@ impl<A: Allocator> IpResources<A> {
     {
         let mut ahead = *cursor;
         let listed = take_listed(alloc, &IpBlockReader { family }, &mut ahead)?;
-        let choice = make_sets(alloc, listed, cursor.is_strict())?;
+        let resources = IpResources::from_listed(alloc, listed, cursor.is_strict())?;
         *cursor = ahead;
-        Ok(IpResources::from_choice(choice))
+        Ok(resources)
     }
 
     fn next_families(

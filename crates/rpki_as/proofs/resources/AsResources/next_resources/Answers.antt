@@ -6,8 +6,8 @@ use Rattle.rpki_as.proofs.AsDerLemmas.{blocks}
 use Rattle.rpki_as.proofs.ResourcesDer.{claim_of_listed}
 use Rattle.rpki_as.proofs.resources.AsResources.next_resources.Goals as goal
 
-pub make_sets-requires-clause-chain : goal.make_sets-requires-clause-chain
-make_sets-requires-clause-chain g c strict =
+pub from_listed-requires-clause-chain : goal.from_listed-requires-clause-chain
+from_listed-requires-clause-chain g c strict =
     let said = c.in_ok-listed.ensures.by_mode in
     let tagged = c.in_ok-tagged.tagged in
     let mode = c.in_ok-tagged.ensures.hands_on_mode ∙ c.in_ok-inside.ensures.hands_on_mode ∙ sym c.is_strict.ensures.mode ∙ strict in
@@ -20,5 +20,5 @@ returns-clause-by_mode g c =
     let mode = c.in_ok-tagged.ensures.hands_on_mode ∙ c.in_ok-inside.ensures.hands_on_mode in (
       said.0,
       rw (c.in_ok-inside.ensures.exact, c.in_ok-tagged.ensures.exact, ← mode, said.1, c.in_ok-finish.ensures.exact, c.in_ok-finish-2.ensures.exact) refl,
-      rw c.from_choice.ensures (claim_of_listed (λ blocks. blocks.items) said.0 c.in_ok-listed.listed c.in_ok-choice.choice said.2 c.in_ok-choice.ensures.sets),
+      claim_of_listed (λ blocks. blocks.items) said.0 c.in_ok-listed.listed c.in_ok-resources.resources said.2 c.in_ok-resources.ensures,
     )

@@ -10,7 +10,7 @@ pub mod laws;
 
 use crate::block::IpBlock;
 use rpki_der::sequences::{Encode, ReadNext};
-use rpki_der::{Content, Cursor, DerError, tag};
+use rpki_der::{Cursor, DerError, tag};
 use rpki_ip::addr::Addr;
 use rpki_ip::family::AddressFamily;
 use rpki_ip::prefix::Prefix;
@@ -146,13 +146,13 @@ impl Encode for IpBlock {
 // The readings behind the calls.
 impl IpBlock {
     ghost use Rattle.rpki_block.specs.Beyond.{is_beyond};
-    ghost use Rattle.rpki_der.specs.Reading.{Gives, optional};
-    ghost use Rattle.rpki_der.specs.Views.{Takes, is_strict, is_strict_in, tlv};
+    ghost use Rattle.rpki_der.specs.Reading.{optional};
+    ghost use Rattle.rpki_der.specs.Views.{Takes, is_strict};
     ghost use Rattle.rpki_der.specs.Families.{bits_of};
-    ghost use Rattle.rpki_ip_block.specs.BlockReading.{ip_block_by, ip_block_of_by, next_ip_block_by};
+    ghost use Rattle.rpki_ip_block.specs.BlockReading.{ip_block_by, next_ip_block_by};
     ghost use Rattle.rpki_ip_block.specs.Blocks.{ip_bounds};
 
-    #[tactic(auto, unfolding(rpki_der::specs::Reading::optional, rpki_der::specs::Reading::refined))]
+    #[tactic(auto, unfolding(rpki_der::specs::Reading::optional, rpki_der::specs::Reading::refined, rpki_der::specs::SequenceReading::by_tag))]
     fn next_opt(cursor: &mut Cursor<'_>, family: AddressFamily) -> Result<Option<IpBlock>, DerError>
         ensures by_mode { Takes (λ block. block) cursor.old cursor.new result
             (optional (ip_block_by (is_strict cursor.old) (bits_of family))) }
@@ -162,7 +162,11 @@ impl IpBlock {
         let Some(value) = ahead.take_opt_value()? else {
             return Ok(None);
         };
-        let block = Self::of_value(&value, family)?;
+        let block = match value.tag() {
+            tag::BIT_STRING => IpBlock::Prefix(Prefix::parse_content_with_family(&value, family)?),
+            tag::SEQUENCE => IpBlock::Range(range_within(value.cursor(), family)?),
+            _ => return Err(DerError::BadTag),
+        };
         *cursor = ahead;
         Ok(Some(block))
     }
@@ -199,20 +203,6 @@ impl IpBlock {
                 let min = IpBlock::min(self).to_bits();
                 greatest < min && min - greatest > 1
             }
-        }
-    }
-
-    #[tactic(auto, unfolding(rpki_der::specs::SequenceReading::by_tag))]
-    fn of_value(value: &Content<'_>, family: AddressFamily) -> Result<IpBlock, DerError>
-        ensures by_mode { Gives (λ block. block) result
-            (ip_block_of_by (is_strict_in value.now) (bits_of family) (tlv value.now)) }
-    {
-        match value.tag() {
-            tag::BIT_STRING => Ok(IpBlock::Prefix(Prefix::parse_content_with_family(
-                value, family,
-            )?)),
-            tag::SEQUENCE => Ok(IpBlock::Range(range_within(value.cursor(), family)?)),
-            _ => Err(DerError::BadTag),
         }
     }
 }

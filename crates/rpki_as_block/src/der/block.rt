@@ -4,7 +4,7 @@ ghost use Rattle.rpki_block.specs.Beyond.{is_beyond};
 ghost use Rattle.rpki_der.specs.Reading.{Gives};
 ghost use Rattle.rpki_der.specs.Views.{left, tlv};
 ghost use Rattle.rpki_as_block.specs.AsDer.{as_range_content};
-ghost use Rattle.rpki_as_block.specs.AsDerReading.{as_block_of, as_range_in, skip_block_of, skip_pair};
+ghost use Rattle.rpki_as_block.specs.AsDerReading.{as_range_in, skip_block_of, skip_pair};
 ghost use Rattle.rpki_block.specs.Ranges.{range_bounds};
 
 use crate::block::AsBlock;
@@ -108,7 +108,7 @@ impl AsBlock {
     ghost use Rattle.rpki_as_block.specs.Blocks.{as_bounds};
     ghost use Rattle.rpki_der.specs.Reading.{Gives, optional};
     ghost use Rattle.rpki_der.specs.Views.{Takes, is_strict, tlv};
-    ghost use Rattle.rpki_as_block.specs.AsDerReading.{as_block_by, as_block_of, is_new_form, next_block_by, skip_block_at, skip_block_of};
+    ghost use Rattle.rpki_as_block.specs.AsDerReading.{as_block_by, is_new_form, next_block_by, skip_block_at, skip_block_of};
 
     fn put<A: Allocator>(&self, out: &mut Vec<u8, A>) -> Result<(), AllocError>
         ensures ok { OnOk result (out.new.items ≡ out.old.items ++ as_block_octets self.now) }
@@ -137,7 +137,7 @@ impl AsBlock {
         }
     }
 
-    #[tactic(auto, unfolding(rpki_der::specs::Reading::optional, rpki_der::specs::Reading::refined, rpki_der::specs::Reading::passing))]
+    #[tactic(auto, unfolding(rpki_der::specs::Reading::optional, rpki_der::specs::Reading::refined, rpki_der::specs::Reading::passing, rpki_der::specs::SequenceReading::by_tag))]
     fn next_opt(cursor: &mut Cursor<'_>) -> Result<Option<AsBlock>, DerError>
         ensures by_mode { Takes (λ block. block) cursor.old cursor.new result
             (optional (as_block_by (is_strict cursor.old))) }
@@ -147,7 +147,11 @@ impl AsBlock {
         let Some(value) = ahead.take_opt_value()? else {
             return Ok(None);
         };
-        let block = AsBlock::of_value(&value)?;
+        let block = match value.tag() {
+            tag::INTEGER => AsBlock::Id(Asn::parse_content(&value)?),
+            tag::SEQUENCE => AsBlock::Range(range_within(value.cursor())?),
+            _ => return Err(DerError::BadTag),
+        };
         if cursor.is_strict() && !block.is_new_form() {
             return Err(DerError::NotCanonical);
         }
@@ -194,17 +198,6 @@ impl AsBlock {
             Some(greatest) => {
                 greatest.into_u32() as u64 + 1 < AsBlock::min(self).into_u32() as u64
             }
-        }
-    }
-
-    #[tactic(auto, unfolding(rpki_der::specs::SequenceReading::by_tag))]
-    fn of_value(value: &Content<'_>) -> Result<AsBlock, DerError>
-        ensures exact { Gives (λ block. block) result (as_block_of (tlv value.now)) }
-    {
-        match value.tag() {
-            tag::INTEGER => Ok(AsBlock::Id(Asn::parse_content(value)?)),
-            tag::SEQUENCE => Ok(AsBlock::Range(range_within(value.cursor())?)),
-            _ => Err(DerError::BadTag),
         }
     }
 

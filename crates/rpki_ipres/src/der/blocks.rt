@@ -237,7 +237,7 @@ impl<'a> Member<'a> {
             (if_present resources.now))) }
     {
         let blocks_len = content_len(resources)?;
-        let content_len = family.encoded_len() + choice_len(resources, blocks_len);
+        let content_len = choice_len(resources, blocks_len) + family.encoded_len();
         Some(Member {
             family,
             resources,

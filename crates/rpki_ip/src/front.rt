@@ -17,9 +17,8 @@ use rpki_text::number::digits_from;
 pub trait FamilyAddr: Copy {
     ghost use Rattle.std.specs.Prelude.{ℕ};
     ghost use Rattle.rpki_addr.specs.Prefixes.{width};
-    ghost use Rattle.rpki_ip.specs.AddrText.{first_of, greatest_of};
+    ghost use Rattle.rpki_ip.specs.AddrText.{family_of, first_of, greatest_of};
     ghost use Rattle.rpki_addr.specs.declared.addr.IpAddr.{IpAddr};
-    ghost use Rattle.rpki_ip.specs.AddrText.{family_of};
     ghost use Rattle.rpki_der.specs.declared.family.AddressFamily.{AddressFamily};
 
     // The family.

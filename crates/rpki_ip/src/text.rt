@@ -14,6 +14,7 @@ ghost use Rattle.rpki_der.specs.declared.family.AddressFamily.TheVariants.{Ipv4,
 use crate::addr::Addr;
 use crate::error::FromStrError;
 use crate::family::AddressFamily;
+use crate::front::FamilyAddr;
 use crate::prefix::Prefix;
 use crate::range::AddressRange;
 use rpki_addr::addr::print::{
@@ -29,8 +30,8 @@ fn greatest(addr: &IpAddr) -> Addr
     ensures { result ≡ greatest_of addr.now }
 {
     match addr {
-        IpAddr::V4(addr) => Addr::from_v4(*addr).to_max(32),
-        IpAddr::V6(addr) => Addr::from_v6(*addr),
+        IpAddr::V4(addr) => addr.greatest(),
+        IpAddr::V6(addr) => addr.greatest(),
     }
 }
 
@@ -89,10 +90,8 @@ fn range_from(first: IpAddr, last: IpAddr) -> Result<AddressRange, FromStrError>
     ensures { MatchResult result (IsRangeFrom first last) (HasPairFault first last) }
 {
     let (min, max) = match (&first, &last) {
-        (IpAddr::V4(first), IpAddr::V4(last)) => {
-            (Addr::from_v4(*first), Addr::from_v4(*last).to_max(32))
-        }
-        (IpAddr::V6(first), IpAddr::V6(last)) => (Addr::from_v6(*first), Addr::from_v6(*last)),
+        (IpAddr::V4(first), IpAddr::V4(last)) => (first.least(), last.greatest()),
+        (IpAddr::V6(first), IpAddr::V6(last)) => (first.least(), last.greatest()),
         _ => return Err(FromStrError::FamilyMismatch),
     };
     if min > max {

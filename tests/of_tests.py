@@ -86,7 +86,7 @@ CASES = (
          "docs/api/rpki_cover.md is not"),
     Case("tests/api_page.py", "tests/api_page.py", '"rpki_text::number"', '"rpki_text::moon"', "is no rpki_text::moon"),
     Case("tests/layers_picture.py", "docs/layers.svg", "<line x1=", "<line x2=", "is not what crates.txt says"),
-    Case("tests/layers_picture.py", "crates.txt", "\nrpki_cover: rpki_addr\n", "\nrpki_cover:\n", "is not what crates"),
+    Case("tests/layers_picture.py", "crates.txt", "\nrpki_cover:\n", "\nrpki_cover: rpki_addr\n", "is not what crates"),
     Case("tests/layers_picture.py", "crates.txt", "\nrpki_text: memchr\n", "\nrpki_text: memchr\nmoon:\n", "moon is in no room"),
     Case("tests/edits_apply.py", "crates/rpki_cover/must-fail/cover_by_one_enclosing_prefix.edit", "old: ", "old: moon",
          "cover_by_one_enclosing_prefix.edit: "),

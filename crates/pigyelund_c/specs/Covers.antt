@@ -2,7 +2,7 @@
 use Rattle.std.specs.Prelude.{◌≡◌, ◌≢◌, ◌⊎◌, ℕ, ◌/◌, ◌^◌, List, [], ◌∷◌, ◌++◌}
 use Rattle.std.specs.Int.{to_be_bytes, w128}
 use Rattle.rpki_text.specs.Digits.{octets_of}
-use Rattle.rpki_addr.specs.Prefixes.{PrefixValue}
+use Rattle.rpki_cover.specs.Prefixes.{PrefixValue}
 use Rattle.rpki_chain.specs.Runs.{Runs, Holds}
 use Rattle.rpki_cover.specs.Covers.{IsShortestCover}
 use Rattle.rpki_der.specs.declared.family.AddressFamily.{AddressFamily}

@@ -3,7 +3,7 @@
 use Rattle.std.specs.Prelude.{◌≡◌, ◌≢◌, ℕ, Bool, if◌then◌else◌, List, ◌∷◌, ◌++◌, map, codes, decimal}
 use Rattle.rpki_text.specs.Cuts.{slash}
 use Rattle.rpki_text.specs.Lists.{joined}
-use Rattle.rpki_addr.specs.Prefixes.{PrefixValue}
+use Rattle.rpki_cover.specs.Prefixes.{PrefixValue}
 use Rattle.rpki_chain.specs.Runs.{Runs, Holds}
 use Rattle.rpki_cover.specs.Covers.{IsShortestCover}
 use Rattle.rpki_ip.specs.Faults as IpFaults

@@ -2,7 +2,7 @@
 ghost use Rattle.std.specs.Prelude.{◌≡◌, ◌≤◌, ◌++◌, ◌∷◌, [], List, length, take, codes, if◌then◌else◌, Some, OnOk};
 ghost use Rattle.std.specs.Iterator.{Drains, IsFinite};
 ghost use Rattle.std.specs.String.{string_bytes};
-ghost use Rattle.rpki_addr.specs.Prefixes.{PrefixValue};
+ghost use Rattle.rpki_cover.specs.Prefixes.{PrefixValue};
 ghost use Rattle.respath_lines.specs.Cover.{IsCoverAnswer, IsCoverIp, listed_text, cover_text};
 
 use crate::kind::{Kind, kind_named};

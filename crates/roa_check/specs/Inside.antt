@@ -3,7 +3,7 @@ use Rattle.std.specs.Prelude.{ℕ, ◌+◌, ◌-◌, ◌*◌, ◌^◌, ◌<◌, 
 use Rattle.std.specs.List.{AllWithin}
 use Rattle.rpki_addr.specs.declared.addr.IpAddr.{IpAddr}
 use Rattle.rpki_addr.specs.declared.addr.IpAddr.TheVariants.{V4, V6}
-use Rattle.rpki_addr.specs.Prefixes.{last_of}
+use Rattle.rpki_cover.specs.Prefixes.{last_of}
 use Rattle.rpki_chains.specs.Sets.{IsWithin}
 use Rattle.rpki_chain.specs.Runs.{Holds}
 use Rattle.rpki_ip.specs.AddrText.{family_of}

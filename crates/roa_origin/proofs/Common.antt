@@ -17,9 +17,9 @@ pub use Rattle.std.specs.Ordering.{bool_cmp, eq_by_cmp, nat_cmp, ordering_revers
 pub use Rattle.std.specs.declared.cmp.Ordering.{Ordering}
 pub use Rattle.std.specs.declared.cmp.Ordering.TheVariants.{Equal, Greater, Less}
 pub use denote.Ref.{Bor}
-pub use Rattle.rpki_addr.specs.Prefixes.{IsPrefix, PrefixValue}
 pub use Rattle.rpki_addr.specs.declared.addr.IpAddr.{IpAddr}
 pub use Rattle.rpki_addr.specs.declared.addr.IpAddr.TheVariants.{V4}
+pub use Rattle.rpki_cover.specs.Prefixes.{IsPrefix, PrefixValue}
 pub use Rattle.rpki_prefix.proofs.Covering.{covers_round, round_covers}
 pub use Rattle.rpki_prefix.specs.MaxLen.{MaxLenValue, max_len_cmp}
 pub use Rattle.rpki_prefix.specs.Values.{CoversPrefix, FamilyPrefix, IsFamilyPrefix, address_number, interval, is_v6, width}

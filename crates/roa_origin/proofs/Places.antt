@@ -1,7 +1,7 @@
 -- What the numbers of a table's order say: a place tells the prefix, a rank the AS number and the greatest length.
 use Rattle.roa_origin.proofs.Common.{All, Bool, List, Option, ap, arith, get_or, ℕ, ◌*◌, ◌+◌, ◌-◌, ◌<◌, ◌^◌, ◌≡◌, ◌≤◌, pow_below, pow_pos, IsNonDecreasingBy, bool_cmp, nat_cmp, ordering_then, IpAddr, round_covers, CoversPrefix, FamilyPrefix, IsFamilyPrefix, address_number, width, addr_of, IsLawfulPayload, Payload, longest, family_place, payload_place, place, rank, table_place, told}
 use Rattle.std.proofs.lemmas.Bool.Decides.{nat_tests}
-use Rattle.rpki_addr.proofs.PrefixNumbers.{width_small}
+use Rattle.rpki_addr.proofs.WidthLemmas.{width_small}
 use Rattle.roa_origin.proofs.Nested.{len_small, number_small, same_place, same_width}
 
 -- what a prefix covers is no shorter

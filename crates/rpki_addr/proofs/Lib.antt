@@ -1,4 +1,4 @@
--- Lemmas on the texts of addresses, and on masks.
+-- Lemmas on the texts of addresses.
 pub mod AddressBytes
 pub mod AddressFronts
 pub mod AddressLemmas
@@ -6,8 +6,7 @@ pub mod AddressReading
 pub mod AddressReads
 pub mod Common
 pub mod GroupReading
-pub mod Masks
-pub mod PrefixNumbers
 pub mod PrintedAddressLemmas
 pub mod Tables
+pub mod WidthLemmas
 pub mod WrittenBytes

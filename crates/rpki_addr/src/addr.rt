@@ -141,7 +141,7 @@ pub enum IpAddr {
 }
 
 impl IpAddr {
-    ghost use Rattle.rpki_addr.specs.Prefixes.{width};
+    ghost use Rattle.rpki_addr.specs.Widths.{width};
     ghost use Rattle.rpki_addr.specs.ReadsAddress.{IsV4};
 
     /// Is this an IPv4 address?

@@ -4,9 +4,11 @@ pub mod Counting
 pub mod FreeBits
 pub mod Greatest
 pub mod Joined
+pub mod Masks
 pub mod Membership
 pub mod Multiples
 pub mod Nesting
+pub mod PrefixNumbers
 pub mod Shortest
 pub mod Steps
 pub mod Unique

@@ -1,8 +1,8 @@
 -- Prefixes inside ranges and inside one another.
 use Rattle.rpki_cover.proofs.Common.{arith, ℕ, ◌+◌, ◌-◌, ◌<◌, ◌^◌, ◌≤◌, ◌⊎◌, cases_lt, pow_pos, IsIn, IsParent, IsPrefix, LiesIn, PrefixValue}
 use Rattle.rpki_cover.proofs.Multiples.{IsMultiple, mod_multiple, multiple_gap, multiple_self, multiple_smaller, multiple_sum}
-use Rattle.rpki_addr.proofs.PrefixNumbers.{cleared_prefix, cleared_holds}
-use Rattle.rpki_addr.specs.Bits.{cleared}
+use Rattle.rpki_cover.proofs.PrefixNumbers.{cleared_prefix, cleared_holds}
+use Rattle.rpki_cover.specs.Bits.{cleared}
 
 -- the numbers from a to b
 abbrev pub InRange : ℕ → ℕ → ℕ → Type 0

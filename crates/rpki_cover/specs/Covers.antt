@@ -1,7 +1,7 @@
 -- Covers: lists of prefixes that have exactly the numbers of a set. w is the width, the bits of the numbers.
 use Rattle.std.specs.Prelude.{◌≡◌, ℕ, ◌+◌, ◌-◌, ◌*◌, ◌^◌, ◌≤◌, ◌↔◌, List, [], ◌∷◌, length, map}
 use Rattle.std.specs.List.{All, Contains}
-use Rattle.rpki_addr.specs.Prefixes.{PrefixValue, IsPrefix, IsIn, IsMaximal}
+use Rattle.rpki_cover.specs.Prefixes.{PrefixValue, IsPrefix, IsIn, IsMaximal}
 
 -- the prefixes ascend: each ends before the later ones begin, so no two have a number in common
 abbrev pub Ascends : ℕ → List PrefixValue → Type 0

@@ -1,2 +1,4 @@
+pub mod Bits
 pub mod Covers
+pub mod Prefixes
 pub mod Walk

@@ -1,7 +1,7 @@
 -- The cover list of a range of numbers, as a walk from its beginning finds it; proofs/CoverList says that it is that
 -- list.
 use Rattle.std.specs.Prelude.{ℕ, zero, suc, ◌+◌, ◌-◌, ◌%◌, ◌^◌, ◌==◌, nat_le, ◌&&◌, List, [], ◌∷◌, if◌then◌else◌, Option, Some, None}
-use Rattle.rpki_addr.specs.Prefixes.{PrefixValue}
+use Rattle.rpki_cover.specs.Prefixes.{PrefixValue}
 
 -- the greatest k up to the first argument for which 2 ^ k divides a and the 2 ^ k numbers from a on end at b or before,
 -- or 0

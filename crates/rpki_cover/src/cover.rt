@@ -14,7 +14,7 @@ pub struct NumberPrefix {
 }
 
 impl Model for NumberPrefix {
-    ghost use Rattle.rpki_addr.specs.Prefixes.{PrefixValue};
+    ghost use Rattle.rpki_cover.specs.Prefixes.{PrefixValue};
 
     ghost Value = { PrefixValue };
 
@@ -52,7 +52,7 @@ pub struct Cover {
 
 impl Model for Cover {
     ghost use Rattle.std.specs.Prelude.{List, ◌≤◌, ◌<◌, ◌^◌, IfSome};
-    ghost use Rattle.rpki_addr.specs.Prefixes.{PrefixValue};
+    ghost use Rattle.rpki_cover.specs.Prefixes.{PrefixValue};
     ghost use Rattle.rpki_cover.specs.Walk.{left_cover};
 
     ghost Value = { List PrefixValue };

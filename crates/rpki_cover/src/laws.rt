@@ -1,6 +1,6 @@
 //! What no single call says of prefixes of numbers.
 ghost use Rattle.std.specs.Prelude.{ℕ, ◌↔◌, ◌⊎◌};
-ghost use Rattle.rpki_addr.specs.Prefixes.{PrefixValue, IsPrefix, IsIn, LiesIn};
+ghost use Rattle.rpki_cover.specs.Prefixes.{PrefixValue, IsPrefix, IsIn, LiesIn};
 
 /// Two prefixes of one width have a number in common exactly where one lies in the other (RFC 4632, 3.1).
 pub fn nested_prefixes()

@@ -2,7 +2,7 @@
 use Rattle.rpki_family.proofs.Common.{[], arith, map, refl, sym, ℕ, ◌*◌, ◌/◌, ◌<◌, ◌^◌, ◌↔◌, ◌∙◌, ◌∷◌, ◌≡◌, ◌≤◌, map-append, All-head, All-map, All-tail, All, Holds, Runs, IsWithin, IsShortestCover, IsV4CoverList, widened, HasWholeBounds, IsWhole, IsIpSet, Ipv4Of, runs_cover}
 use Rattle.std.specs.Prelude.{List}
 use Rattle.std.proofs.lemmas.List.{get_or-map, length-map}
-use Rattle.rpki_addr.specs.Prefixes.{PrefixValue}
+use Rattle.rpki_cover.specs.Prefixes.{PrefixValue}
 use Rattle.rpki_chain.proofs.RunLists.{Holds-map}
 use Rattle.rpki_cover.proofs.Joined.{cover_same}
 use Rattle.rpki_cover.proofs.Shortest.{shortest_cover_from}

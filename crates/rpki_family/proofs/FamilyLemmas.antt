@@ -7,7 +7,7 @@ use Rattle.rpki_chain.specs.Paths.{IsUncovered}
 use Rattle.rpki_family.proofs.CoverLemmas.{v4_covered}
 use Rattle.rpki_prefix.specs.Values.{FamilyPrefix, IsFamilyPrefix}
 use Rattle.rpki_ip.specs.AddrText.{first_of}
-use Rattle.rpki_addr.specs.Prefixes.{PrefixValue}
+use Rattle.rpki_cover.specs.Prefixes.{PrefixValue}
 use Rattle.rpki_ip_block.proofs.WholeReadings.{whole_family_prefix}
 use Rattle.rpki_ipres.proofs.SetTextLemmas.{blocks_of_family}
 use Rattle.rpki_ipres.proofs.WholeReadings.{whole_cover}

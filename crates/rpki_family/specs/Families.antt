@@ -1,6 +1,6 @@
 -- What is of a family: all bounds in IPv6, and in IPv4 whole ones; and covers by its own addresses.
 use Rattle.std.specs.Prelude.{ℕ, ◌*◌, ◌^◌, List, ⊤}
-use Rattle.rpki_addr.specs.Prefixes.{PrefixValue}
+use Rattle.rpki_cover.specs.Prefixes.{PrefixValue}
 use Rattle.rpki_chain.specs.Runs.{Runs, Holds}
 use Rattle.rpki_cover.specs.Covers.{IsV4CoverList}
 use Rattle.rpki_ip.specs.Whole.{HasWholeBounds}

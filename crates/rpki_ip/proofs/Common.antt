@@ -9,18 +9,20 @@ pub use Rattle.std.proofs.lemmas.Result.{err_from_is_err_and}
 pub use Rattle.std.proofs.lemmas.Str.Pattern.{split_parts}
 pub use Rattle.std.specs.Int.{bit_not, byte_at, bytes_high_first, from_be_bytes, to_be_bytes, trailing_ones, trailing_zeros, w128}
 pub use Rattle.std.specs.Int.Count.{count_leading_zeros, count_trailing_zeros}
-pub use Rattle.rpki_addr.proofs.Masks.{clear_host, host_ones, set_host}
-pub use Rattle.rpki_addr.proofs.PrefixNumbers.{cleared_first, power_is, width_small}
+pub use Rattle.rpki_addr.proofs.WidthLemmas.{width_small}
 pub use Rattle.rpki_addr.specs.AddressText.{IsIpv4Text, IsIpv6Text}
-pub use Rattle.rpki_addr.specs.Bits.{cleared}
-pub use Rattle.rpki_addr.specs.Prefixes.{IsPrefix, PrefixValue, last_of, width}
+pub use Rattle.rpki_addr.specs.Widths.{width}
+pub use Rattle.rpki_cover.proofs.Masks.{clear_host, host_ones, set_host}
+pub use Rattle.rpki_cover.proofs.Multiples.{IsMultiple, mod_multiple, multiple_diff, multiple_gap, multiple_least, multiple_mod, multiple_self, multiple_smaller, multiple_sum, zeros_divide, zeros_greatest}
+pub use Rattle.rpki_cover.proofs.PrefixNumbers.{cleared_first, power_is}
+pub use Rattle.rpki_cover.proofs.Shortest.{cover_prefixes}
+pub use Rattle.rpki_cover.proofs.Widening.{whole_cover, widened_prefix}
+pub use Rattle.rpki_cover.specs.Bits.{cleared}
+pub use Rattle.rpki_cover.specs.Covers.{IsShortestCover, widened}
+pub use Rattle.rpki_cover.specs.Prefixes.{IsPrefix, PrefixValue, last_of}
 pub use Rattle.rpki_der.proofs.FamilyLemmas.{family_reading, family_written}
 pub use Rattle.rpki_der.specs.Families.{bits_of}
 pub use Rattle.rpki_block.specs.Bounds.{IsWithin}
-pub use Rattle.rpki_cover.proofs.Multiples.{IsMultiple, mod_multiple, multiple_diff, multiple_gap, multiple_least, multiple_mod, multiple_self, multiple_smaller, multiple_sum, zeros_divide, zeros_greatest}
-pub use Rattle.rpki_cover.proofs.Shortest.{cover_prefixes}
-pub use Rattle.rpki_cover.proofs.Widening.{whole_cover, widened_prefix}
-pub use Rattle.rpki_cover.specs.Covers.{IsShortestCover, widened}
 pub use Rattle.rpki_der.proofs.Contents.{bits_check}
 pub use Rattle.rpki_der.proofs.Cursors.{parses_by, reads_by}
 pub use Rattle.rpki_der.proofs.Modes.{bind_tightens, exact_by, is_padded_of, looked_tightens, padded_is, passed_is, passes, refused_by, refused_in, same_found, then_passing}

@@ -2,7 +2,8 @@
 use Rattle.std.proofs.Common.{◌≡◌, ℕ, ◌-◌, ◌^◌, ◌<◌, inl, inr, List, Option, Result, Ok, Err, MatchResult, arith, refl}
 use Rattle.rpki_text.specs.Cuts.{HasNo, IsCutAt, Around, slash, dash}
 use Rattle.rpki_text.specs.Numbers.{HasNumberFault, IsNumberText}
-use Rattle.rpki_addr.specs.Prefixes.{PrefixValue, width}
+use Rattle.rpki_addr.specs.Widths.{width}
+use Rattle.rpki_cover.specs.Prefixes.{PrefixValue}
 use Rattle.rpki_text.specs.Reading.{Answers}
 use Rattle.rpki_addr.specs.declared.addr.IpAddr.{IpAddr}
 use Rattle.rpki_text.specs.declared.number.ParseIntError.{ParseIntError}

@@ -4,8 +4,9 @@ use Rattle.std.specs.Prelude.{◌≡◌, ℕ, ◌-◌, ◌^◌, ◌≤◌, ◌<�
 use Rattle.rpki_addr.specs.AddressText.{IsIpText}
 use Rattle.rpki_text.specs.Cuts.{HasNo, Around, slash, dash}
 use Rattle.rpki_text.specs.Numbers.{IsNumberText, HasNumberFault}
-use Rattle.rpki_addr.specs.Bits.{cleared}
-use Rattle.rpki_addr.specs.Prefixes.{PrefixValue, width}
+use Rattle.rpki_cover.specs.Bits.{cleared}
+use Rattle.rpki_addr.specs.Widths.{width}
+use Rattle.rpki_cover.specs.Prefixes.{PrefixValue}
 use Rattle.rpki_addr.specs.declared.addr.AddrParseError.{AddrParseError}
 use Rattle.rpki_addr.specs.declared.addr.AddrParseError.TheVariants as Address
 use Rattle.rpki_addr.specs.declared.addr.IpAddr.{IpAddr}

@@ -1,7 +1,7 @@
 -- A prefix in DER (RFC 3779, 2.2.3.8; X.690, 8.6 and 11.2).
 use Rattle.std.specs.Prelude.{◌≡◌, ℕ, ◌+◌, ◌-◌, ◌*◌, ◌/◌, ◌^◌, ◌≤◌, Bool, List, ◌||◌, length, take, Result, Ok, Err, nat_lt, if◌then◌else◌}
 use Rattle.std.specs.Int.{w128, to_be_bytes}
-use Rattle.rpki_addr.specs.Prefixes.{PrefixValue, IsPrefix}
+use Rattle.rpki_cover.specs.Prefixes.{PrefixValue, IsPrefix}
 use Rattle.rpki_der.specs.declared.error.DerError.{DerError}
 use Rattle.rpki_der.specs.declared.error.DerError.TheVariants.{BadPrefix}
 use Rattle.rpki_der.specs.Der.{Bits, IsBitContent, IsBitString, IsPadded, Refines, Where, big_endian, bit_count, bit_string_value}

@@ -1,7 +1,7 @@
 -- What is printed of prefixes and ranges, as those of a family, as by the Rust crate `rpki` 0.20.1.
 use Rattle.std.specs.Prelude.{ℕ, ◌/◌, ◌^◌, ◌==◌, if◌then◌else◌, List, ◌∷◌, ◌++◌, decimal}
 use Rattle.rpki_text.specs.Cuts.{slash, dash}
-use Rattle.rpki_addr.specs.Prefixes.{PrefixValue}
+use Rattle.rpki_cover.specs.Prefixes.{PrefixValue}
 use Rattle.rpki_addr.specs.PrintedAddress.{ip_text}
 use Rattle.rpki_addr.specs.declared.addr.IpAddr.{IpAddr}
 use Rattle.rpki_addr.specs.declared.addr.IpAddr.TheVariants.{V4, V6}

@@ -1,7 +1,7 @@
 -- A range of addresses in DER (RFC 3779, 2.2.3.9).
 use Rattle.std.specs.Prelude.{◌≡◌, ℕ, ◌+◌, ◌-◌, ◌%◌, ◌^◌, ◌≤◌, Bool, ◌==◌, ◌&&◌, List, ◌++◌, Result, Ok, Err, nat_lt, if◌then◌else◌}
 use Rattle.std.specs.Int.{w128, trailing_zeros, trailing_ones}
-use Rattle.rpki_addr.specs.Prefixes.{PrefixValue, IsPrefix, last_of}
+use Rattle.rpki_cover.specs.Prefixes.{PrefixValue, IsPrefix, last_of}
 use Rattle.rpki_der.specs.SequenceReading.{SaysPair, pair_in}
 use Rattle.rpki_der.specs.declared.error.DerError.{DerError}
 use Rattle.rpki_der.specs.declared.error.DerError.TheVariants.{ReversedRange}

@@ -1,7 +1,7 @@
 -- Ranges of addresses (RFC 3779, 2.2.3.9).
 use Rattle.std.specs.Prelude.{◌≡◌, ◌<◌, ◌≤◌, ◌^◌}
 pub use Rattle.rpki_block.specs.Ranges.{RangeValue, range_bounds}
-use Rattle.rpki_addr.specs.Prefixes.{PrefixValue, last_of}
+use Rattle.rpki_cover.specs.Prefixes.{PrefixValue, last_of}
 
 -- the range has an address, and its addresses are numbers of 128 bits
 pub record IsRange (r : RangeValue) : Type 0 where

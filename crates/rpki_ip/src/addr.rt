@@ -4,7 +4,7 @@ ghost use Rattle.std.specs.Fmt.{WritesOnOk};
 ghost use Rattle.std.specs.Int.{to_be_bytes, w128};
 ghost use Rattle.rpki_addr.specs.PrintedAddress.{ipv4_text, ipv6_text};
 ghost use Rattle.rpki_ip.specs.AddrText.{first_of, ReadsIpv4Addr, ReadsIpv6Addr, ReadsAddr};
-ghost use Rattle.rpki_addr.specs.Bits.{cleared};
+ghost use Rattle.rpki_cover.specs.Bits.{cleared};
 
 use rpki_addr::addr::{AddrParseError, IpAddr, Ipv4Addr, Ipv6Addr};
 use std::fmt;

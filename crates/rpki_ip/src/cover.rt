@@ -20,7 +20,7 @@ pub struct V6Prefixes {
 
 impl Model for V6Prefixes {
     ghost use Rattle.std.specs.Prelude.{List, All};
-    ghost use Rattle.rpki_addr.specs.Prefixes.{PrefixValue, IsPrefix};
+    ghost use Rattle.rpki_cover.specs.Prefixes.{PrefixValue, IsPrefix};
 
     ghost Value = { List PrefixValue };
 
@@ -62,7 +62,7 @@ pub struct V4Prefixes {
 
 impl Model for V4Prefixes {
     ghost use Rattle.std.specs.Prelude.{List, All, map};
-    ghost use Rattle.rpki_addr.specs.Prefixes.{PrefixValue, IsPrefix};
+    ghost use Rattle.rpki_cover.specs.Prefixes.{PrefixValue, IsPrefix};
     ghost use Rattle.rpki_cover.specs.Covers.{widened};
 
     ghost Value = { List PrefixValue };

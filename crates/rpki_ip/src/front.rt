@@ -16,7 +16,7 @@ use rpki_text::number::digits_from;
 /// An address whose type tells its family, so that what reads many of a family asks for the family once.
 pub trait FamilyAddr: Copy {
     ghost use Rattle.std.specs.Prelude.{ℕ};
-    ghost use Rattle.rpki_addr.specs.Prefixes.{width};
+    ghost use Rattle.rpki_addr.specs.Widths.{width};
     ghost use Rattle.rpki_ip.specs.AddrText.{family_of, first_of, greatest_of};
     ghost use Rattle.rpki_addr.specs.declared.addr.IpAddr.{IpAddr};
     ghost use Rattle.rpki_der.specs.declared.family.AddressFamily.{AddressFamily};

@@ -1,7 +1,7 @@
 //! What callers may rely on and no single call says.
 ghost use Rattle.std.specs.Prelude.{◌≡◌, ◌↔◌, ℕ, IsTrue};
 ghost use Rattle.std.specs.Ordering.{nat_cmp};
-ghost use Rattle.rpki_addr.specs.Prefixes.{PrefixValue};
+ghost use Rattle.rpki_cover.specs.Prefixes.{PrefixValue};
 ghost use Rattle.rpki_ip.specs.Ranges.{RangeValue};
 
 use crate::addr::Addr;

@@ -1,7 +1,7 @@
 //! Prefixes of addresses.
 ghost use Rattle.std.specs.Prelude.{◌≡◌, ◌/◌, ◌^◌, ◌≤◌};
-ghost use Rattle.rpki_addr.specs.Bits.{cleared};
-ghost use Rattle.rpki_addr.specs.Prefixes.{IsPrefix, last_of};
+ghost use Rattle.rpki_cover.specs.Bits.{cleared};
+ghost use Rattle.rpki_cover.specs.Prefixes.{IsPrefix, last_of};
 
 use crate::addr::Addr;
 use rpki_addr::addr::{Ipv4Addr, Ipv6Addr};
@@ -17,7 +17,7 @@ pub struct Prefix {
 }
 
 impl Model for Prefix {
-    ghost use Rattle.rpki_addr.specs.Prefixes.{PrefixValue, IsPrefix};
+    ghost use Rattle.rpki_cover.specs.Prefixes.{PrefixValue, IsPrefix};
 
     ghost Value = { PrefixValue };
 

@@ -1,6 +1,6 @@
 //! Ranges of addresses.
 ghost use Rattle.std.specs.Prelude.{◌≡◌, ◌≤◌, ◌↔◌, IsTrue, Ok, IfOk, IfErr, IfSome, IfNone};
-ghost use Rattle.rpki_addr.specs.Prefixes.{PrefixValue, IsPrefix};
+ghost use Rattle.rpki_cover.specs.Prefixes.{PrefixValue, IsPrefix};
 ghost use Rattle.rpki_block.specs.Bounds.{IsWithin};
 ghost use Rattle.rpki_ip.specs.Ranges.{IsRange, IsRangeOf, range_bounds};
 ghost use Rattle.rpki_ip.specs.Whole.{IsWhole, HasWholeBounds};

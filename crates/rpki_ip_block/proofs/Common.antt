@@ -11,13 +11,13 @@ pub use Rattle.std.specs.List.{AllByRecursion, flat_map}
 pub use Rattle.std.specs.Prelude.{IfOk}
 pub use Rattle.rpki_addr.proofs.AddressBytes.{no_dash, no_slash, not_slash}
 pub use Rattle.rpki_addr.proofs.AddressReads.{IsIpText-ip_text}
-pub use Rattle.rpki_addr.proofs.PrefixNumbers.{cleared_first}
 pub use Rattle.rpki_ip.specs.AddrText.{family_of, first_of, greatest_of}
-pub use Rattle.rpki_addr.specs.Bits.{cleared}
-pub use Rattle.rpki_addr.specs.Prefixes.{IsPrefix, PrefixValue, last_of}
 pub use Rattle.rpki_addr.specs.PrintedAddress.{ip_text}
 pub use Rattle.rpki_addr.specs.declared.addr.IpAddr.{IpAddr}
 pub use Rattle.rpki_addr.specs.declared.addr.IpAddr.TheVariants.{V4, V6}
+pub use Rattle.rpki_cover.proofs.PrefixNumbers.{cleared_first}
+pub use Rattle.rpki_cover.specs.Bits.{cleared}
+pub use Rattle.rpki_cover.specs.Prefixes.{IsPrefix, PrefixValue, last_of}
 pub use Rattle.rpki_der.proofs.SequenceCursors.{reads_optional_value_by}
 pub use Rattle.rpki_der.specs.Families.{bits_of}
 pub use Rattle.rpki_der.specs.declared.family.AddressFamily.{AddressFamily}

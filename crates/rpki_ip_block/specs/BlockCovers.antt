@@ -1,7 +1,7 @@
 -- Covers of blocks of addresses by prefixes.
 use Rattle.std.specs.Prelude.{ℕ, List, map}
 use Rattle.std.specs.List.{flat_map}
-use Rattle.rpki_addr.specs.Prefixes.{PrefixValue}
+use Rattle.rpki_cover.specs.Prefixes.{PrefixValue}
 use Rattle.rpki_cover.specs.Walk.{cover_list}
 use Rattle.rpki_ip_block.specs.Blocks.{ip_bounds}
 use Rattle.rpki_ip_block.specs.declared.block.IpBlock.{IpBlock}

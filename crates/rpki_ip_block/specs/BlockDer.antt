@@ -1,7 +1,7 @@
 -- Blocks of addresses in DER (RFC 3779, 2.2.3.7 to 2.2.3.9).
 use Rattle.std.specs.Prelude.{ℕ, ◌≤◌, List}
 use Rattle.rpki_block.specs.Bounds.{IsNew}
-use Rattle.rpki_addr.specs.Prefixes.{IsPrefix}
+use Rattle.rpki_cover.specs.Prefixes.{IsPrefix}
 use Rattle.rpki_ip.specs.PrefixDer.{IsPrefixDer, prefix_der}
 use Rattle.rpki_ip.specs.RangeDer.{IsRangeDer, IsRangeWithin, range_der}
 use Rattle.rpki_ip_block.specs.Blocks.{ip_bounds, new_ip_block}

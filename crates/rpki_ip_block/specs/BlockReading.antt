@@ -1,7 +1,7 @@
 -- Reading blocks of addresses from left to right, with the first fault that is met.
 use Rattle.std.specs.Prelude.{ℕ, Bool, true, false, ◌&&◌, List, Option, Result, Ok}
 use Rattle.rpki_der.specs.SequenceReading.{by_tag, pair_by, sequence_of}
-use Rattle.rpki_addr.specs.Prefixes.{PrefixValue, last_of}
+use Rattle.rpki_cover.specs.Prefixes.{PrefixValue, last_of}
 use Rattle.rpki_block.specs.Beyond.{is_beyond}
 use Rattle.rpki_der.specs.declared.error.DerError.{DerError}
 use Rattle.rpki_der.specs.Der.{Tlv}

@@ -1,6 +1,6 @@
 -- Blocks of addresses (RFC 3779, 2.2.3.7 to 2.2.3.9): their bounds and their form.
 use Rattle.std.specs.Prelude.{ℕ, zero, suc, ◌+◌, ◌-◌, ◌%◌, ◌^◌, Bool, ◌==◌, ◌&&◌, if◌then◌else◌, Option, Some, None}
-use Rattle.rpki_addr.specs.Prefixes.{PrefixValue, last_of}
+use Rattle.rpki_cover.specs.Prefixes.{PrefixValue, last_of}
 use Rattle.rpki_ip.specs.Ranges.{range_bounds}
 use Rattle.rpki_ip_block.specs.declared.block.IpBlock.{IpBlock}
 use Rattle.rpki_ip_block.specs.declared.block.IpBlock.TheVariants.{Prefix, Range}

@@ -1,7 +1,7 @@
 -- What is printed of blocks of addresses, as those of a family, as by the Rust crate `rpki` 0.20.1.
 use Rattle.std.specs.Prelude.{◌≡◌, ℕ, List, map, None, Result, MatchResult}
 use Rattle.rpki_text.specs.Lists.{joined}
-use Rattle.rpki_addr.specs.Prefixes.{IsPrefix}
+use Rattle.rpki_cover.specs.Prefixes.{IsPrefix}
 use Rattle.rpki_text.specs.Reading.{Answers}
 use Rattle.rpki_ip.specs.PrintedText.{ip_prefix_text, ip_range_text}
 use Rattle.rpki_ip.specs.Ranges.{IsRange}

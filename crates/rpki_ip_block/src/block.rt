@@ -16,7 +16,7 @@ pub enum IpBlock {
 
 impl IpBlock {
     ghost use Rattle.std.specs.Prelude.{◌≡◌, ◌≤◌, ◌↔◌, IsTrue};
-    ghost use Rattle.rpki_addr.specs.Prefixes.{PrefixValue, IsPrefix};
+    ghost use Rattle.rpki_cover.specs.Prefixes.{PrefixValue, IsPrefix};
     ghost use Rattle.rpki_ip.specs.Whole.{HasWholeBounds};
     ghost use Rattle.rpki_ip_block.specs.Blocks.{prefix_bounds, ip_bounds, new_ip_block};
     ghost use Rattle.rpki_ip_block.specs.PrintedBlocks.{IsBlock};

@@ -21,7 +21,7 @@ pub struct SetPrefixes<'a> {
 impl<'a> Model for SetPrefixes<'a> {
     ghost use Rattle.std.specs.Prelude.{List, ◌++◌};
     ghost use Rattle.std.specs.Slice.Iter.{iter_rest};
-    ghost use Rattle.rpki_addr.specs.Prefixes.{PrefixValue};
+    ghost use Rattle.rpki_cover.specs.Prefixes.{PrefixValue};
     ghost use Rattle.rpki_ip_block.specs.BlockCovers.{blocks_cover};
 
     ghost Value = { List PrefixValue };

@@ -1,7 +1,7 @@
 -- On the host bits of addresses: the bits after a prefix's length.
 use Rattle.rpki_prefix.proofs.Common.{arith, bit_and, bit_or, ℕ, ◌+◌, ◌-◌, ◌<◌, ◌^◌, ◌∙◌, ◌≡◌, ◌≤◌, clear_host, set_host, IpAddr, IsRelaxedPrefixOf, address_number, cleared_addr, width}
-use Rattle.rpki_addr.specs.Bits.{cleared}
-use Rattle.rpki_addr.proofs.PrefixNumbers.{cleared_prefix, cleared_holds}
+use Rattle.rpki_cover.specs.Bits.{cleared}
+use Rattle.rpki_cover.proofs.PrefixNumbers.{cleared_prefix, cleared_holds}
 
 -- what `n & !m` is, where the host bits of m are set
 pub cleared_by : (w n len m k r : ℕ) → n < 2 ^ w → m + 1 ≡ 2 ^ (w - len) → k ≡ 2 ^ w - 1 - m → r ≡ bit_and n k

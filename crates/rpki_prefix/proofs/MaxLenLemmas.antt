@@ -8,7 +8,7 @@ use Rattle.rpki_addr.specs.PrintedAddress.{ip_text}
 use Rattle.rpki_prefix.specs.declared.error.MaxLenError.{MaxLenError}
 use Rattle.rpki_prefix.specs.declared.error.ParseMaxLenPrefixError.{ParseMaxLenPrefixError}
 use Rattle.rpki_prefix.specs.declared.error.ParseMaxLenPrefixError.TheVariants.{InvalidPrefix, InvalidMaxLenFormat, InvalidMaxLenValue}
-use Rattle.rpki_addr.proofs.PrefixNumbers.{width_small}
+use Rattle.rpki_addr.proofs.WidthLemmas.{width_small}
 use Rattle.rpki_prefix.proofs.TextLemmas.{both_around, number_apart, same_number_fault, IsPrefixText-one, IsPrefixText-no_fault, HasPrefixTextFault-one, IsPrefixText-prefix_text}
 
 -- a text has one prefix and one greatest length round its first dash: what holds of some holds of others

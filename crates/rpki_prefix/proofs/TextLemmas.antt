@@ -7,7 +7,7 @@ use Rattle.rpki_text.specs.Reading.{Answers}
 use Rattle.rpki_text.specs.declared.number.ParseIntError.{ParseIntError}
 use Rattle.rpki_addr.proofs.AddressReads.{IsIpText-one, IsIpText-ip_text}
 use Rattle.rpki_text.proofs.NumberLemmas.{number_answers}
-use Rattle.rpki_addr.proofs.PrefixNumbers.{width_small}
+use Rattle.rpki_addr.proofs.WidthLemmas.{width_small}
 use Rattle.rpki_prefix.specs.declared.error.ParsePrefixError.TheVariants.{Empty, MissingLen, InvalidAddr, InvalidLen, InvalidPrefix}
 use Rattle.rpki_prefix.specs.declared.error.PrefixError.{PrefixError}
 

@@ -3,7 +3,7 @@
 use Rattle.std.specs.Prelude.{ℕ}
 use Rattle.std.specs.declared.cmp.Ordering.{Ordering}
 use Rattle.std.specs.Ordering.{on, then_cmp, flip_args, bool_cmp, nat_cmp}
-use Rattle.rpki_addr.specs.Prefixes.{last_of}
+use Rattle.rpki_cover.specs.Prefixes.{last_of}
 use Rattle.rpki_prefix.specs.Values.{FamilyPrefix, width, is_v6, interval}
 
 -- the number of the greatest address

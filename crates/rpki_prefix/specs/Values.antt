@@ -1,8 +1,8 @@
 -- Prefixes of addresses of one family (RFC 4632, 3.1; RFC 4291, 2.3).
 use Rattle.std.specs.Prelude.{◌≡◌, ◌≢◌, ℕ, ◌+◌, ◌-◌, ◌%◌, ◌^◌, ◌<◌, ◌≤◌, Bool, true, false, codes, List}
-use Rattle.rpki_addr.specs.Bits.{cleared}
-pub use Rattle.rpki_addr.specs.Prefixes.{width}
-use Rattle.rpki_addr.specs.Prefixes.{PrefixValue, IsPrefix, IsIn, LiesIn, last_of}
+use Rattle.rpki_cover.specs.Bits.{cleared}
+pub use Rattle.rpki_addr.specs.Widths.{width}
+use Rattle.rpki_cover.specs.Prefixes.{PrefixValue, IsPrefix, IsIn, LiesIn, last_of}
 use Rattle.rpki_addr.specs.declared.addr.IpAddr.{IpAddr}
 use Rattle.rpki_addr.specs.declared.addr.IpAddr.TheVariants.{V4, V6}
 use Rattle.rpki_prefix.specs.declared.error.PrefixError.{PrefixError}

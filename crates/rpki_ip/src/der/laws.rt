@@ -1,7 +1,7 @@
 //! What holds of the octets of families, prefixes and ranges, each law as the contract of a function that does nothing.
 ghost use Rattle.std.specs.Prelude.{◌≡◌, ◌≢◌, ◌↔◌, ℕ, ◌<◌, ◌≤◌, ◌^◌, List, Err, true, IsOk};
 ghost use Rattle.rpki_der.specs.SequenceFaults.{BeginsWithTwo};
-ghost use Rattle.rpki_addr.specs.Prefixes.{IsPrefix, PrefixValue, last_of};
+ghost use Rattle.rpki_cover.specs.Prefixes.{IsPrefix, PrefixValue, last_of};
 ghost use Rattle.rpki_der.specs.Der.{Bits, IsBytes, OneFront};
 ghost use Rattle.rpki_der.specs.declared.error.DerError.TheVariants.{NotCanonical, ReversedRange};
 ghost use Rattle.rpki_der.specs.declared.family.AddressFamily.{AddressFamily};

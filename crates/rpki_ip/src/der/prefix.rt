@@ -14,7 +14,7 @@ use std::alloc::{AllocError, Allocator};
 impl Prefix {
     ghost use Rattle.std.specs.Prelude.{◌≡◌, ℕ, List, Ok, ◌≤◌, ◌<◌, ◌+◌, ◌++◌, length, vec_len, OnOk, OnErr, IsOk, MatchResult};
     ghost use Rattle.std.specs.Vec.{vec_capacity};
-    ghost use Rattle.rpki_addr.specs.Prefixes.{IsPrefix, PrefixValue};
+    ghost use Rattle.rpki_cover.specs.Prefixes.{IsPrefix, PrefixValue};
     ghost use Rattle.rpki_der.specs.Reading.{Gives};
     ghost use Rattle.rpki_der.specs.Der.{Spells};
     ghost use Rattle.rpki_der.specs.Views.{Lenient, LenientIn, NotCanonicalInOr, NotCanonicalOr, Parses, ReadsValue, Strict, StrictIn, Takes, content_octets, is_strict, is_strict_in, left};
@@ -174,7 +174,7 @@ impl Prefix {
 
 impl Prefix {
     ghost use Rattle.std.specs.Prelude.{◌≡◌, ◌≤◌, take};
-    ghost use Rattle.rpki_addr.specs.Prefixes.{IsPrefix};
+    ghost use Rattle.rpki_cover.specs.Prefixes.{IsPrefix};
     ghost use Rattle.rpki_der.specs.Der.{bits_with};
     ghost use Rattle.rpki_ip.specs.PrefixDer.{prefix_bits};
 

@@ -1,7 +1,7 @@
 //! What holds of the octets of blocks, each law as the contract of a function that does nothing.
 ghost use Rattle.std.specs.Prelude.{◌≡◌, ◌≢◌, ◌↔◌, ℕ, ◌<◌, ◌≤◌, List, Err};
 ghost use Rattle.rpki_der.specs.SequenceFaults.{BeginsWithTwo, BeginsWithValue};
-ghost use Rattle.rpki_addr.specs.Prefixes.{last_of};
+ghost use Rattle.rpki_cover.specs.Prefixes.{last_of};
 ghost use Rattle.rpki_der.specs.Der.{OneFront};
 ghost use Rattle.rpki_der.specs.declared.error.DerError.TheVariants.{NotCanonical, ReversedRange};
 ghost use Rattle.rpki_ip.specs.PrefixDer.{prefix_at};

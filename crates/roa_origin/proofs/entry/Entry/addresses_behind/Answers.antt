@@ -1,6 +1,6 @@
 -- A mask of the open bits is the number of addresses less one.
 use Rattle.roa_origin.proofs.Common.{ap, arith, ◌-◌, ◌^◌, ◌∙◌, ◌≡◌, width, prefix_len}
-use Rattle.rpki_addr.proofs.Masks.{host_ones}
+use Rattle.rpki_cover.proofs.Masks.{host_ones}
 use Rattle.roa_origin.proofs.entry.Entry.addresses_behind.Goals as goal
 
 pub returns-else-fixed : goal.returns-else-fixed

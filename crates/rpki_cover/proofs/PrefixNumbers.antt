@@ -1,12 +1,8 @@
 -- On the numbers of prefixes.
-use Rattle.rpki_addr.proofs.Common.{arith, ℕ, ◌*◌, ◌<◌, ◌^◌, ◌≡◌, ◌≤◌, pow-le-pow_right, two-pow-succ, cases_order, mod_below, pow_below, pow_pos, shr_split, IpAddr}
+use Rattle.rpki_cover.proofs.Common.{arith, ℕ, ◌*◌, ◌<◌, ◌^◌, ◌≡◌, ◌≤◌, pow-le-pow_right, two-pow-succ, cases_order, mod_below, pow_below, pow_pos, shr_split}
 use Rattle.std.proofs.Math.Nat.{mul-mod_left}
-use Rattle.rpki_addr.specs.Bits.{cleared}
-use Rattle.rpki_addr.specs.Prefixes.{PrefixValue, IsPrefix, IsIn, width}
-
--- no address has more than 128 bits
-pub width_small : (a : IpAddr) → width a ≤ 128
-width_small a = grind (arith)
+use Rattle.rpki_cover.specs.Bits.{cleared}
+use Rattle.rpki_cover.specs.Prefixes.{PrefixValue, IsPrefix, IsIn}
 
 -- clearing the bits behind its length leaves a prefix's first number as it is
 pub cleared_first : (w : ℕ) (p : PrefixValue) → IsPrefix w p → cleared w p.first p.len ≡ p.first

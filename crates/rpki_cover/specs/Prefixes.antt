@@ -1,12 +1,5 @@
 -- Prefixes of a width: 32 bits for IPv4, 128 bits for IPv6 and for addresses of either family.
 use Rattle.std.specs.Prelude.{◌≡◌, ℕ, ◌+◌, ◌-◌, ◌%◌, ◌^◌, ◌<◌, ◌≤◌}
-use Rattle.rpki_addr.specs.declared.addr.IpAddr.{IpAddr}
-use Rattle.rpki_addr.specs.declared.addr.IpAddr.TheVariants.{V4, V6}
-
--- how many bits an address has (RFC 791, 2.3; RFC 4291, 2)
-abbrev pub width : IpAddr → ℕ
-width (V4 n) = 32
-width (V6 n) = 128
 
 -- what contracts see of a prefix: its first number, and how many of its leading bits are fixed
 pub record PrefixValue : Type 0 where

@@ -115,12 +115,14 @@ fi
 chmod u+w "$copy/crates/rpki_text/out"
 
 # Proving: what fails is shown, a crate comes behind those that it stands on, and the program is noted.
-# The two crates that stand on none begin side by side, in either order.
+# The three crates that stand on none begin side by side, in any order.
 prover "a-kit logic 12" 'sleep 1; echo proving; exit 1'
 said=$(run "$copy/respath")
 expect "a proof that fails" 1 "proving
 proving
+proving
 respath: proving rpki_block (0 of N)
+respath: proving rpki_cover (0 of N)
 respath: proving rpki_text (0 of N)
 $built_first
 respath: the program was not built" $? \

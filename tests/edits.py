@@ -162,9 +162,11 @@ def try_over(kit, crate, edits: list[Path], kept: str) -> list[tuple[bool, str]]
 def try_edits(kit, crate, names: list[str]) -> int:
     """Tries the edits of a copied crate and says what came of each; how many are refused."""
     edits = sorted(named(crate, names), key=lambda it: place(kit, crate, it))
-    with tempfile.TemporaryDirectory(prefix="edits-") as kept:
-        copy_kept(kit, crate, Path(kept))
-        tried = try_over(kit, crate, edits, kept)
+    kept = Path(crate.folder, kit.rtlib.KEPT[1])
+    if not kept.is_dir():  # it wasn't proved in the copy
+        kept.mkdir(parents=True)
+        copy_kept(kit, crate, kept)
+    tried = try_over(kit, crate, edits, str(kept))
     if tried is None:
         print(f"{crate.name} is not proved, so its edits say nothing: {len(edits)} not tried", flush=True)
         return 0
@@ -172,10 +174,9 @@ def try_edits(kit, crate, names: list[str]) -> int:
     return sum(refused for refused, _ in tried)
 
 
-def task(kit, crate, call) -> tuple:
-    """A task as the kit takes it: the libraries it waits for, its size, the memory it needs, and a call, which is told
-    how many jobs it may use and is made where those libraries are proved."""
-    waits = [(it.name, "proof") for it in crate.below()]
+def task(kit, crate, waits: list[tuple[str, str]], call) -> tuple:
+    """A task as the kit takes it: the tasks it waits for, its size, the memory it needs, and a call, which is told how
+    many jobs it may use and is made where what it waits for is proved."""
 
     def when_proved(given: dict, jobs: int):
         return all(given[it] for it in waits) and call(jobs)
@@ -187,10 +188,12 @@ def tasks_of(kit, crates: list, tried: list, names: list[str]) -> dict:
     """What is to be done, lowest crates first: to prove what one of the tried stands on, and to try the edits."""
     tasks = {}
     for crate in sorted(crates, key=lambda it: len(it.below())):
+        waits = [(it.name, "proof") for it in crate.below()]
         if any(crate in it.below() for it in tried):
-            tasks[crate.name, "proof"] = task(kit, crate, lambda jobs, it=crate: built(kit, it, jobs))
+            tasks[crate.name, "proof"] = task(kit, crate, waits, lambda jobs, it=crate: built(kit, it, jobs))
+            waits = [(crate.name, "proof")]  # its edits are tried over that
         if crate in tried:
-            tasks[crate.name, "edits"] = task(kit, crate, lambda _, it=crate: try_edits(kit, it, names))
+            tasks[crate.name, "edits"] = task(kit, crate, waits, lambda _, it=crate: try_edits(kit, it, names))
     return tasks
 
 

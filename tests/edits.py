@@ -20,6 +20,7 @@ import sys
 import tempfile
 import time
 from pathlib import Path
+from types import SimpleNamespace
 
 from edits_apply import FOLDERS, TOP, edits_of, the_kit
 
@@ -100,8 +101,9 @@ def copied(kit, crates, room: Path) -> dict:
 
 def copy_kept(kit, crate, to: Path) -> None:
     """Copies what the crate's own checks have proved, as far as they have."""
-    kept = TOP / "crates" / crate.name / kit.rtlib.KEPT[1]
-    held = kit.rtlib.lock([crate])
+    own = TOP / "crates" / crate.name
+    held = kit.rtlib.lock([SimpleNamespace(folder=own)])
+    kept = own / kit.rtlib.KEPT[1]
     if kept.is_dir():
         shutil.copytree(kept, to, symlinks=True, dirs_exist_ok=True)
     for it in held:

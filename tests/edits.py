@@ -4,9 +4,17 @@ prover has to refuse; of a crate with the names of edits behind it these alone.
 
 With no name it takes the crates whose code or edits changed since the commit that tests/edits.revision names, and those
 that stand on such code; with --all every crate. Each edit is tried as the kit tries it, in a copy, over what was proved
-of the crate and of those below. It is refused at a goal, whose line is told, or for a name alone, since a proof names
-what the edit took away, which says little; or it is still PROVED, or can't be applied: these two are faults. The last
-line is 'N refused, M not'; status 1 where one is not.
+of the crate and of those below.
+
+For each edit it prints one of these results, with the prover's line:
+  refused at a goal                   a clause, an invariant or a bound of the changed function is not proved
+  refused at a callee's precondition  only the precondition of a call in the changed function is not proved
+  refused by a limit alone            the tactics gave up at a limit, at each goal that is not proved
+  refused for a name alone            a proof names what the edit took away, so the result says little of the contract
+  PROVED, BAD EDIT                    a fault: the edit is still proved, or can't be applied
+
+The last line counts the results, for example '9 refused (8 at a goal, 1 for a name alone), 0 not'. The status is 1 if
+an edit is not refused.
 
 With --write, which goes with no names, it then writes the commit into tests/edits.revision, where every edit that was
 to be tried was refused. It waits for an rt that works on one of these crates. RT_JOBS bounds how many crates are tried
@@ -18,7 +26,9 @@ import shutil
 import subprocess
 import sys
 import tempfile
+import threading
 import time
+from collections import Counter
 from pathlib import Path
 from types import SimpleNamespace
 
@@ -26,6 +36,14 @@ from edits_apply import FOLDERS, TOP, edits_of, the_kit
 
 REVISION = TOP / "tests" / "edits.revision"
 JOBS = ["--jobs", "1"]
+AT_GOAL, AT_CALL = "at a goal", "at a callee's precondition"
+BY_LIMIT, FOR_NAME = "by a limit alone", "for a name alone"
+KINDS = (AT_GOAL, AT_CALL, BY_LIMIT, FOR_NAME)  # a refusal is of the first kind that one of its goals has
+OPEN_GOAL = re.compile(r"note: (\S+: it is not proved that .*\(`([^`]+)`\)(.*))")
+WRONG_ANSWER = re.compile(r"(?m)^(?:\./)?(proofs/(\S+?)/?[^/\s]*\.antt:\S+ error: `([^`]+)`: .*)((?:\n  .*)*)")
+# the answer names what the edit took away: a field, a name, or a goal
+LOST_NAME = re.compile(r"has no field|is not in scope|has no `|was not admitted")
+PRECONDITION = re.compile(r"(?!returns|loop)\S+-requires(-|$)")
 
 
 def git(*words: str) -> list[str]:
@@ -132,26 +150,77 @@ def place(kit, crate, edit: Path) -> tuple[str, int]:
     return file, Path(crate.folder, file).read_text().index(first) if file else 0
 
 
-def must_fail(kit, crate, edit: Path, kept: str | None) -> tuple[bool, str]:
-    """Whether the prover refuses the crate with this edit, and what to say of it."""
+def goals_of(said: str) -> list[tuple[str, str]]:
+    """The goals that are not proved in what the prover said: the kind of each, and its line."""
+    found, lost = [], set()
+    for line, folder, goal, more in WRONG_ANSWER.findall(said):
+        if LOST_NAME.search(line + more):
+            lost.add((folder, goal.partition("-")[0]))
+            found.append((FOR_NAME, line))
+        else:
+            found.append((AT_CALL if PRECONDITION.match(goal) else AT_GOAL, line))
+    noted = []
+    for line in said.splitlines():
+        if note := OPEN_GOAL.match(line):
+            noted.append(note.groups())
+        elif line.startswith("fn "):  # its goals were noted above
+            folder = "/".join(line[3:].partition(": ")[0].split("::")[1:])
+            found += [(open_kind(*it, folder, lost), it[0]) for it in noted]
+            noted = []
+    return found
+
+
+def open_kind(line: str, goal: str, more: str, folder: str, lost: set[tuple[str, str]]) -> str:
+    """The kind of a goal that the tactics left open. If an answer to a goal of this function lost its name, the open
+    goal may be that goal under a new name."""
+    has_values = "allow values at which this goal is false" in more
+    if not has_values and (folder, goal.partition("-")[0]) in lost:
+        return FOR_NAME
+    if "gave up at one of its limits" in more:
+        return FOR_NAME if any(it[0] == folder for it in lost) else BY_LIMIT
+    return AT_CALL if PRECONDITION.match(goal) else AT_GOAL
+
+
+def kind_of(said: str) -> tuple[str, str]:
+    """The kind of a refusal, and the first line that shows it, of what the prover said. A refusal that names no goal
+    counts as one at a goal."""
+    goals = goals_of(said)
+    for kind in KINDS:
+        for its_kind, line in goals:
+            if its_kind == kind:
+                return kind, line
+    return AT_GOAL, next((line for line in said.splitlines() if ": not proved" in line), "")
+
+
+def listening(kit) -> threading.local:
+    """Keeps the last text of the prover in each thread, since the kit hands on one line of it alone."""
+    check, last = kit.checked, threading.local()
+
+    def checked(*given):
+        ran = check(*given)
+        last.text = ran.stdout
+        return ran
+
+    kit.checked = checked
+    return last
+
+
+def must_fail(kit, crate, edit: Path, kept: str | None) -> tuple[str, str]:
+    """The kind of the refusal of the crate with this edit, empty if it is not refused; and a line for the user."""
     started = time.monotonic()
     found, text = kit.must_fail(crate, str(edit), JOBS, kept)
-    refused = found in (kit.REFUSED, kit.AT_LIMIT)
-    why = text.partition(".edit: ")[2]
-    # a goal that a proof file answers and the edit has no more is a name too
-    if "only because a proof file names" in why or "`: `goal." in why:
-        why = f"refused for a name alone: {why.rpartition('): ')[2]}"
-    elif found == kit.AT_LIMIT:
-        why = f"refused by a limit alone: {why.rpartition('): ')[2]}"
-    elif refused:
-        why = why.replace("refused, as it must be", "refused at a goal", 1)
+    # kits differ: the result is one of several constants, or says only whether the edit was refused
+    is_refused = found in (kit.REFUSED, kit.AT_LIMIT) if hasattr(kit, "REFUSED") else found
+    if is_refused:
+        kind, line = kind_of(kit.last.text)
+        why = f"refused {kind}: {line[:160]}"
     else:
-        why = why.replace("NOT REFUSED", "PROVED", 1)
+        kind, why = "", text.partition(".edit: ")[2].replace("NOT REFUSED", "PROVED", 1)
     seconds = time.monotonic() - started
-    return refused, f"{crate.name}/{edit.parent.name}/{edit.name} ({seconds:.0f} s): {why}"
+    return kind, f"{crate.name}/{edit.parent.name}/{edit.name} ({seconds:.0f} s): {why}"
 
 
-def try_over(kit, crate, edits: list[Path], kept: str) -> list[tuple[bool, str]] | None:
+def try_over(kit, crate, edits: list[Path], kept: str) -> list[tuple[str, str]] | None:
     """Tries edits in turn over what was proved of the crate, and those that are not refused so, or all where the crate
     is not proved over it in the end, once more from nothing. None where the crate is not proved without an edit."""
     if kit.checked(crate, {}, JOBS, kept).returncode:
@@ -161,8 +230,8 @@ def try_over(kit, crate, edits: list[Path], kept: str) -> list[tuple[bool, str]]
     return [it if is_sound and it[0] else must_fail(kit, crate, edit, None) for edit, it in zip(edits, tried)]
 
 
-def try_edits(kit, crate, names: list[str]) -> int:
-    """Tries the edits of a copied crate and says what came of each; how many are refused."""
+def try_edits(kit, crate, names: list[str]) -> Counter:
+    """Tries the edits of a copied crate and prints the result of each; how many are refused, by kind."""
     edits = sorted(named(crate, names), key=lambda it: place(kit, crate, it))
     kept = Path(crate.folder, kit.rtlib.KEPT[1])
     if not kept.is_dir():  # it wasn't proved in the copy
@@ -171,9 +240,9 @@ def try_edits(kit, crate, names: list[str]) -> int:
     tried = try_over(kit, crate, edits, str(kept))
     if tried is None:
         print(f"{crate.name} is not proved, so its edits say nothing: {len(edits)} not tried", flush=True)
-        return 0
+        return Counter()
     print("\n".join(text for _, text in tried), flush=True)
-    return sum(refused for refused, _ in tried)
+    return Counter(kind for kind, _ in tried if kind)
 
 
 def task(kit, crate, waits: list[tuple[str, str]], call) -> tuple:
@@ -199,8 +268,8 @@ def tasks_of(kit, crates: list, tried: list, names: list[str]) -> dict:
     return tasks
 
 
-def refused_of(kit, crates: list, names: list[str]) -> int:
-    """Tries the edits of these crates, side by side as memory and processors allow; how many are refused."""
+def refused_of(kit, crates: list, names: list[str]) -> Counter:
+    """Tries the edits of these crates, side by side as memory and processors allow; how many are refused, by kind."""
     os.environ.pop(kit.rtlib.ALLOW_C, None)
     kit.rtlib.guarded()
     needed = [*dict.fromkeys(it for crate in crates for it in [*crate.below(), crate])]
@@ -208,7 +277,13 @@ def refused_of(kit, crates: list, names: list[str]) -> int:
         copies = copied(kit, needed, Path(room))
         tasks = tasks_of(kit, [*copies.values()], [copies[it.name] for it in crates], names)
         given = kit.in_lanes(tasks)
-    return sum(refused for (_, what), refused in given.items() if what == "edits")
+    return sum((refused for (_, what), refused in given.items() if what == "edits"), Counter())
+
+
+def summary(refused: Counter, left: int) -> str:
+    """The last line: how many edits were refused, by kind, and how many were not."""
+    kinds = ", ".join(f"{refused[it]} {it}" for it in KINDS if refused[it])
+    return f"{refused.total()} refused{f' ({kinds})' if kinds else ''}, {left} not"
 
 
 def main(words: list[str]) -> int:
@@ -216,6 +291,7 @@ def main(words: list[str]) -> int:
         print(__doc__)
         return 0
     kit = the_kit()
+    kit.last = listening(kit)
     names = [it for it in words if not it.startswith("--")]
     if "--write" in words and (names or git("status", "--porcelain", "--", "crates", "crates.txt")):
         sys.exit("edits.py: what is tried for tests/edits.revision is a commit, whole: commit the crates first")
@@ -223,11 +299,11 @@ def main(words: list[str]) -> int:
     check_names(every, names)
     crates = to_try(kit, every, words, names)
     print(f"trying the edits of {len(crates)} crates: {' '.join(it.name for it in crates)}", flush=True)
-    refused = refused_of(kit, crates, names) if crates else 0
-    left = sum(len(named(it, names)) for it in crates) - refused
+    refused = refused_of(kit, crates, names) if crates else Counter()
+    left = sum(len(named(it, names)) for it in crates) - refused.total()
     if "--write" in words and not left:
         REVISION.write_text(git("rev-parse", "HEAD")[0] + "\n")
-    print(f"{refused} refused, {left} not")
+    print(summary(refused, left))
     return 1 if left else 0
 
 

@@ -1,14 +1,19 @@
 #!/usr/bin/env python3
-"""gives_up.py [--all] [CRATE..]: which public calls a body that gives up would meet.
+"""gives_up.py [--all] [CRATE..]: lists the wrong bodies that the contracts of public calls let through.
 
-Such a body answers None, an Err, false, true, 0, an empty text or list, what it was given, or does nothing. Each stands
-in turn under the signature and the clauses of each public function and of each method of a public trait, in a copy of the
-crate, and rt's planter has it proved over the crate's kept proof. It plants bodies that call the real function too; those
-are left out here. With no CRATE each library of crates.txt is gone over.
+Such a body gives up: it returns None, an Err, false, true, 0, an empty text or list, or what it was given, or it does
+nothing. Each body stands in turn under the signature and the clauses of each public function and of each method of a
+public trait, in a copy of the crate. rt's planter has it proved over the crate's kept proof. With no CRATE the script
+tries each library of crates.txt.
+
+One kind of body calls the real function: it returns out of memory in the place of one refusal. It is planted if the
+error has both, as OrMemory<..> does, and it is proved if no clause tells the two apart. The planter's other bodies that
+call the real function are left out.
 
 For each crate it prints what is still proved, and what has no clause or could not be judged; with --all also what is
-refused and what does not compile. What is still proved should stand in docs/DECISIONS.md. An Err of memory is never
-planted: each clause allows it. A crate has to be proved first (rt check); then it takes a minute or a few."""
+refused and what does not compile. What is still proved should stand in docs/DECISIONS.md. A body that is an Err of
+memory alone is never planted, since each clause allows it. A crate has to be proved first (rt check); then it takes a
+minute or a few."""
 import collections
 import importlib.machinery
 import os
@@ -21,6 +26,7 @@ from pathlib import Path
 
 TOP = Path(__file__).resolve().parent.parent
 ROW = re.compile(r"^(proves|same|refused|elsewhere|not-judged|not-source|not-run|untested|no-ensures) +(\S.*)$")
+MOST_FAULTS = 3  # of an error, each of which is planted alone
 TOLD = ("proves", "same", "no-ensures", "untested", "elsewhere", "not-judged", "not-run")
 
 
@@ -40,6 +46,52 @@ def faults_beside_memory(bodies, of):
     error, path, faults = bodies.named(of.resolved(held[1])) if name == "Result" and len(held) == 2 else ("", "", [])
     found = of.values(of.resolved(faults[0]))[:1] if error == "OrMemory" and faults else []
     return [bodies.Body(f"Err({path}::Refused({it}))", None, "failure") for it in found]
+
+
+def variants(bodies, of, ty, is_far):
+    """The variants of an enum, each as its path and the types that it holds; none of another type."""
+    name, path, _ = bodies.named(of.resolved(ty))
+    for module, word, _, body in of.declared(name):
+        if is_far and module != of.f.module:
+            path = "::".join([*(module[1:] if module[:1] == ("",) else ("crate", *module)), name])
+        for variant, *held in map(bodies.without_attributes, bodies.split(body[1:-1]) if word == "enum" else []):
+            yield f"{path}::{variant}", [ty for _, ty in bodies.fields_of(held)] if held else []
+
+
+def as_memory(bodies, of, ty, is_far=False):
+    """The refusals of an error type as patterns, each with the value that means out of memory in its place; none where
+    the type has no such value."""
+    found = [*variants(bodies, of, ty, is_far)]
+    own = [f"{path}(std::alloc::AllocError)" if held else path for path, held in found if path.endswith("::Memory")]
+    refusals = []
+    for path, held in found:
+        inside = as_memory(bodies, of, held[0], True) if len(held) == 1 else []
+        refusals += [(f"{path}({refused})", f"{path}({memory})") for refused, memory in inside]
+        if own and path not in own and not inside and not path.endswith("::Memory"):
+            refusals.append((f"{path}({', '.join('_' * len(held))})" if held else path, own[0]))
+    return refusals
+
+
+def each_fault(bodies, of, ty, refusals):
+    """The refusals of OrMemory by the variants of its fault, if these are few."""
+    name, _, held = bodies.named(ty)
+    faults = [*variants(bodies, of, held[0], True)] if name == "OrMemory" and held else []
+    if not 1 < len(faults) <= MOST_FAULTS:
+        return refusals
+    shapes = [f"{path}({', '.join('_' * len(types))})" if types else path for path, types in faults]
+    return [(refused.replace("(_)", f"({it})"), memory) for refused, memory in refusals for it in shapes]
+
+
+def refusals_as_memory(bodies, of):
+    """The real call, with one of its refusals as out of memory."""
+    name, _, held = bodies.named(of.resolved(of.f.ret))
+    is_plain = all(re.fullmatch(r"[a-z]\w*|_\w+", it) for it, _ in of.f.params)
+    if name != "Result" or len(held) != 2 or of.f.in_trait or not is_plain:
+        return []
+    error = of.resolved(held[1])
+    found = each_fault(bodies, of, error, as_memory(bodies, of, error))
+    arms = [(it, f"Err({it}) => Err({memory}), other => other") for it, memory in found]
+    return [bodies.Body(f"match {of.f.call()} {{ {arm} }}", None, f"memory for {it}") for it, arm in arms]
 
 
 def adds_modules(bodies):
@@ -119,6 +171,7 @@ def planted():
     planter.bodies.Bodies.giving_up = lambda of: [
         *firsts(faults_beside_memory(planter.bodies, of) + giving_up(of)),
         *parts_handed_back(planter.bodies, of),
+        *refusals_as_memory(planter.bodies, of),
     ]
     sys.exit(planter.main("--all", "--max", "9999", "--minutes", "60"))
 

@@ -196,8 +196,8 @@ def listening(kit) -> threading.local:
     """Keeps the last text of the prover in each thread, since the kit hands on one line of it alone."""
     check, last = kit.checked, threading.local()
 
-    def checked(*given):
-        ran = check(*given)
+    def checked(*given, **named):
+        ran = check(*given, **named)
         last.text = ran.stdout
         return ran
 

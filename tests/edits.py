@@ -40,7 +40,7 @@ AT_GOAL, AT_CALL = "at a goal", "at a callee's precondition"
 BY_LIMIT, FOR_NAME = "by a limit alone", "for a name alone"
 KINDS = (AT_GOAL, AT_CALL, BY_LIMIT, FOR_NAME)  # a refusal is of the first kind that one of its goals has
 OPEN_GOAL = re.compile(r"note: (\S+: it is not proved that .*\(`([^`]+)`\)(.*))")
-WRONG_ANSWER = re.compile(r"(?m)^(?:\./)?(proofs/(\S+?)/?[^/\s]*\.antt:\S+ error: `([^`]+)`: .*)((?:\n  .*)*)")
+WRONG_ANSWER = re.compile(r"(?m)^(?:\./)?(proofs/(\S+?)/?[^/\s]*\.antt:\S+ error: (?:`([^`]+)`: )?.*)((?:\n  .*)*)")
 # the answer names what the edit took away: a field, a name, or a goal
 LOST_NAME = re.compile(r"has no field|is not in scope|has no `|was not admitted")
 PRECONDITION = re.compile(r"(?!returns|loop)\S+-requires(-|$)")
@@ -174,7 +174,7 @@ def open_kind(line: str, goal: str, more: str, folder: str, lost: set[tuple[str,
     """The kind of a goal that the tactics left open. If an answer to a goal of this function lost its name, the open
     goal may be that goal under a new name."""
     has_values = "allow values at which this goal is false" in more
-    if not has_values and (folder, goal.partition("-")[0]) in lost:
+    if not has_values and {(folder, goal.partition("-")[0]), (folder, "")} & lost:
         return FOR_NAME
     if "gave up at one of its limits" in more:
         return FOR_NAME if any(it[0] == folder for it in lost) else BY_LIMIT

@@ -25,6 +25,7 @@ OTHER = "fn small::b::f: not proved"
 ERROR = "./proofs/a/f/Answers.antt:4:9: error: `{0}`:"
 WRONG = f"{ERROR} the two types differ\n  expected type `A`"
 LOST = f"{ERROR} `goal.{{0}}`: module `Goals`\n  has no `{{0}}` that can be named from here"
+IMPORT = "./proofs/a/f/Answers.antt:2:5: error: module `Goals` has no `Then-lt`"
 FIELD = f"{ERROR} `c` has no field `if-lt`"
 
 # what the prover says of an edit, and the kind of its refusal
@@ -42,6 +43,7 @@ REFUSALS = (
     ((FIELD.format("of-requires"),), edits.FOR_NAME),
     ((LOST.format("returns-then-lt"), RETURNS, FUNCTION), edits.FOR_NAME),
     ((LOST.format("loop-at-preserved"), RETURNS + LIMIT, FUNCTION), edits.FOR_NAME),
+    ((IMPORT, RETURNS, FUNCTION), edits.FOR_NAME),
     # the name that was lost is that of another goal, of another function, or the goal is false
     ((LOST.format("of-requires"), RETURNS, FUNCTION), edits.AT_GOAL),
     ((LOST.format("returns"), RETURNS, OTHER), edits.AT_GOAL),

@@ -1,5 +1,5 @@
-//! Reads the whole input, and then answers each line of it; and the steps of a run, which others share.
-ghost use Rattle.std.specs.Prelude.{◌≡◌, [], ℕ, true, false, IfOk, IfErr, IfSome, OnOk, OnErr, IsErrOf, List};
+//! The engine that reads the whole input before it answers a line, and steps that both engines share.
+ghost use Rattle.std.specs.Prelude.{◌≡◌, ◌<◌, [], ℕ, true, false, vec_len, IfOk, IfErr, IfSome, OnOk, OnErr, IsErrOf, List};
 ghost use Rattle.std.specs.Io.KnownBytes.{IsAtEnd, Keeps};
 ghost use Rattle.lines_engine.specs.Run.{HasWritten, HasAnsweredLine, AnswersAll, AnswersFirst, BeginsAnswers};
 
@@ -7,16 +7,32 @@ use crate::answers::Answers;
 use crate::device::{DeviceFault, Sink, Source};
 use crate::error::RunError;
 use rpki_text::line::cut_line;
-use std::alloc::Allocator;
+use std::alloc::{AllocError, Allocator};
 
 /// The bytes that one read asks for.
-pub(crate) const PIECE: usize = 64 * 1024;
+const PIECE: usize = 64 * 1024;
 
-/// Reads the whole input, and then answers each line, in order, with one line. No failed call is tried again,
-/// and the writer is flushed at the end, of an empty input too.
+/// Allocates the buffer that each read of a run fills. On the stack it would take half of what a program has.
+pub(crate) fn read_buffer<A: Allocator>(alloc: A) -> Result<Vec<u8, A>, AllocError>
+    ensures { IfOk result (λ buffer. 0 < vec_len buffer) }
+{
+    vec![in alloc; 0; PIECE]
+}
+
+/// Reads `reader` to its end, then writes to `writer` the answer of `answers` to each line, in order, as one line.
 ///
-/// [`RunError::Read`] and [`RunError::Write`] are answered where a call of the device failed, or a write took
-/// nothing; [`RunError::Memory`] where a request for memory was refused.
+/// The run flushes `writer` after the last answer, and after an empty input. It never repeats a call that failed.
+///
+/// # Preconditions
+///
+/// No call of `reader` or `writer` has failed, and no write has taken nothing.
+///
+/// # Errors
+///
+/// - [`RunError::Read`]: a read failed. The run wrote nothing.
+/// - [`RunError::Write`]: a write or the flush failed, or a write took nothing. A beginning of the answers was written.
+/// - [`RunError::Memory`]: an allocation failed. The answers to some first lines were written whole, and nothing else.
+///   They are not the answers to all lines, unless the input is empty.
 #[tactic(auto, using(crate::proofs::RunLemmas::unanswered, crate::proofs::RunLemmas::unflushed))]
 pub fn run<A: Allocator + Copy, L: Answers, R: Source, W: Sink>(
     alloc: A,
@@ -24,11 +40,11 @@ pub fn run<A: Allocator + Copy, L: Answers, R: Source, W: Sink>(
     reader: &mut R,
     writer: &mut W,
 ) -> Result<(), RunError>
-    // Neither has failed: no call follows one that did.
+    // No call of either has failed.
     requires reader_clear { R.mark reader.old ≡ false }
     requires writer_clear { W.mark writer.old ≡ false }
 
-    // No call failed, nothing is left to be read, each line's answer was written whole, and the writer is flushed.
+    // Ok: no call failed, the input was read to its end, each answer was written whole, and the writer is flushed.
     ensures unmarked { OnOk result ((R.mark reader.new ≡ R.mark reader.old)
         × (W.mark writer.new ≡ W.mark writer.old)) }
     ensures read_whole { OnOk result (IsAtEnd (R.left reader.new)) }
@@ -36,18 +52,18 @@ pub fn run<A: Allocator + Copy, L: Answers, R: Source, W: Sink>(
         (AnswersAll (L.is_answer answers.now) (W.written writer.old) (W.written writer.new))) }
     ensures flushed { OnOk result (W.flushed writer.new ≡ true) }
 
-    // A read failed, and nothing was written.
+    // Read: a read failed, and nothing was written.
     ensures read { IsErrOf result RunError.Read → R.mark reader.new ≡ true }
     ensures nothing_written { IsErrOf result RunError.Read → writer.new ≡ writer.old }
 
-    // No call failed. The answers of some first lines, of not all where there is any, were written whole, and
+    // Memory: no call failed. The answers to some first lines, not to all unless there is none, were written whole, and
     // nothing else.
     ensures memory_unmarked { IsErrOf result RunError.Memory →
         (R.mark reader.new ≡ R.mark reader.old) × (W.mark writer.new ≡ W.mark writer.old) }
     ensures some_answered { IsErrOf result RunError.Memory → IfSome (R.left reader.old)
         (AnswersFirst (L.is_answer answers.now) (W.written writer.old) (W.written writer.new)) }
 
-    // A write or a flush failed, or a write took nothing, and a beginning of the answers was written.
+    // Write: a write or the flush failed, or a write took nothing, and a beginning of the answers was written.
     ensures write { IsErrOf result RunError.Write → W.mark writer.new ≡ true }
     ensures some_written { IsErrOf result RunError.Write → IfSome (R.left reader.old)
         (BeginsAnswers (L.is_answer answers.now) (W.written writer.old) (W.written writer.new)) }
@@ -57,9 +73,19 @@ pub fn run<A: Allocator + Copy, L: Answers, R: Source, W: Sink>(
     flush_all(writer)
 }
 
-/// Reads until nothing is left. Answers [`RunError::Read`] where a read failed, and [`RunError::Memory`] where a
-/// request for memory was refused.
-pub fn read_to_end<A: Allocator, R: Source>(
+/// Reads `reader` to its end and returns its bytes. The call allocates its buffer before the first read.
+///
+/// # Preconditions
+///
+/// No call of `reader` has failed.
+///
+/// # Errors
+///
+/// After an error the bytes that were read are lost.
+///
+/// - [`RunError::Read`]: a read failed. The call doesn't repeat it.
+/// - [`RunError::Memory`]: an allocation failed.
+pub fn read_to_end<A: Allocator + Copy, R: Source>(
     alloc: A,
     reader: &mut R,
 ) -> Result<Vec<u8, A>, RunError>
@@ -72,8 +98,8 @@ pub fn read_to_end<A: Allocator, R: Source>(
     ensures memory { IsErrOf result RunError.Memory → R.mark reader.new ≡ R.mark reader.old }
     ensures not_write { IsErrOf result RunError.Write → ⊥ }
 {
+    let mut piece = read_buffer(alloc)?;
     let mut input = Vec::new(alloc);
-    let mut piece = [0u8; PIECE];
     loop {
         let count = match reader.read(&mut piece) {
             Ok(count) => count,
@@ -141,7 +167,15 @@ pub(crate) fn answer_line<A: Allocator + Copy, L: Answers, W: Sink>(
     write_all(writer, text.as_bytes()).map_err(|_| RunError::Write)
 }
 
-/// Writes a whole piece. No call is tried again: [`DeviceFault`] where one failed, or took nothing.
+/// Writes all of `piece`. The call flushes nothing.
+///
+/// # Preconditions
+///
+/// No call of `writer` has failed, and no write has taken nothing.
+///
+/// # Errors
+///
+/// [`DeviceFault`] if a write failed or took nothing. The call doesn't repeat it. A beginning of `piece` was written.
 #[tactic(auto, using(std::proofs::lemmas::Grind::common_steps, crate::proofs::RunLemmas::written_more))]
 pub fn write_all<W: Sink>(writer: &mut W, piece: &[u8]) -> Result<(), DeviceFault>
     requires clear { W.mark writer.old ≡ false }
@@ -163,7 +197,15 @@ pub fn write_all<W: Sink>(writer: &mut W, piece: &[u8]) -> Result<(), DeviceFaul
     Ok(())
 }
 
-/// Hands on all that was written. No call is tried again: [`RunError::Write`] where it failed.
+/// Flushes `writer`. Its written bytes stay as they are.
+///
+/// # Preconditions
+///
+/// No call of `writer` has failed, and no write has taken nothing.
+///
+/// # Errors
+///
+/// [`RunError::Write`] if the flush failed. The call doesn't repeat it.
 pub fn flush_all<W: Sink>(writer: &mut W) -> Result<(), RunError>
     requires clear { W.mark writer.old ≡ false }
     ensures unmarked { OnOk result (W.mark writer.new ≡ W.mark writer.old) }

@@ -1,13 +1,12 @@
-//! The engines of a program that answers lines: one reads an input whole, and then answers each line of it
-//! ([`engine::run`]), one answers lines as it reads them ([`stream::answer_as_read`]). What a line is answered is no
-//! affair of theirs ([`answers::Answers`]).
+//! The engines of programs that answer lines.
 //!
-//! The program `respath` runs it over the standard streams:
+//! - [`engine::run`] reads the whole input, and then answers each line.
+//! - [`stream::answer_as_read`] answers each line as soon as it has read its end.
+//!
+//! The answer to a line is a parameter of both ([`answers::Answers`]). `respath_lines::run` is an example:
 //!
 //! ```rust
-//! let mut reader = FromRead::new(rt.stdin());
-//! let mut writer = IntoWrite::new(buffered);
-//! run(rt.alloc(), &Commands, &mut reader, &mut writer)
+//! engine::run(alloc, &Commands, reader, writer)
 //! ```
 #![tactic(auto)]
 

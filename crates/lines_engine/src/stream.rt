@@ -1,4 +1,4 @@
-//! Answers lines as they are read, in memory that doesn't grow with the input.
+//! The engine that answers each line as soon as it has read its end.
 ghost use Rattle.std.specs.Prelude.{◌≡◌, ◌<◌, ◌++◌, length, ℕ, List, [], true, false, IfErr, IfOk, IfSome, OnOk, IsErrOf, MatchOption};
 ghost use Rattle.std.specs.Io.KnownBytes.{IsAtEnd};
 ghost use Rattle.rpki_text.specs.Cuts.{HasNo, IsCutAt};
@@ -7,27 +7,38 @@ ghost use Rattle.lines_engine.specs.Run.{AnswersAll, AnswersEnded, AnswersFirst,
 
 use crate::answers::Answers;
 use crate::device::{DeviceFault, Sink, Source};
-use crate::engine::{PIECE, answer_line, flush_all};
+use crate::engine::{answer_line, flush_all, read_buffer};
 use crate::error::RunError;
 use std::alloc::Allocator;
 
-/// Answers each line as soon as its end was read, in order, with one line. Of what was read it keeps the part of a line
-/// whose end wasn't, so that its memory grows with the longest line alone. No failed call is tried again, and the
-/// writer is flushed at the end, of an empty input too.
+/// Writes to `writer` the answer of `answers` to each line of `reader`, in order, as one line.
 ///
-/// [`RunError::Read`] and [`RunError::Write`] are answered where a call of the device failed, or a write took
-/// nothing; [`RunError::Memory`] where a request for memory was refused, or the input has 2^64 bytes.
+/// The run answers a line as soon as it has read its end. It keeps only the bytes behind the last end, so its memory
+/// grows with the longest line, not with the input. It flushes `writer` once, after the last answer, and after an empty
+/// input. It never repeats a call that failed.
+///
+/// # Preconditions
+///
+/// No call of `reader` or `writer` has failed, and no write has taken nothing.
+///
+/// # Errors
+///
+/// - [`RunError::Read`]: a read failed. The answers to the lines whose ends were read were written whole, and nothing
+///   else.
+/// - [`RunError::Write`]: a write or the flush failed, or a write took nothing. A beginning of the answers was written.
+/// - [`RunError::Memory`]: an allocation failed, or the input has 2^64 bytes. The answers to some first lines were
+///   written whole, and nothing else. They are not the answers to all lines, unless the input is empty.
 pub fn answer_as_read<A: Allocator + Copy, L: Answers, R: Source, W: Sink>(
     alloc: A,
     answers: &L,
     reader: &mut R,
     writer: &mut W,
 ) -> Result<(), RunError>
-    // Neither has failed: no call follows one that did.
+    // No call of either has failed.
     requires reader_clear { R.mark reader.old ≡ false }
     requires writer_clear { W.mark writer.old ≡ false }
 
-    // No call failed, nothing is left to be read, each line's answer was written whole, and the writer is flushed.
+    // Ok: no call failed, the input was read to its end, each answer was written whole, and the writer is flushed.
     ensures unmarked { OnOk result ((R.mark reader.new ≡ R.mark reader.old)
         × (W.mark writer.new ≡ W.mark writer.old)) }
     ensures read_whole { OnOk result (IsAtEnd (R.left reader.new)) }
@@ -35,21 +46,21 @@ pub fn answer_as_read<A: Allocator + Copy, L: Answers, R: Source, W: Sink>(
         (AnswersAll (L.is_answer answers.now) (W.written writer.old) (W.written writer.new))) }
     ensures flushed { OnOk result (W.flushed writer.new ≡ true) }
 
-    // A read failed, and no write did. The answers of the lines whose ends were read were written whole, and nothing
-    // else.
+    // Read: a read failed, and no write did. The answers to the lines whose ends were read were written whole, and
+    // nothing else.
     ensures read { IsErrOf result RunError.Read →
         (R.mark reader.new ≡ true) × (W.mark writer.new ≡ W.mark writer.old) }
     ensures ended_answered { IsErrOf result RunError.Read → AnswersEnded (L.is_answer answers.now)
         (W.written writer.old) (W.written writer.new) (R.left reader.old) (R.left reader.new) }
 
-    // No call failed. The answers of some first lines, of not all where there is any, were written whole, and
+    // Memory: no call failed. The answers to some first lines, not to all unless there is none, were written whole, and
     // nothing else.
     ensures memory_unmarked { IsErrOf result RunError.Memory →
         (R.mark reader.new ≡ R.mark reader.old) × (W.mark writer.new ≡ W.mark writer.old) }
     ensures some_answered { IsErrOf result RunError.Memory → IfSome (R.left reader.old)
         (AnswersFirst (L.is_answer answers.now) (W.written writer.old) (W.written writer.new)) }
 
-    // A write or a flush failed, or a write took nothing, and a beginning of the answers was written.
+    // Write: a write or the flush failed, or a write took nothing, and a beginning of the answers was written.
     ensures write { IsErrOf result RunError.Write → W.mark writer.new ≡ true }
     ensures some_written { IsErrOf result RunError.Write → IfSome (R.left reader.old)
         (BeginsAnswers (L.is_answer answers.now) (W.written writer.old) (W.written writer.new)) }
@@ -59,8 +70,8 @@ pub fn answer_as_read<A: Allocator + Copy, L: Answers, R: Source, W: Sink>(
     flush_all(writer)
 }
 
-/// Reads until nothing is left, and answers each line that is ended. What stands behind the last end is left.
-#[tactic(auto, using(crate::proofs::StreamLemmas::but_begun, crate::proofs::StreamLemmas::but_more, crate::proofs::StreamLemmas::but_none, crate::proofs::StreamLemmas::but_some))]
+/// Reads the input to its end, and answers each line whose end it reads. Returns the bytes behind the last end.
+#[tactic(auto, using(crate::proofs::RunLemmas::unanswered))]
 fn answer_ended<A: Allocator + Copy, L: Answers, R: Source, W: Sink>(
     alloc: A,
     answers: &L,
@@ -87,12 +98,45 @@ fn answer_ended<A: Allocator + Copy, L: Answers, R: Source, W: Sink>(
     ensures some_written { IsErrOf result RunError.Write → IfSome (R.left reader.old)
         (BeginsAnswers (L.is_answer answers.now) (W.written writer.old) (W.written writer.new)) }
 {
+    let mut buffer = read_buffer(alloc)?;
+    answer_pieces(alloc, answers, &mut buffer, reader, writer)
+}
+
+/// Does the same by reads into `piece`.
+#[tactic(auto, using(crate::proofs::StreamLemmas::but_begun, crate::proofs::StreamLemmas::but_more, crate::proofs::StreamLemmas::but_none, crate::proofs::StreamLemmas::but_some))]
+fn answer_pieces<A: Allocator + Copy, L: Answers, R: Source, W: Sink>(
+    alloc: A,
+    answers: &L,
+    piece: &mut [u8],
+    reader: &mut R,
+    writer: &mut W,
+) -> Result<Vec<u8, A>, RunError>
+    requires has_room { 0 < length piece.old }
+    requires reader_clear { R.mark reader.old ≡ false }
+    requires writer_clear { W.mark writer.old ≡ false }
+    ensures unmarked { OnOk result ((R.mark reader.new ≡ R.mark reader.old)
+        × (W.mark writer.new ≡ W.mark writer.old)) }
+    ensures read_whole { OnOk result (IsAtEnd (R.left reader.new)) }
+    ensures unended { IfOk result (λ part. HasNo 10 part.items) }
+    ensures answered { IfOk result (λ part. IfSome (R.left reader.old) (λ input. HasAnswered
+        (L.is_answer answers.now) (W.written writer.old) (W.written writer.new) (lines_of input) (lines_of part.items) [])) }
+    ensures read { IsErrOf result RunError.Read →
+        (R.mark reader.new ≡ true) × (W.mark writer.new ≡ W.mark writer.old) }
+    ensures ended_answered { IsErrOf result RunError.Read → AnswersEnded (L.is_answer answers.now)
+        (W.written writer.old) (W.written writer.new) (R.left reader.old) (R.left reader.new) }
+    ensures memory_unmarked { IsErrOf result RunError.Memory →
+        (R.mark reader.new ≡ R.mark reader.old) × (W.mark writer.new ≡ W.mark writer.old) }
+    ensures some_answered { IsErrOf result RunError.Memory → IfSome (R.left reader.old)
+        (AnswersFirst (L.is_answer answers.now) (W.written writer.old) (W.written writer.new)) }
+    ensures write { IsErrOf result RunError.Write → W.mark writer.new ≡ true }
+    ensures some_written { IsErrOf result RunError.Write → IfSome (R.left reader.old)
+        (BeginsAnswers (L.is_answer answers.now) (W.written writer.old) (W.written writer.new)) }
+{
     let mut part = Vec::new(alloc);
     let mut told = String::new(alloc);
-    let mut piece = [0u8; PIECE];
     let mut total: usize = 0;
     loop {
-        let count = match reader.read(&mut piece) {
+        let count = match reader.read(piece) {
             Ok(count) => count,
             Err(DeviceFault) => return Err(RunError::Read),
         };

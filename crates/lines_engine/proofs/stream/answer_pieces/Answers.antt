@@ -1,6 +1,6 @@
 use Rattle.lines_engine.proofs.Common.{Err, ap, arith, sym, common_steps}
 use Rattle.lines_engine.proofs.StreamLemmas.{but_begun, but_unanswered}
-use Rattle.lines_engine.proofs.stream.answer_ended.Goals as goal
+use Rattle.lines_engine.proofs.stream.answer_pieces.Goals as goal
 
 -- a beginning of its answers was written
 pub returns-in_err-answer_piece-clause-some_written : goal.returns-in_err-answer_piece-clause-some_written

@@ -2,9 +2,8 @@
 #![tactic(auto)]
 
 use lines_engine::adapters::{FromRead, IntoWrite};
-use lines_engine::engine::run;
 use lines_engine::error::RunError;
-use respath_lines::lines::Commands;
+use respath_lines::run;
 use std::io::BufWriter;
 use std::process::ExitCode;
 
@@ -22,12 +21,12 @@ fn main(rt: HostRuntime) -> ExitCode {
     }
 }
 
-/// Runs the engine over the standard streams.
+/// Answers the standard input on the standard output.
 fn serve(rt: &HostRuntime) -> Result<(), RunError> {
     let Ok(buffered) = BufWriter::with_capacity(rt.alloc(), BUFFER, rt.stdout()) else {
         return Err(RunError::Memory);
     };
     let mut reader = FromRead::new(rt.stdin());
     let mut writer = IntoWrite::new(buffered);
-    run(rt.alloc(), &Commands, &mut reader, &mut writer)
+    run(rt.alloc(), &mut reader, &mut writer)
 }

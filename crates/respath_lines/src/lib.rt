@@ -1,9 +1,10 @@
-//! What a line is answered: a command is looked up by the line's first word, and its answer is one line of text.
+//! The lines of `respath`: the answer to one line ([`answer`]), and a run over an input ([`run`]).
 //!
-//! A line has one answer, to which the engine adds its end, as in `respath`:
+//! The first word of a line is its command, and its answer is one line of text. The program `respath` is a run over the
+//! standard streams:
 //!
 //! ```rust
-//! run(rt.alloc(), &Commands, &mut reader, &mut writer)
+//! run(rt.alloc(), &mut reader, &mut writer)
 //! ```
 #![tactic(auto)]
 
@@ -28,6 +29,7 @@ mod steps;
 use command::cut_word;
 use cover::cover;
 use der::der;
+pub use lines::run;
 use norm::norm;
 use path::path;
 use read::read;
@@ -37,10 +39,14 @@ use std::alloc::{AllocError, Allocator};
 /// The bytes that an answer has room for from the start, so that a short one isn't moved as it grows.
 const ROOM: usize = 64;
 
-/// The answer to a line, both without the end of a line. A line that isn't UTF-8, or begins with no command, is
-/// answered by an error of its own; so is a list that a command refuses.
+/// Returns the answer to `line`. Neither has an end of line.
 ///
-/// [`AllocError`] where there was no memory for what the line says, or there is none for its answer.
+/// The answer to a line that isn't UTF-8, or doesn't begin with a command, is an error message. So is the answer to a
+/// list that its command refuses.
+///
+/// # Errors
+///
+/// [`AllocError`] if an allocation fails.
 pub fn answer<A: Allocator + Copy>(alloc: A, line: &[u8]) -> Result<String<A>, AllocError>
     ensures { IfOk result (λ text. IsAnswer line.now (string_bytes text)) }
 {
@@ -49,8 +55,11 @@ pub fn answer<A: Allocator + Copy>(alloc: A, line: &[u8]) -> Result<String<A>, A
     Ok(text)
 }
 
-/// Puts the answer to a line, as [`answer`] has it, into a text, in the place of what this had. Where it wants memory,
-/// what the text has then is not said.
+/// Replaces the text of `answer` by the answer to `line`, the one that [`answer`](fn@answer) returns.
+///
+/// # Errors
+///
+/// [`AllocError`] if an allocation fails. The text of `answer` is unspecified then.
 pub fn put_answer<A: Allocator + Copy>(
     alloc: A,
     line: &[u8],

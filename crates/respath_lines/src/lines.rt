@@ -1,11 +1,17 @@
-//! The lines of `respath`, as what the engine answers.
+//! A run of `respath`: the input's lines, each answered by its command.
+ghost use Rattle.std.specs.Prelude.{◌≡◌, true, false, IfSome, OnOk, IsErrOf};
+ghost use Rattle.std.specs.Io.KnownBytes.{IsAtEnd};
+ghost use Rattle.lines_engine.specs.Run.{AnswersAll, AnswersFirst, BeginsAnswers};
 ghost use Rattle.respath_lines.specs.Answer.{IsAnswer};
 
 use crate::put_answer;
 use lines_engine::answers::Answers;
+use lines_engine::device::{Sink, Source};
+use lines_engine::engine;
+use lines_engine::error::RunError;
 use std::alloc::{AllocError, Allocator};
 
-/// The commands of `respath`: each line is answered by its own ([`answer`](crate::answer)).
+/// The commands of `respath`, for an engine that takes any [`Answers`].
 #[derive(Clone, Copy, Debug, PartialEq, Eq)]
 pub struct Commands;
 
@@ -20,4 +26,59 @@ impl Answers for Commands {
     ) -> Result<(), AllocError> {
         put_answer(alloc, line, text)
     }
+}
+
+/// Reads `reader` to its end, then writes to `writer` the answer to each line, in order, as one line.
+///
+/// - `alloc`: the allocator for the input and the answers.
+/// - `reader`: the input. The last line may lack its end.
+/// - `writer`: the output. The run flushes it after the last answer, and after an empty input.
+///
+/// The run never repeats a call that failed.
+///
+/// # Preconditions
+///
+/// No call of `reader` or `writer` has failed, and no write has taken nothing. A new
+/// [`FromRead`](lines_engine::adapters::FromRead) and a new [`IntoWrite`](lines_engine::adapters::IntoWrite) meet this.
+///
+/// # Errors
+///
+/// - [`RunError::Read`]: a read failed. The run wrote nothing.
+/// - [`RunError::Write`]: a write or the flush failed, or a write took nothing. A beginning of the answers was written.
+/// - [`RunError::Memory`]: an allocation failed. The answers to some first lines were written whole, and nothing else.
+///   They are not the answers to all lines, unless the input is empty.
+pub fn run<A: Allocator + Copy, R: Source, W: Sink>(
+    alloc: A,
+    reader: &mut R,
+    writer: &mut W,
+) -> Result<(), RunError>
+    // No call of either has failed.
+    requires reader_clear { R.mark reader.old ≡ false }
+    requires writer_clear { W.mark writer.old ≡ false }
+
+    // Ok: no call failed, the input was read to its end, each answer was written whole, and the writer is flushed.
+    ensures unmarked { OnOk result ((R.mark reader.new ≡ R.mark reader.old)
+        × (W.mark writer.new ≡ W.mark writer.old)) }
+    ensures read_whole { OnOk result (IsAtEnd (R.left reader.new)) }
+    ensures answered { OnOk result (IfSome (R.left reader.old)
+        (AnswersAll IsAnswer (W.written writer.old) (W.written writer.new))) }
+    ensures flushed { OnOk result (W.flushed writer.new ≡ true) }
+
+    // Read: a read failed, and nothing was written.
+    ensures read { IsErrOf result RunError.Read → R.mark reader.new ≡ true }
+    ensures nothing_written { IsErrOf result RunError.Read → writer.new ≡ writer.old }
+
+    // Memory: no call failed. The answers to some first lines, not to all unless there is none, were written whole, and
+    // nothing else.
+    ensures memory_unmarked { IsErrOf result RunError.Memory →
+        (R.mark reader.new ≡ R.mark reader.old) × (W.mark writer.new ≡ W.mark writer.old) }
+    ensures some_answered { IsErrOf result RunError.Memory → IfSome (R.left reader.old)
+        (AnswersFirst IsAnswer (W.written writer.old) (W.written writer.new)) }
+
+    // Write: a write or the flush failed, or a write took nothing, and a beginning of the answers was written.
+    ensures write { IsErrOf result RunError.Write → W.mark writer.new ≡ true }
+    ensures some_written { IsErrOf result RunError.Write → IfSome (R.left reader.old)
+        (BeginsAnswers IsAnswer (W.written writer.old) (W.written writer.new)) }
+{
+    engine::run(alloc, &Commands, reader, writer)
 }

@@ -1,9 +1,13 @@
-//! What no clause says of the programs' engines, as tests: runs over devices of its own and over std's readers and
-//! writers, each call of which fails in turn, and over memory that is refused in turn.
+//! Tests of what no clause says of the programs' engines. Each call of a device fails in turn, and each request for
+//! memory. The devices are this crate's own, and readers and writers of std.
 #![tactic(auto)]
 
 #[cfg(test)]
+mod errors;
+#[cfg(test)]
 mod large;
+#[cfg(test)]
+mod refused;
 #[cfg(test)]
 mod routes;
 #[cfg(test)]

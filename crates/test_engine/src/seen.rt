@@ -5,7 +5,6 @@ use crate::slices::{Habits, SliceSink, SliceSource};
 use crate::streams::{SliceReader, SliceWriter};
 use lines_engine::adapters::{FromRead, IntoWrite};
 use lines_engine::device::{Sink, Source};
-use lines_engine::engine::run;
 use lines_engine::error::RunError;
 use lines_engine::stream::answer_as_read;
 use respath_lines::lines::Commands;
@@ -42,9 +41,9 @@ pub struct Seen {
 /// Which engine runs.
 #[derive(Clone, Copy, Debug, PartialEq, Eq)]
 pub enum Engine {
-    /// The one that reads all before it answers.
+    /// The run of `respath`, which reads all input before it answers.
     Whole,
-    /// The one that answers as it reads.
+    /// The engine that answers as it reads.
     AsRead,
 }
 
@@ -62,7 +61,7 @@ impl Engine {
         requires writer_clear { W.mark writer.old ≡ false }
     {
         match self {
-            Engine::Whole => run(alloc, &Commands, reader, writer),
+            Engine::Whole => respath_lines::run(alloc, reader, writer),
             Engine::AsRead => answer_as_read(alloc, &Commands, reader, writer),
         }
     }

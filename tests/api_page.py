@@ -1,10 +1,10 @@
 #!/usr/bin/env python3
-"""Makes docs/API.md and docs/api from the sources: a page for each library, with its public types, their calls, and the
-signatures and clauses of these; what is there for the crates above alone, and laws, stand apart.
+"""Makes docs/API.md and docs/api from the sources, and `crates/test_paths` with a `use` line of each path on the pages.
 
-With --write the pages are written; without, they are compared with what would be written, and where one differs the
-status is 1. The sources are read as `rt fmt` leaves them: an item begins at its indent, and a body at a brace of the
-same indent.
+A page shows the public types of a library, their calls, and the signatures and contracts of these. The internal API and
+the laws have parts of their own. With --write the files are written. Without it they are compared with what would be
+written, and the status is 1 if one differs. The sources are read as `rt fmt` leaves them: an item begins at its indent,
+and a body at a brace of the same indent.
 """
 
 import re
@@ -14,40 +14,54 @@ from dataclasses import dataclass, field, replace
 from functools import cache
 from pathlib import Path
 
+from api_paths import ITEM, Key, Module, meant_by, public_paths, root_of
 from rooms import ROOMS, about, crates_of, is_program, room_of, stands_on
 
 TOP = Path(__file__).resolve().parent.parent
 DOCS = TOP / "docs"
+PATHS = TOP / "crates" / "test_paths" / "src" / "lib.rt"
 HEAD = """# Public calls
 
-Made by `tests/api_page.py --write` from the sources; `./check` fails where a page isn't current. A page for each
-library: its public types, the calls on them, and what each call promises, as it stands in the source. What is there for
-the crates above alone (seams), and laws, stand apart at the end of a page. What the words of a clause mean stands in
-[DEFINITIONS.md](DEFINITIONS.md); [CALLING.md](CALLING.md) shows calls together, and [PATHS.md](PATHS.md) says where a
-user of the Rust crate finds each type.
+`tests/api_page.py --write` makes these pages from the sources, and `./check` fails if a page isn't current. Each
+library has a page: its public types, their calls, and the contract of each call as the source has it. The internal API,
+which serves the crates above alone, and the laws come last. [DEFINITIONS.md](DEFINITIONS.md) says what the words of a
+contract mean. [CALLING.md](CALLING.md) shows how calls work together. [PATHS.md](PATHS.md) tells users of the Rust
+crate the path of each type.
 
-| about | library | | types and calls | seams | laws |
+| about | library | | types and calls | internal API | laws |
 |---|---|---|---|---|---|"""
 CRATE_HEAD = """{about}
 
-[All libraries](../API.md); what the words of a clause mean: [DEFINITIONS.md](../DEFINITIONS.md).
+[All libraries](../API.md). [DEFINITIONS.md](../DEFINITIONS.md) says what the words of a contract mean.
 """
-# What is public for the crates above alone: a user has a call that does the same of a whole value. A path stands for
-# all below it.
-SEAMS = (
+# What a page of a static library says of all its items.
+OF_C = """No item of this library has a public path. C calls the functions by their names, and `foreign/pigyelund.h` declares
+them.
+"""
+NO_PATH = "No public path."
+PATHS_HEAD = """//! A `use` line of each public path that docs/api shows. `tests/api_page.py --write` makes this file.
+#![tactic(auto)]
+
+"""
+# The internal API: what is public for the crates above alone. A user has a call that does the same with a whole value.
+# A path covers all below it.
+INTERNAL = (
+    "rpki_text::line",
     "rpki_text::list",
-    "rpki_text::number",
-    "rpki_der::Encode",
-    "rpki_der::ReadNext",
-    "rpki_der::append_sequence",
-    "rpki_der::encode_all",
-    "rpki_der::encode_sequence",
+    "rpki_text::number::digits_from",
+    "rpki_text::number::parse_up_to",
+    "rpki_der::Content::has_more_bits_than",
     "rpki_der::family::AddressFamily::append",
-    "rpki_der::len_of_all",
-    "rpki_der::read_some",
-    "rpki_der::read_values",
-    "rpki_der::sequence_len",
-    "rpki_der::take_sequence_of",
+    "rpki_der::sequences::Encode",
+    "rpki_der::sequences::ReadNext",
+    "rpki_der::sequences::append_sequence",
+    "rpki_der::sequences::encode_all",
+    "rpki_der::sequences::encode_sequence",
+    "rpki_der::sequences::len_of_all",
+    "rpki_der::sequences::read_some",
+    "rpki_der::sequences::read_values",
+    "rpki_der::sequences::sequence_len",
+    "rpki_der::sequences::take_sequence_of",
     "rpki_addr::IpAddr::width",
     "rpki_addr::addr::front",
     "rpki_addr::addr::print",
@@ -60,13 +74,12 @@ SEAMS = (
     "rpki_chains::shared::SharedChain::trim",
     "rpki_chain::BlockSet::as_chain",
     "rpki_chain::BlockSet::from_vec_unchecked",
-    "rpki_chain::Listed",
     "rpki_chain::der",
     "rpki_chain::path::Claims",
     "rpki_chain::resources::CollectBlocks",
     "rpki_as_block::AsBlockIter::none",
     "rpki_as_block::AsBlockIter::over",
-    "rpki_as_block::AsBlockReader",
+    "rpki_as_block::der::AsBlockReader",
     "rpki_as_block::list",
     "rpki_ip::AddressRange::append",
     "rpki_ip::AddressRange::is_written_as",
@@ -77,14 +90,15 @@ SEAMS = (
     "rpki_ip_block::der::IpBlockReader",
     "rpki_ip_block::list",
     "rpki_family::iter::BlockOfSet",
+    "route_calls",
 )
 CLAUSE = re.compile(r"^\s*(?:ensures|requires|decreases|ghost)\b")
-ITEM = re.compile(r"pub (?:struct|enum|trait|type) (\w+)|pub (?:const |extern \"C\" )?fn (\w+)|pub const (\w+)")
+MEMBER = re.compile(r"    pub (?:(const (?=[A-Z])|type )|(?:const )?fn )(\w+)")
 
 
 @dataclass
 class Item:
-    """A public type or function, with what is said of it; a call on a type also with the head of its impl."""
+    """A public type or function with its doc comment; a call on a type also has the head of its impl."""
 
     name: str
     path: str = ""
@@ -92,6 +106,12 @@ class Item:
     doc: list[str] = field(default_factory=list)
     code: list[str] = field(default_factory=list)
     calls: list["Item"] = field(default_factory=list)
+    # Whether it has only those calls of a type that another part of the page leaves out.
+    is_part: bool = False
+
+    def heading(self) -> str:
+        """The heading of the item on its page."""
+        return f"{'on ' if self.is_part else ''}{self.path or self.name}"
 
 
 def indent_of(line: str) -> int:
@@ -133,8 +153,19 @@ def doc_above(lines: list[str], at: int) -> list[str]:
     return doc
 
 
+def attributes_above(lines: list[str], at: int) -> list[str]:
+    """The attributes above a type that its user has to know: what it derives, its layout, its error text."""
+    shown: list[str] = []
+    for line in reversed(lines[:at]):
+        if re.match(r"#\[(?:derive|derive_where|repr|non_exhaustive|must_use|error)\b", line):
+            shown.insert(0, line)
+        elif not line.startswith(("#[", "//")):
+            break
+    return shown
+
+
 def without_bodies(lines: list[str]) -> list[str]:
-    """The head of an impl of a trait, its ghost members, and the heads of its functions."""
+    """The head of an impl of a trait, its associated types, its ghost members, and the heads of its functions."""
     kept, at = [lines[0]], 1
     while at < len(lines) - 1:
         text = lines[at].strip()
@@ -143,10 +174,13 @@ def without_bodies(lines: list[str]) -> list[str]:
                 kept.append(lines[at])
                 at += 1
             kept.append(lines[at])
+        elif re.match(r"    (?:type|const) [A-Z]", lines[at]):
+            end = next(k for k in range(at, len(lines)) if lines[k].endswith(";"))
+            kept += lines[at : end + 1]
         elif re.match(r"(?:pub )?(?:unsafe )?fn ", text):
-            head = signature(lines, at)
-            if any(CLAUSE.match(line) for line in head):
-                kept += [f"    {line}" for line in head]
+            head, doc = signature(lines, at), doc_above(lines, at)
+            if doc or any(CLAUSE.match(line) for line in head):
+                kept += [f"    {line}".rstrip() for line in (*(f"/// {it}" for it in doc), *head)]
         at += 1
     return [*kept, "}"] if len(kept) > 1 else [f"{lines[0].removesuffix(' {}').removesuffix(' {')} {{}}"]
 
@@ -173,70 +207,78 @@ def owner_of(head: str) -> tuple[str, bool]:
     return (of or kind).strip().lstrip("&").split("::")[-1].split()[-1], bool(of)
 
 
-def read(path: Path, module: str, items: dict[str, Item], wanted: set[str] | None) -> None:
-    """Adds what a source offers; of a private module, what the crate names again."""
-    lines = path.read_text().split("\n")
+def owner_at(module: Module, name: str, items: dict[Key, Item]) -> Key | None:
+    """The item of a crate that an impl's type is."""
+    key = meant_by(module, (name,))
+    return key if isinstance(key, tuple) and key in items else None
+
+
+def read_items(module: Module, items: dict[Key, Item]) -> None:
+    """Reads the types and the functions that a module has."""
+    lines = module.file.read_text().split("\n")
     for at, line in enumerate(lines):
-        if found := ITEM.match(line):
-            name = found[1] or found[2] or found[3]
-            if wanted is not None and name not in wanted:
-                continue
-            item = items.setdefault(name, Item(name))
-            item.path = f"{module}::{name}"
-            item.doc = doc_above(lines, at)
-            if found[2]:
-                item.code = signature(lines, at)
-            else:
-                item.code = type_code(lines[at : block_end(lines, at)])
-        elif line.startswith(("impl", "unsafe impl")):
-            block = lines[at : block_end(lines, at)]
-            owner, is_of_trait = owner_of(line)
-            if owner not in items and (made_of := re.search(r"\bFrom<(\w+)", line)):
-                owner = made_of[1]  # a conversion stands at the type that is converted
-            if owner not in items:
-                items[owner] = Item(owner)
-            if is_of_trait:
-                items[owner].calls.append(Item("", code=without_bodies(block)))
-                continue
-            for k, inner in enumerate(block):
-                if found := re.match(r"    pub (?:const )?fn (\w+)", inner):
-                    call = Item(found[1], of=line.removesuffix(" {"), doc=doc_above(block, k), code=signature(block, k))
-                    items[owner].calls.append(call)
+        if not (found := ITEM.match(line)):
+            continue
+        item = Item(found[1] or found[2] or found[3], doc=doc_above(lines, at))
+        head = signature(lines, at) if found[2] else type_code(lines[at : block_end(lines, at)])
+        item.code = [*attributes_above(lines, at), *head]
+        items[(module.path, item.name)] = item
 
 
-def modules(folder: Path, file: Path, is_public: bool) -> Iterator[tuple[Path, bool]]:
-    """The files of a crate, each with whether its modules are all public, those that declare it first."""
-    yield file, is_public
-    base = folder if file.name in ("lib.rt", "mod.rt") else file.with_suffix("")
-    for it in re.finditer(r"^(pub )?mod (\w+);", file.read_text(), re.M):
-        below = [base / f"{it[2]}.rt", base / it[2] / "mod.rt"]
-        there = next((path for path in below if path.is_file()), None)
-        if there is not None:
-            inner = there.parent if there.name == "mod.rt" else folder / there.relative_to(folder).parent
-            yield from modules(inner, there, is_public and it[1] is not None)
+def read_impls(module: Module, items: dict[Key, Item]) -> None:
+    """Adds what the impls of a module offer to their types."""
+    lines = module.file.read_text().split("\n")
+    for at, line in enumerate(lines):
+        if not line.startswith(("impl", "unsafe impl")):
+            continue
+        block = lines[at : block_end(lines, at)]
+        name, is_of_trait = owner_of(line)
+        key = owner_at(module, name, items)
+        if key is None and (made_of := re.search(r"\bFrom<(\w+)", line)):
+            key = owner_at(module, made_of[1], items)  # a conversion is shown with the type that is converted
+        if key is None:
+            continue
+        doc = doc_above(lines, at)
+        if is_of_trait:
+            items[key].calls.append(Item("", doc=doc, code=without_bodies(block)))
+            continue
+        for k, inner in enumerate(block):
+            if found := MEMBER.match(inner):
+                code = [it[4:] for it in block[k : member_end(block, k)]] if found[1] else signature(block, k)
+                own = doc_above(block, k)
+                said = [*doc, *([""] if doc and own else []), *own]
+                items[key].calls.append(Item(found[2], of=line.removesuffix(" {"), doc=said, code=code))
+                doc = []
+
+
+def member_end(lines: list[str], at: int) -> int:
+    """The line after the constant or the type of an impl that begins at a line."""
+    return next(k for k in range(at, len(lines)) if re.match(r"    .*;$", lines[k]) and indent_of(lines[k]) == 4) + 1
+
+
+def is_from_c(crate: str) -> bool:
+    """Whether a library is a static one, called from C alone."""
+    return f"\n{crate} staticlib:" in (TOP / "crates.txt").read_text()
 
 
 @cache
 def items_of(crate: str) -> list[Item]:
-    """The public items of a crate, by name; of one that is called from C those of all its modules."""
-    folder = TOP / "crates" / crate / "src"
-    files = list(modules(folder, folder / "lib.rt", True))
-    again = "\n".join(it for path, _ in files for it in re.findall(r"^pub use [^;]*;", path.read_text(), re.M | re.S))
-    names = set(re.findall(r"\w+", again))
-    for path, _ in files:
-        text = path.read_text()
-        aliases = re.findall(r"^pub type (\w+).* = (\w+)", text, re.M)
-        names.update(meant for name, meant in aliases if re.search(rf"^pub struct {meant}\b", text, re.M))
-    is_exported = f"{crate} staticlib:" in (TOP / "crates.txt").read_text()
-    items: dict[str, Item] = {}
-    for path, is_public in files:
-        inside = path.relative_to(folder).with_suffix("").parts
-        module = "::".join([crate, *(it for it in inside if it not in ("lib", "mod"))])
-        read(path, module, items, None if is_public or is_exported else names)
-    for item in items.values():
-        if item.name in names:
-            item.path = f"{crate}::{item.name}"
-    return sorted((it for it in items.values() if it.code), key=lambda it: it.name.lower())
+    """The public items of a crate, by name: what has a public path, and what a public alias means."""
+    modules = list(root_of(crate).all())
+    items: dict[Key, Item] = {}
+    for module in modules:
+        read_items(module, items)
+    for module in modules:
+        read_impls(module, items)
+    paths = public_paths(crate)
+    shown = {key for key in items if key in paths or is_from_c(crate)}
+    for module in modules:
+        aliases = re.findall(r"^pub type (\w+).* = (\w+)", module.file.read_text(), re.M)
+        meant = (meant_by(module, (it[1],)) for it in aliases)
+        shown |= {key for key in meant if key in items}
+    for key in shown:
+        items[key].path = "" if is_from_c(crate) else paths.get(key, "")
+    return sorted((items[key] for key in shown), key=lambda it: (it.name.lower(), it.path))
 
 
 def libraries() -> list[str]:
@@ -244,25 +286,25 @@ def libraries() -> list[str]:
     return [it for it in stands_on() if not is_program(it) and room_of(it).title not in ("rows", "tests", "benchmarks")]
 
 
-def is_seam(path: str) -> bool:
-    """Whether what has a path is there for the crates above alone, as what only tells a proof something."""
-    return path.endswith("::is_lawful") or any(path == it or path.startswith(f"{it}::") for it in SEAMS)
+def is_internal(path: str) -> bool:
+    """Whether a path is of the internal API, as is each call that serves a proof alone."""
+    return path.endswith("::is_lawful") or any(path == it or path.startswith(f"{it}::") for it in INTERNAL)
 
 
 def parts_of(items: list[Item]) -> tuple[list[Item], list[Item], list[Item]]:
-    """What is there for users, the seams, and the laws; of a type for users its seams are an item without its code."""
-    offered, seams, laws = [], [], []
+    """What users call, the internal API, and the laws. A type of both first parts is an item without code in the second."""
+    offered, internal, laws = [], [], []
     for item in items:
-        inner = [it for it in item.calls if it.name and is_seam(f"{item.path}::{it.name}")]
+        inner = [it for it in item.calls if it.name and is_internal(f"{item.path}::{it.name}")]
         if "laws" in item.path.split("::"):
             laws.append(item)
-        elif is_seam(item.path):
-            seams.append(item)
+        elif is_internal(item.path):
+            internal.append(item)
         else:
             offered.append(replace(item, calls=[it for it in item.calls if it not in inner]))
             if inner:
-                seams.append(Item(item.name, f"on {item.path}", calls=inner))
-    return offered, seams, laws
+                internal.append(replace(item, doc=[], code=[], calls=inner, is_part=True))
+    return offered, internal, laws
 
 
 def count_of(items: list[Item]) -> int:
@@ -271,27 +313,29 @@ def count_of(items: list[Item]) -> int:
 
 
 def calls_of(item: Item) -> Iterator[str]:
-    """The calls on a type, then its traits: those that promise nothing of their own in one block."""
+    """The calls on a type, then its traits: those without a doc comment and without members in one block."""
     names = [it.name for it in item.calls]
     for call in item.calls:
         if call.name:
             head = [f"// {call.of}"] if names.count(call.name) > 1 else []
             yield from ["", *call.doc, *([""] if call.doc else []), "```rust", *head, *call.code, "```"]
-    traits = [it.code for it in item.calls if not it.name]
-    for code in (it for it in traits if len(it) > 1):
-        yield from ["", "```rust", *code, "```"]
-    if plain := [it[0] for it in traits if len(it) == 1]:
+    traits = [it for it in item.calls if not it.name]
+    for it in traits:
+        if it.doc or len(it.code) > 1:
+            yield from ["", *it.doc, *([""] if it.doc else []), "```rust", *it.code, "```"]
+    if plain := [it.code[0] for it in traits if not it.doc and len(it.code) == 1]:
         yield from ["", "```rust", *plain, "```"]
 
 
-def part(title: str, items: list[Item]) -> Iterator[str]:
-    """A part of a page, or nothing where it has no items."""
+def part(title: str, items: list[Item], no_path: str = NO_PATH) -> Iterator[str]:
+    """A part of a page, or nothing if it has no items."""
     if not items:
         return
-    links = (f"[{it.name}]({anchor(it.path)})" for it in items)
+    links = (f"[{it.name}]({anchor(it.heading())})" for it in items)
     yield from [f"## {title}", "", ", ".join(links), ""]
     for item in items:
-        yield from [f"### {item.path}", "", *item.doc, *([""] if item.doc else [])]
+        yield from [f"### {item.heading()}", "", *item.doc, *([""] if item.doc else [])]
+        yield from [] if item.path else [no_path, ""]
         yield from [*(["```rust", *item.code, "```"] if item.code else []), *calls_of(item), ""]
 
 
@@ -301,42 +345,39 @@ def anchor(path: str) -> str:
 
 
 @cache
-def place_of(crate: str, name: str) -> str | None:
-    """The link to the page of a type or call that a crate offers, where it stands in it or in one below it."""
-    for it in items_of(crate):
-        if it.name == name:
-            return f"{crate}.md{anchor(it.path)}"
-    places = (place_of(below, name) for below in stands_on()[crate] if below in libraries())
-    return next((it for it in places if it), None)
+def heading_of(key: Key) -> str | None:
+    """The link to an item, if the page of its library shows it."""
+    crate = key[0][0]
+    path = public_paths(crate).get(key) if crate in libraries() else None
+    return f"{crate}.md{anchor(path)}" if path else None
 
 
-def named_again(crate: str) -> Iterator[str]:
-    """What the public modules of a crate name again of other libraries, a line for each module."""
-    folder = TOP / "crates" / crate / "src"
+def re_exports(crate: str) -> Iterator[str]:
+    """What the public modules of a crate re-export from other libraries, a line for each module."""
     lines = []
-    for path, is_public in modules(folder, folder / "lib.rt", True):
-        inside = path.relative_to(folder).with_suffix("").parts
+    for module in (it for it in root_of(crate).all() if it.is_public()):
         links = []
-        for other, rest in re.findall(r"^pub use (\w+)::([^;]*);", path.read_text(), re.M):
-            for name in re.findall(r"\w+", rest.rsplit("::", 1)[-1]) if is_public and other in libraries() else ():
-                if place := place_of(other, name):
-                    links.append(f"[{name}]({place})")
+        for name, target in module.exports.items():
+            place = meant_by(module, target)
+            if isinstance(place, Module) and place.path[0] != crate:
+                links.append(f"module [{name}]({place.path[0]}.md)")
+            elif isinstance(place, tuple) and place[0][0] != crate and (link := heading_of(place)):
+                links.append(f"[{name}]({link})")
         if links:
-            module = "::".join([crate, *(it for it in inside if it not in ("lib", "mod"))])
-            lines.append(f"- `{module}`: {', '.join(links)}")
+            lines.append(f"- `{'::'.join(module.path)}`: {', '.join(links)}")
     if lines:
-        yield from ["## Named again", "", *lines, ""]
+        yield from ["## Re-exports", "", *lines, ""]
 
 
 def page(crate: str) -> str:
     """The page of a library."""
-    offered, seams, laws = parts_of(items_of(crate))
+    offered, internal, laws = parts_of(items_of(crate))
     text = (TOP / "crates" / crate / "src" / "lib.rt").read_text()
     first = re.match(r"(?://! ?(?!\n)[^\n]*\n)*", text)[0]
     said = "\n".join(line[3:].strip() for line in first.splitlines())
-    out = [f"# {crate}", "", CRATE_HEAD.format(about=said)]
-    out += [*part("Types and calls", offered), *named_again(crate)]
-    out += [*part("Seams, for the crates above", seams), *part("Laws", laws)]
+    out = [f"# {crate}", "", CRATE_HEAD.format(about=said), *([OF_C] if is_from_c(crate) else [])]
+    out += [*part("Types and calls", offered, "" if is_from_c(crate) else NO_PATH), *re_exports(crate)]
+    out += [*part("Internal API", internal), *part("Laws", laws)]
     return re.sub(r"\n{3,}", "\n\n", "\n".join(out)).rstrip() + "\n"
 
 
@@ -353,34 +394,47 @@ def index() -> str:
     return "\n".join(out) + "\n"
 
 
-def pages() -> dict[Path, str]:
-    """All pages, by their place."""
-    return {DOCS / "API.md": index(), **{DOCS / "api" / f"{it}.md": page(it) for it in libraries()}}
+def in_order(path: str) -> list[list[tuple[bool, int, str]]]:
+    """The key by which `rt fmt` sorts `use` lines: numbers in names count as numbers."""
+    parts = (re.findall(r"\d+|\D+", it) for it in path.split("::"))
+    return [[(not it.isdigit(), int(it) if it.isdigit() else 0, it) for it in part] for part in parts]
 
 
-def stale_seams() -> Iterator[str]:
-    """The paths of the list of seams that nothing has any more."""
+def use_lines() -> str:
+    """The source of `crates/test_paths`: a `use` line of each path."""
+    paths = (item.path for crate in libraries() for item in items_of(crate) if item.path)
+    return PATHS_HEAD + "".join(f"use {it} as _;\n" for it in sorted(paths, key=in_order))
+
+
+def files() -> dict[Path, str]:
+    """All that is made, by its place."""
+    pages = {DOCS / "api" / f"{it}.md": page(it) for it in libraries()}
+    return {DOCS / "API.md": index(), PATHS: use_lines(), **pages}
+
+
+def stale_paths() -> Iterator[str]:
+    """The paths of the list of the internal API that no item has."""
     items = [item for crate in libraries() for item in items_of(crate)]
     paths = [it.path for it in items] + [f"{it.path}::{call.name}" for it in items for call in it.calls]
-    yield from (it for it in SEAMS if not any(path == it or path.startswith(f"{it}::") for path in paths))
+    yield from (it for it in INTERNAL if not any(path == it or path.startswith(f"{it}::") for path in paths))
 
 
 def main() -> int:
-    """Writes the pages, or compares them with what is there."""
-    made, found = pages(), 0
+    """Writes the files, or compares them with what is there."""
+    made, found = files(), 0
     there = set((DOCS / "api").glob("*.md"))
     if sys.argv[1:] == ["--write"]:
-        (DOCS / "api").mkdir(exist_ok=True)
         for path in there - made.keys():
             path.unlink()
         for path, text in made.items():
+            path.parent.mkdir(parents=True, exist_ok=True)
             path.write_text(text)
     for path in sorted(there | made.keys()):
         if (path.read_text() if path.is_file() else None) != made.get(path):
             print(f"{path.relative_to(TOP)} is not what the sources say: tests/api_page.py --write makes it anew")
             found += 1
-    for seam in stale_seams():
-        print(f"tests/api_page.py: there is no {seam}")
+    for path in stale_paths():
+        print(f"tests/api_page.py: there is no {path}")
         found += 1
     return 1 if found else 0
 

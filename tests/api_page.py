@@ -35,8 +35,7 @@ CRATE_HEAD = """{about}
 [All libraries](../API.md). [DEFINITIONS.md](../DEFINITIONS.md) says what the words of a contract mean.
 """
 # What a page of a static library says of all its items.
-OF_C = """No item of this library has a public path. C calls the functions by their names, and `foreign/pigyelund.h` declares
-them.
+OF_C = """No item of this library has a public path. C calls the functions by name. `foreign/pigyelund.h` declares them.
 """
 NO_PATH = "No public path."
 PATHS_HEAD = """//! A `use` line of each public path that docs/api shows. `tests/api_page.py --write` makes this file.
@@ -292,7 +291,7 @@ def is_internal(path: str) -> bool:
 
 
 def parts_of(items: list[Item]) -> tuple[list[Item], list[Item], list[Item]]:
-    """What users call, the internal API, and the laws. A type of both first parts is an item without code in the second."""
+    """What users call, the internal API, and the laws. A type with calls in both of the first two is shown once whole."""
     offered, internal, laws = [], [], []
     for item in items:
         inner = [it for it in item.calls if it.name and is_internal(f"{item.path}::{it.name}")]

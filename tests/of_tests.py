@@ -50,6 +50,7 @@ class Case:
 ROWS = "tests/rows.py"
 PROVED = "tests/proved_page.py"
 NAMES = "tests/names_in_docs.py"
+API = "tests/api_page.py"
 CASES = (
     Case(ROWS, "crates/rows_values/stdout", "AS7-AS7 ", "AS7-AS8 ", "rows_values/stdin:1: "),
     Case(ROWS, "crates/rows_sets/stdout", "AS7, ", "", "rows_sets/stdin:1: "),
@@ -84,7 +85,7 @@ CASES = (
     Case("tests/api_page.py", "docs/api/rpki_cover.md", "ascending", "descending", "docs/api/rpki_cover.md is not"),
     Case("tests/api_page.py", "crates/rpki_cover/src/cover.rt", "/// The first number.", "/// The first moon.",
          "docs/api/rpki_cover.md is not"),
-    Case("tests/api_page.py", "tests/api_page.py", '"rpki_text::number"', '"rpki_text::moon"', "is no rpki_text::moon"),
+    Case("tests/api_page.py", "tests/api_page.py", '"rpki_text::list"', '"rpki_text::moon"', "is no rpki_text::moon"),
     Case("tests/layers_picture.py", "docs/layers.svg", "<line x1=", "<line x2=", "is not what crates.txt says"),
     Case("tests/layers_picture.py", "crates.txt", "\nrpki_cover:\n", "\nrpki_cover: rpki_addr\n", "is not what crates"),
     Case("tests/layers_picture.py", "crates.txt", "\nrpki_text: memchr\n", "\nrpki_text: memchr\nmoon:\n", "moon is in no room"),
@@ -100,6 +101,12 @@ CASES = (
     Case(OF_C, "foreign/texts.txt", "out of memory", "out of mind", "another text of a status"),
     Case(OF_PYTHON, "foreign/rows.txt", " 10 - - -\n", " 11 - - -\n", "another answer: verify 0,0,0"),
     Case(OF_PYTHON, "foreign/texts.txt", "out of memory", "out of mind", "status 2 is "),
+    Case(API, "crates/test_paths/src/lib.rt", "use rpki_der::Cursor as _;\n", "", "test_paths/src/lib.rt is not"),
+    Case(API, "crates/rpki_der/src/lib.rt", "pub mod sequences;", "mod sequences;", "docs/api/rpki_der.md is not"),
+    Case(API, "crates/rpki_base/src/asn.rt", "PartialOrd, Ord, Hash)]", "PartialOrd, Ord)]", "api/rpki_base.md is not"),
+    Case(API, "crates/rpki_base/src/asn.rt", "pub const MIN: Asn", "pub const LEAST: Asn", "api/rpki_base.md is not"),
+    Case(API, "crates/rpki_base/src/asn.rt", "type Err = ParseAsnError;", "type Err = Asn;", "api/rpki_base.md is not"),
+    Case(API, "crates/rpki_as/src/blocks.rt", "/// The set of no numbers.\nimpl", "impl", "api/rpki_as.md is not"),
 )
 
 

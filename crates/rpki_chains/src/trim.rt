@@ -11,8 +11,11 @@ use rpki_block::block::Block;
 use rpki_text::memory::OrMemory;
 use std::alloc::{AllocError, Allocator};
 
-/// Ok where the one chain lies in the other, with no memory taken; else a refusal with what they have in common, as
-/// [`crate::chain::Chain::trim`] answers it. The one chain is read at most twice, and the other at most once.
+/// Returns Ok if `own` lies in `other`, and otherwise `Refused` with the chain of what both have, as
+/// [`crate::chain::Chain::trim`] does. Returns `Memory` if an allocation fails.
+///
+/// Both chains together are read at most `2 * own.len() + other.len()` times. An Ok takes no memory: `test_chains`
+/// shows this, and no clause says it.
 pub fn trim_counted<T: Block, A: Allocator, X: Reads<T>, Y: Reads<T>>(
     alloc: A,
     own: &mut X,

@@ -16,7 +16,7 @@ HasBoundsIn Ipv6 b = ⊤
 abbrev pub Ipv4Of : Runs → ℕ → Type 0
 Ipv4Of set a = Holds set (a * 2 ^ 96)
 
--- the prefixes are those that cover a set of the family by its own addresses
+-- In IPv4 the prefixes are those that cover a set by its own addresses. Of IPv6 this says nothing.
 abbrev pub IsCoverListIn : AddressFamily → Runs → List PrefixValue → Type 0
 IsCoverListIn Ipv4 set ps = IsV4CoverList (Ipv4Of set) ps
 IsCoverListIn Ipv6 set ps = ⊤

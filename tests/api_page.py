@@ -24,9 +24,11 @@ HEAD = """# Public calls
 
 `tests/api_page.py --write` makes these pages from the sources, and `./check` fails if a page isn't current. Each
 library has a page: its public types, their calls, and the contract of each call as the source has it. The internal API,
-which serves the crates above alone, and the laws come last. [DEFINITIONS.md](DEFINITIONS.md) says what the words of a
-contract mean. [CALLING.md](CALLING.md) shows how calls work together. [PATHS.md](PATHS.md) tells users of the Rust
-crate the path of each type.
+which serves the crates above alone, and the laws come last.
+
+- [DEFINITIONS.md](DEFINITIONS.md) says what the words of a contract mean.
+- [CALLING.md](CALLING.md) shows how calls work together.
+- [PATHS.md](PATHS.md) lists the path here of each type of the Rust crate.
 
 | about | library | | types and calls | internal API | laws |
 |---|---|---|---|---|---|"""

@@ -15,6 +15,8 @@ use std::str::FromStr;
 const PREFIX_PLACE: usize = 5;
 
 /// A route that a line writes.
+///
+/// Its prefix is checked, and its origin may be unknown. `route_calls::route::Route` is a struct for C.
 #[derive(Clone, Copy, Debug, PartialEq, Eq)]
 pub struct Route {
     /// What is announced.

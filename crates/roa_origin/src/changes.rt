@@ -22,6 +22,9 @@ pub struct PayloadChanges<A: Allocator = Global> {
 impl<A: Allocator> PayloadTable<A> {
     /// What is announced and what is withdrawn from this table to the next, both ascending (RFC 8210, 5.6 and 8.2).
     /// Each table is gone through twice. `AllocError` where there is no memory for the two lists.
+    ///
+    /// This call finds the changes between two tables, as a cache does. [`crate::OriginTable::with_changes`] applies
+    /// changes to a table, as a router does. [`crate::changed()`] finds the routes whose validity differs.
     pub fn changes_to(
         &self,
         alloc: A,

@@ -10,6 +10,8 @@ use rpki_prefix::MaxLenPrefix;
 use std::marker::Model;
 
 /// The payloads of a table that cover a route and are left, the longest prefix first. Contracts see it as their list.
+///
+/// This is an iterator. `route_calls::route::Covering` is one such payload as C gets it.
 #[derive(Drop)]
 pub struct Covering<'a> {
     payloads: &'a [Entry],

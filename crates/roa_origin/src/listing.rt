@@ -8,6 +8,9 @@ use rpki_prefix::MaxLenPrefix;
 use std::marker::Model;
 
 /// The payloads of a table that are left, in its order. Contracts see it as their list.
+///
+/// This iterator borrows an [`crate::OriginTable`]. A [`crate::PayloadTable`] owns its payloads, each once, as a cache
+/// sends them.
 #[derive(Drop)]
 pub struct TablePayloads<'a> {
     entries: &'a [Entry],

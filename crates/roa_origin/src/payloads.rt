@@ -12,6 +12,9 @@ use std::marker::Model;
 ///
 /// They are in the order of their prefixes, then the longer greatest length first, then by the AS number. Contracts see
 /// the list of them.
+///
+/// A `PayloadTable` owns its payloads. [`crate::TablePayloads`] is an iterator that borrows those of an
+/// [`crate::OriginTable`].
 #[derive(Drop)]
 pub struct PayloadTable<A: Allocator = Global> {
     payloads: Vec<(MaxLenPrefix, Asn), A>,

@@ -11,6 +11,8 @@ use std::alloc::{AllocError, Allocator};
 /// The places of the routes, each a prefix and the AS that originates it, whose validity differs by two tables:
 /// ascending, counted from 0. These are the ones that a router evaluates anew when the one table follows the other; all
 /// others have the validity that they had (RFC 6811, 4). `AllocError` where there is no memory for the list.
+///
+/// This call compares the validity of routes. [`crate::PayloadTable::changes_to`] compares the payloads of two tables.
 pub fn changed<A: Allocator>(
     alloc: A,
     old: &OriginTable<A>,

@@ -58,6 +58,8 @@ pub struct Payload {
 }
 
 /// A route: the prefix that it leads to, and the AS that originates it.
+///
+/// This is a struct for C, with numbers that are not checked yet. `origin_lines::Route` is a route that a line writes.
 #[repr(C)]
 #[derive(Clone, Copy)]
 pub struct Route {
@@ -72,6 +74,8 @@ pub struct Route {
 }
 
 /// A payload that covers a route, and why it doesn't match it.
+///
+/// This is a struct for C. `roa_origin::Covering` is an iterator over such payloads.
 #[repr(C)]
 #[derive(Clone, Copy)]
 pub struct Covering {

@@ -35,6 +35,8 @@ pub struct PathRefusal<F> {
 }
 
 /// Resources that claim a set of the items of a kind.
+///
+/// This trait is about one kind of block. `rpki_extensions::Claims` is a struct with the claims of all three kinds.
 pub trait Claims<T: Block, A: Allocator> {
     // What is claimed.
     ghost claim: { Self → Claim };

@@ -137,6 +137,8 @@ impl<T: Block> Chain<'_, T> {
 
     /// `Ok` where each of its numbers is one of the other's, with no memory taken. Else `Refused` with the chain of the
     /// numbers that both have, which has no more blocks than both together; or `Memory`.
+    ///
+    /// The chain in `Refused` is an owned one. [`crate::shared::SharedChain::trim`] returns a shared one.
     pub fn trim<A: Allocator>(
         self,
         alloc: A,

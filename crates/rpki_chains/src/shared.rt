@@ -87,6 +87,8 @@ impl<T: Block, A: Allocator> SharedChain<T, A> {
 
     /// `Ok` where each of its numbers is one of the other's, with no memory taken. Else `Refused` with the chain of the
     /// numbers that both have, or `Memory`. One walk over both.
+    ///
+    /// The chain in `Refused` is a shared one. [`Chain::trim`] returns an owned one.
     pub fn trim(
         &self,
         alloc: A,

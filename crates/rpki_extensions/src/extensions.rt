@@ -25,6 +25,8 @@ pub struct Extensions<'a> {
 }
 
 /// What a certificate claims: missing, inherited or listed resources of each kind.
+///
+/// This is a struct of three claims. `rpki_chain::path::Claims` is the trait that each claim of one kind has.
 #[derive(Drop)]
 pub struct Claims<A: Allocator = Global> {
     /// AS numbers.

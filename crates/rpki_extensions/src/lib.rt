@@ -23,3 +23,12 @@ pub mod issued;
 pub mod path;
 pub mod read;
 pub mod write;
+
+pub use anchor::anchor_set;
+pub use encoding::Encoding;
+pub use error::{RefusedBelow, Unverified, UnverifiedCertificate};
+pub use extensions::{Claims, Extensions};
+pub use issued::verified_octets;
+pub use path::{verified_below, verified_path};
+pub use read::{address_claims, numbers_claim, read_as, read_claims, read_families};
+pub use write::{write_address_claims, write_addresses, write_numbers, write_numbers_claim};

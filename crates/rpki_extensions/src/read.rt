@@ -12,8 +12,11 @@ use rpki_resources::OrMemory;
 use rpki_resources::repository::resources::{AsResources, IpResources};
 use std::alloc::Allocator;
 
-/// The AS resources that octets are, all of them: the value of the extension of RFC 3779, 3.2. `Refused` with the first
-/// fault where they are none, `Memory` where there is no memory for them.
+/// Reads the AS resources from the value of the AS identifiers extension (RFC 3779, 3.2).
+///
+/// The value has to be read to its end. [`numbers_claim`] also accepts an absent extension.
+///
+/// Returns `Refused` with the first fault of the octets, and `Memory` if an allocation fails.
 pub fn read_as<A: Allocator + Copy>(
     alloc: A,
     octets: &[u8],
@@ -28,8 +31,11 @@ pub fn read_as<A: Allocator + Copy>(
     Ok(resources)
 }
 
-/// The resources of IPv4 and of IPv6 that octets are, all of them, and None where a family isn't there: the value of
-/// the extension of RFC 3779, 2.2. `Refused` and `Memory` as in [`read_as`].
+/// Reads the IPv4 and the IPv6 resources from the value of the IP address blocks extension (RFC 3779, 2.2).
+///
+/// Returns None for a family that isn't in the value. [`read_claims`] returns missing resources instead.
+///
+/// Returns `Refused` with the first fault of the octets, and `Memory` if an allocation fails.
 pub fn read_families<A: Allocator + Copy>(
     alloc: A,
     octets: &[u8],
@@ -45,8 +51,12 @@ pub fn read_families<A: Allocator + Copy>(
     Ok(families)
 }
 
-/// The claims that octets of IP address blocks are, missing ones of a family that isn't there. `Refused` with the first
-/// fault where they are none, `Memory` where there is no memory for them.
+/// Reads the claims on IPv4 and on IPv6 from the value of the IP address blocks extension (RFC 3779, 2.2).
+///
+/// A family that isn't in the value claims missing resources. [`read_families`] returns None instead, and
+/// [`address_claims`] also accepts an absent extension.
+///
+/// Returns `Refused` with the first fault of the octets, and `Memory` if an allocation fails.
 pub fn read_claims<A: Allocator + Copy>(
     alloc: A,
     octets: &[u8],
@@ -62,8 +72,11 @@ pub fn read_claims<A: Allocator + Copy>(
     }
 }
 
-/// The claim of the extension of AS identifiers, a missing one where it is absent. `Refused` and `Memory` as in
-/// [`read_as`].
+/// Reads the claim on AS numbers from the AS identifiers extension, which may be absent (RFC 3779, 3.2).
+///
+/// An absent extension, None, claims missing resources. [`read_as`] reads one that is present.
+///
+/// Returns `Refused` with the first fault of the octets, and `Memory` if an allocation fails.
 pub fn numbers_claim<A: Allocator + Copy>(
     alloc: A,
     octets: Option<&[u8]>,
@@ -79,8 +92,11 @@ pub fn numbers_claim<A: Allocator + Copy>(
     }
 }
 
-/// The claims of the extension of IP address blocks on IPv4 and on IPv6, missing ones where it is absent. `Refused` and
-/// `Memory` as in [`read_claims`].
+/// Reads the claims on IPv4 and on IPv6 from the IP address blocks extension, which may be absent (RFC 3779, 2.2).
+///
+/// An absent extension, None, claims missing resources of both families. [`read_claims`] reads one that is present.
+///
+/// Returns `Refused` with the first fault of the octets, and `Memory` if an allocation fails.
 pub fn address_claims<A: Allocator + Copy>(
     alloc: A,
     octets: Option<&[u8]>,

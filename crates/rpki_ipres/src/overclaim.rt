@@ -41,6 +41,9 @@ impl<A: Allocator> OverclaimedIpResources<A> {
     }
 
     /// The fault, to be displayed as one of the family.
+    ///
+    /// The family is a value, and the fault is borrowed. [`OverclaimedIpResources::of_family`] takes the fault, and the
+    /// family is a type.
     pub fn as_family(&self, family: AddressFamily) -> OverclaimedForFamily<'_, A>
         ensures { result ≡ (family, self.now) }
     {
@@ -69,6 +72,9 @@ impl<A: Allocator> OverclaimedIpResources<A> {
 
     /// The fault as one of a family. In IPv4 the excess must consist of whole addresses, as
     /// [`IpBlocks::is_whole_v4`] tests; it does where the set and all claims did.
+    ///
+    /// The family is a type, and the fault is taken. [`OverclaimedIpResources::as_family`] borrows the fault, and the
+    /// family is a value.
     pub fn of_family<F: Family>(self) -> OverclaimedFamilyResources<F, A>
         requires { IsWholeIn F.FAMILY self }
         ensures { result ≡ self }

@@ -198,20 +198,27 @@ def type_code(block: list[str]) -> list[str]:
     return [block[0], *shown, block[-1]]
 
 
-def owner_of(head: str) -> tuple[str, bool]:
-    """The type that an impl is of, and whether it is of a trait."""
+def owner_of(head: str) -> tuple[str, str]:
+    """The type that an impl is of, and its trait, or an empty text."""
     text = re.sub(r"\bwhere\b.*", "", head).removesuffix("{").removesuffix("{}")
     while (shorter := re.sub(r"<[^<>]*>", "", text)) != text:
         text = shorter
     text = re.sub(r"^(?:unsafe )?impl", "", text).strip()
     kind, _, of = text.partition(" for ")
-    return (of or kind).strip().lstrip("&").split("::")[-1].split()[-1], bool(of)
+    trait = kind.strip().split("::")[-1] if of else ""
+    return (of or kind).strip().lstrip("&").split("::")[-1].split()[-1], trait
 
 
-def owner_at(module: Module, name: str, items: dict[Key, Item]) -> Key | None:
-    """The item of a crate that an impl's type is."""
-    key = meant_by(module, (name,))
-    return key if isinstance(key, tuple) and key in items else None
+def owner_at(module: Module, head: str, items: dict[Key, Item]) -> Key | None:
+    """The item that shows an impl: its type, the type that it converts, or its trait if the type is a foreign one."""
+    name, trait = owner_of(head)
+    made_of = re.search(r"\bFrom<(\w+)", head)
+    is_from_below = isinstance(own := meant_by(module, (name,)), tuple) and own not in items
+    for it in (name, made_of[1] if made_of else "", trait if is_from_below else ""):
+        key = meant_by(module, (it,))
+        if isinstance(key, tuple) and key in items:
+            return key
+    return None
 
 
 def read_items(module: Module, items: dict[Key, Item]) -> None:
@@ -233,14 +240,10 @@ def read_impls(module: Module, items: dict[Key, Item]) -> None:
         if not line.startswith(("impl", "unsafe impl")):
             continue
         block = lines[at : block_end(lines, at)]
-        name, is_of_trait = owner_of(line)
-        key = owner_at(module, name, items)
-        if key is None and (made_of := re.search(r"\bFrom<(\w+)", line)):
-            key = owner_at(module, made_of[1], items)  # a conversion is shown with the type that is converted
-        if key is None:
+        if (key := owner_at(module, line, items)) is None:
             continue
         doc = doc_above(lines, at)
-        if is_of_trait:
+        if owner_of(line)[1]:
             items[key].calls.append(Item("", doc=doc, code=without_bodies(block)))
             continue
         for k, inner in enumerate(block):
@@ -293,7 +296,7 @@ def is_internal(path: str) -> bool:
 
 
 def parts_of(items: list[Item]) -> tuple[list[Item], list[Item], list[Item]]:
-    """What users call, the internal API, and the laws. A type with calls in both of the first two is shown once whole."""
+    """What users call, the internal API, and the laws. A type with calls in the first two is whole in the first one."""
     offered, internal, laws = [], [], []
     for item in items:
         inner = [it for it in item.calls if it.name and is_internal(f"{item.path}::{it.name}")]

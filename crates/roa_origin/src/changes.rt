@@ -24,7 +24,7 @@ impl<A: Allocator> PayloadTable<A> {
     /// Each table is gone through twice. `AllocError` where there is no memory for the two lists.
     ///
     /// This call finds the changes between two tables, as a cache does. [`crate::OriginTable::with_changes`] applies
-    /// changes to a table, as a router does. [`crate::changed()`] finds the routes whose validity differs.
+    /// changes to a table, as a router does. [`crate::changed`] finds the routes whose validity differs.
     pub fn changes_to(
         &self,
         alloc: A,

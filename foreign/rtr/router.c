@@ -1,7 +1,10 @@
-/* router PORT TABLES SECONDS: a router's side of the RPKI to Router protocol, version 1 (RFC 8210), over tables of
- * pigyelund. It asks a cache at that port of 127.0.0.1 for all payloads, and for what changes when the cache notifies
- * it or asks it to begin anew; each table that it gets is printed, a line for its number and one for each payload. It
- * ends after so many tables, or seconds: status 0 where it got all. It takes at most MOST payloads in one answer. */
+/* router PORT TABLES SECONDS: the router side of the RPKI to Router protocol, version 1 (RFC 8210), over tables of
+ * pigyelund.
+ *
+ * The program connects to a cache at PORT of 127.0.0.1 and asks for all VRPs. It asks for the changes when the cache
+ * sends a Serial Notify, and for all VRPs after a Cache Reset. It prints each table: a line with its number, a line for
+ * each VRP, and the line "end". It stops after TABLES tables or after SECONDS. The status is 0 if it printed all
+ * tables. It accepts at most MOST VRPs in one response. */
 #include "../pigyelund.h"
 #include <arpa/inet.h>
 #include <poll.h>
@@ -12,22 +15,28 @@
 #include <unistd.h>
 
 enum { NOTIFY = 0, SERIAL_QUERY, RESET_QUERY, RESPONSE, V4 = 4, V6 = 6, END_OF_DATA, RESET, KEY, ERROR };
-enum { VERSION = 1, HEADER = 8, LONGEST = 1 << 16, MOST = 10000000, ANNOUNCED = 1 };
+enum { VERSION = 1, HEADER = 8, LONGEST = 1 << 16, QUOTED = 32, MOST = 10000000, ANNOUNCED = 1 };
+/* error codes (RFC 8210, 12) */
+enum { CORRUPT = 0, INTERNAL, BAD_VERSION = 4, BAD_TYPE, UNKNOWN_RECORD, DUPLICATE, OTHER_VERSION };
 
-/* payloads, as many as there is memory for */
+/* an array of VRPs that grows */
 typedef struct {
   pg_payload *all;
   size_t count, room;
 } list;
 
-/* what a router knows: whether its table is of a session, the last serial number, and what came since a response */
+/* The state of a router. The table belongs to session and serial if has_session is set. A query is open while is_asked
+ * is set. Its response has begun if is_answered is set: then answering is the session of the Cache Response, and the
+ * lists hold its VRPs. The response lists all VRPs if is_full is set. */
 typedef struct {
-  int to_cache, has_session, is_answered, is_full;
-  uint16_t session;
-  uint32_t serial;
+  int to_cache, has_version, has_session, is_asked, is_answered, is_full, has_notice;
+  uint16_t session, answering;
+  uint32_t serial, notice;
   unsigned tables;
   pg_table *table;
   list announced, withdrawn;
+  const uint8_t *pdu; /* the PDU that is being read, and how much of it has been read */
+  uint32_t length;
 } router;
 
 static time_t deadline;
@@ -42,14 +51,14 @@ static void put32(uint8_t *at, uint32_t number) {
   for (int i = 0; i < 4; i++) at[i] = (uint8_t)(number >> (24 - 8 * i));
 }
 
-/* whether something can be read before the time is over */
+/* Returns whether something can be read before the deadline. */
 static int is_readable(int from) {
   struct pollfd one = {from, POLLIN, 0};
   time_t left = deadline - time(0);
   return left > 0 && poll(&one, 1, (int)left * 1000) == 1;
 }
 
-/* all octets, or 0 where the cache has gone, or the time is over */
+/* Reads all octets. Returns 0 if the cache is gone or at the deadline. */
 static int read_all(int from, uint8_t *to, size_t count) {
   while (count) {
     ssize_t got = is_readable(from) ? read(from, to, count) : 0;
@@ -60,6 +69,7 @@ static int read_all(int from, uint8_t *to, size_t count) {
   return 1;
 }
 
+/* Sends a PDU with a body of at most 56 octets. Returns 0 if the cache is gone. */
 static int send_pdu(const router *r, uint8_t type, uint16_t field, const uint8_t *body, uint32_t length) {
   uint8_t pdu[64] = {VERSION, type, (uint8_t)(field >> 8), (uint8_t)field};
   put32(pdu + 4, HEADER + length);
@@ -67,22 +77,39 @@ static int send_pdu(const router *r, uint8_t type, uint16_t field, const uint8_t
   return write(r->to_cache, pdu, HEADER + length) == (ssize_t)(HEADER + length);
 }
 
-/* asks for what has changed, or for all */
+/* Asks for the changes since the last serial, or for all VRPs if the router has no session. */
 static int ask(router *r) {
   uint8_t serial[4];
   put32(serial, r->serial);
+  r->is_asked = 1;
   r->is_answered = 0;
   r->is_full = !r->has_session;
   return r->is_full ? send_pdu(r, RESET_QUERY, 0, serial, 0) : send_pdu(r, SERIAL_QUERY, r->session, serial, 4);
 }
 
-/* an Error Report without the PDU and without a text (RFC 8210, 5.11); the session is over */
-static int refuse(router *r, uint16_t code) {
-  static const uint8_t nothing[8] = {0};
+/* Sends an Error Report with the PDU that is wrong, and no text. Returns 0, since the session is over. Sends nothing if
+ * the PDU is an Error Report (RFC 8210, 5.11). */
+static int refuse_pdu(router *r, uint16_t code, const uint8_t *pdu, uint32_t length) {
+  uint8_t body[4 + QUOTED + 4] = {0};
+  if (length > QUOTED) length = QUOTED;
   fprintf(stderr, "error %u\n", code);
   r->has_session = 0;
-  send_pdu(r, ERROR, code, nothing, sizeof nothing);
+  if (r->pdu[1] == ERROR) return 0;
+  put32(body, length);
+  memcpy(body + 4, pdu, length);
+  send_pdu(r, ERROR, code, body, 8 + length);
   return 0;
+}
+
+/* Refuses the PDU that is being read. An internal error is not about a PDU, so its report has none (RFC 8210, 5.11). */
+static int refuse(router *r, uint16_t code) { return refuse_pdu(r, code, r->pdu, code == INTERNAL ? 0 : r->length); }
+
+/* Refuses a PDU of another session, and drops all data of the cache (RFC 8210, 5.1). */
+static int refuse_session(router *r) {
+  fputs("another session: the table is dropped\n", stderr);
+  pg_table_free(r->table);
+  r->table = 0;
+  return refuse(r, CORRUPT);
 }
 
 static int add(list *to, const pg_payload *payload) {
@@ -97,16 +124,29 @@ static int add(list *to, const pg_payload *payload) {
   return 1;
 }
 
-/* the payload of a Prefix PDU (RFC 8210, 5.6 and 5.7) */
+/* Reads the VRP of a Prefix PDU (RFC 8210, 5.6 and 5.7). */
 static int take_prefix(router *r, const uint8_t *body, uint32_t length, uint8_t family) {
   size_t width = family == PG_IPV4 ? 4 : 16;
   pg_payload payload = {{0}, 0, family, 0, 0};
-  if (!r->is_answered || length != 8 + width) return refuse(r, 0);
+  if (!r->is_answered || length != 8 + width) return refuse(r, CORRUPT);
   payload.len = body[1];
   payload.max_len = body[2];
   memcpy(payload.address, body + 4, width);
   payload.asn = u32(body + 4 + width);
-  return add(body[0] & ANNOUNCED ? &r->announced : &r->withdrawn, &payload) ? 1 : refuse(r, 1);
+  return add(body[0] & ANNOUNCED ? &r->announced : &r->withdrawn, &payload) ? 1 : refuse(r, INTERNAL);
+}
+
+/* Refuses a VRP by a report with its Prefix PDU. */
+static int refuse_payload(router *r, uint16_t code, const pg_payload *payload, uint8_t flags) {
+  uint32_t width = payload->family == PG_IPV4 ? 4 : 16, length = HEADER + 8 + width;
+  uint8_t pdu[QUOTED] = {VERSION, payload->family == PG_IPV4 ? V4 : V6};
+  put32(pdu + 4, length);
+  pdu[HEADER] = flags;
+  pdu[HEADER + 1] = payload->len;
+  pdu[HEADER + 2] = payload->max_len;
+  memcpy(pdu + HEADER + 4, payload->address, width);
+  put32(pdu + HEADER + 4 + width, payload->asn);
+  return refuse_pdu(r, code, pdu, length);
 }
 
 static void print_table(const router *r) {
@@ -126,74 +166,108 @@ static void print_table(const router *r) {
   free(all);
 }
 
-/* the table after what came: of all, from an empty one, so that what is announced twice is told */
-static int end_of_data(router *r, uint16_t session, const uint8_t *body, uint32_t length) {
-  pg_table *empty = 0, *next = 0;
+/* Makes the next table of the VRPs that were read. A full response changes an empty table, so that a VRP that comes
+ * twice is a duplicate. */
+static int change(router *r, pg_table **next) {
+  pg_table *empty = 0;
   size_t place = 0;
   uint32_t status;
-  if (!r->is_answered || length < 4 || (!r->is_full && session != r->session)) return refuse(r, 0);
-  if (r->is_full && pg_table_new(r->announced.all, 0, &empty, &place) != PG_OK) return refuse(r, 1);
+  if (r->is_full && pg_table_new(r->announced.all, 0, &empty, &place) != PG_OK) return refuse(r, INTERNAL);
   status = pg_table_changed(r->is_full ? empty : r->table, r->announced.all, r->announced.count, r->withdrawn.all,
-                            r->withdrawn.count, &next, &place);
+                            r->withdrawn.count, next, &place);
   pg_table_free(empty);
-  if (status != PG_OK) fprintf(stderr, "at %zu: %s\n", place, pg_status_text(status));
-  if (status == PG_UNKNOWN_WITHDRAWAL) return refuse(r, 6);
-  if (status == PG_DUPLICATE_ANNOUNCEMENT) return refuse(r, 7);
-  if (status != PG_OK) return refuse(r, status == PG_MEMORY ? 1 : 0);
+  if (status == PG_OK) return 1;
+  fprintf(stderr, "at %zu: %s\n", place, pg_status_text(status));
+  if (status == PG_MEMORY) return refuse(r, INTERNAL);
+  if (status == PG_UNKNOWN_WITHDRAWAL) return refuse_payload(r, UNKNOWN_RECORD, r->withdrawn.all + place, 0);
+  if (status == PG_DUPLICATE_ANNOUNCEMENT) return refuse_payload(r, DUPLICATE, r->announced.all + place, ANNOUNCED);
+  return status < PG_SECOND ? refuse_payload(r, CORRUPT, r->announced.all + place, ANNOUNCED)
+                            : refuse_payload(r, CORRUPT, r->withdrawn.all + place, 0);
+}
+
+/* Ends a response (RFC 8210, 5.8): its session has to be that of the Cache Response. Asks again if the cache notified
+ * a later serial meanwhile. */
+static int end_of_data(router *r, uint16_t session, const uint8_t *body, uint32_t length) {
+  pg_table *next = 0;
+  if (!r->is_answered || length != 16) return refuse(r, CORRUPT);
+  if (session != r->answering) return refuse_session(r);
+  if (!change(r, &next)) return 0;
   pg_table_free(r->table);
   r->table = next;
   r->session = session;
   r->serial = u32(body);
   r->has_session = 1;
-  r->is_answered = r->is_full = 0;
+  r->is_asked = r->is_answered = r->is_full = 0;
   r->tables++;
   print_table(r);
+  if (!r->has_notice) return 1;
+  r->has_notice = 0;
+  return (int32_t)(r->notice - r->serial) > 0 ? ask(r) : 1;
+}
+
+/* Asks for the changes that the cache notifies (RFC 8210, 5.2), or remembers the notice while a query is open. */
+static int take_notice(router *r, uint16_t session, uint32_t serial) {
+  if (!r->is_answered && !r->has_session) return 1;
+  if (session != (r->is_answered ? r->answering : r->session)) return refuse_session(r);
+  r->notice = serial;
+  r->has_notice = r->is_asked;
+  return r->is_asked || serial == r->serial ? 1 : ask(r);
+}
+
+/* Begins a response (RFC 8210, 5.5): after a Serial Query its session has to be that of the table. */
+static int take_response(router *r, uint16_t session, uint32_t length) {
+  if (!r->is_asked || r->is_answered || length) return refuse(r, CORRUPT);
+  if (!r->is_full && session != r->session) return refuse_session(r);
+  r->is_answered = 1;
+  r->answering = session;
+  r->announced.count = r->withdrawn.count = 0;
   return 1;
 }
 
-/* one PDU of the cache; 0 where the session is over */
+/* Reads one PDU of the cache. Returns 0 if the session is over. */
 static int take(router *r) {
-  static uint8_t body[LONGEST];
-  uint8_t header[HEADER];
+  static uint8_t pdu[LONGEST];
+  const uint8_t *body = pdu + HEADER;
   uint32_t length;
   uint16_t field;
-  if (!read_all(r->to_cache, header, HEADER)) return 0;
-  field = u16(header + 2);
-  length = u32(header + 4);
-  if (header[0] != VERSION) return refuse(r, 4);
-  if (length < HEADER || length > LONGEST || !read_all(r->to_cache, body, length - HEADER)) return refuse(r, 0);
+  r->pdu = pdu;
+  r->length = HEADER;
+  if (!read_all(r->to_cache, pdu, HEADER)) return 0;
+  field = u16(pdu + 2);
+  length = u32(pdu + 4);
+  if (pdu[0] != VERSION) return refuse(r, r->has_version ? OTHER_VERSION : BAD_VERSION);
+  r->has_version = 1;
+  if (length < HEADER || length > LONGEST) return refuse(r, CORRUPT);
+  if (!read_all(r->to_cache, pdu + HEADER, length - HEADER)) return 0;
+  r->length = length;
   length -= HEADER;
-  switch (header[1]) {
-    case NOTIFY: /* a notice while an answer comes is for later; so is one of what is known */
-      if (r->is_answered || !r->has_session || length != 4) return 1;
-      return field == r->session && u32(body) == r->serial ? 1 : ask(r);
-    case RESPONSE:
-      if (!r->is_full && field != r->session) return refuse(r, 0);
-      r->is_answered = 1;
-      r->announced.count = r->withdrawn.count = 0;
-      return 1;
+  switch (pdu[1]) {
+    case NOTIFY: return length == 4 ? take_notice(r, field, u32(body)) : refuse(r, CORRUPT);
+    case RESPONSE: return take_response(r, field, length);
     case V4: return take_prefix(r, body, length, PG_IPV4);
     case V6: return take_prefix(r, body, length, PG_IPV6);
     case END_OF_DATA: return end_of_data(r, field, body, length);
-    case RESET: /* the cache knows no changes from here: all is asked for, and the table stands until then */
+    case RESET: /* the cache has no changes since the serial; the table stays until the next one is there */
       fprintf(stderr, "cache reset\n");
       r->has_session = 0;
       return ask(r);
     case KEY: return 1;
-    default:
+    case ERROR:
       fprintf(stderr, "error report %u\n", field);
       r->has_session = 0;
       return 0;
+    default: return refuse(r, BAD_TYPE);
   }
 }
 
-/* a session, from a connection to its end, or to the last table that is wanted */
+/* Runs a session from the connection to its end, or to the last table that is wanted. */
 static void meet(router *r, uint16_t port, unsigned wanted) {
   struct sockaddr_in cache;
   memset(&cache, 0, sizeof cache);
   cache.sin_family = AF_INET;
   cache.sin_port = htons(port);
   cache.sin_addr.s_addr = htonl(INADDR_LOOPBACK);
+  r->has_version = r->has_notice = 0;
   r->to_cache = socket(AF_INET, SOCK_STREAM, 0);
   if (r->to_cache < 0) return;
   if (connect(r->to_cache, (struct sockaddr *)&cache, sizeof cache) == 0 && ask(r))
@@ -208,7 +282,7 @@ int main(int count, char **words) {
   memset(&r, 0, sizeof r);
   wanted = (unsigned)atoi(words[2]);
   deadline = time(0) + atoi(words[3]);
-  /* an array is at least one payload long, since no pointer may be null */
+  /* Each array has room for at least one VRP, since no pointer may be null. */
   if (!add(&r.announced, &(pg_payload){{0}, 0, 0, 0, 0}) || !add(&r.withdrawn, r.announced.all)) return 2;
   while (r.tables < wanted && time(0) < deadline) {
     meet(&r, (uint16_t)atoi(words[1]), wanted);

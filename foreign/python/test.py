@@ -39,6 +39,7 @@ from pigyelund import (
 )
 from pigyelund.raw import Pair, Present, Rooms, Told
 from pigyelund.reasons import refused
+from test_tables import OF_TABLES, OtherPayload
 
 ROOM = 8192
 
@@ -203,7 +204,7 @@ def is_of_table(library: Pigyelund, row: Row) -> bool:
         (address, asn, others), = parts(row.second.asn, 22)
         with library.table(given) as table:
             route = Route(Route._fields_[0][1](*address), asn, *others)
-            status, held, length = library.raw.table_covering(table._handle(), route, 200)
+            status, held, length = table._ask(lambda handle: library.raw.table_covering(handle, route, 200))
             if status == Status.OK and len(table.covering(route)) != length:
                 return Resources(b"another length")
             found = [payload_octets(it, bytes([it.family, it.len, it.max_len, it.mismatch])) for it in held[:length]]
@@ -270,6 +271,8 @@ def names_and_numbers(library: Pigyelund, folder: Path) -> Iterator[str]:
     named = {it.name: it.value for it in chain(Status, Encoding, Mode, Present, Validity, Mismatch)}
     named |= {f"IP{it.name}": it.value for it in Family}
     named["VERSION"] = library.version()
+    if raw.VERSION != library.version():
+        yield f"the package wants version {raw.VERSION} of the calls, and the library has {library.version()}"
     for name in sorted(stored.keys() | named.keys()):
         if stored.get(name) != named.get(name):
             yield f"{name} is {named.get(name)}, and {stored.get(name)} in numbers.txt"
@@ -434,10 +437,6 @@ def tables(library: Pigyelund, _: Path) -> Iterator[str]:
     library.raw.table_free(None)
 
 
-class OtherPayload(Payload):
-    """Another kind with the fields of a payload."""
-
-
 def items() -> list[raw.Fields]:
     """Payloads and routes of which each two differ in one field or in their kind, and how they are told and covered."""
     six = IPv6Network("2001:db8::/32")
@@ -514,7 +513,7 @@ def copies(library: Pigyelund, _: Path) -> Iterator[str]:
 
 
 OTHERS = (names_and_numbers, texts, no_bits_are_dropped, defaults, lenient, reasons, tables)
-OTHERS += (equal_fields, item_texts, changes_by_sets, copies)
+OTHERS += (equal_fields, item_texts, changes_by_sets, copies, *OF_TABLES)
 
 
 def main() -> int:

@@ -110,8 +110,9 @@ def laid_out(certificates: Iterable[Certificate]) -> tuple[bytes, list[raw.Certi
 
 
 class Pigyelund:
-    """The calls of the shared library at a path. With none it is looked for in the folder that PIGYELUND_LIB names,
-    else in the package's own, and else where the system's loader looks. `OSError` where it isn't found."""
+    """The calls of the shared library at a path. Without a path the library is looked for in the folder that
+    PIGYELUND_LIB names; else in the package's folder; else where the system's loader looks. `ImportError` names the
+    file and how to build it, if there is no such library, or if it has calls of an earlier version."""
 
     def __init__(self, path: str | os.PathLike[str] | None = None) -> None:
         self.raw = raw.Library(path)

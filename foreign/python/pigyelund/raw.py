@@ -9,6 +9,11 @@ from pathlib import Path
 from typing import NamedTuple
 
 NAME = "libpigyelund.so"
+VERSION = 4  # the version of the calls below; a library of a later version has them too
+HOW = (
+    "build it by 'rt lib' in crates/pigyelund_c, install it by 'make -C foreign/c install PREFIX=..', "
+    "and set PIGYELUND_LIB to PREFIX/lib"
+)
 
 
 class Status(IntEnum):
@@ -225,22 +230,29 @@ class TableTold(NamedTuple):
     place: int
 
 
-def array_of(kind: type[Fields], given: object) -> tuple[object, int]:
-    """An array of elements that are given, and how many they are: a sequence of such, or an object with the buffer
-    protocol, whose octets are such elements side by side as C lays them out. `ValueError` where they end in one."""
-    if isinstance(given, ctypes.Array) and given._type_ is kind:
-        return given, len(given)
+def array_of(kind: type[Fields], given: object) -> tuple[ctypes.Array[Fields], int]:
+    """Returns a new array of the elements that are given, and their count: of a sequence of such, or of an object with
+    the buffer protocol whose octets are such side by side as C lays them out. `TypeError` if the elements are of
+    another kind, `ValueError` if the octets end within an element."""
     try:
-        octets = memoryview(given).cast("B")  # type: ignore[arg-type]
+        view = memoryview(given)  # type: ignore[arg-type]
     except TypeError:
         listed = list(given)  # type: ignore[call-overload]
         return (kind * max(len(listed), 1))(*listed), len(listed)
-    count, rest = divmod(octets.nbytes, ctypes.sizeof(kind))
+    element = getattr(view.obj, "_type_", type(view.obj))
+    if isinstance(element, type) and issubclass(element, ctypes.Structure) and not is_kind(element, kind):
+        raise TypeError(f"{element.__name__} in place of {kind.__name__}")
+    count, rest = divmod(view.nbytes, ctypes.sizeof(kind))
     if rest:
-        raise ValueError(f"{octets.nbytes} octets of elements of {ctypes.sizeof(kind)}")
+        raise ValueError(f"{view.nbytes} octets of elements of {ctypes.sizeof(kind)}")
     held = (kind * max(count, 1))()
-    ctypes.memmove(held, octets.tobytes(), octets.nbytes)
+    ctypes.memmove(held, view.tobytes(), view.nbytes)
     return held, count
+
+
+def is_kind(element: type[ctypes.Structure], kind: type[Fields]) -> bool:
+    """Returns whether elements are of a kind, and laid out as it is."""
+    return issubclass(element, kind) and ctypes.sizeof(element) == ctypes.sizeof(kind)
 
 
 def words_of(*sets: Pair) -> list[object]:
@@ -249,8 +261,8 @@ def words_of(*sets: Pair) -> list[object]:
 
 
 def found_library() -> str:
-    """The file of the shared library: in the folder that PIGYELUND_LIB names, else in this package's, else whichever
-    the system's loader finds."""
+    """Returns the file of the shared library: in the folder that PIGYELUND_LIB names; else in this package's folder, if
+    it is there; else the name alone, which the system's loader looks for."""
     folder = os.environ.get("PIGYELUND_LIB")
     if folder:
         return os.path.join(os.path.abspath(folder), NAME)
@@ -258,18 +270,38 @@ def found_library() -> str:
     return str(beside) if beside.exists() else NAME
 
 
+def opened(file: str) -> ctypes.CDLL:
+    """Loads the shared library. `ImportError` with the file, and how to build it, if it isn't there, or is no such
+    library, or has calls of an earlier version."""
+
+    def refusal(why: str) -> ImportError:
+        return ImportError(f"{file}: {why}; {HOW}", name="pigyelund", path=file)
+
+    try:
+        library = ctypes.CDLL(file)
+        library.pg_version.restype, library.pg_version.argtypes = ctypes.c_uint32, []
+        version = library.pg_version()
+    except OSError as fault:
+        raise refusal(str(fault).removeprefix(f"{file}: ")) from None
+    except AttributeError:
+        raise refusal("the library has no call pg_version") from None
+    if version < VERSION:
+        raise refusal(f"the library has version {version} of the calls, and this package needs version {VERSION}")
+    return library
+
+
 class Library:
-    """The calls of the shared library at a path, or of that which is found."""
+    """The calls of the shared library at a path, or of the one that `found_library` names. `ImportError` as of
+    `opened`."""
 
     def __init__(self, path: str | os.PathLike[str] | None = None) -> None:
-        self._library = ctypes.CDLL(found_library() if path is None else os.fspath(path))
+        self._library = opened(found_library() if path is None else os.fspath(path))
         size, number = ctypes.c_size_t, ctypes.c_uint32
         octets = [ctypes.c_char_p, size] * 4
         rooms = [ctypes.c_void_p, size] * 2 + [ctypes.POINTER(size)] * 2
         room = [ctypes.c_void_p, size, ctypes.POINTER(size)]
         path_words = [*octets[:6], ctypes.POINTER(Certificate), size, number, *rooms, ctypes.POINTER(size)]
         calls = {
-            "pg_version": [],
             "pg_verify": [*octets[:4], number, *octets[4:], number, number, *rooms],
             "pg_verify_path": path_words,
             "pg_cover": [*octets[:2], number, number, *room],
@@ -322,7 +354,7 @@ class Library:
 
     def version(self) -> int:
         """The version of the calls."""
-        return self._call("pg_version", [])
+        return int(self._library.pg_version())
 
     def verify(self, issuer: Pair, present: int, certificate: Pair, encoding: int, mode: int, rooms: Rooms) -> Told:
         """`pg_verify` with rooms of these lengths."""

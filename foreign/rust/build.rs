@@ -1,36 +1,41 @@
-//! Finds the static library: in the folder that `PIGYELUND_LIB` names, else where `make install` and packages put it.
+//! Finds the static library, in the folder that `PIGYELUND_LIB` names. If the variable is not set or empty, the library
+//! is the first one in the folders `USUAL`.
 use std::env::var;
 use std::path::Path;
 
-/// Whether a folder has the library.
+/// The folders into which `make install` and packages put the library, in the order in which they are searched.
+pub(crate) const USUAL: [&str; 2] = ["/usr/local/lib", "/usr/lib"];
+
+/// Returns whether a folder has the library.
 fn has_library(folder: &str) -> bool {
     Path::new(folder).join("libpigyelund.a").exists()
 }
 
-/// The folder of the library, or why there is none.
-fn folder() -> Result<String, String> {
-    let named = var("PIGYELUND_LIB").unwrap_or_default();
+/// Returns the folder of the library: the one that is named, or else the first of `usual` that has the library. Returns
+/// the reason if there is none.
+pub(crate) fn folder_of(named: &str, usual: &[&str]) -> Result<String, String> {
     if named.is_empty() {
-        let usual = ["/usr/local/lib", "/usr/lib"];
-        let found = usual.into_iter().find(|folder| has_library(folder));
-        return found
-            .map(String::from)
-            .ok_or("libpigyelund.a isn't found: PIGYELUND_LIB names its folder".into());
+        let found = usual.iter().find(|folder| has_library(folder));
+        return found.map(|folder| String::from(*folder)).ok_or(format!(
+            "libpigyelund.a isn't found in {}: PIGYELUND_LIB names its folder",
+            usual.join(" or ")
+        ));
     }
-    if Path::new(&named).is_relative() {
+    if Path::new(named).is_relative() {
         return Err(format!("PIGYELUND_LIB is no absolute path: {named}"));
     }
-    if !has_library(&named) {
+    if !has_library(named) {
         return Err(format!(
             "PIGYELUND_LIB names a folder without libpigyelund.a: {named}"
         ));
     }
-    Ok(named)
+    Ok(String::from(named))
 }
 
 fn main() {
     println!("cargo:rerun-if-env-changed=PIGYELUND_LIB");
-    let folder = match folder() {
+    let named = var("PIGYELUND_LIB").unwrap_or_default();
+    let folder = match folder_of(&named, &USUAL) {
         Ok(folder) => folder,
         Err(why) => {
             eprintln!("{why} (docs/FOREIGN.md)");

@@ -26,6 +26,13 @@ use crate::{address_of, validity_of, Payload, Prefix, Reason, RefusedOrigin, Rou
 ///     Ok(())
 /// }
 /// ```
+///
+/// A table has one owner, and its memory goes back when the owner drops it. It is not `Clone`:
+///
+/// ```compile_fail,E0277
+/// fn copy<T: Clone>(_: T) {}
+/// copy(pigyelund::Table::new(&[]).unwrap());
+/// ```
 #[derive(Debug)]
 pub struct Table(raw::Table);
 

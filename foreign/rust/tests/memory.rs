@@ -1,0 +1,42 @@
+//! The memory of tables: it goes back where a `Table` is dropped, also if the call that should make the next one is
+//! refused. This file has one test, so that no other test takes memory meanwhile.
+use pigyelund::{Payload, Table};
+use std::fs::read_to_string;
+use std::net::{IpAddr, Ipv4Addr};
+
+const PAYLOADS: u32 = 20_000;
+const TABLES: usize = 200;
+/// A table takes 24 octets or more for each payload.
+const LEAKED: usize = TABLES * PAYLOADS as usize * 24;
+
+/// Returns how many octets of memory the process has.
+fn resident() -> usize {
+    let pages = read_to_string("/proc/self/statm").unwrap();
+    pages.split(' ').nth(1).unwrap().parse::<usize>().unwrap() * 4096
+}
+
+/// Makes a table and the next one, is refused another, and drops both.
+fn make_and_drop(payloads: &[Payload], fresh: Payload) {
+    let table = Table::new(payloads).unwrap();
+    let next = table.changed(&[fresh], &[]).unwrap();
+    assert_eq!(next.len(), payloads.len() + 1);
+    assert!(next.changed(&[fresh], &[]).is_err());
+}
+
+#[test]
+fn tables_are_freed() {
+    let payload = |at: u32, asn| Payload::new(IpAddr::V4(Ipv4Addr::from(at << 12)), 20, 20, asn);
+    let payloads: Vec<Payload> = (0..PAYLOADS).map(|at| payload(at, 1)).collect();
+    for _ in 0..TABLES / 10 {
+        make_and_drop(&payloads, payload(0, 2));
+    }
+    let before = resident();
+    for _ in 0..TABLES {
+        make_and_drop(&payloads, payload(0, 2));
+    }
+    let more = resident().saturating_sub(before);
+    assert!(
+        more < LEAKED / 4,
+        "{more} octets more after {TABLES} tables"
+    );
+}

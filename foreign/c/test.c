@@ -1,4 +1,6 @@
-/* test FOLDER, which has rows.txt and texts.txt: asks each row, with rooms of each length from 0 to what is wanted and
+/* test FOLDER stack: asks each row on a stack of its own. It fails if the calls use more of it than pigyelund.h states.
+ *
+ * test FOLDER, which has rows.txt and texts.txt: asks each row, with rooms of each length from 0 to what is wanted and
  * one more, and looks that nothing is written but what is told; with each of its requests for memory refused in turn;
  * then all rows on eight threads at once. Inputs and rooms are blocks of their own, so that valgrind sees an octet too
  * far. It is linked with --wrap=malloc,--wrap=realloc, which leads each request of the library here. */
@@ -586,6 +588,49 @@ static void ask_on_threads(questions rows) {
   for (unsigned i = 0; i < THREADS; i++) pthread_join(threads[i], 0);
 }
 
+/* ---- the stack */
+
+/* the stack that the header states, and that of the thread, which has room for much more */
+enum { STACK = 128 << 10, ROOM_OF_STACK = 8 << 20, ALIGNED = 4096 };
+
+/* the rows, and where the frame of the first call is */
+typedef struct {
+  questions rows;
+  const uint8_t *frame;
+} on_stack;
+
+static void *ask_on_stack(void *of) {
+  on_stack *one = (on_stack *)of;
+  uint8_t here = 0;
+  one->frame = &here;
+  ask_null();
+  ask_many();
+  ask_round(&one->rows);
+  return 0;
+}
+
+/* Asks each row on a stack that is marked before. The octets from the first frame down to the deepest one that has
+ * changed are what the calls used. */
+static void ask_stack(questions rows) {
+  on_stack one = {rows, 0};
+  pthread_attr_t how;
+  pthread_t thread;
+  void *made = 0;
+  const uint8_t *stack;
+  size_t unused = 0, used;
+  if (posix_memalign(&made, ALIGNED, ROOM_OF_STACK)) exit(2);
+  stack = memset(made, MARK, ROOM_OF_STACK);
+  if (pthread_attr_init(&how) || pthread_attr_setstack(&how, made, ROOM_OF_STACK)) exit(2);
+  if (pthread_create(&thread, &how, ask_on_stack, &one) || pthread_join(thread, 0)) exit(2);
+  while (unused < ROOM_OF_STACK && stack[unused] == MARK) unused++;
+  used = (size_t)(one.frame - stack) - unused;
+  expect(used < STACK, 0, "the calls use more than the stack that the header states");
+  expect(calls > rows.count && used > 0, 0, "no calls on the stack");
+  printf("C: %u calls use %zu octets of the stack, of %u that are stated\n", calls, used, (unsigned)STACK);
+  pthread_attr_destroy(&how);
+  free(made);
+}
+
 /* each line of texts.txt is a status and its text */
 static void ask_texts(const char *folder) {
   static char line[LENGTH];
@@ -602,14 +647,7 @@ static void ask_texts(const char *folder) {
   fclose(file);
 }
 
-int main(int count, char **words) {
-  questions rows;
-  if (count != 2) return 2;
-  expect(pg_version() == PG_VERSION, 0, "another version");
-  ask_texts(words[1]);
-  ask_null();
-  ask_many();
-  rows = read_rows(words[1]);
+static void ask_all(questions rows) {
   for (unsigned i = 0; i < rows.count; i++) {
     if (is_of_table(rows.all + i)) ask_table(rows.all + i);
     if (rows.all[i].call != TEST && rows.all[i].call <= ORIGINS) ask_rooms(rows.all + i);
@@ -617,6 +655,22 @@ int main(int count, char **words) {
     ask_row_refused(rows.all + i);
   }
   if (rows.count) ask_on_threads(rows);
+}
+
+int main(int count, char **words) {
+  questions rows;
+  int is_of_stack = count == 3 && !strcmp(words[2], "stack");
+  if (count != 2 && !is_of_stack) return 2;
+  rows = read_rows(words[1]);
+  if (is_of_stack) {
+    ask_stack(rows);
+  } else {
+    expect(pg_version() == PG_VERSION, 0, "another version");
+    ask_texts(words[1]);
+    ask_null();
+    ask_many();
+    ask_all(rows);
+  }
   for (unsigned i = 0; i < rows.count; i++) end_question(rows.all + i);
   free(rows.all);
   printf("C: %u rows, %u calls, %u faults\n", rows.count, calls, faults);

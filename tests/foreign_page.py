@@ -4,11 +4,15 @@ page's programs.
 
 Without arguments: foreign/numbers.txt has each number of crates/pigyelund_c, the header defines these names and no
 others, and each row of the table of statuses in docs/FOREIGN.md has the number of its name; the version of the package
-is the same in each file that has it. With SECTION PREFIX, as C or `A table in C`: the program of that section, in an
-empty folder, built by its commands with the library that is installed under PREFIX, prints what the page says. Status 1
-where something differs.
+is the same in each file that has it. The package for Python requires the first Python that has all that its sources
+use, and pages and tests name the same Python. The header and the page state the stack on which foreign/c/test.c makes
+its calls.
+
+With SECTION PREFIX, as C or `A table in C`: the program of that section, in an empty folder, built by its commands with
+the library that is installed under PREFIX, prints what the page says. The status is 1 if something differs.
 """
 
+import ast
 import os
 import re
 import subprocess
@@ -18,6 +22,7 @@ from pathlib import Path
 
 TOP = Path(__file__).resolve().parent.parent
 PAGE = TOP / "docs" / "FOREIGN.md"
+HEADER = TOP / "foreign" / "pigyelund.h"
 CRATE = TOP / "crates" / "pigyelund_c"
 ROUTES = TOP / "crates" / "route_calls"
 # Which name in pigyelund.h is which one in the library's definitions.
@@ -65,7 +70,7 @@ def of_library() -> dict[str, int]:
 
 def of_header() -> set[str]:
     """The names that the header defines as numbers."""
-    text = (TOP / "foreign" / "pigyelund.h").read_text()
+    text = HEADER.read_text()
     return set(re.findall(r"^#define PG_(\w+) \w+u\b", text, re.MULTILINE))
 
 
@@ -96,6 +101,84 @@ def of_packages() -> list[str]:
     return [] if len(set(versions.values())) == 1 else [f"versions differ: {versions}"]
 
 
+# The first minor version of Python 3 that has a name of the standard library, of those that the package may use.
+NEW_NAMES = {
+    "pairwise": 10,
+    "ParamSpec": 10,
+    "TypeAlias": 10,
+    "TypeGuard": 10,
+    "StrEnum": 11,
+    "Self": 11,
+    "Never": 11,
+    "assert_never": 11,
+    "LiteralString": 11,
+    "tomllib": 11,
+    "ExceptionGroup": 11,
+    "batched": 12,
+    "override": 12,
+    "Buffer": 12,
+    "deprecated": 13,
+    "TypeIs": 13,
+}
+# And that has a form of the syntax.
+NEW_FORMS = {"Match": 10, "TryStar": 11, "TypeAlias": 12}
+
+
+def is_union(node: ast.AST) -> bool:
+    """Returns whether a node is a type written with a bar."""
+    return any(isinstance(it, ast.BinOp) and isinstance(it.op, ast.BitOr) for it in ast.walk(node))
+
+
+def first_of_node(node: ast.AST) -> int:
+    """Returns the first minor version of Python 3 that has what a node uses."""
+    found = NEW_FORMS.get(type(node).__name__, 0)
+    if isinstance(node, ast.ImportFrom | ast.Import):
+        names = [getattr(node, "module", None), *(it.name for it in node.names)]
+        found = max(NEW_NAMES.get(name or "", 0) for name in names)
+    elif isinstance(node, ast.Call) and isinstance(node.func, ast.Name) and node.func.id == "zip":
+        found = 10 if any(it.arg == "strict" for it in node.keywords) else 0
+    elif isinstance(node, ast.arg | ast.AnnAssign) and node.annotation and is_union(node.annotation):
+        found = 10
+    elif isinstance(node, ast.FunctionDef):
+        found = 10 if node.returns and is_union(node.returns) else 0
+        found = max(found, 12 if getattr(node, "type_params", None) else 0)
+    return found
+
+
+def of_python() -> list[str]:
+    """Returns what differs in the first Python that the package requires."""
+    folder = TOP / "foreign" / "python"
+    sources = [*sorted((folder / "pigyelund").glob("*.py")), folder / "wheel_of.py"]
+    used = max(first_of_node(node) for file in sources for node in ast.walk(ast.parse(file.read_text())))
+    wanted = {
+        folder / "pyproject.toml": f'requires-python = ">=3.{used}"',
+        PAGE: f"Wants `python3` from 3.{used},",
+        TOP / "tests" / "foreign.sh": f"sys.version_info < (3, {used})",
+    }
+    faults = [
+        f"{file.relative_to(TOP)} doesn't have {text!r}, and the sources use Python 3.{used}"
+        for file, text in wanted.items()
+        if text not in file.read_text()
+    ]
+    words = [sys.executable, "-c", "import wheel_of; print(wheel_of.metadata())"]
+    made = subprocess.run(words, cwd=folder, capture_output=True, text=True, check=False)
+    if f"Requires-Python: >=3.{used}\n" not in made.stdout:
+        faults.append(f"the wheel doesn't require Python 3.{used}: {made.stdout}{made.stderr}")
+    for file in sources:
+        try:
+            ast.parse(file.read_text(), feature_version=(3, used))
+        except SyntaxError as fault:
+            faults.append(f"{file.relative_to(TOP)} is not Python 3.{used}: {fault}")
+    return faults
+
+
+def of_stack() -> list[str]:
+    """Returns where another stack is stated than the one on which foreign/c/test.c makes its calls."""
+    test = re.search(r"\bSTACK = (\d+) << 10\b", (TOP / "foreign" / "c" / "test.c").read_text())
+    text = f"The stack has {test[1] if test else '?'} KiB left"
+    return [f"{file.name} doesn't say: {text}" for file in (HEADER, PAGE) if text not in file.read_text()]
+
+
 def numbers_differ() -> list[str]:
     """What differs in numbers and names."""
     numbers, own = stored(), of_library()
@@ -105,7 +188,7 @@ def numbers_differ() -> list[str]:
         if own.get(name) != numbers.get(name)
     ]
     faults += [f"pigyelund.h and numbers.txt: {name} is in one alone" for name in sorted(of_header() ^ numbers.keys())]
-    return faults + of_page(numbers) + of_packages()
+    return faults + of_page(numbers) + of_packages() + of_python() + of_stack()
 
 
 def section(title: str) -> list[tuple[str, str]]:

@@ -1,20 +1,225 @@
 #!/usr/bin/env bash
-# Makes a release and a Debian package of this tree, and tries them: the sums hold, each line of the manual's examples
-# is answered as it stands there, a program in C builds by what is unpacked, and the package installs below a clean
-# root, has the same files and answers. What isn't there to test with is named. Status 0 where nothing failed.
+# Tests release in two parts. The first part runs it in a copy of the tree, beside a kit that proves nothing: what
+# release refuses, and that the same commit makes the same archive. The second part makes a release and a Debian package
+# of this tree, if its programs are built and it has no changes: the sums hold, each line of the manual's examples gives
+# the output that the page shows, a program in C builds by what is unpacked, and the package installs below a clean
+# root. What isn't there to test with is named. The status is 0 if nothing failed.
 cd "$(dirname "$0")/.." || exit 1
+unset LIB KIT MAINTAINER
+top=$PWD
 out=$(mktemp -d) || exit 1
 trap 'rm -rf "$out"' EXIT
 version=$(sed -n 's/^## \([^,]*\).*/\1/p' CHANGELOG.md | head -n 1)
 failed=0
 
-has() { command -v "$2" >/dev/null || { echo "left out: $1 needs $2"; return 1; }; }
+has() {
+    what=$1
+    shift
+    for tool; do
+        command -v "$tool" >/dev/null || { echo "left out: $what needs $tool"; return 1; }
+    done
+}
 fail() { echo "FAILED: $1"; failed=1; }
 
-# The examples of a page of the manual, as they are printed.
+# ---- in a copy, beside a kit that proves nothing
+
+copy="$out/a copy"
+kit=$out/kit
+archive=pigyelund-$version.tar.gz
+
+# Makes the kit: rt says what the files of its folder say, and takes programs and the library from there.
+make_kit() {
+    mkdir -p "$kit/bin" "$kit/c" "$kit/proved" "$kit/said" "$kit/tools"
+    cat >"$kit/bin/rt" <<'END'
+#!/bin/sh
+kit=$(dirname "$(dirname "$(readlink -f "$0")")")
+crate=${PWD##*/}
+case $1 in
+version) cat "$kit/identity"; exit ;;
+lib) file=out/lib$crate.a ;;
+run) file=out/$crate ;;
+check) file= ;;
+esac
+[ ! -e "$kit/meanwhile" ] || . "$kit/meanwhile"
+[ -z "$file" ] || [ ! -e "$kit/proved/${file#out/}" ] || { mkdir -p out && cp -p "$kit/proved/${file#out/}" "$file"; }
+cat "$kit/said/$crate"
+END
+    chmod +x "$kit/bin/rt"
+    sed -n 's/^Last proved whole with `\(.*\)`\.$/\1/p' README.md >"$kit/identity"
+    local name
+    for name in respath origins pigyelund_c; do
+        printf 'axioms %s\nlogic=proved axioms=6\n' "$name" >"$kit/said/$name"
+    done
+    for name in respath origins; do
+        printf '#!/bin/sh\necho %s\n' "$name" >"$kit/proved/$name"
+        chmod +x "$kit/proved/$name"
+    done
+    echo 'unsigned pg_version(void) { return 4; }' | gcc -fPIC -c -x c - -o "$out/one.o" &&
+        echo 'unsigned of_kit(void) { return 1; }' | gcc -fPIC -c -x c - -o "$out/two.o" &&
+        ar rcs "$kit/proved/libpigyelund_c.a" "$out/one.o" && ar rcs "$kit/c/liblibc_c.a" "$out/two.o"
+}
+
+# Makes the copy anew, of the files that a release reads, with the programs that are proved there.
+make_copy() {
+    rm -rf "$copy" "$out/made" "$kit/meanwhile" "$kit/tools"
+    mkdir -p "$copy/crates/respath" "$copy/crates/origins" "$kit/tools"
+    tar -cf - --exclude=out --exclude=rows.txt --exclude=__pycache__ .gitignore release program.sh respath origins \
+        README.md CHANGELOG.md LICENSE foreign tests/foreign_page.py tests/foreign.sh tests/logic.sh \
+        docs/FOREIGN.md docs/respath.1 docs/origins.1 crates/pigyelund_c/src crates/pigyelund_c/specs \
+        crates/route_calls/src crates/route_calls/specs | tar -xf - -C "$copy"
+    (
+        cd "$copy" || exit
+        printf 'respath:\norigins:\n' >crates.txt
+        git init -q && git add -A &&
+            GIT_COMMITTER_DATE=@1700000000 git -c user.name=nobody -c user.email=nobody commit -q -m copy || exit
+        for program in respath origins; do
+            mkdir -p "crates/$program/out" && cp "$kit/proved/$program" "crates/$program/out/$program" &&
+                PATH=$kit/bin:$PATH "./$program" --note-kit
+        done
+    )
+}
+
+# In the copy: runs a release with these variables, to out/made.
+released() { (cd "$copy" && PATH=$kit/tools:$kit/bin:$PATH "$@" ./release "$version" "$out/made" 2>&1); }
+
+# refuses WHAT TEXT COMMAND: after the command in the copy the release says this and makes nothing
+refuses() {
+    local said status
+    make_copy || { fail "a copy for $1"; return; }
+    (cd "$copy" && eval "$3") || fail "what should make a refusal: $1"
+    said=$(released env)
+    status=$?
+    [ "$status" -eq 1 ] && [ "$(printf '%s\n' "$said" | tail -n 1)" = "release: $2" ] ||
+        fail "$1: status $status, $said"
+    [ -z "$(ls "$out/made" 2>/dev/null)" ] || fail "$1: $(ls "$out/made") is made"
+}
+
+# What is no proved program: another file in its place, no note, another file with a note of its own.
+refuses_what_is_not_proved() {
+    local program crate verb verdict
+    for program in respath origins; do
+        refuses "another $program" "$program isn't the one that was proved here" \
+            "echo >>crates/$program/out/$program"
+        refuses "no note of $program" "$program isn't the one that was proved here" "rm crates/$program/out/proved-with"
+        refuses "$program by another logic" "$program isn't the one that was proved here" \
+            "sed -i 's/logic .*/logic 0123456789abcdef/' crates/$program/out/proved-with"
+        refuses "no $program of the prover" "rt run made no $program" "mv '$kit/proved/$program' '$out/away'"
+        mv "$out/away" "$kit/proved/$program"
+    done
+    refuses "a library that the prover didn't make" "rt lib made no libpigyelund_c.a" \
+        "mkdir -p crates/pigyelund_c/out && mv '$kit/proved/libpigyelund_c.a' crates/pigyelund_c/out"
+    mv "$copy/crates/pigyelund_c/out/libpigyelund_c.a" "$kit/proved" 2>/dev/null || make_kit
+    for crate in respath origins pigyelund_c; do
+        verb=check
+        [ "$crate" != pigyelund_c ] || verb=lib
+        for verdict in "logic=refused axioms=6" "logic=built proved axioms=6" "proved" ""; do
+            refuses "$crate with the verdict '$verdict'" "rt $verb gives no verdict of $crate" \
+                "printf 'axioms\n%s\n' '$verdict' >'$kit/said/$crate'"
+            make_kit
+        done
+        refuses "$crate with two verdicts" "rt $verb gives another verdict of $crate" \
+            "echo logic=refused >>'$kit/said/$crate'"
+        make_kit
+    done
+    refuses "another logic of the prover" "the README names $(sed 's/^[^ ]* //' "$kit/identity"), and rt has logic 0" \
+        "echo 'a-kit logic 0' >'$kit/identity'"
+    make_kit
+}
+
+# What isn't committed: changed, new, staged or hidden files, a change meanwhile, and what is no repository.
+refuses_what_is_not_committed() {
+    changed="files were changed since the last commit"
+    refuses "a changed file" "$changed" 'echo >>README.md'
+    refuses "a new file" "$changed" 'echo >crates/route_calls/src/new.rt'
+    refuses "a new file that the configuration hides" "$changed" \
+        'git config status.showUntrackedFiles no && echo >crates/route_calls/src/new.rt'
+    refuses "a staged file" "$changed" 'echo >>README.md && git add README.md'
+    refuses "a change while it is proved" "$changed" "echo 'echo >>\"$copy/README.md\"' >'$kit/meanwhile'"
+    refuses "another commit while it is proved" "there is another commit" \
+        "echo 'git -C \"$copy\" -c user.name=n -c user.email=e commit -q --allow-empty -m more' >'$kit/meanwhile'"
+    refuses "no repository" "$copy is no git repository" 'rm -rf .git'
+    refuses "a folder in another repository" "$copy is no git repository" \
+        'rm -rf .git && git init -q .. && rm -rf "$copy/out"'
+    rm -rf "$out/.git"
+}
+
+# tool NAME PATTERN FILE: makes a tool that the release finds in place of another one. If its words match the pattern it
+# does the same, and then adds an octet to a file, in which LAST is its last word.
+tool() {
+    cat >"$kit/tools/$1" <<END
+#!/bin/sh
+"$(command -v "$1")" "\$@" || exit
+case \$* in
+$2) for LAST; do :; done; echo >>"$3" ;;
+esac
+END
+    chmod +x "$kit/tools/$1"
+}
+
+# What changes after its sum was noted: a program as it is installed, the library, and the archive.
+refuses_other_sums() {
+    local program
+    for program in respath origins; do
+        refuses "a $program that is changed as it is installed" "$program isn't the one that was proved here" \
+            "tool install '*out/$program*' '\$LAST/$program'"
+    done
+    refuses "a library that is changed meanwhile" "libpigyelund_c.a isn't the one that was proved here" \
+        "tool make '*install*' '$copy/crates/pigyelund_c/out/libpigyelund_c.a'"
+    refuses "an archive with another file" "the archive doesn't have the files whose sums were noted" \
+        "tool tar '*-xzf*' '\$LAST/${archive%.tar.gz}/share/doc/pigyelund/LICENSE'"
+    refuses "an archive without its sums" "the archive doesn't have the files whose sums were noted" \
+        "tool sha256sum '*/LICENSE*' /dev/stdout"
+    refuses "an archive that can't be read" "the archive doesn't have the files whose sums were noted" \
+        "tool gzip '*.tar' '\$LAST.gz' && printf 'printf x >\"\$LAST.gz\"\n' >>'$kit/tools/gzip'"
+}
+
+# The same commit makes the same archive: at another time, in another zone, with another mask, by another owner, with
+# another library in the variables, and after a planted program whose note is right.
+makes_the_same() {
+    make_copy
+    released env >"$out/said" || { cat "$out/said"; fail "a release in a copy"; return; }
+    [ "$(tail -n 1 "$out/said")" = "$out/made/$archive" ] || fail "the last line: $(tail -n 1 "$out/said")"
+    mv "$out/made" "$out/first"
+    sleep 1.1
+    printf '#!/bin/sh\necho planted\n' >"$copy/crates/respath/out/respath"
+    (cd "$copy" && PATH=$kit/bin:$PATH ./respath --note-kit)
+    cp "$out/first/pigyelund-$version/lib/libpigyelund.a" "$out/other.a" && ar r "$out/other.a" LICENSE 2>/dev/null
+    find "$copy" -name .git -prune -o -type f -exec touch -d '2001-01-01' {} +
+    chmod g+s "$copy" && [ "$(id -u)" -ne 0 ] || chown -R 12345:12345 "$copy"
+    (umask 077 && released env TZ=Asia/Tokyo LANG=C.UTF-8 LIB="$out/other.a" KIT="$out" GZIP=-1 \
+        TAR_OPTIONS=--owner=me GIT_CONFIG_COUNT=1 GIT_CONFIG_KEY_0=safe.directory GIT_CONFIG_VALUE_0='*') \
+        >"$out/said" || { cat "$out/said"; fail "a second release"; return; }
+    cmp "$out/first/$archive" "$out/made/$archive" || fail "the same commit makes the same archive"
+    tar --numeric-owner --full-time -tvzf "$out/made/$archive" >"$out/list"
+    [ -s "$out/list" ] && ! grep -v ' 0/0 .* 2023-11-14 22:13:20 ' "$out/list" ||
+        fail "owners are 0, and times that of the commit"
+    modes "$out/made/pigyelund-$version" bin || fail "modes of the release"
+    ! grep -rlF -e "$copy" -e "$top" -e "$(uname -n)" "$out/made/pigyelund-$version" ||
+        fail "a release names its builder"
+}
+
+# modes FOLDER BIN: programs and folders have mode 755, other files 644
+modes() {
+    [ -n "$(find "$1/$2" -type f)" ] && [ -z "$(find "$1" -type d ! -perm 0755 -print -o \
+        -type f -path "*/$2/*" ! -perm 0755 -print -o -type f ! -path "*/$2/*" ! -perm 0644 -print)" ]
+}
+
+if has "what a release refuses" git gcc make ar tar gzip python3; then
+    make_kit || fail "a kit"
+    ./release "$version.1" "$out/made" 2>/dev/null && fail "another version is refused"
+    makes_the_same
+    refuses_what_is_not_proved
+    refuses_what_is_not_committed
+    refuses_other_sums
+fi
+rm -rf "$copy" "$out/made"
+
+# ---- of this tree
+
+# Prints the examples of a page of the manual as the page shows them.
 printed() { sed -n '/^\.SH EXAMPLES/,/^\.fi/{s/\\-/-/g; s/\\(aq/'"'"'/g; s/\\e/\\/g; /^\./d; p}' "$1"; }
 
-# answers FOLDER PAGE: whether the program in FOLDER answers each example as the page shows it
+# answers FOLDER PAGE: whether the program in FOLDER prints for each example what the page shows
 answers() {
     printed "$2" >"$out/shown"
     mkdir -p "$out/examples"
@@ -24,27 +229,40 @@ answers() {
     done | diff "$out/shown" - && grep -q '^\$ ' "$out/shown"
 }
 
-./release "$version.1" "$out" 2>/dev/null && fail "another version is refused"
-./release "$version" "$out/one" >"$out/log" 2>&1 || { cat "$out/log"; echo "FAILED: release"; exit 1; }
-(cd "$out/one" && sha256sum --quiet -c "pigyelund-$version.tar.gz.sha256") || fail "the sum of the archive"
-mkdir "$out/un packed" && tar -xzf "$out/one/pigyelund-$version.tar.gz" -C "$out/un packed" || fail "tar"
-tree="$out/un packed/pigyelund-$version"
-(cd "$tree" && sha256sum --quiet -c SHA256SUMS) || fail "the sums of the files"
-for program in respath origins; do
-    answers "$tree/bin" "$tree/share/man/man1/$program.1" || fail "the manual's examples of $program"
-done
-grep -q '^logic=proved .*axioms=' "$tree/share/doc/pigyelund/VERDICTS" || fail "the verdicts"
-cmp LICENSE "$tree/share/doc/pigyelund/LICENSE" || fail "the licence"
-if has "a program in C" gcc; then tests/foreign_page.py C "$tree" || fail "a program in C"; fi
-if has "the manual's pages" groff; then
-    [ -z "$(groff -man -ww -z "$tree"/share/man/man1/*.1 2>&1)" ] || fail "the manual's pages"
-fi
-if has "the package of Debian" dpkg-deb && has "the package of Debian" dpkg; then
-    ./release --deb "$version" "$out/deb" >"$out/log" 2>&1 || { cat "$out/log"; fail "release --deb"; }
+of_archive() {
+    ./release "$version" "$out/one" >"$out/log" 2>&1 || { cat "$out/log"; echo "FAILED: release"; exit 1; }
+    (cd "$out/one" && sha256sum --quiet -c "$archive.sha256") || fail "the sum of the archive"
+    mkdir "$out/un packed" && tar -xzf "$out/one/$archive" -C "$out/un packed" || fail "tar"
+    tree="$out/un packed/pigyelund-$version"
+    (cd "$tree" && sha256sum --quiet -c SHA256SUMS) || fail "the sums of the files"
+    for program in respath origins; do
+        answers "$tree/bin" "$tree/share/man/man1/$program.1" || fail "the manual's examples of $program"
+        cmp "crates/$program/out/$program" "$tree/bin/$program" || fail "the program $program"
+        "./$program" --version | grep -q '^proved here' || fail "$program is noted"
+    done
+    grep -q '^logic=proved .*axioms=' "$tree/share/doc/pigyelund/VERDICTS" || fail "the verdicts"
+    cmp LICENSE "$tree/share/doc/pigyelund/LICENSE" || fail "the licence"
+    modes "$tree" bin || fail "modes of the archive"
+    ! grep -rlF "$top" "$tree" || fail "the archive names the folder in which it was made"
+    if has "a program in C" gcc; then tests/foreign_page.py C "$tree" || fail "a program in C"; fi
+    if has "the manual's pages" groff; then
+        [ -z "$(groff -man -ww -z "$tree"/share/man/man1/*.1 2>&1)" ] || fail "the manual's pages"
+    fi
+}
+
+# Installs the package below a clean root, whose libc6 is this system's.
+of_package() {
+    ./release --deb "$version" "$out/deb" >"$out/log" 2>&1 || { cat "$out/log"; fail "release --deb"; return; }
+    package=$(echo "$out"/deb/*.deb)
+    [ "$(dpkg-deb -f "$package" Package Version)" = "Package: pigyelund
+Version: $version" ] || fail "the fields of the package"
+    dpkg-deb -c "$package" >"$out/list"
+    [ -s "$out/list" ] && ! grep -Ev '^(drwxr-xr-x|-rw-r--r--|-rwxr-xr-x) root/root ' "$out/list" ||
+        fail "owners and modes in the package"
     mkdir -p "$out/root/var/lib/dpkg/info" "$out/root/var/lib/dpkg/updates" && : >"$out/root/var/lib/dpkg/status"
-    # Its root has no libc6, which is this system's.
-    dpkg --root="$out/root" --log="$out/dpkg" --force-not-root --force-depends -i "$out"/deb/*.deb >"$out/log" 2>&1 ||
-        { cat "$out/log"; fail "dpkg --install"; }
+    to_root() { dpkg --root="$out/root" --log="$out/dpkg" --force-not-root --force-depends "$@"; }
+    to_root -i "$package" >"$out/log" 2>&1 || { cat "$out/log"; fail "dpkg --install"; }
+    said=$(to_root --verify pigyelund 2>&1) && [ -z "$said" ] || fail "dpkg --verify: $said"
     for program in respath origins; do
         gzip -d <"$out/root/usr/share/man/man1/$program.1.gz" >"$out/page"
         answers "$out/root/usr/bin" "$out/page" || fail "the installed $program"
@@ -52,5 +270,23 @@ if has "the package of Debian" dpkg-deb && has "the package of Debian" dpkg; the
     for part in bin include lib; do
         diff -r "$tree/$part" "$out/root/usr/$part" || fail "the same tree makes the same $part"
     done
+    modes "$out/root/usr" bin || fail "modes of the installed files"
+    find "$out/root/usr" -type f | while IFS= read -r file; do
+        cp -p "$file" "$out/kept" && echo >>"$file"
+        to_root --verify pigyelund 2>&1 | grep -qF "${file#"$out/root"}" || echo "dpkg --verify doesn't see ${file##*/}"
+        cp -p "$out/kept" "$file"
+    done >"$out/unseen"
+    [ ! -s "$out/unseen" ] || { cat "$out/unseen"; fail "dpkg --verify sees each changed file"; }
+    ./release --deb "$version" "$out/again" >"$out/log" 2>&1 && cmp "$package" "$out/again/${package##*/}" ||
+        fail "the same tree makes the same package"
+}
+
+if [ ! -x crates/respath/out/respath ]; then
+    echo "left out: a release needs respath, which ./respath proves and builds"
+elif [ -n "$(git status --porcelain 2>&1)" ]; then
+    echo "left out: a release needs a tree without changes"
+else
+    of_archive
+    if has "the package of Debian" dpkg-deb dpkg; then of_package; fi
 fi
 exit "$failed"

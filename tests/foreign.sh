@@ -177,12 +177,6 @@ if has "C, and all that is installed," gcc make ar; then
     has "Rust" cargo cc && of_rust
 fi
 if [ $# -eq 0 ]; then
-    if [ ! -x crates/respath/out/respath ]; then
-        echo "left out: a release needs respath, which ./respath proves and builds"
-    elif [ -n "$(git status --porcelain 2>&1)" ]; then
-        echo "left out: a release needs a tree without changes"
-    else
-        tests/release.sh || fail "a release"
-    fi
+    tests/release.sh || fail "a release"
 fi
 exit "$failed"

@@ -204,6 +204,43 @@ modes() {
         -type f -path "*/$2/*" ! -perm 0755 -print -o -type f ! -path "*/$2/*" ! -perm 0644 -print)" ]
 }
 
+# try_package PACKAGE: its fields, owners and modes; and it installs below a clean root, whose libc6 is this system's.
+# dpkg --verify finds nothing wrong there, and finds each file that is changed.
+try_package() {
+    local package=$1 said file
+    [ "$(dpkg-deb -f "$package" Package Version)" = "Package: pigyelund
+Version: $version" ] || fail "the fields of the package"
+    dpkg-deb -c "$package" >"$out/list"
+    [ -s "$out/list" ] && ! grep -Ev '^(drwxr-xr-x|-rw-r--r--|-rwxr-xr-x) root/root ' "$out/list" ||
+        fail "owners and modes in the package"
+    rm -rf "$out/root"
+    mkdir -p "$out/root/var/lib/dpkg/info" "$out/root/var/lib/dpkg/updates" && : >"$out/root/var/lib/dpkg/status"
+    to_root() { dpkg --root="$out/root" --log="$out/dpkg" --force-not-root --force-depends "$@"; }
+    to_root -i "$package" >"$out/log" 2>&1 || { cat "$out/log"; fail "dpkg --install"; }
+    said=$(to_root --verify pigyelund 2>&1) && [ -z "$said" ] || fail "dpkg --verify: $said"
+    modes "$out/root/usr" bin || fail "modes of the installed files"
+    find "$out/root/usr" -type f | while IFS= read -r file; do
+        cp -p "$file" "$out/kept" && echo >>"$file"
+        to_root --verify pigyelund 2>&1 | grep -qF "${file#"$out/root"}" || echo "dpkg --verify doesn't see ${file##*/}"
+        cp -p "$out/kept" "$file"
+    done >"$out/unseen"
+    [ ! -s "$out/unseen" ] || { cat "$out/unseen"; fail "dpkg --verify sees each changed file"; }
+}
+
+# The same commit makes the same package.
+makes_the_same_package() {
+    make_copy
+    released_package env && mv "$out/made" "$out/first_package" && sleep 1.1 &&
+        find "$copy" -name .git -prune -o -type f -exec touch -d '2001-01-01' {} + &&
+        (umask 077 && released_package env TZ=Asia/Tokyo) || { fail "a package in a copy"; return; }
+    cmp "$out"/first_package/*.deb "$out"/made/*.deb || fail "the same commit makes the same package"
+    try_package "$out"/made/*.deb
+}
+released_package() {
+    (cd "$copy" && PATH=$kit/tools:$kit/bin:$PATH "$@" ./release --deb "$version" "$out/made" >"$out/said" 2>&1) ||
+        { cat "$out/said"; return 1; }
+}
+
 if has "what a release refuses" git gcc make ar tar gzip python3; then
     make_kit || fail "a kit"
     ./release "$version.1" "$out/made" 2>/dev/null && fail "another version is refused"
@@ -211,6 +248,7 @@ if has "what a release refuses" git gcc make ar tar gzip python3; then
     refuses_what_is_not_proved
     refuses_what_is_not_committed
     refuses_other_sums
+    if has "a package of Debian" dpkg-deb dpkg; then makes_the_same_package; fi
 fi
 rm -rf "$copy" "$out/made"
 
@@ -250,19 +288,10 @@ of_archive() {
     fi
 }
 
-# Installs the package below a clean root, whose libc6 is this system's.
+# Makes a package, and compares it with the archive and with a second package.
 of_package() {
     ./release --deb "$version" "$out/deb" >"$out/log" 2>&1 || { cat "$out/log"; fail "release --deb"; return; }
-    package=$(echo "$out"/deb/*.deb)
-    [ "$(dpkg-deb -f "$package" Package Version)" = "Package: pigyelund
-Version: $version" ] || fail "the fields of the package"
-    dpkg-deb -c "$package" >"$out/list"
-    [ -s "$out/list" ] && ! grep -Ev '^(drwxr-xr-x|-rw-r--r--|-rwxr-xr-x) root/root ' "$out/list" ||
-        fail "owners and modes in the package"
-    mkdir -p "$out/root/var/lib/dpkg/info" "$out/root/var/lib/dpkg/updates" && : >"$out/root/var/lib/dpkg/status"
-    to_root() { dpkg --root="$out/root" --log="$out/dpkg" --force-not-root --force-depends "$@"; }
-    to_root -i "$package" >"$out/log" 2>&1 || { cat "$out/log"; fail "dpkg --install"; }
-    said=$(to_root --verify pigyelund 2>&1) && [ -z "$said" ] || fail "dpkg --verify: $said"
+    try_package "$out"/deb/*.deb
     for program in respath origins; do
         gzip -d <"$out/root/usr/share/man/man1/$program.1.gz" >"$out/page"
         answers "$out/root/usr/bin" "$out/page" || fail "the installed $program"
@@ -270,14 +299,7 @@ Version: $version" ] || fail "the fields of the package"
     for part in bin include lib; do
         diff -r "$tree/$part" "$out/root/usr/$part" || fail "the same tree makes the same $part"
     done
-    modes "$out/root/usr" bin || fail "modes of the installed files"
-    find "$out/root/usr" -type f | while IFS= read -r file; do
-        cp -p "$file" "$out/kept" && echo >>"$file"
-        to_root --verify pigyelund 2>&1 | grep -qF "${file#"$out/root"}" || echo "dpkg --verify doesn't see ${file##*/}"
-        cp -p "$out/kept" "$file"
-    done >"$out/unseen"
-    [ ! -s "$out/unseen" ] || { cat "$out/unseen"; fail "dpkg --verify sees each changed file"; }
-    ./release --deb "$version" "$out/again" >"$out/log" 2>&1 && cmp "$package" "$out/again/${package##*/}" ||
+    ./release --deb "$version" "$out/again" >"$out/log" 2>&1 && cmp "$out"/deb/*.deb "$out"/again/*.deb ||
         fail "the same tree makes the same package"
 }
 

@@ -227,10 +227,20 @@ Version: $version" ] || fail "the fields of the package"
     [ ! -s "$out/unseen" ] || { cat "$out/unseen"; fail "dpkg --verify sees each changed file"; }
 }
 
+# Makes a tool that installs files of another owner, as whoever isn't root does.
+install_as_other() {
+    [ "$(id -u)" -eq 0 ] || return 0
+    cat >"$kit/tools/install" <<END
+#!/bin/sh
+"$(command -v install)" "\$@" && for LAST; do :; done && chown -R 12345:12345 "\$LAST"
+END
+    chmod +x "$kit/tools/install"
+}
+
 # The same commit makes the same package.
 makes_the_same_package() {
     make_copy
-    released_package env && mv "$out/made" "$out/first_package" && sleep 1.1 &&
+    released_package env && mv "$out/made" "$out/first_package" && sleep 1.1 && install_as_other &&
         find "$copy" -name .git -prune -o -type f -exec touch -d '2001-01-01' {} + &&
         (umask 077 && released_package env TZ=Asia/Tokyo) || { fail "a package in a copy"; return; }
     cmp "$out"/first_package/*.deb "$out"/made/*.deb || fail "the same commit makes the same package"

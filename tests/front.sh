@@ -1,7 +1,7 @@
 #!/bin/sh
-# What ./respath does before, beside and in place of the program: a copy of it in a folder with a space in its name,
-# beside a program and a prover that only say what they are asked. Nothing is proved. Ends with status 0 where each case
-# is as it must be.
+# Tests what ./respath and ./origins do before, beside and in place of their programs. A folder with a space in its name
+# has a copy of both scripts, two programs that print what they are asked, and a prover that does the same. Nothing is
+# proved. The status is 0 if every case is as expected.
 top=$(CDPATH='' cd -- "$(dirname -- "$0")/.." && pwd) || exit 1
 files=$(mktemp -d) || exit 1
 trap 'rm -rf "$files"' EXIT
@@ -9,18 +9,20 @@ trap 'rm -rf "$files"' EXIT
 . "$top/tests/expect.sh"
 
 copy="$files/a copy"
-out=$copy/crates/respath/out
 mkdir -p "$copy/bin" "$copy/tools" "$copy/tmp" "$copy/crates/other"
 for crate in $(sed '/^#/d; s/[ :].*//' "$top/crates.txt"); do mkdir -p "$copy/crates/$crate/out"; done
-cp "$top/respath" "$top/program.sh" "$top/crates.txt" "$top/HANDLES" "$copy/"
+cp "$top/respath" "$top/origins" "$top/program.sh" "$top/crates.txt" "$top/HANDLES" "$copy/"
 # shellcheck disable=SC2016 # the README's own marks
 echo 'Last proved whole with `a-kit logic 12`.' >"$copy/README.md"
-printf '#!/bin/sh\necho ran\n' >"$out/respath"
-chmod +x "$out/respath"
-ln -s "$copy/respath" "$files/link"
+for script in respath origins; do
+    # shellcheck disable=SC2016 # the program's own words
+    printf '#!/bin/sh\necho ran\nfor word; do echo "[$word]"; done\n' >"$copy/crates/$script/out/$script"
+    chmod +x "$copy/crates/$script/out/$script"
+    ln -s "$copy/$script" "$files/$script.link"
+done
 chmod -R go+rX "$files"
 
-# The tools of the script, and no rt
+# The tools of the scripts, and no rt
 for tool in sh awk cat cp cut date dirname find grep head id ls mkdir mktemp mv nproc readlink rm sed setsid \
     sha256sum sleep tail tar tee touch tr wc; do
     ln -s "$(command -v "$tool")" "$copy/tools/$tool"
@@ -42,19 +44,90 @@ without_rt() {
     PATH=$copy/tools "$@" </dev/null 2>&1
 }
 
-built_first="respath: the program is proved and built first, ten to twenty-five minutes on four processors; with --try\
- it answers within a minute, by the sources unproved"
+# Sets `out`, the folder of a script's program, and makes the program newer than all that it needs.
+is_built() {
+    out=$copy/crates/$1/out
+    rm -f "$copy/crates/rpki_text/new"
+    touch -d '1 minute ago' "$out/$1"
+}
 
-# What lies there is run where nothing that it needs is newer.
-prover "a-kit logic 12" 'echo proving; exit 1'
-touch -d '1 minute ago' "$out/respath"
-touch "$copy/crates.txt" "$copy/crates/other/new" "$copy/crates/test_values/new"
-said=$(run "$copy/respath")
-expect "a crate that the program doesn't need is newer" 0 "ran" $? "$said"
-said=$(run "$files/link")
-expect "a link to the script" 0 "ran" $? "$said"
-said=$(without_rt "$copy/respath")
-expect "no rt where the program is built" 0 "ran" $? "$said"
+# The second line of a script's --version: what proved the program that is in place
+version() {
+    run "$copy/$1" --version | sed -n '2p'
+}
+
+# Starts a script whose program is built. The prover would fail.
+of_start() {
+    prover "a-kit logic 12" 'echo proving; exit 1'
+    is_built "$1"
+    touch "$copy/crates.txt" "$copy/crates/other/new" "$copy/crates/test_values/new"
+    said=$(run "$copy/$1")
+    expect "$1: a crate that the program doesn't need is newer" 0 "ran" $? "$said"
+    said=$(run "$files/$1.link")
+    expect "$1: a link to the script" 0 "ran" $? "$said"
+    ln -s "$1.link" "$files/a second $1"
+    said=$(cd "$files" && run "./a second $1")
+    expect "$1: a link to a link, from its folder" 0 "ran" $? "$said"
+    said=$(without_rt "$copy/$1")
+    expect "$1: no rt, and the program is built" 0 "ran" $? "$said"
+}
+
+unproved="not proved here; last proved whole with a-kit logic 12"
+
+# Asks a script for its version. The version names the kit that proved this very program, or says that none did.
+of_version() {
+    expect "$1: a program that was not proved here" 0 "$unproved" $? "$(version "$1")"
+    prover "other-kit logic 12" 'exit 1'
+    run "$copy/$1" --note-kit
+    expect "$1: a program that another kit proved here" 0 "proved here with other-kit logic 12" $? "$(version "$1")"
+    echo >>"$out/$1"
+    touch -d '1 minute ago' "$out/$1"
+    expect "$1: another program in its place" 0 "$unproved" $? "$(version "$1")"
+    run "$copy/$1" --note-kit
+    touch "$copy/crates/rpki_text/new"
+    expect "$1: a program that is older than its sources" 0 "$unproved" $? "$(version "$1")"
+    rm -rf "$files/.git"
+    said=$(run "$copy/$1" --version | head -n 1)
+    expect "$1: no repository, and no git on the path" 0 "$1, revision unknown" $? "$said"
+    git init -q "$files" && git -C "$files" -c user.name=nobody -c user.email=nobody commit -q --allow-empty -m empty
+    said=$("$copy/$1" --version | head -n 1)
+    expect "$1: a folder in another repository" 0 "$1, revision unknown" $? "$said"
+}
+
+# NAME, and what the script says behind its first words: the program is older than its sources.
+of_no_rt() {
+    said=$(without_rt "$copy/$1")
+    expect "$1: no rt, and the program isn't built" 1 "$1: the program isn't built, and there is no rt to $2 it: put the\
+ Rattle kit's bin folder on the PATH" $? "$said"
+}
+
+for script in origins respath; do
+    of_start "$script"
+    of_version "$script"
+done
+of_no_rt origins build
+of_no_rt respath "build or try"
+said=$(run "$copy/origins" --table payloads)
+expect "origins: a proof that fails" 1 "origins: the program is proved and built first, ten to twenty-five minutes on four\
+ processors
+origins: the program was not built" $? "$(echo "$said" | grep 'the program')"
+
+# Names of files: each word stays one word.
+is_built respath
+is_built origins
+echo line >"$files/a file"
+echo line >"$files/*"
+said=$(run "$copy/respath" "$files/a file" "$files/*")
+expect "respath: names with a space and a star" 0 "ran
+ran" $? "$said"
+said=$(cd "$files" && run "$files/origins.link" --why "a file" "*" "")
+expect "origins: names with a space and a star, and an empty one" 0 "ran
+[--why]
+[a file]
+[*]
+[]" $? "$said"
+said=$(printf '#!/bin/sh\necho of the program; exit 3\n' >"$out/origins" && run "$copy/origins" --check payloads)
+expect "origins: the status of the program" 3 "of the program" $? "$said"
 
 # Lines in place of files
 said=$(run "$copy/respath" norm as 1)
@@ -66,31 +139,28 @@ expect "a line in place of a file, in quotes" 2 "respath: path as 1 | refuse 2: 
 said=$(cd "$files" && echo >norm && run "$copy/respath" norm)
 expect "a file that is named as a command" 0 "ran" $? "$said"
 
-# What proved the very program that lies there, whichever kit it was; or that nothing here did
-version() {
-    run "$copy/respath" --version | sed -n '2p'
-}
-unproved="not proved here; last proved whole with a-kit logic 12"
-expect "a program that was not proved here" 0 "$unproved" $? "$(version)"
-prover "other-kit logic 12" 'exit 1'
-run "$copy/respath" --note-kit
-expect "a program that another kit proved here" 0 "proved here with other-kit logic 12" $? "$(version)"
-echo >>"$out/respath"
-touch -d '1 minute ago' "$out/respath"
-expect "another program in its place" 0 "$unproved" $? "$(version)"
-run "$copy/respath" --note-kit
-touch "$copy/crates/rpki_text/new"
-expect "a program that is older than its sources" 0 "$unproved" $? "$(version)"
-said=$(run "$copy/respath" --version | head -n 1)
-expect "no repository, and no git on the path" 0 "respath, revision unknown" $? "$said"
-git init -q "$files" && git -C "$files" -c user.name=nobody -c user.email=nobody commit -q --allow-empty -m empty
-said=$("$copy/respath" --version | head -n 1)
-expect "a folder in another repository" 0 "respath, revision unknown" $? "$said"
+# An awk may end its line at an octet 0, so no awk gets one. This one says whether the octet reached it.
+cat >"$copy/bin/awk" <<END
+#!/bin/sh
+[ ! -e text ] || [ "\$(tr -dc '\\000' <text | wc -c)" -eq 0 ] || echo "awk: an octet 0" >&2
+exec "$(command -v awk)" "\$@"
+END
+chmod +x "$copy/bin/awk"
+is_built respath
+cp "$copy/crates/respath/out/respath" "$files/kept"
+printf '#!/bin/sh\nLC_ALL=C exec sed "s/.*/error: wrong/"\n' >"$copy/crates/respath/out/respath"
+said=$(printf 'norm as 1\0, 2\nnorm as \0\n' | PATH=$copy/bin:$copy/tools TMPDIR=$copy/tmp "$copy/respath" --where 2>&1)
+expect "an octet 0 in a line whose element is named" 0 "error: wrong	element 1: 1?
+error: wrong	element 1: ?" $? "$said"
+cp "$files/kept" "$copy/crates/respath/out/respath"
+rm "$copy/bin/awk"
 
-# What is wanting is told before anything is proved.
+built_first="respath: the program is proved and built first, ten to twenty-five minutes on four processors; with --try\
+ it answers within a minute, by the sources unproved"
+
+# A tool or a right that is missing is named before anything is proved.
+touch "$copy/crates/rpki_text/new"
 no_rt="respath: the program isn't built, and there is no rt to build or try it: put the Rattle kit's bin folder on the PATH"
-said=$(without_rt "$copy/respath")
-expect "no rt where the program isn't built" 1 "$no_rt" $? "$said"
 said=$(without_rt "$copy/respath" --try)
 expect "no rt to try the sources" 1 "$no_rt" $? "$said"
 said=$(run "$copy/respath" "$files" "$files/none")
@@ -143,7 +213,7 @@ said=$(awk 'NR == FNR { at[$2] = FNR; next }
 expect "crates are proved in turn" 0 "" $? "$said"
 said=$(grep folder "$copy/asked")
 expect "each crate that is named beside one has a folder there" 1 "" $? "$said"
-expect "a program that was proved by the script" 0 "proved here with the-kit logic 12" $? "$(version)"
+expect "a program that was proved by the script" 0 "proved here with the-kit logic 12" $? "$(version respath)"
 
 # Signals while it is proved, by a prover that waits for a child of its own; the one of them doesn't heed the signal.
 touch "$copy/crates/rpki_text/new"
@@ -156,7 +226,7 @@ interrupt() {
     PATH=$copy/bin:$copy/tools TMPDIR=$copy/tmp timeout --preserve-status -k 20 60 "$copy/respath" "$5" \
         </dev/null >/dev/null 2>&1 &
     for _ in 1 2 3 4 5 6 7 8 9 10 11 12 13 14 15 16 17 18 19 20; do
-        [ -s "$copy/bin/child" ] || sleep 0.5
+        [ -s "$copy/bin/child" ] || ! kill -0 $! 2>/dev/null || sleep 0.5
     done
     kill -s "$2" $!
     wait $!
@@ -189,6 +259,15 @@ prover "a-kit logic 12" 'printf "checked: no-answer: too long\nrun=no-answer pro
 said=$(run "$copy/respath" --try)
 expect "no runner that answers" 1 "$tried
 respath: no answers: too long" $? "$said"
+
+# The limit of --try: a prover gets 64 MiB, and no octet more.
+prover "a-kit logic 12" 'wc -c; echo "run=ended status=0 runners=2 proved=no" >&2'
+said=$(head -c 67108864 /dev/zero | PATH=$copy/bin:$copy/tools TMPDIR=$copy/tmp "$copy/respath" --try 2>&1)
+expect "64 MiB of lines under --try" 0 "$tried
+67108864" $? "$said"
+said=$(head -c 67108865 /dev/zero | PATH=$copy/bin:$copy/tools TMPDIR=$copy/tmp "$copy/respath" --try 2>&1)
+expect "one octet more than 64 MiB under --try" 1 "$tried
+respath: no answers: --try reads at most 64 MiB" $? "$said"
 
 # Another kit may have proved what the README names: its name says nothing, but the logic has to be the README's.
 logic() {

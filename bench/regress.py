@@ -1,13 +1,17 @@
 #!/usr/bin/env python3
-"""regress.py [--write]: whether the programs take as many instructions as bench/regress.txt says.
+"""regress.py [--write]: compares how many instructions the programs take with the figures in bench/regress.txt.
 
-Valgrind's callgrind counts the instructions of the built programs over inputs that are made here: for the same
-program and input it counts the same, whatever else the machine does. A count that is more than one part in twenty off
-its stored figure, in either direction, is told, and the status is 1: a change that is meant moves the figure with its
-commit (--write). Figures are of programs that one kit built, by one C library on one kind of processor, which their
-first line names; by others, without valgrind or without the programs nothing is counted.
+Valgrind's callgrind counts the instructions of the built programs, and of calls from C, over inputs that are made
+here. The same program and input give the same count, whatever else the machine does. A count that is more than one part
+in twenty off its figure, in either direction, is printed, and the status is 1. So is an input without a figure, since
+nothing was compared then. A change that is meant moves the figures with its commit (--write).
+
+The first line of bench/regress.txt names the kit, the C library and the processor of the figures. Nothing is counted
+with others, without valgrind, or if `respath` or `bench_growth` is not built. Inputs of `origins` and of the C library
+are left out by name if these are not built, and --write then writes nothing.
 """
 
+import os
 import platform
 import random
 import re
@@ -16,14 +20,30 @@ import subprocess
 import sys
 import tempfile
 from collections.abc import Iterator
+from concurrent.futures import ThreadPoolExecutor
+from dataclasses import dataclass
 from pathlib import Path
+
+import origins
 
 TOP = Path(__file__).resolve().parent.parent
 FIGURES = Path(__file__).with_suffix(".txt")
 RESPATH = TOP / "crates" / "respath" / "out" / "respath"
 GROWTH = TOP / "crates" / "bench_growth" / "out" / "bench_growth"
+ORIGINS = TOP / "crates" / "origins" / "out" / "origins"
+LIBRARY = TOP / "crates" / "pigyelund_c" / "out" / "libpigyelund_c.a"
 PARTS = 20
 KINDS = ("as", "v4", "v6")
+CALLS = ("verify", "union", "intersection", "difference", "contains")
+
+
+@dataclass(frozen=True)
+class Input:
+    """A program with its arguments, and what it gets on the standard input."""
+
+    name: str
+    command: tuple[str | Path, ...]
+    given: str = ""
 
 
 def written(kind: str, number: int) -> str:
@@ -87,12 +107,57 @@ def lines() -> Iterator[tuple[str, str]]:
     yield "short-lines", short_lines(10_000)
 
 
-def instructions(command: list[str | Path], given: str = "") -> int:
+def of_vrps(folder: Path, kind: str) -> Iterator[Input]:
+    """A file of 20,000 VRPs that is read and printed, in both forms, in random order and in the order of the table."""
+    vrps = list(getattr(origins, kind)(random.Random(kind), 20_000))
+    routes = list(origins.routes_of(random.Random(f"{kind} routes"), vrps, 20_000))
+    for order, listed in (("", vrps), ("-sorted", sorted(vrps))):
+        files = folder / f"{kind}{order}"
+        files.mkdir()
+        origins.written(files, listed, routes)
+        for form in ("csv", "json"):
+            yield Input(f"table-{kind}-{form}{order}", (ORIGINS, "--table", files / form))
+    asked = (files / "routes").read_text()
+    yield Input(f"routes-{kind}", (ORIGINS, files / "csv"), asked)
+    few = "".join(asked.splitlines(keepends=True)[:2_000])
+    yield Input(f"why-{kind}", (ORIGINS, "--why", files / "csv"), few)
+
+
+def of_origins(folder: Path) -> Iterator[Input]:
+    """Inputs of `origins`: VRPs and routes, many routes by few VRPs, a long line, and what changes."""
+    for kind in ("flat", "nested"):
+        yield from of_vrps(folder, kind)
+    few, next_file = folder / "few", folder / "next"
+    few.write_text("AS64496,192.0.2.0/23,24\n")
+    yield Input("routes-stream", (ORIGINS, few), "192.0.2.0/24 AS64496\n10.0.0.0/8 AS1\n" * 25_000)
+    yield Input("routes-long-line", (ORIGINS, few), f"192.0.2.0/24 {' ' * 4_000_000}AS64496\n")
+    before = folder / "flat" / "csv"
+    lines = before.read_text().splitlines(keepends=True)
+    next_file.write_text("".join(lines[300:]) + "".join(f"AS{at},198.51.100.0/24,24\n" for at in range(1, 301)))
+    yield Input("diff-flat", (ORIGINS, "--diff", before, next_file))
+
+
+def of_calls(folder: Path) -> Iterator[Input]:
+    """Calls from C: on two sets of 1,000 blocks (bench/calls.c), and on a table (bench/routes.c)."""
+    for name in ("calls", "routes"):
+        built = [folder / name, TOP / "bench" / f"{name}.c", LIBRARY, kit() / "c" / "liblibc_c.a"]
+        subprocess.run(["gcc", "-O2", "-o", *built], check=True)
+    whole = [bytes.fromhex(answer(f"der {kind} {', '.join(ranges(kind, 1_000))}\n")) for kind in ("as", "v4")]
+    part = [bytes.fromhex(answer(f"der {kind} {', '.join(ranges(kind, 1_000, 7))}\n")) for kind in ("as", "v4")]
+    (folder / "octets").write_bytes(b"".join([*whole, *part]))
+    lengths = [str(len(it)) for it in (*whole, part[0])]
+    for call in CALLS:
+        yield Input(f"call-{call}", (folder / "calls", call, "5", folder / "octets", *lengths))
+    for how in ("together", "alone", "changed"):
+        yield Input(f"call-routes-{how}", (folder / "routes", how, "20000", "20000"))
+
+
+def instructions(asked: Input) -> int:
     """How many instructions a program takes over an input."""
     with tempfile.TemporaryFile("w+") as file:
-        file.write(given)
+        file.write(asked.given)
         file.seek(0)
-        counting = ["valgrind", "--tool=callgrind", "--callgrind-out-file=/dev/null", *command]
+        counting = [shutil.which("valgrind") or "valgrind", "--tool=callgrind", "--callgrind-out-file=/dev/null", *asked.command]
         ran = subprocess.run(
             counting,
             stdin=file,
@@ -105,16 +170,40 @@ def instructions(command: list[str | Path], given: str = "") -> int:
     return int(re.findall(r"^==\d+== Collected : (\d+)", ran.stderr, re.MULTILINE)[-1])
 
 
+def parts_left_out() -> dict[str, str]:
+    """The groups of inputs that can't be counted here, by the beginnings of their names, and what they need."""
+    absent = {}
+    if not ORIGINS.exists():
+        absent["table- routes- why- diff-"] = "origins is not built"
+    if not LIBRARY.exists():
+        absent["call-"] = f"{LIBRARY.name} is not built (rt lib in crates/pigyelund_c)"
+    elif shutil.which("gcc") is None:
+        absent["call-"] = "gcc is not there"
+    return absent
+
+
+def inputs(folder: Path) -> Iterator[Input]:
+    """All inputs of what is built."""
+    for name, given in lines():
+        yield Input(name, (RESPATH,), given)
+    yield Input("sets", (GROWTH, "5000"))
+    yield Input("origins", (GROWTH, "origins", "20000", "20000"))
+    absent = parts_left_out()
+    if not any("routes-" in it for it in absent):
+        yield from of_origins(folder)
+    if "call-" not in absent:
+        yield from of_calls(folder)
+
+
 def counted() -> Iterator[tuple[str, int]]:
     """Each input's name, and its instructions."""
-    for name, given in lines():
-        yield name, instructions([RESPATH], given)
-    yield "sets", instructions([GROWTH, "5000"])
-    yield "origins", instructions([GROWTH, "origins", "20000", "20000"])
+    with tempfile.TemporaryDirectory() as folder, ThreadPoolExecutor(min(4, os.cpu_count() or 1)) as pool:
+        asked = list(inputs(Path(folder)))
+        yield from zip((it.name for it in asked), pool.map(instructions, asked), strict=True)
 
 
 def left_out() -> str:
-    """Why nothing is counted; an empty text where it is."""
+    """Why nothing is counted; an empty text if the inputs are counted."""
     if shutil.which("valgrind") is None:
         return "valgrind is not there"
     for program in (RESPATH, GROWTH):
@@ -126,6 +215,11 @@ def left_out() -> str:
     return ""
 
 
+def kit() -> Path:
+    """The folder of the kit."""
+    return Path(shutil.which("rt") or "rt").resolve().parent.parent
+
+
 def what_counts() -> str:
     """The kit, the C library and the processor."""
     kit = subprocess.run(["rt", "version"], stdout=subprocess.PIPE, text=True, check=True).stdout.split()[0]
@@ -134,32 +228,46 @@ def what_counts() -> str:
 
 
 def compare() -> int:
-    """Prints each count that is off its figure, and how many are."""
-    figures = dict(line.split() for line in FIGURES.read_text().splitlines()[1:])
-    off, names = 0, []
-    for name, count in counted():
-        names.append(name)
-        figure = int(figures.get(name, 0))
-        if abs(count - figure) * PARTS > figure:
+    """Prints each count that is off its figure, each figure without an input, and each input without a figure."""
+    figures = {name: int(figure) for name, figure in map(str.split, FIGURES.read_text().splitlines()[1:])}
+    absent = parts_left_out()
+    for names, need in absent.items():
+        print(f"left out: the inputs {names.replace(' ', '*, ')}*: {need}")
+    fronts = tuple(front for names in absent for front in names.split())
+    off, gone = 0, {name for name in figures if not name.startswith(fronts)}
+    asked = list(counted())
+    for name, count in asked:
+        gone.discard(name)
+        if name not in figures:
             off += 1
-            print(f"{name}: {count} instructions, where {figure} are stored")
-    gone = figures.keys() - set(names)
+            print(f"{name}: {count} instructions, no stored figure")
+        elif abs(count - figures[name]) * PARTS > figures[name]:
+            off += 1
+            print(f"{name}: {count} instructions, where {figures[name]} are stored")
     if gone:
         print(f"figures of no input: {', '.join(sorted(gone))}")
-    print(f"instructions of {len(names)} inputs: {off} are off their figures")
+    print(f"instructions of {len(asked)} inputs: {off} are off their figures, or have none")
     return 1 if off or gone else 0
 
 
+def write() -> int:
+    """Writes the figures of all inputs, or none."""
+    absent = parts_left_out()
+    if absent:
+        print(f"no figures are written: {'; '.join(absent.values())}")
+        return 1
+    made = [what_counts(), *(f"{name} {count}" for name, count in counted())]
+    FIGURES.write_text("\n".join(made) + "\n")
+    return 0
+
+
 def main() -> int:
-    reason = left_out()
+    """Compares the counts with the figures, or writes them."""
+    reason, is_written = left_out(), "--write" in sys.argv
     if reason:
         print(f"left out: instructions are not counted: {reason}")
-        return 0
-    if "--write" in sys.argv:
-        made = [what_counts(), *(f"{name} {count}" for name, count in counted())]
-        FIGURES.write_text("\n".join(made) + "\n")
-        return 0
-    return compare()
+        return int(is_written)
+    return write() if is_written else compare()
 
 
 if __name__ == "__main__":

@@ -1,7 +1,8 @@
 #!/bin/sh
-# What no contract can say of the program: its status and its line on standard error where a standard stream fails; and
-# what ./respath does with it: its options, its files, the examples of its help. tests/front.sh has what the script does
-# without the program. Ends with status 0 where each case is as it must be.
+# Tests what no contract says of the program respath: its status and its line on standard error if a standard stream
+# fails, and streams above 64 MiB, also through origins. It tests the options and files of ./respath and the examples of
+# its help too; tests/front.sh tests what the script does without the program. The status is 0 if every case is as
+# expected.
 top=$(CDPATH= cd -- "$(dirname -- "$0")/.." && pwd) || exit 1
 printf '' | "$top/respath" || exit 1
 program=$top/crates/respath/out/respath
@@ -102,6 +103,27 @@ refused at step 1: overclaimed AS resources: AS2	step 1, element 2: 2" $? "$said
 
 said=$("$top/respath" --where "$files/one" 2>&1 >/dev/full)
 expect "places that can't be written" 1 "respath: write failed" $? "$said"
+
+# Streams above 64 MiB, in and out: one answer for each line.
+listed=$(awk 'BEGIN { for (at = 1; at < 20; at += 2) printf "%sAS42000000%02d", (at > 1 ? ", " : ""), at }')
+said=$(yes "norm as $listed" | head -n 500000 | { "$program"; echo "status $?"; } | uniq -c)
+expect "a stream of 73 MB, and answers of 69 MB" 0 "500000 $listed
+1 status 0" $? "$(echo "$said" | sed 's/^ *//')"
+origins=$top/crates/origins/out/origins
+route='TABLE_DUMP2|1732579200|B|203.0.113.1|64500|192.0.2.0/24|64500 64496|IGP|203.0.113.1|0|0||NAG||'
+why='valid match:192.0.2.0/23-24:AS64496 match:192.0.0.0/16-24:AS64496 match:192.0.0.0/8-24:AS64496'
+if [ -x "$origins" ]; then
+    printf 'AS64496,192.0.%s,24\n' 0.0/8 0.0/16 2.0/23 >"$files/payloads"
+    said=$(yes "$route" | head -n 800000 | { "$origins" "$files/payloads" 2>/dev/null; echo "status $?"; } | uniq -c)
+    expect "routes of 76 MB" 0 "800000 valid
+1 status 0" $? "$(echo "$said" | sed 's/^ *//')"
+    said=$(yes "$route" | head -n 800000 | { "$origins" --why "$files/payloads" 2>/dev/null; echo "status $?"; } |
+        uniq -c)
+    expect "routes of 76 MB, and answers of 76 MB" 0 "800000 $why
+1 status 0" $? "$(echo "$said" | sed 's/^ *//')"
+else
+    echo "left out  routes of 76 MB: origins is not built"
+fi
 
 if command -v script >/dev/null; then
     said=$(script -qec "'$top/respath'" /dev/null </dev/null | tr -d '\r' | grep '^respath: ')

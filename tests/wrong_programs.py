@@ -1,0 +1,174 @@
+"""Cases of tests/of_tests.py in which a test meets programs that do everything wrong: each of its cases has to fail.
+
+A test whose comparison always succeeds prints `ok` here, or ends with status 0. The programs are scripts of a line or
+two, so nothing has to be built. The tests of bench/regress.py and of tests/recipes.sh get figures and a page of their
+own, some of them right.
+"""
+
+import os
+import re
+import shutil
+import subprocess
+from collections.abc import Iterator
+from dataclasses import dataclass
+from pathlib import Path
+
+TOP = Path(__file__).resolve().parent.parent
+WRONG = "#!/bin/sh\necho wrong\necho wrong >&2\nexit 77\n"
+# A script that begins with a call of ./respath or ./origins ends at once if that call fails.
+AFTER_THE_FIRST = WRONG.replace("\n", '\nif [ ! -e "$0.begun" ]; then : >"$0.begun"; exit; fi\n', 1)
+NOTHING = "#!/bin/sh\nexit 0\n"
+# A program to which each line is wrong, or refused, and a script that shows no place.
+ANSWERS_WRONG = r"""#!/bin/sh
+LC_ALL=C exec sed '/[\x80-\xff]/{s/.*/error: not UTF-8/;b}; /^path .*|/{s/.*/refused at step 0: x/;b}; s/.*/error: x/'
+"""
+WITHOUT_PLACES = "#!/bin/sh\nLC_ALL=C exec sed 's/.*/error/'\n"
+
+
+def program(name: str) -> str:
+    """The place of a built program."""
+    return f"crates/{name}/out/{name}"
+
+
+@dataclass(frozen=True)
+class Stubbed:
+    """A test, what stands in place of files, and what it has to print as a pattern; no line may begin with `ok`."""
+
+    test: tuple[str, ...]
+    stubs: dict[str, str]
+    said: str
+
+
+SCRIPTS = {"respath": AFTER_THE_FIRST, "origins": AFTER_THE_FIRST}
+ALL_FAIL = r"(FAILED .*\n(?!ok)[^\0]*){10}"
+STUBBED = (
+    Stubbed(("tests/front.sh",), {"respath": WRONG, "origins": WRONG, "tests/logic.sh": WRONG}, ALL_FAIL),
+    Stubbed(("tests/streams.sh",), SCRIPTS | {program(it): WRONG for it in ("respath", "origins")}, ALL_FAIL),
+    Stubbed(("tests/origins.sh",), SCRIPTS | {program("origins"): WRONG}, ALL_FAIL),
+    Stubbed(("tests/holdings.sh",), {program("example_holdings"): WRONG}, r"(FAILED .*\n[^\0]*){6}"),
+    Stubbed(("tests/verified_set.py",), {program("example_verified_set"): WRONG},
+            r": (\d\d+) runs, .* \1 differ\n"),
+    Stubbed(("tests/random_origins.py", "1", "40"), {program("origins"): WRONG},
+            r": (\d\d+) answers compared, \1 differ\n"),
+    Stubbed(("tests/places.py",), {program("respath"): ANSWERS_WRONG, "respath": WITHOUT_PLACES},
+            r": (\d\d+) lines are wrong or refused, .* \1 differ\n"),
+)
+
+RECIPES = """
+```sh
+echo one
+```
+```text
+one
+```
+```sh
+echo two
+```
+```text
+three
+```
+```sh
+kept=4
+```
+```sh
+echo $kept
+```
+```text
+5
+```
+```sh
+echo more
+```
+"""
+RECIPES_SAID = ("ok        recipe 01", "FAILED    recipe 02", "ok        recipe 03", "FAILED    recipe 04",
+                "FAILED    recipe 05")
+
+
+def written(folder: Path, stubs: dict[str, str]) -> None:
+    """Puts programs or files in their places in a copy."""
+    for name, text in stubs.items():
+        path = folder / name
+        path.parent.mkdir(parents=True, exist_ok=True)
+        path.write_text(text)
+        path.chmod(0o755)
+
+
+def run_in(folder: Path, words: tuple[str, ...], path: Path | None = None) -> tuple[int, str]:
+    """The status and the output of a test in a copy, with the programs of a folder in front of all others."""
+    own = {"TMPDIR": str(folder.parent), "PYTHONDONTWRITEBYTECODE": "1"}
+    if path:
+        own["PATH"] = f"{path}:{os.environ['PATH']}"
+    done = subprocess.run(words, cwd=folder, env=os.environ | own, stdout=subprocess.PIPE, stderr=subprocess.STDOUT,
+                          stdin=subprocess.DEVNULL, timeout=120)
+    return done.returncode, done.stdout.decode("utf-8", "replace")
+
+
+def copied(folder: Path) -> Path:
+    """A copy of the repository without what is built, and with six rows of sets."""
+    shutil.copytree(TOP, folder, symlinks=True, ignore=shutil.ignore_patterns(".git", "out", "__pycache__"))
+    rows = folder / "crates" / "rows_sets" / "stdin"
+    rows.write_bytes(b"".join(rows.read_bytes().splitlines(keepends=True)[:6]))
+    return folder
+
+
+def of_stubbed(case: Stubbed, folder: Path) -> tuple[str, str | None]:
+    """Runs a test beside wrong programs, in a copy of its own."""
+    copy = copied(folder)
+    written(copy, case.stubs)
+    status, said = run_in(copy, case.test)
+    passed = re.findall(r"^ok.*", said, re.MULTILINE)
+    fault = None
+    if status != 1 or passed or not re.search(case.said, said):
+        fault = f"status {status}, {passed[:5]} pass, and it doesn't print {case.said!r}: {said[-300:]}"
+    return f"{case.test[0]}: programs that do everything wrong", fault
+
+
+def of_recipes(folder: Path) -> tuple[str, str | None]:
+    """Runs tests/recipes.sh on a page with right and wrong answers."""
+    copy = copied(folder)
+    written(copy, {"respath": NOTHING, "origins": NOTHING, "docs/RECIPES.md": RECIPES})
+    status, said = run_in(copy, ("tests/recipes.sh",))
+    found = tuple(re.findall(r"^(?:ok|FAILED) +recipe \d+", said, re.MULTILINE))
+    fault = None if (status, found) == (1, RECIPES_SAID) else f"status {status}: {said}"
+    return "tests/recipes.sh: right and wrong answers", fault
+
+
+TOOLS = {
+    "bin/valgrind": '#!/bin/sh\necho "==1== Collected : 1000" >&2\n',
+    "bin/rt": '#!/bin/sh\necho "a-kit logic 12"\n',
+    "bin/gcc": NOTHING,
+    program("respath"): "#!/bin/sh\necho 3000\n",
+    program("bench_growth"): NOTHING,
+    program("origins"): NOTHING,
+    "crates/pigyelund_c/out/libpigyelund_c.a": "",
+}
+# Of a count of 1,000: figures that are more than a twentieth off it, and figures that are not.
+OFF = {"norm-as": "950", "call-verify": "1053", "routes-flat": "0"}
+NEAR = {"norm-v4": "953", "sets": "1050", "table-flat-csv": "1052"}
+
+
+def of_figures(folder: Path) -> Iterator[tuple[str, str | None]]:
+    """Runs bench/regress.py with a valgrind that always counts 1,000, and figures of which some are wrong."""
+    copy = copied(folder)
+    written(copy, TOOLS)
+    figures, asked, path = copy / "bench" / "regress.txt", ("bench/regress.py",), copy / "bin"
+    status, said = run_in(copy, (*asked, "--write"), path)
+    made = dict(it.split() for it in figures.read_text().splitlines()[1:])
+    is_so = status == 0 and {*OFF, *NEAR, "why-nested"} <= made.keys() and set(made.values()) == {"1000"}
+    yield "bench/regress.py: figures are written", None if is_so else f"status {status}: {said}"
+    status, said = run_in(copy, asked, path)
+    yield "bench/regress.py: right figures", None if status == 0 else f"status {status}: {said}"
+    head = figures.read_text().splitlines()[0]
+    stored = made | OFF | NEAR | {"moon": "1000"}
+    del stored["why-nested"]
+    figures.write_text("\n".join([head, *(f"{name} {figure}" for name, figure in stored.items())]) + "\n")
+    status, said = run_in(copy, asked, path)
+    found = {*re.findall(r"^([\w-]+): \d+ instructions, where (\d+) are stored$", said, re.MULTILINE)}
+    is_so = status == 1 and found == {*OFF.items()} and "figures of no input: moon\n" in said
+    is_so = is_so and "why-nested: 1000 instructions, no stored figure\n" in said
+    yield "bench/regress.py: wrong figures, one without input, and an input without one", None if is_so else said
+    (copy / "crates" / "pigyelund_c" / "out" / "libpigyelund_c.a").unlink()
+    before = figures.read_bytes()
+    status, said = run_in(copy, (*asked, "--write"), path)
+    is_so = status == 1 and figures.read_bytes() == before and "libpigyelund_c.a is not built" in said
+    yield "bench/regress.py: no figures are written for a part", None if is_so else f"status {status}: {said}"

@@ -1,11 +1,12 @@
 #!/usr/bin/env python3
 """Shows that the tests can fail: in a copy of the repository one thing is made wrong, and the test has to say which.
 
-A case is a file, a text that stands there once or first, what is put in its place, the test, and what that has to print
-when it ends with status 1. A case whose text isn't there fails. The copies have the first rows and claims alone, so
-that it is quick, and nothing outside a temporary folder is written. What needs a program or a library that isn't built
-is left out by name. `check` is tried beside parts that only fail or don't, and a prover that only says what it is told.
-Status 1 where a test says nothing.
+A case is a file, a text that the file has, what replaces the first such text, the test, and what the test has to print
+with its status. A case whose text is not there fails. The copies have the first rows and claims alone, so that it is
+quick, and nothing outside a temporary folder is written. What needs a program or a library that is not built is left
+out by name. `check` runs beside parts that only fail or don't, and a prover that only prints what it is told.
+tests/wrong_programs.py has the tests beside programs that do everything wrong, tests/wrong_checks.py those of the
+crates test_*. The status is 1 if a test does not tell what is wrong.
 """
 
 import os
@@ -17,8 +18,12 @@ import tempfile
 from collections.abc import Iterator
 from concurrent.futures import ThreadPoolExecutor
 from dataclasses import dataclass
+from functools import partial
 from pathlib import Path
 from queue import SimpleQueue
+
+import wrong_checks
+import wrong_programs
 
 TOP = Path(__file__).resolve().parent.parent
 COPIES = min(4, os.cpu_count() or 1)
@@ -29,9 +34,14 @@ PROGRAMS = "rows_values", "rows_sets", "rows_claims", "rows_calls"
 KEPT = {f"crates/{name}/{file}": 6 for name in PROGRAMS for file in ("stdin", "stdout")}
 KEPT |= {"foreign/rows.txt": 14}
 # The tests that need what is built, and how each is asked then.
-OF_C, OF_PYTHON = "foreign/c/test.c", "foreign/python/test.py"
+OF_C, OF_PYTHON, OF_RUST = "foreign/c/test.c", "foreign/python/test.py", "foreign/rust/tests/rows.rs"
+# The test in C is compiled anew only if its own text is made wrong.
+OF_REFUSALS = "foreign/c/test.c, compiled anew"
+ORIGINS = Path("crates", "origins", "out", "origins")
+MANUAL = "tests/manual_pages.py"
 BUILT = {
     OF_C: ("built/test", "foreign"),
+    OF_REFUSALS: ("sh", "-c", "make -s -C foreign/c CC=gcc OUT=$PWD/built LIB=$LIB KIT=$KIT all && built/test foreign"),
     OF_PYTHON: ("python3", OF_PYTHON, "built/libpigyelund.so", "foreign"),
 }
 
@@ -99,6 +109,8 @@ CASES = (
          f"pub free_bits : {'(n : ℕ) → ' * 12}", "rpki_cover/specs/Walk.antt: 1 lines of statements"),
     Case(OF_C, "foreign/rows.txt", " 10 - - -\n", " 11 - - -\n", "row 1: another status"),
     Case(OF_C, "foreign/texts.txt", "out of memory", "out of mind", "another text of a status"),
+    Case(OF_REFUSALS, OF_C, "found == PG_MEMORY, q->row", "found != PG_MEMORY, q->row",
+         "row 1: another status where memory is refused"),
     Case(OF_PYTHON, "foreign/rows.txt", " 10 - - -\n", " 11 - - -\n", "another answer: verify 0,0,0"),
     Case(OF_PYTHON, "foreign/texts.txt", "out of memory", "out of mind", "status 2 is "),
     Case(API, "crates/test_paths/src/lib.rt", "use rpki_der::Cursor as _;\n", "", "test_paths/src/lib.rt is not"),
@@ -110,17 +122,49 @@ CASES = (
 )
 
 
+# Numbers of pages, whose files are whole.
+NUMBERS = "tests/page_numbers.py"
+PAGES = (
+    Case(NUMBERS, "docs/TESTS.md", "`rows_sets`, 6", "`rows_sets`, 7", "docs/TESTS.md: 7"),
+    Case(NUMBERS, "docs/TESTS.md", "`rows_claims`, 7", "`rows_claims`, 5", "docs/TESTS.md: 5"),
+    Case(NUMBERS, "docs/TESTS.md", "`foreign/texts.txt`, ", "`foreign/texts.txt`, 1", "docs/TESTS.md: 1"),
+    Case(NUMBERS, "docs/TESTS.md", "`long build 262144`", "`long build 262145`", "no row `long build 262145`"),
+    Case(NUMBERS, "README.md", " 23,000 calls", " 32,000 calls", "README.md: 32000, and there are"),
+    Case(NUMBERS, "README.md", "20,000 random routes", "2,000 random routes", "README.md: 2000, and check asks"),
+    Case(NUMBERS, "check", "tests/rows.py --random 1 20000", "tests/rows.py --random 1 200", "and check asks 200\n"),
+    Case(NUMBERS, "foreign/rust/Cargo.toml", '\nversion = "', '\nversion = "9', "foreign/rust/Cargo.toml: version"),
+    Case(NUMBERS, "foreign/pigyelund.pc", "Version: ", "Version: 9", "foreign/pigyelund.pc: version"),
+    Case(MANUAL, "respath", "It is 2 for", "It is 3 for", "respath --help: names status 3 for 'usage'"),
+    Case(MANUAL, "respath", "the status is 3 where", "the status is 2 where", "names status 2 for 'check'"),
+    Case(MANUAL, "respath", "The status is 1 where", "The status is 2 where", "names status 2 for 'failed'"),
+    Case(MANUAL, "respath", "= - ]; then\n            answer_input", "= + ]; then\n            answer_input",
+         "is the standard input"),
+    Case(MANUAL, "docs/respath.1", "1 where reading", "2 where reading", "docs/respath.1: names status 2"),
+)
+OF_ORIGINS = (
+    Case(MANUAL, "docs/origins.1", "; 2 for wrong", "; 3 for wrong", "docs/origins.1: names status 3 for 'usage'"),
+    Case(MANUAL, "docs/origins.1", ".I OLD NEW", ".I NEW OLD", "docs/origins.1: says of withdraw"),
+    Case(MANUAL, "docs/origins.1", "\nis a file of that name", "\nis the standard input", "does not say that - is"),
+)
+
+
 def said_by(command: tuple[str, ...], copy: Path) -> tuple[int, str]:
     """The status and the whole output of a command in a copy."""
     paths = {"TMPDIR": str(copy.parent), "PYTHONPATH": "foreign/python", "PYTHONDONTWRITEBYTECODE": "1"}
+    paths |= {"LIB": str(TOP / LIBRARY), "KIT": str(kit())}
     run = subprocess.run(
         command, cwd=copy, env=os.environ | paths, stdout=subprocess.PIPE, stderr=subprocess.STDOUT, timeout=300
     )
     return run.returncode, run.stdout.decode("utf-8", "replace")
 
 
-def fault_of(case: Case, copy: Path) -> str | None:
-    """What a test doesn't say of a case, None where it tells it; the copy is as before then."""
+def kit() -> Path:
+    """The folder of the kit."""
+    return Path(shutil.which("rt") or "rt").resolve().parent.parent
+
+
+def fault_of(case: Case, copy: Path, failing: int = 1) -> str | None:
+    """What a test does not say of a case, None if it says it; the copy is as before then."""
     path, command = copy / case.file, BUILT.get(case.test, (case.test,))
     before = path.read_bytes()
     if case.old.encode() not in before:
@@ -128,8 +172,8 @@ def fault_of(case: Case, copy: Path) -> str | None:
     path.write_bytes(before.replace(case.old.encode(), case.new.encode(), 1))
     status, said = said_by(command, copy)
     path.write_bytes(before)
-    if (status, case.said in said) != (1, True):
-        return f"status {status} in place of 1 with {case.said!r}: {said[-400:]}"
+    if (status, case.said in said) != (failing, True):
+        return f"status {status} in place of {failing} with {case.said!r}: {said[-400:]}"
     return None
 
 
@@ -137,7 +181,7 @@ def left_out() -> Iterator[tuple[str, str]]:
     """The tests that can't be asked here, and what they need."""
     if not (TOP / RESPATH).is_file():
         yield "tests/errors_page.py", f"{RESPATH}, which ./respath builds"
-    for test in (OF_C, OF_PYTHON):
+    for test in (OF_C, OF_REFUSALS, OF_PYTHON):
         for tool in ("gcc", "make", "ar"):
             if not shutil.which(tool):
                 yield test, tool
@@ -166,8 +210,7 @@ def make_first(copy: Path, is_foreign: bool) -> None:
         shutil.copy2(TOP / RESPATH, copy / RESPATH)
     if is_foreign:
         (copy / "built").mkdir()
-        kit = Path(shutil.which("rt") or "rt").resolve().parent.parent
-        where = [f"OUT={copy / 'built'}", f"LIB={TOP / LIBRARY}", f"KIT={kit}"]
+        where = [f"OUT={copy / 'built'}", f"LIB={TOP / LIBRARY}", f"KIT={kit()}"]
         subprocess.run(["make", "-s", "-C", copy / "foreign" / "c", "CC=gcc", *where, "all", "shared"], check=True)
 
 
@@ -192,13 +235,60 @@ def of_cases(folder: Path) -> Iterator[tuple[str, str | None]]:
         finally:
             copies.put(copy)
 
-    for test in (ROWS, *(it for it in BUILT if it not in absent)):
+    for test in (ROWS, *(it for it in (OF_C, OF_PYTHON) if it not in absent)):
         status, said = said_by(BUILT.get(test, (test,)), folder / "0")
         yield f"{test} passes", None if status == 0 else said
     cases = [case for case in CASES if case.test not in absent]
     with ThreadPoolExecutor(COPIES) as pool:
         for case, fault in zip(cases, pool.map(tried, cases), strict=True):
             yield f"{case.test}: {case.file}, {case.new[:60]!r}", fault
+
+
+def of_pages(folder: Path) -> Iterator[tuple[str, str | None]]:
+    """The tests that compare pages with whole files and with the programs: they pass, and tell what is made wrong."""
+    shutil.copytree(TOP, folder, symlinks=True, ignore=shutil.ignore_patterns(".git", "out", "__pycache__"))
+    cases = [it for it in PAGES if it.test == NUMBERS]
+    for program, more in ((RESPATH, [it for it in PAGES if it.test == MANUAL]), (ORIGINS, OF_ORIGINS)):
+        if (TOP / program).is_file():
+            (folder / program).parent.mkdir()
+            shutil.copy(TOP / program, folder / program)
+            cases += more
+        else:
+            print(f"left out: {MANUAL} needs {program}")
+    for test in (NUMBERS, MANUAL):
+        status, said = said_by((test,), folder)
+        yield f"{test} passes", None if status == 0 else said
+    for case in cases:
+        yield f"{case.test}: {case.file}, {case.new[:60]!r}", fault_of(case, folder)
+
+
+RUST = (
+    Case("rows_are_answered", "foreign/rows.txt", " 10 - - -\n", " 11 - - -\n", "rows_are_answered"),
+    Case("names_have_their_numbers", "foreign/numbers.txt", "NUMBER(OK, 0)", "NUMBER(OK, 1)", "names_have_their"),
+    Case("statuses_have_their_texts", "foreign/texts.txt", "out of memory", "out of mind", "statuses_have_their_texts"),
+)
+
+
+def of_rust(folder: Path) -> Iterator[tuple[str, str | None]]:
+    """The rows in Rust: they pass, and tell what is made wrong. Each case runs one test, over all rows."""
+    for need in ("cargo", "gcc", "make", "ar"):
+        if not shutil.which(need):
+            print(f"left out: {OF_RUST} needs {need}")
+            return
+    if not (TOP / LIBRARY).is_file():
+        print(f"left out: {OF_RUST} needs {LIBRARY}, which rt lib builds there")
+        return
+    shutil.copytree(TOP / "foreign", folder / "foreign")
+    shutil.copy(TOP / "LICENSE", folder)
+    where = [f"OUT={folder}", f"LIB={TOP / LIBRARY}", f"KIT={kit()}"]
+    subprocess.run(["make", "-s", "-C", folder / "foreign" / "c", "CC=gcc", *where, "static"], check=True)
+    places = (f"PIGYELUND_LIB={folder}", f"CARGO_TARGET_DIR={folder / 'target'}")
+    test = ("cargo", "test", "-q", "--offline", "--manifest-path", "foreign/rust/Cargo.toml", "--test", "rows")
+    status, said = said_by(("env", *places, *test, "names", "texts"), folder)
+    yield f"{OF_RUST} passes", None if status == 0 else said
+    for case in RUST:
+        BUILT[case.test] = ("env", *places, *test, "--", "--exact", case.test)
+        yield f"{OF_RUST}: {case.file}, {case.new!r}", fault_of(case, folder, 101)
 
 
 PART = '#!/bin/sh\n[ "${0##*/}" != rows.py ] || [ $# -eq 0 ] || exit 0\n'
@@ -242,17 +332,34 @@ def checked(folder: Path, **more: str) -> subprocess.CompletedProcess:
     return subprocess.run([folder / "check"], env=env | paths | more, capture_output=True, text=True, timeout=60)
 
 
+def all_cases(folder: Path) -> Iterator[tuple[str, str | None]]:
+    """All cases; those that need a copy of their own run beside each other."""
+    groups = [
+        lambda: of_check(folder / "check"),
+        lambda: of_rust(folder / "rust"),
+        lambda: wrong_checks.of_checks(folder / "checks"),
+        lambda: of_pages(folder / "pages" / "copy"),
+        lambda: wrong_programs.of_figures(folder / "figures" / "copy"),
+        lambda: wrong_programs.of_recipes(folder / "recipes" / "copy"),
+        *(partial(wrong_programs.of_stubbed, it, folder / f"stubbed {at}" / "copy")
+          for at, it in enumerate(wrong_programs.STUBBED)),
+        lambda: wrong_checks.of_assertions(folder / "assertions"),
+    ]
+    with ThreadPoolExecutor(COPIES) as pool:
+        for results in pool.map(lambda group: list(group()), groups):
+            yield from results
+    yield from of_cases(folder)
+
+
 def main() -> int:
     """Tries all cases, and names those that no test tells."""
     count = found = 0
     with tempfile.TemporaryDirectory() as name:
-        folder = Path(name)
-        for results in (of_cases(folder), of_check(folder / "check")):
-            for what, fault in results:
-                count += 1
-                if fault is not None:
-                    print(f"FAILED  {what}: {fault}")
-                    found += 1
+        for what, fault in all_cases(Path(name)):
+            count += 1
+            if fault is not None:
+                print(f"FAILED  {what}: {fault}")
+                found += 1
     print(f"tests of tests: {count} cases, {found} that nothing tells")
     return 1 if found else 0
 

@@ -111,7 +111,7 @@ def copied(folder: Path) -> Path:
     return folder
 
 
-def of_stubbed(case: Stubbed, folder: Path) -> tuple[str, str | None]:
+def of_stubbed(case: Stubbed, folder: Path) -> Iterator[tuple[str, str | None]]:
     """Runs a test beside wrong programs, in a copy of its own."""
     copy = copied(folder)
     written(copy, case.stubs)
@@ -120,17 +120,17 @@ def of_stubbed(case: Stubbed, folder: Path) -> tuple[str, str | None]:
     fault = None
     if status != 1 or passed or not re.search(case.said, said):
         fault = f"status {status}, {passed[:5]} pass, and it doesn't print {case.said!r}: {said[-300:]}"
-    return f"{case.test[0]}: programs that do everything wrong", fault
+    yield f"{case.test[0]}: programs that do everything wrong", fault
 
 
-def of_recipes(folder: Path) -> tuple[str, str | None]:
+def of_recipes(folder: Path) -> Iterator[tuple[str, str | None]]:
     """Runs tests/recipes.sh on a page with right and wrong answers."""
     copy = copied(folder)
     written(copy, {"respath": NOTHING, "origins": NOTHING, "docs/RECIPES.md": RECIPES})
     status, said = run_in(copy, ("tests/recipes.sh",))
     found = tuple(re.findall(r"^(?:ok|FAILED) +recipe \d+", said, re.MULTILINE))
     fault = None if (status, found) == (1, RECIPES_SAID) else f"status {status}: {said}"
-    return "tests/recipes.sh: right and wrong answers", fault
+    yield "tests/recipes.sh: right and wrong answers", fault
 
 
 TOOLS = {

@@ -1,0 +1,125 @@
+#!/usr/bin/env python3
+"""Compares numbers on the pages with what they count.
+
+A number of rows may be exact or rounded down: the files have at least as many, and less than a tenth more. Each line of
+a row that docs/TESTS.md quotes with its number has to be in the rows. The numbers of random lines on the pages have to
+be those of `check`. The version is the same in each file that has one. tests/manual_pages.py compares exit statuses. The
+status is 1 if a number differs, or if no page has it.
+"""
+
+import re
+import sys
+from collections.abc import Callable, Iterator
+from pathlib import Path
+
+TOP = Path(__file__).resolve().parent.parent
+ROWS = "rows_values", "rows_sets", "rows_claims", "rows_calls"
+NUMBER = r"(\d[\d,]*)"
+
+
+def text_of(name: str) -> str:
+    """A file of the repository."""
+    return (TOP / name).read_text()
+
+
+def page(name: str) -> str:
+    """A page with single spaces in place of line ends and indents."""
+    return " ".join(text_of(name).split())
+
+
+def lines_of(name: str) -> list[str]:
+    """The lines of a file, which end at line feeds alone."""
+    return text_of(name).removesuffix("\n").split("\n")
+
+
+def rows(*programs: str) -> Callable[[], int]:
+    """Counts the lines that programs of rows are asked."""
+    return lambda: sum(len(lines_of(f"crates/{name}/stdin")) for name in programs)
+
+
+def file(name: str) -> Callable[[], int]:
+    """Counts the lines of a file."""
+    return lambda: len(lines_of(name))
+
+
+def random_lines(command: str) -> Callable[[], int]:
+    """How many random lines `check` asks for."""
+    return lambda: int(re.findall(rf"^\s*{command} 1 (\d+)", text_of("check"), re.MULTILINE)[0])
+
+
+# A page, a pattern whose group is the number, and what counts it.
+COUNTED: tuple[tuple[str, str, Callable[[], int]], ...] = (
+    *(("docs/TESTS.md", rf"`{name}`, {NUMBER} lines", rows(name)) for name in ROWS),
+    ("docs/TESTS.md", rf"`foreign/rows.txt`[^`\d]*{NUMBER} rows", file("foreign/rows.txt")),
+    ("docs/TESTS.md", rf"`foreign/numbers.txt`, {NUMBER} numbers", file("foreign/numbers.txt")),
+    ("docs/TESTS.md", rf"`foreign/texts.txt`, {NUMBER} statuses", file("foreign/texts.txt")),
+    ("README.md", rf"\b{NUMBER} calls\b", rows(*ROWS[:3])),
+)
+# Numbers that have to be exactly those of `check`.
+EXACT: tuple[tuple[str, str, Callable[[], int]], ...] = tuple(
+    (name, pattern, random_lines(command))
+    for name in ("README.md", "docs/CARRYING_ON.md")
+    for pattern, command in (
+        (rf"\b{NUMBER} random lines", r"tests/rows\.py --random"),
+        (rf"\b{NUMBER} random routes", r"tests/random_origins\.py"),
+    )
+)
+# The files that have the version, which is the first one of the changes.
+VERSIONS = {
+    "CHANGELOG.md": r"^## ([^,\n]*)",
+    "crates/origins/src/help.rt": r'^pub const VERSION: &str = "(.*)";',
+    "foreign/pigyelund.pc": r"^Version: (.*)",
+    "foreign/python/pyproject.toml": r'^version = "(.*)"',
+    "foreign/rust/Cargo.toml": r'^version = "(.*)"',
+}
+QUOTED_ROW = re.compile(r"`((?:long \w+|requests many) \d+)`")
+
+
+def numbers(name: str, pattern: str) -> list[int]:
+    """The numbers of a page that a pattern has."""
+    return [int(it.replace(",", "")) for it in re.findall(pattern, page(name))]
+
+
+def faults_of_counts() -> Iterator[str]:
+    """The numbers of rows and of random lines that differ."""
+    for name, pattern, count in COUNTED:
+        found, there = numbers(name, pattern), count()
+        if not found:
+            yield f"{name}: no number for {pattern}"
+        yield from (f"{name}: {it}, and there are {there}" for it in found if not it <= there < it * 11 / 10)
+    for name, pattern, count in EXACT:
+        found, there = numbers(name, pattern), count()
+        if not found:
+            yield f"{name}: no number for {pattern}"
+        yield from (f"{name}: {it}, and check asks {there}" for it in found if it != there)
+
+
+def faults_of_quotes() -> Iterator[str]:
+    """The rows of many elements that docs/TESTS.md quotes and that are not there."""
+    there = {line for name in ROWS for line in lines_of(f"crates/{name}/stdin")}
+    quoted = QUOTED_ROW.findall(page("docs/TESTS.md"))
+    if not quoted:
+        yield "docs/TESTS.md: no row of many elements is quoted"
+    for row in quoted:
+        if not any(line == row or line.startswith(f"{row} ") for line in there):
+            yield f"docs/TESTS.md: no row `{row}`"
+
+
+def faults_of_versions() -> Iterator[str]:
+    """The files whose version is not that of the changes."""
+    found = {name: re.findall(pattern, text_of(name), re.MULTILINE)[:1] for name, pattern in VERSIONS.items()}
+    wanted = found["CHANGELOG.md"]
+    yield from (f"{name}: version {it}, and CHANGELOG.md {wanted}" for name, it in found.items() if it != wanted or not it)
+
+
+def main() -> int:
+    """Prints what differs."""
+    faults = [*faults_of_counts(), *faults_of_quotes(), *faults_of_versions()]
+    for fault in faults:
+        print(fault)
+    print(f"numbers on the pages: {len(faults)} differ")
+    return 1 if faults else 0
+
+
+if __name__ == "__main__":
+    sys.exit(main())

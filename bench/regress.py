@@ -157,7 +157,8 @@ def instructions(asked: Input) -> int:
     with tempfile.TemporaryFile("w+") as file:
         file.write(asked.given)
         file.seek(0)
-        counting = [shutil.which("valgrind") or "valgrind", "--tool=callgrind", "--callgrind-out-file=/dev/null", *asked.command]
+        valgrind = shutil.which("valgrind") or "valgrind"
+        counting = [valgrind, "--tool=callgrind", "--callgrind-out-file=/dev/null", *asked.command]
         ran = subprocess.run(
             counting,
             stdin=file,

@@ -97,8 +97,8 @@ of_version() {
 # NAME, and what the script says behind its first words: the program is older than its sources.
 of_no_rt() {
     said=$(without_rt "$copy/$1")
-    expect "$1: no rt, and the program isn't built" 1 "$1: the program isn't built, and there is no rt to $2 it: put the\
- Rattle kit's bin folder on the PATH" $? "$said"
+    expect "$1: no rt, and the program isn't built" 1 "$1: the program isn't built, and there is no rt to $2 it: put\
+ the Rattle kit's bin folder on the PATH" $? "$said"
 }
 
 for script in origins respath; do
@@ -108,8 +108,8 @@ done
 of_no_rt origins build
 of_no_rt respath "build or try"
 said=$(run "$copy/origins" --table payloads)
-expect "origins: a proof that fails" 1 "origins: the program is proved and built first, ten to twenty-five minutes on four\
- processors
+expect "origins: a proof that fails" 1 "origins: the program is proved and built first, ten to twenty-five minutes on\
+ four processors
 origins: the program was not built" $? "$(echo "$said" | grep 'the program')"
 
 # Names of files: each word stays one word.

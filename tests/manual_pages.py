@@ -81,7 +81,8 @@ def program(name: str) -> Path:
 def failed_write(folder: Path, words: list[str | Path], given: str) -> int:
     """The status of a program whose output can't be written."""
     with Path("/dev/full").open("w") as full:
-        return subprocess.run(words, cwd=folder, input=given, stdout=full, stderr=subprocess.DEVNULL, text=True).returncode
+        done = subprocess.run(words, cwd=folder, input=given, stdout=full, stderr=subprocess.DEVNULL, text=True)
+    return done.returncode
 
 
 def pages_of_respath(folder: Path, script: Path) -> Iterator[Page]:

@@ -98,7 +98,8 @@ CASES = (
     Case("tests/api_page.py", "tests/api_page.py", '"rpki_text::list"', '"rpki_text::moon"', "is no rpki_text::moon"),
     Case("tests/layers_picture.py", "docs/layers.svg", "<line x1=", "<line x2=", "is not what crates.txt says"),
     Case("tests/layers_picture.py", "crates.txt", "\nrpki_cover:\n", "\nrpki_cover: rpki_addr\n", "is not what crates"),
-    Case("tests/layers_picture.py", "crates.txt", "\nrpki_text: memchr\n", "\nrpki_text: memchr\nmoon:\n", "moon is in no room"),
+    Case("tests/layers_picture.py", "crates.txt", "\nrpki_text: memchr\n", "\nrpki_text: memchr\nmoon:\n",
+         "moon is in no room"),
     Case("tests/edits_apply.py", "crates/rpki_cover/must-fail/cover_by_one_enclosing_prefix.edit", "old: ", "old: moon",
          "cover_by_one_enclosing_prefix.edit: "),
     Case("tests/edits_apply.py", "crates/rpki_cover/edits/last_number_is_left_out.edit", "file: ", "file: moon/",
@@ -134,15 +135,19 @@ PAGES = (
     Case(NUMBERS, "check", "tests/rows.py --random 1 20000", "tests/rows.py --random 1 200", "and check asks 200\n"),
     Case(NUMBERS, "foreign/rust/Cargo.toml", '\nversion = "', '\nversion = "9', "foreign/rust/Cargo.toml: version"),
     Case(NUMBERS, "foreign/pigyelund.pc", "Version: ", "Version: 9", "foreign/pigyelund.pc: version"),
-    Case(MANUAL, "respath", "It is 2 for", "It is 3 for", "respath --help: names status 3 for 'usage'"),
-    Case(MANUAL, "respath", "the status is 3 where", "the status is 2 where", "names status 2 for 'check'"),
-    Case(MANUAL, "respath", "The status is 1 where", "The status is 2 where", "names status 2 for 'failed'"),
+    Case(MANUAL, "respath", "2 for", "3 for", "respath --help: names status 3 for 'usage'"),
+    Case(MANUAL, "respath", "status is 3", "status is 2", "respath --help: names status 2 for 'check'"),
+    Case(MANUAL, "respath", "status is 1", "status is 2", "respath --help: names status 2 for 'failed'"),
     Case(MANUAL, "respath", "= - ]; then\n            answer_input", "= + ]; then\n            answer_input",
          "is the standard input"),
     Case(MANUAL, "docs/respath.1", "1 where reading", "2 where reading", "docs/respath.1: names status 2"),
 )
 OF_ORIGINS = (
-    Case(MANUAL, "docs/origins.1", "; 2 for wrong", "; 3 for wrong", "docs/origins.1: names status 3 for 'usage'"),
+    # The help is in the program, and is replaced by as many octets.
+    Case(MANUAL, str(ORIGINS), "--diff OLD NEW", "--diff NEW OLD", "origins --help: says of withdraw"),
+    Case(MANUAL, str(ORIGINS), "status is 3", "status is 2", "origins --help: names status 2 for 'check'"),
+    Case(MANUAL, str(ORIGINS), "status is 1", "status is 2", "origins --help: names status 2 for 'failed'"),
+    Case(MANUAL, "docs/origins.1", "; 2 for", "; 3 for", "docs/origins.1: names status 3 for 'usage'"),
     Case(MANUAL, "docs/origins.1", ".I OLD NEW", ".I NEW OLD", "docs/origins.1: says of withdraw"),
     Case(MANUAL, "docs/origins.1", "\nis a file of that name", "\nis the standard input", "does not say that - is"),
 )
@@ -341,6 +346,8 @@ def all_cases(folder: Path) -> Iterator[tuple[str, str | None]]:
         lambda: of_pages(folder / "pages" / "copy"),
         lambda: wrong_programs.of_figures(folder / "figures" / "copy"),
         lambda: wrong_programs.of_recipes(folder / "recipes" / "copy"),
+        lambda: wrong_programs.of_expect(folder / "expect" / "copy"),
+        lambda: wrong_programs.of_exchanged(folder / "exchanged"),
         *(partial(wrong_programs.of_stubbed, it, folder / f"stubbed {at}" / "copy")
           for at, it in enumerate(wrong_programs.STUBBED)),
         lambda: wrong_checks.of_assertions(folder / "assertions"),

@@ -1,10 +1,10 @@
 #!/usr/bin/env python3
 """Compares numbers on the pages with what they count.
 
-A number of rows may be exact or rounded down: the files have at least as many, and less than a tenth more. Each line of
-a row that docs/TESTS.md quotes with its number has to be in the rows. The numbers of random lines on the pages have to
-be those of `check`. The version is the same in each file that has one. tests/manual_pages.py compares exit statuses. The
-status is 1 if a number differs, or if no page has it.
+A number of rows may be exact or rounded down: the files have at least as many, and less than a tenth more. Each row of
+many elements that docs/TESTS.md quotes has to be in the rows. The numbers of random lines on the pages have to be those
+of `check`. The version is the same in each file that has one. tests/manual_pages.py compares exit statuses. The status
+is 1 if a number differs, or if no page has it.
 """
 
 import re
@@ -109,7 +109,9 @@ def faults_of_versions() -> Iterator[str]:
     """The files whose version is not that of the changes."""
     found = {name: re.findall(pattern, text_of(name), re.MULTILINE)[:1] for name, pattern in VERSIONS.items()}
     wanted = found["CHANGELOG.md"]
-    yield from (f"{name}: version {it}, and CHANGELOG.md {wanted}" for name, it in found.items() if it != wanted or not it)
+    for name, version in found.items():
+        if version != wanted or not version:
+            yield f"{name}: version {version}, and CHANGELOG.md {wanted}"
 
 
 def main() -> int:

@@ -45,9 +45,8 @@ def unasserted(crate: Path) -> list[str]:
 
 def of_assertions(folder: Path) -> Iterator[tuple[str, str | None]]:
     """Each crate of tests, and which of its tests reach no assertion."""
-    crates = [it for it in sorted((TOP / "crates").glob("test_*")) if "#[test]" in "".join(
-        file.read_text() for file in it.glob("src/**/*.rt")
-    )]
+    tested = {it for it in (TOP / "crates").glob("test_*/src/**/*.rt") if "#[test]" in it.read_text()}
+    crates = sorted({TOP / "crates" / it.relative_to(TOP / "crates").parts[0] for it in tested})
     for crate in crates:
         found = unasserted(crate)
         yield f"{crate.name}: each test reaches an assertion", f"{found} reach none" if found else None

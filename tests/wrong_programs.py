@@ -48,6 +48,9 @@ STUBBED = (
     Stubbed(("tests/holdings.sh",), {program("example_holdings"): WRONG}, r"(FAILED .*\n[^\0]*){6}"),
     Stubbed(("tests/verified_set.py",), {program("example_verified_set"): WRONG},
             r": (\d\d+) runs, .* \1 differ\n"),
+    # Only the reason differs where a set is refused.
+    Stubbed(("tests/verified_set.py",), {program("example_verified_set"): "#!/bin/sh\nexit 1\n"},
+            r": (\d\d+) runs, .* \1 differ\n"),
     Stubbed(("tests/random_origins.py", "1", "40"), {program("origins"): WRONG},
             r": (\d\d+) answers compared, \1 differ\n"),
     Stubbed(("tests/places.py",), {program("respath"): ANSWERS_WRONG, "respath": WITHOUT_PLACES},
@@ -121,6 +124,52 @@ def of_stubbed(case: Stubbed, folder: Path) -> Iterator[tuple[str, str | None]]:
     if status != 1 or passed or not re.search(case.said, said):
         fault = f"status {status}, {passed[:5]} pass, and it doesn't print {case.said!r}: {said[-300:]}"
     yield f"{case.test[0]}: programs that do everything wrong", fault
+
+
+EXPECTED = """. tests/expect.sh
+expect "both" 0 "a b" 0 "a b"
+[ "$failed" -eq 0 ] && echo "nothing failed"
+expect "another text" 0 "a b" 0 "a  b"
+[ "$failed" -eq 1 ] && echo "one failed"
+failed=0
+expect "another status" 0 "a b" 1 "a b"
+expect "both again" 3 "" 3 ""
+exit "$failed"
+"""
+EXPECTED_SAID = """ok      both
+nothing failed
+FAILED  another text: wanted status 0 and 'a b', saw status 0 and 'a  b'
+one failed
+FAILED  another status: wanted status 0 and 'a b', saw status 1 and 'a b'
+ok      both again
+"""
+
+
+def of_expect(folder: Path) -> Iterator[tuple[str, str | None]]:
+    """Runs tests/expect.sh on cases of which one differs in its text alone, and one in its status alone."""
+    (folder / "tests").mkdir(parents=True)
+    shutil.copy(TOP / "tests" / "expect.sh", folder / "tests")
+    written(folder, {"asks.sh": EXPECTED})
+    found = run_in(folder, ("sh", "asks.sh"))
+    yield "tests/expect.sh: a text and a status differ", None if found == (1, EXPECTED_SAID) else f"{found}"
+
+
+def of_exchanged(folder: Path) -> Iterator[tuple[str, str | None]]:
+    """Runs tests/random_origins.py on the built program, of which one word is another one."""
+    built = TOP / program("origins")
+    if not built.is_file():
+        print("left out: tests/random_origins.py with one wrong word needs origins")
+        return
+    for word, other in (("valid", "not-found"), ("withdraw", "announce"), ("error: ", "error:"), ("match:", "as:")):
+        copy = copied(folder / word.strip(": "))
+        answers = f'found=$("{built}" "$@" && echo status 0 || echo status $?)\n'
+        shown = f"printf '%s\\n' \"$found\" | sed '$d; s/{word}/{other}/'\nexit ${{found##* }}\n"
+        written(copy, {program("origins"): f"#!/bin/sh\n{answers}{shown}"})
+        status, said = run_in(copy, ("tests/random_origins.py", "1", "200"))
+        counts = [int(it) for it in re.findall(r": (\d+) answers compared, (\d+) differ", said) for it in it]
+        is_so = status == 1 and len(counts) == 2 and 0 < counts[1] < counts[0]
+        fault = None if is_so else f"status {status}: {said[-300:]}"
+        yield f"tests/random_origins.py: {other} in place of {word}", fault
 
 
 def of_recipes(folder: Path) -> Iterator[tuple[str, str | None]]:

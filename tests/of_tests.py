@@ -168,9 +168,9 @@ def kit() -> Path:
     return Path(shutil.which("rt") or "rt").resolve().parent.parent
 
 
-def fault_of(case: Case, copy: Path, failing: int = 1) -> str | None:
+def fault_of(case: Case, copy: Path, command: tuple[str, ...] = (), failing: int = 1) -> str | None:
     """What a test does not say of a case, None if it says it; the copy is as before then."""
-    path, command = copy / case.file, BUILT.get(case.test, (case.test,))
+    path, command = copy / case.file, command or BUILT.get(case.test, (case.test,))
     before = path.read_bytes()
     if case.old.encode() not in before:
         return f"{case.old!r} doesn't stand there"
@@ -289,11 +289,11 @@ def of_rust(folder: Path) -> Iterator[tuple[str, str | None]]:
     subprocess.run(["make", "-s", "-C", folder / "foreign" / "c", "CC=gcc", *where, "static"], check=True)
     places = (f"PIGYELUND_LIB={folder}", f"CARGO_TARGET_DIR={folder / 'target'}")
     test = ("cargo", "test", "-q", "--offline", "--manifest-path", "foreign/rust/Cargo.toml", "--test", "rows")
-    status, said = said_by(("env", *places, *test, "names", "texts"), folder)
+    status, said = said_by(("env", *places, *test, "--", "their"), folder)
     yield f"{OF_RUST} passes", None if status == 0 else said
     for case in RUST:
-        BUILT[case.test] = ("env", *places, *test, "--", "--exact", case.test)
-        yield f"{OF_RUST}: {case.file}, {case.new!r}", fault_of(case, folder, 101)
+        alone = ("env", *places, *test, "--", "--exact", case.test)
+        yield f"{OF_RUST}: {case.file}, {case.new!r}", fault_of(case, folder, alone, 101)
 
 
 PART = '#!/bin/sh\n[ "${0##*/}" != rows.py ] || [ $# -eq 0 ] || exit 0\n'

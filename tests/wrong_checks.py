@@ -13,6 +13,7 @@ from pathlib import Path
 TOP = Path(__file__).resolve().parent.parent
 FUNCTION = re.compile(r"^(#\[test\]\n(?:#.*\n)*)?(?:pub )?fn (\w+)(.*?)^\}", re.MULTILINE | re.DOTALL)
 ASSERTION = re.compile(r"\bassert(?:_eq|_ne)?!\(")
+IMPORT = re.compile(r"^use crate::((?:\w+::)*\w+)::(\w+|\{[^}]*\});", re.MULTILINE)
 CALLED = re.compile(r"\b(\w+)(?:::<[^>]*>)?\(")
 # What each function of `checks.rt` is asked, and whether it has to fail.
 ASKED = {
@@ -26,21 +27,32 @@ ASKED = {
 
 
 def unasserted(crate: Path) -> list[str]:
-    """The tests of a crate that reach no assertion."""
-    bodies: dict[str, str] = {}
-    tests: list[str] = []
+    """The tests of a crate that reach no assertion.
+
+    A called name means the function of the same file or of the module that the file imports it from.
+    """
+    bodies: dict[tuple[str, str], str] = {}
+    imports: dict[tuple[str, str], str] = {}
+    tests = []
     for file in sorted(crate.glob("src/**/*.rt")):
-        for is_test, name, body in FUNCTION.findall(file.read_text()):
-            bodies[name] = bodies.get(name, "") + body
+        module, text = file.relative_to(crate / "src").with_suffix("").as_posix().replace("/", "::"), file.read_text()
+        for of, names in IMPORT.findall(text):
+            imports |= {(module, it): of for it in re.findall(r"\w+", names)}
+        for is_test, name, body in FUNCTION.findall(text):
+            bodies[module, name] = body
             if is_test:
-                tests.append(name)
-    reaching = {name for name, body in bodies.items() if ASSERTION.search(body)}
+                tests.append((module, name))
+    reaching = {one for one, body in bodies.items() if ASSERTION.search(body)}
     grows = True
     while grows:
-        more = {name for name, body in bodies.items() if reaching.intersection(CALLED.findall(body))} - reaching
+        more = {
+            (module, name)
+            for (module, name), body in bodies.items()
+            if any((imports.get((module, it), module), it) in reaching for it in CALLED.findall(body))
+        } - reaching
         reaching |= more
         grows = bool(more)
-    return [name for name in tests if name not in reaching]
+    return [f"{module}::{name}" for module, name in tests if (module, name) not in reaching]
 
 
 def of_assertions(folder: Path) -> Iterator[tuple[str, str | None]]:

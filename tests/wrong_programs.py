@@ -25,6 +25,10 @@ LC_ALL=C exec sed '/[\x80-\xff]/{s/.*/error: not UTF-8/;b}; /^path .*|/{s/.*/ref
 WITHOUT_PLACES = "#!/bin/sh\nLC_ALL=C exec sed 's/.*/error/'\n"
 
 
+# Cases about what the test itself expects, which no program changes.
+OF_THE_TEST = ("the last answer is longer than 64 KiB",)
+
+
 def program(name: str) -> str:
     """The place of a built program."""
     return f"crates/{name}/out/{name}"
@@ -40,7 +44,7 @@ class Stubbed:
 
 
 SCRIPTS = {"respath": AFTER_THE_FIRST, "origins": AFTER_THE_FIRST}
-ALL_FAIL = r"(FAILED .*\n(?!ok)[^\0]*){10}"
+ALL_FAIL = r"(FAILED .*\n[^\0]*){10}"
 STUBBED = (
     Stubbed(("tests/front.sh",), {"respath": WRONG, "origins": WRONG, "tests/logic.sh": WRONG}, ALL_FAIL),
     Stubbed(("tests/streams.sh",), SCRIPTS | {program(it): WRONG for it in ("respath", "origins")}, ALL_FAIL),
@@ -119,7 +123,7 @@ def of_stubbed(case: Stubbed, folder: Path) -> Iterator[tuple[str, str | None]]:
     copy = copied(folder)
     written(copy, case.stubs)
     status, said = run_in(copy, case.test)
-    passed = re.findall(r"^ok.*", said, re.MULTILINE)
+    passed = [it for it in re.findall(r"^ok +(.*)", said, re.MULTILINE) if it not in OF_THE_TEST]
     fault = None
     if status != 1 or passed or not re.search(case.said, said):
         fault = f"status {status}, {passed[:5]} pass, and it doesn't print {case.said!r}: {said[-300:]}"

@@ -108,19 +108,21 @@ def lines() -> Iterator[tuple[str, str]]:
 
 
 def of_vrps(folder: Path, kind: str) -> Iterator[Input]:
-    """A file of 20,000 VRPs that is read and printed, in both forms, in random order and in the order of the table."""
+    """A file of 20,000 VRPs in both forms, in random order and in that of the table; 50,000 routes by 2,000 VRPs."""
     vrps = list(getattr(origins, kind)(random.Random(kind), 20_000))
-    routes = list(origins.routes_of(random.Random(f"{kind} routes"), vrps, 20_000))
-    for order, listed in (("", vrps), ("-sorted", sorted(vrps))):
+    few = vrps[:2_000]
+    routes = list(origins.routes_of(random.Random(f"{kind} routes"), few, 50_000))
+    for order, listed in (("", vrps), ("-sorted", sorted(vrps)), ("-few", few)):
         files = folder / f"{kind}{order}"
         files.mkdir()
         origins.written(files, listed, routes)
-        for form in ("csv", "json"):
-            yield Input(f"table-{kind}-{form}{order}", (ORIGINS, "--table", files / form))
+        if listed is not few:
+            for form in ("csv", "json"):
+                yield Input(f"table-{kind}-{form}{order}", (ORIGINS, "--table", files / form))
     asked = (files / "routes").read_text()
     yield Input(f"routes-{kind}", (ORIGINS, files / "csv"), asked)
-    few = "".join(asked.splitlines(keepends=True)[:2_000])
-    yield Input(f"why-{kind}", (ORIGINS, "--why", files / "csv"), few)
+    first = "".join(asked.splitlines(keepends=True)[:2_000])
+    yield Input(f"why-{kind}", (ORIGINS, "--why", files / "csv"), first)
 
 
 def of_origins(folder: Path) -> Iterator[Input]:

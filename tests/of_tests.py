@@ -289,7 +289,7 @@ def of_rust(folder: Path) -> Iterator[tuple[str, str | None]]:
     subprocess.run(["make", "-s", "-C", folder / "foreign" / "c", "CC=gcc", *where, "static"], check=True)
     places = (f"PIGYELUND_LIB={folder}", f"CARGO_TARGET_DIR={folder / 'target'}")
     test = ("cargo", "test", "-q", "--offline", "--manifest-path", "foreign/rust/Cargo.toml", "--test", "rows")
-    status, said = said_by(("env", *places, *test, "--", "their"), folder)
+    status, said = said_by(("env", *places, *test, "--", "--exact", *(it.test for it in RUST)), folder)
     yield f"{OF_RUST} passes", None if status == 0 else said
     for case in RUST:
         alone = ("env", *places, *test, "--", "--exact", case.test)

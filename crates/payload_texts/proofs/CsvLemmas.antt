@@ -1,7 +1,8 @@
 -- The lines of a file, read one after another; a file writes one list of payloads, or has one fault.
-use Rattle.payload_texts.proofs.Common.{List, [], append-nil, append_assoc, arith, inl, inr, refl, sym, ℕ, ◌++◌, ◌+◌, ◌∙◌, ◌∷◌, ◌≡◌, ◌≢◌, usual, HasRowFault, IsRow, Columns, FileFault, Line, NoPayload, PayloadFault, Row}
+use Rattle.payload_texts.proofs.Common.{List, [], append-nil, append_assoc, arith, inl, inr, refl, sym, ℕ, ◌++◌, ◌+◌, ◌∙◌, ◌∷◌, ◌≡◌, ◌≢◌, usual, HasRowFault, IsRow, Columns, FileFault, Line, MaxLenValue, NoPayload, Payload, PayloadFault, Row}
 use Rattle.rpki_text.specs.Lines.{lines_of}
 use Rattle.payload_texts.specs.Csv.{AreRows, HaveFirstFault, HasCsvFault, IsCsvFile, columns_after, payloads_of}
+use Rattle.payload_texts.specs.Asking.{BeginPayloads, HasCsvPayload}
 use Rattle.payload_texts.proofs.ItemLemmas.{Payloads}
 use Rattle.payload_texts.proofs.RowLemmas.{row_apart, row_fault_one, row_one}
 
@@ -12,10 +13,11 @@ pub record IsReadSo (text rest : List ℕ) (number : ℕ) (columns : Columns) (p
       → AreRows usual (lines_of text) (payloads ++ more)
   pub faults : (fault : FileFault) → HaveFirstFault (number + 1) columns (lines_of rest) fault
       → HaveFirstFault 1 usual (lines_of text) fault
+  pub begins : BeginPayloads columns (lines_of rest) → HasCsvPayload text
 
 -- nothing is read yet
 pub read_none : (text : List ℕ) → IsReadSo text text 0 usual []
-read_none text = record { values = λ more rows. rows; faults = λ fault wrong. wrong }
+read_none text = record { values = λ more rows. rows; faults = λ fault wrong. wrong; begins = λ later. later }
 
 module _ (text rest after line : List ℕ) (number : ℕ) (columns : Columns) (payloads : Payloads)
     (had : IsReadSo text rest number columns payloads) (first : lines_of rest ≡ line ∷ lines_of after) where
@@ -26,12 +28,17 @@ module _ (text rest after line : List ℕ) (number : ℕ) (columns : Columns) (p
     values = λ more rows.
         rw append_assoc (had.values (payloads_of row ++ more) (rw first (row, is, more, refl, rows)));
     faults = λ fault wrong. had.faults fault (rw first (inr (row, is, wrong)));
+    begins = λ later. had.begins (rw first (row, is, inr later));
   }
 
   -- which writes no payload
   pub read_over : (row : Row) → payloads_of row ≡ [] → IsRow columns line row
       → IsReadSo text after (number + 1) (columns_after columns row) payloads
   read_over row none is = grind (arith, read_more)
+
+  -- it writes one, for which memory is requested
+  pub read_wanting : (payload : MaxLenValue × ℕ) → IsRow columns line (Payload payload) → HasCsvPayload text
+  read_wanting payload is = had.begins (rw first (Payload payload, is, inl (λ none. cc none)))
 
   -- the next line is wrong
   pub read_wrong : (wrong : PayloadFault) → HasRowFault columns line wrong → HasCsvFault text (Line (number + 1) wrong)

@@ -1,6 +1,7 @@
 //! A file of payloads in comma separated values.
 ghost use Rattle.std.specs.Prelude.{MatchResult};
-ghost use Rattle.rpki_text.specs.Memory.{IfRefused};
+ghost use Rattle.rpki_text.specs.Memory.{MatchOrMemory};
+ghost use Rattle.payload_texts.specs.Asking.{HasCsvPayload};
 ghost use Rattle.payload_texts.specs.Csv.{IsCsvFile, HasCsvFault};
 
 use crate::columns::Columns;
@@ -12,14 +13,14 @@ use rpki_prefix::MaxLenPrefix;
 use rpki_text::line::cut_line;
 use std::alloc::Allocator;
 
-/// The payloads of lines of fields, in their order, or what is wrong there.
-#[tactic(auto, using(crate::proofs::CsvLemmas::read_none, crate::proofs::CsvLemmas::read_more, crate::proofs::CsvLemmas::read_no_payload, crate::proofs::CsvLemmas::read_wrong))]
+/// The payloads of lines of fields, in their order, or what is wrong there. Memory is requested for a payload alone.
+#[tactic(auto, using(crate::proofs::CsvLemmas::read_none, crate::proofs::CsvLemmas::read_more, crate::proofs::CsvLemmas::read_no_payload, crate::proofs::CsvLemmas::read_wrong, crate::proofs::CsvLemmas::read_wanting))]
 pub(crate) fn read_csv<A: Allocator>(
     alloc: A,
     text: &[u8],
 ) -> Result<Vec<(MaxLenPrefix, Asn), A>, OrMemory<FileFault>>
     ensures { MatchResult result (λ payloads. IsCsvFile text.now payloads.items)
-        (IfRefused (HasCsvFault text.now)) }
+        (λ error. MatchOrMemory error (HasCsvFault text.now) (HasCsvPayload text.now)) }
 {
     let mut payloads = Vec::new(alloc);
     let mut columns = Columns::USUAL;

@@ -1,7 +1,8 @@
 //! A file of validated payloads, in either form.
-ghost use Rattle.std.specs.Prelude.{◌↔◌, IsTrue, MatchResult};
-ghost use Rattle.rpki_text.specs.Memory.{IfRefused};
+ghost use Rattle.std.specs.Prelude.{◌↔◌, IfErr, IsTrue, MatchResult};
+ghost use Rattle.rpki_text.specs.Memory.{IsMemory, MatchOrMemory};
 ghost use Rattle.rpki_text.specs.Reading.{AnswersOrMemory};
+ghost use Rattle.payload_texts.specs.Asking.{MayWantMemory};
 ghost use Rattle.payload_texts.specs.Files.{IsObjectText, IsPayloadFile, HasFileFault};
 
 use crate::csv::read_csv;
@@ -29,8 +30,12 @@ pub fn read_payloads<A: Allocator + Copy>(
     alloc: A,
     text: &[u8],
 ) -> Result<Vec<(MaxLenPrefix, Asn), A>, OrMemory<FileFault>>
-    ensures { AnswersOrMemory (λ payloads. payloads.items) (IsPayloadFile text.now)
+    ensures answers { AnswersOrMemory (λ payloads. payloads.items) (IsPayloadFile text.now)
         (HasFileFault text.now) result }
+
+    // A request for memory was refused. None is made before the first payload of lines, nor for a text that opens an
+    // object and isn't UTF-8.
+    ensures memory { IfErr result (λ error. IsMemory error → MayWantMemory text.now) }
 {
     payloads_in(alloc, text)
 }
@@ -41,7 +46,7 @@ fn payloads_in<A: Allocator + Copy>(
     text: &[u8],
 ) -> Result<Vec<(MaxLenPrefix, Asn), A>, OrMemory<FileFault>>
     ensures { MatchResult result (λ payloads. IsPayloadFile text.now payloads.items)
-        (IfRefused (HasFileFault text.now)) }
+        (λ error. MatchOrMemory error (HasFileFault text.now) (MayWantMemory text.now)) }
 {
     if opens_object(text) {
         read_json(alloc, text)

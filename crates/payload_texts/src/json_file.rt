@@ -3,7 +3,8 @@ ghost use Rattle.std.specs.Bool.{MatchBool};
 ghost use Rattle.std.specs.Prelude.{◌≡◌, ◌≢◌, List, ◌∷◌, Err, IfOk, MatchResult, Some};
 ghost use Rattle.json.specs.Token.{Token as SpecToken, begin_object};
 ghost use Rattle.json.specs.Json.{Members, document, object};
-ghost use Rattle.rpki_text.specs.Memory.{IfRefused};
+ghost use Rattle.rpki_text.specs.Memory.{MatchOrMemory};
+ghost use Rattle.std.specs.Str.{IsUtf8};
 ghost use Rattle.payload_texts.specs.JsonFiles.{IsJsonFile, HasJsonFault, TellRoas, roas};
 ghost use Rattle.payload_texts.specs.Members.{values_in};
 
@@ -15,13 +16,13 @@ use rpki_base::memory::OrMemory;
 use rpki_prefix::MaxLenPrefix;
 use std::alloc::{AllocError, Allocator};
 
-/// The payloads of the member `roas`, in their order, or what is wrong there.
+/// The payloads of the member `roas`, in their order, or what is wrong there. Memory is requested for UTF-8 alone.
 pub(crate) fn read_json<A: Allocator + Copy>(
     alloc: A,
     text: &[u8],
 ) -> Result<Vec<(MaxLenPrefix, Asn), A>, OrMemory<FileFault>>
     ensures { MatchResult result (λ payloads. IsJsonFile text.now payloads.items)
-        (IfRefused (HasJsonFault text.now)) }
+        (λ error. MatchOrMemory error (HasJsonFault text.now) (IsUtf8 text.now)) }
 {
     let Ok(text) = str::from_utf8(text) else {
         return Err(OrMemory::Refused(FileFault::NotObject));

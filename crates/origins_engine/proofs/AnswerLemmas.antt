@@ -1,8 +1,14 @@
 -- Answers by a table are answers by the list that it was made of.
-use Rattle.origins_engine.proofs.Common.{arith, Bool, List, Option, [], ℕ, ◌∷◌, ◌≡◌, IfSome, OnOk, Result, AnswersAll, AnswersEnded, AnswersFirst, BeginsAnswers, HasAnswered, IsOriginAnswer, IsPayloadFile, Payload, ByFile}
+use Rattle.origins_engine.proofs.Common.{arith, Bool, List, Option, [], ℕ, ◌∷◌, ◌≡◌, IfSome, OnOk, Result, AnswersAll, AnswersEnded, AnswersFirst, BeginsAnswers, Err, HasAnswered, HasFileFault, IsOriginAnswer, IsPayloadFile, Payload, ByFile}
 use Rattle.std.specs.List.{AllZip}
 use Rattle.std.specs.List.Sorted.{IsPermutation}
 use Rattle.std.proofs.lemmas.List.Sorted.{IsPermutation-sym}
+use Rattle.std.specs.Prelude.{IfOk, MatchResult}
+use Rattle.rpki_text.specs.Memory.{IfRefused}
+use Rattle.rpki_text.specs.declared.memory.OrMemory.{OrMemory}
+use Rattle.payload_texts.specs.declared.fault.FileFault.{FileFault}
+use Rattle.origins_engine.specs.Told.{told_payloads}
+use Rattle.origins_engine.specs.declared.error.PayloadsError.TheVariants.{File, Read}
 use Rattle.origin_lines.proofs.OrderLemmas.{any_order}
 
 -- a table has the payloads of a list in another order
@@ -45,7 +51,19 @@ pub by_file : (file : Option (List ℕ)) (P : List Payload → Type 0) (listed :
     → IfSome file (λ text. IsPayloadFile text listed) → P listed → IfSome file (ByFile P)
 by_file file P listed is holds = grind (arith)
 
--- what holds of a text that was read
-pub of_bytes : (left : Option (List ℕ)) (text : List ℕ) (P : List ℕ → Type 0) → IfSome left (λ bytes. text ≡ bytes)
-    → P text → IfSome left P
-of_bytes left text P is holds = grind (arith)
+-- what is told of a file that was read whole
+module _ {V : Type 0} (left : Option (List ℕ)) (text : List ℕ) (payloads : V → List Payload)
+    (r : Result V (OrMemory FileFault)) where
+  pub told_file : IfSome left (λ bytes. text ≡ bytes)
+      → MatchResult r (λ v. IsPayloadFile text (payloads v)) (IfRefused (HasFileFault text))
+      → IfOk (told_payloads r) (λ v. IfSome left (λ bytes. IsPayloadFile bytes (payloads v)))
+  told_file is found = grind (arith)
+
+  pub told_wrong : IfSome left (λ bytes. text ≡ bytes)
+      → MatchResult r (λ v. IsPayloadFile text (payloads v)) (IfRefused (HasFileFault text))
+      → (fault : FileFault) → told_payloads r ≡ Err (File fault) → IfSome left (λ bytes. HasFileFault bytes fault)
+  told_wrong is found fault told = grind (arith)
+
+  -- no read failed
+  pub told_no_read : told_payloads r ≡ Err Read → ⊥
+  told_no_read told = grind (arith)

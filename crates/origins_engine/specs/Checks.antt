@@ -1,5 +1,5 @@
 -- Lines that a check looks for: they begin with 'i' or 'e', as answers do that are invalid, and errors.
-use Rattle.std.specs.Prelude.{◌≡◌, ℕ, ◌-◌, ◌<◌, ◌⊎◌, ◌↔◌, IsTrue, List, length, slice_index_or}
+use Rattle.std.specs.Prelude.{◌≡◌, ◌==◌, ◌&&◌, ◌||◌, ℕ, ◌-◌, ◌<◌, ◌⊎◌, ◌↔◌, Bool, true, false, IsTrue, List, [], ◌∷◌, Option, None, Some, length, not, slice_index_or, if◌then◌else◌}
 use Rattle.origins_engine.specs.declared.check.Seen.{Seen}
 
 -- a line begins at a place where that is the first, or 0a stands before it
@@ -18,3 +18,26 @@ HasFound octets = (at : ℕ) × (at < length octets) × BeginsLine octets at × 
 pub record IsSeen (octets : List ℕ) (seen : Seen) : Type 0 where
   pub start : IsTrue seen.is_at_start ↔ BeginsLine octets (length octets)
   pub found : IsTrue seen.has_found ↔ HasFound octets
+
+-- what is seen of no octet, and what is seen with one more
+abbrev pub seen_nothing : Seen
+seen_nothing = record { is_at_start = true; has_found = false }
+
+abbrev pub seen_with : Seen → ℕ → Seen
+seen_with seen octet =
+    record { is_at_start = octet == 10; has_found = seen.has_found || (seen.is_at_start && (octet == 105 || octet == 101)) }
+
+-- what is seen with these octets more
+abbrev pub seen_behind : Seen → List ℕ → Seen
+seen_behind seen [] = seen
+seen_behind seen (octet ∷ octets) = seen_behind (seen_with seen octet) octets
+
+abbrev pub is_same : Bool → Bool → Bool
+is_same a b = if a then b else not b
+
+-- the known bytes, where this is what is seen of them; nothing is known, where it isn't
+abbrev pub known_seen : Seen → Option (List ℕ) → Option (List ℕ)
+known_seen seen None = None
+known_seen seen (Some octets) =
+    if is_same (seen_behind seen_nothing octets).is_at_start seen.is_at_start
+    && is_same (seen_behind seen_nothing octets).has_found seen.has_found then Some octets else None

@@ -1,6 +1,6 @@
 //! What a check of routes looks for in the answers: whether a route is invalid, or a line wrong.
-ghost use Rattle.std.specs.Prelude.{◌++◌, ◌∷◌, ◌↔◌, ◌⊎◌, [], ℕ, IsTrue, List};
-ghost use Rattle.origins_engine.specs.Checks.{IsSeen, IsSought};
+ghost use Rattle.std.specs.Prelude.{◌≡◌, ◌++◌, ◌↔◌, ◌⊎◌, [], ℕ, IsTrue, List};
+ghost use Rattle.origins_engine.specs.Checks.{IsSeen, IsSought, seen_behind, seen_nothing, seen_with};
 
 /// What was seen of bytes: whether a line begins behind them, and whether one begins in them with `i` or `e`, as the
 /// answers `invalid-as`, `invalid-length` and `error: ..` do, and no other.
@@ -22,7 +22,8 @@ fn is_sought(byte: u8) -> bool
 impl Seen {
     /// What is seen of no byte.
     pub fn nothing() -> Seen
-        ensures { IsSeen [] result }
+        ensures seen { IsSeen [] result }
+        ensures value { result ≡ seen_nothing }
     {
         Seen {
             is_at_start: true,
@@ -39,7 +40,7 @@ impl Seen {
 
     /// What is seen with one byte more.
     fn with(self, byte: u8) -> Seen
-        ensures { (octets : List ℕ) → IsSeen octets self → IsSeen (octets ++ byte ∷ []) result }
+        ensures { result ≡ seen_with self byte }
     {
         Seen {
             is_at_start: byte == b'\n',
@@ -49,7 +50,8 @@ impl Seen {
 
     /// What is seen with the bytes of a piece more.
     pub fn with_all(self, piece: &[u8]) -> Seen
-        ensures { (octets : List ℕ) → IsSeen octets self → IsSeen (octets ++ piece.now) result }
+        ensures seen { (octets : List ℕ) → IsSeen octets self → IsSeen (octets ++ piece.now) result }
+        ensures value { result ≡ seen_behind self piece.now }
     {
         let mut seen = self;
         for byte in piece {

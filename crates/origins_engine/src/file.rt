@@ -2,6 +2,7 @@
 ghost use Rattle.std.specs.Prelude.{◌≡◌, false, true, Err, IfOk, IfSome, OnOk, IsErrOf};
 ghost use Rattle.std.specs.Io.KnownBytes.{IsAtEnd};
 ghost use Rattle.origins_engine.specs.declared.error.PayloadsError.TheVariants.{File};
+ghost use Rattle.origins_engine.specs.Told.{told_payloads};
 ghost use Rattle.payload_texts.specs.Files.{HasFileFault, IsPayloadFile};
 
 use crate::error::PayloadsError;
@@ -14,8 +15,13 @@ use rpki_base::memory::OrMemory;
 use rpki_prefix::MaxLenPrefix;
 use std::alloc::Allocator;
 
-/// Reads the whole file, and then its payloads, in its order, each as often as it stands there.
-#[tactic(auto, using(crate::proofs::AnswerLemmas::of_bytes))]
+/// Reads the whole file, and returns its payloads in the order of the file. A repeated payload is kept.
+///
+/// # Errors
+///
+/// [`PayloadsError::Read`] if a read failed. [`PayloadsError::File`] if the file is wrong: the fault is its first one.
+/// [`PayloadsError::Memory`] if a request for memory was refused.
+#[tactic(auto, using(crate::proofs::AnswerLemmas::told_file, crate::proofs::AnswerLemmas::told_wrong, crate::proofs::AnswerLemmas::told_no_read))]
 pub fn read_file<A: Allocator + Copy, P: Source>(
     alloc: A,
     file: &mut P,
@@ -38,7 +44,7 @@ pub fn read_file<A: Allocator + Copy, P: Source>(
     ensures wrong { (fault : FileFault) → result ≡ Err (File fault) →
         IfSome (P.left file.old) (λ text. HasFileFault text fault) }
 
-    // No call failed.
+    // A request for memory was refused, and no call failed.
     ensures memory { IsErrOf result PayloadsError.Memory → P.mark file.new ≡ P.mark file.old }
 {
     let text = match read_to_end(alloc, file) {
@@ -46,7 +52,16 @@ pub fn read_file<A: Allocator + Copy, P: Source>(
         Err(RunError::Memory) => return Err(PayloadsError::Memory),
         Err(_) => return Err(PayloadsError::Read),
     };
-    match read_payloads(alloc, &text) {
+    payloads_told(read_payloads(alloc, &text))
+}
+
+/// Returns the payloads of a file that was read whole, or its fault as one of the file.
+fn payloads_told<A: Allocator>(
+    outcome: Result<Vec<(MaxLenPrefix, Asn), A>, OrMemory<FileFault>>,
+) -> Result<Vec<(MaxLenPrefix, Asn), A>, PayloadsError>
+    ensures { result ≡ told_payloads outcome }
+{
+    match outcome {
         Ok(listed) => Ok(listed),
         Err(OrMemory::Refused(fault)) => Err(PayloadsError::File(fault)),
         Err(OrMemory::Memory(_)) => Err(PayloadsError::Memory),

@@ -6,6 +6,8 @@ pub mod check;
 pub mod error;
 pub mod file;
 pub mod lines;
+pub mod retrying;
 pub mod routes;
 pub mod tables;
 pub mod until_end;
+pub mod watched;

@@ -49,9 +49,20 @@ pub fn answer_routes<A: Allocator + Copy, P: Source, R: Source, W: Sink>(
     // The payloads weren't read: no route was, and nothing was written.
     ensures untouched { (error : PayloadsError) → result ≡ Err (Payloads error) →
         (routes.new ≡ routes.old) × (writer.new ≡ writer.old) }
+
+    // A read of the payloads failed; or the file is wrong, and was read whole; or a request for memory was refused, and
+    // no read failed.
     ensures read { IsErrOf result (Payloads PayloadsError.Read) → P.mark payloads.new ≡ true }
     ensures wrong { (fault : FileFault) → IsErrOf result (Payloads (PayloadsError.File fault)) →
         IfSome (P.left payloads.old) (λ text. HasFileFault text fault) }
+    ensures wrong_unmarked { (fault : FileFault) → IsErrOf result (Payloads (PayloadsError.File fault)) →
+        (P.mark payloads.new ≡ P.mark payloads.old) × IsAtEnd (P.left payloads.new) }
+    ensures payloads_memory { IsErrOf result (Payloads PayloadsError.Memory) →
+        P.mark payloads.new ≡ P.mark payloads.old }
+
+    // The run failed behind the payloads, which were read whole.
+    ensures payloads_read { (error : RunError) → IsErrOf result (Run error) →
+        (P.mark payloads.new ≡ P.mark payloads.old) × IsAtEnd (P.left payloads.new) }
 
     // A read of the routes failed. The answers of the lines whose ends were read were written whole, and nothing else.
     ensures routes_read { IsErrOf result (Run RunError.Read) →

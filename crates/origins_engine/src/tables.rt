@@ -1,5 +1,6 @@
 //! Tells which payloads files have, and what changes from one to the next.
 ghost use Rattle.std.specs.Prelude.{◌≡◌, ◌⊎◌, ℕ, List, [], false, true, IfOk, IfSome, OnOk, IsErrOf, length};
+ghost use Rattle.std.specs.Io.KnownBytes.{IsAtEnd};
 ghost use Rattle.lines_engine.specs.declared.error.RunError.TheVariants as RunError;
 ghost use Rattle.origins_engine.specs.Runs.{ByFile, TellsBetween, TellsChanges, TellsTable};
 ghost use Rattle.origins_engine.specs.declared.error.ChangesError.TheVariants as ChangesError;
@@ -31,9 +32,10 @@ pub fn write_table<A: Allocator + Copy, P: Source, W: Sink>(
     requires payloads_clear { P.mark payloads.old ≡ false }
     requires writer_clear { W.mark writer.old ≡ false }
 
-    // No call failed, the table of what the file writes was written, and the writer is flushed.
+    // No call failed, the file was read whole, the table of what it writes was written, and the writer is flushed.
     ensures unmarked { OnOk result ((P.mark payloads.new ≡ P.mark payloads.old)
         × (W.mark writer.new ≡ W.mark writer.old)) }
+    ensures read_whole { OnOk result (IsAtEnd (P.left payloads.new)) }
     ensures told { IfOk result (λ count. IfSome (P.left payloads.old) (ByFile (λ listed. (count ≡ length listed)
         × TellsTable of (W.written writer.old) (W.written writer.new) [] listed))) }
     ensures flushed { OnOk result (W.flushed writer.new ≡ true) }
@@ -41,9 +43,19 @@ pub fn write_table<A: Allocator + Copy, P: Source, W: Sink>(
     // The payloads weren't read, and nothing was written.
     ensures untouched { (error : PayloadsError) → IsErrOf result (OriginsError.Payloads error) →
         writer.new ≡ writer.old }
+
+    // A read failed; or the file is wrong, and was read whole; or a request for memory was refused, and no read failed.
     ensures read { IsErrOf result (OriginsError.Payloads PayloadsError.Read) → P.mark payloads.new ≡ true }
     ensures wrong { (fault : FileFault) → IsErrOf result (OriginsError.Payloads (PayloadsError.File fault)) →
         IfSome (P.left payloads.old) (λ text. HasFileFault text fault) }
+    ensures wrong_unmarked { (fault : FileFault) → IsErrOf result (OriginsError.Payloads (PayloadsError.File fault)) →
+        (P.mark payloads.new ≡ P.mark payloads.old) × IsAtEnd (P.left payloads.new) }
+    ensures payloads_memory { IsErrOf result (OriginsError.Payloads PayloadsError.Memory) →
+        P.mark payloads.new ≡ P.mark payloads.old }
+
+    // The run failed behind the payloads, which were read whole.
+    ensures payloads_read { (error : RunError) → IsErrOf result (OriginsError.Run error) →
+        (P.mark payloads.new ≡ P.mark payloads.old) × IsAtEnd (P.left payloads.new) }
 
     // No call failed. Nothing was written, or a beginning of the table.
     ensures memory_unmarked { IsErrOf result (OriginsError.Run RunError.Memory) →
@@ -108,26 +120,41 @@ pub fn write_changes<A: Allocator + Copy, P: Source, N: Source, W: Sink>(
     requires new_clear { N.mark new.old ≡ false }
     requires writer_clear { W.mark writer.old ≡ false }
 
-    // No call failed, the changes from what the old file writes to what the new one does were written, and the writer
-    // is flushed.
+    // No call failed, both files were read whole, the changes from what the old one writes to what the new one does
+    // were written, and the writer is flushed.
     ensures unmarked { OnOk result ((P.mark old.new ≡ P.mark old.old) × (N.mark new.new ≡ N.mark new.old)
         × (W.mark writer.new ≡ W.mark writer.old)) }
+    ensures read_whole { OnOk result (IsAtEnd (P.left old.new) × IsAtEnd (N.left new.new)) }
     ensures told { IfOk result (λ counts. IfSome (P.left old.old) (ByFile (λ before. (counts.0 ≡ length before)
         × IfSome (N.left new.old) (ByFile (λ after. (counts.1 ≡ length after)
         × TellsChanges (W.written writer.old) (W.written writer.new) [] before after))))) }
     ensures flushed { OnOk result (W.flushed writer.new ≡ true) }
 
-    // The payloads of a file weren't read, and nothing was written.
+    // The old payloads weren't read: the new file wasn't either, and nothing was written. A read failed; or the file is
+    // wrong, and was read whole; or a request for memory was refused, and no read failed.
     ensures old_untouched { (error : PayloadsError) → IsErrOf result (ChangesError.Old error) →
-        writer.new ≡ writer.old }
-    ensures new_untouched { (error : PayloadsError) → IsErrOf result (ChangesError.New error) →
-        writer.new ≡ writer.old }
+        (new.new ≡ new.old) × (writer.new ≡ writer.old) }
     ensures old_read { IsErrOf result (ChangesError.Old PayloadsError.Read) → P.mark old.new ≡ true }
-    ensures new_read { IsErrOf result (ChangesError.New PayloadsError.Read) → N.mark new.new ≡ true }
     ensures old_wrong { (fault : FileFault) → IsErrOf result (ChangesError.Old (PayloadsError.File fault)) →
         IfSome (P.left old.old) (λ text. HasFileFault text fault) }
+    ensures old_wrong_unmarked { (fault : FileFault) → IsErrOf result (ChangesError.Old (PayloadsError.File fault)) →
+        (P.mark old.new ≡ P.mark old.old) × IsAtEnd (P.left old.new) }
+    ensures old_memory { IsErrOf result (ChangesError.Old PayloadsError.Memory) → P.mark old.new ≡ P.mark old.old }
+
+    // The new payloads weren't read: the old file was, whole, and nothing was written. The three faults are the same.
+    ensures new_untouched { (error : PayloadsError) → IsErrOf result (ChangesError.New error) →
+        (P.mark old.new ≡ P.mark old.old) × IsAtEnd (P.left old.new) × (writer.new ≡ writer.old) }
+    ensures new_read { IsErrOf result (ChangesError.New PayloadsError.Read) → N.mark new.new ≡ true }
     ensures new_wrong { (fault : FileFault) → IsErrOf result (ChangesError.New (PayloadsError.File fault)) →
         IfSome (N.left new.old) (λ text. HasFileFault text fault) }
+    ensures new_wrong_unmarked { (fault : FileFault) → IsErrOf result (ChangesError.New (PayloadsError.File fault)) →
+        (N.mark new.new ≡ N.mark new.old) × IsAtEnd (N.left new.new) }
+    ensures new_memory { IsErrOf result (ChangesError.New PayloadsError.Memory) → N.mark new.new ≡ N.mark new.old }
+
+    // The run failed behind the payloads, which were read whole.
+    ensures both_read { (error : RunError) → IsErrOf result (ChangesError.Run error) →
+        (P.mark old.new ≡ P.mark old.old) × IsAtEnd (P.left old.new)
+        × (N.mark new.new ≡ N.mark new.old) × IsAtEnd (N.left new.new) }
 
     // No call failed. Nothing was written, or a beginning of the changes.
     ensures memory_unmarked { IsErrOf result (ChangesError.Run RunError.Memory) →

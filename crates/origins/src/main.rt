@@ -4,22 +4,24 @@
 
 ghost use Rattle.std.specs.Prelude.{◌≡◌, false, IfOk};
 
+mod counted;
 mod failure;
 mod help;
 mod options;
-mod watched;
 
+use crate::counted::Counted;
 use crate::failure::Failure;
 use crate::help::{HELP, USAGE, VERSION};
 use crate::options::{Task, parse};
-use crate::watched::Watched;
 use lines_engine::adapters::{FromRead, IntoWrite};
 use lines_engine::device::Source;
 use lines_engine::error::RunError;
 use origins_engine::error::{ChangesError, OriginsError};
+use origins_engine::retrying::Retrying;
 use origins_engine::routes::answer_routes;
 use origins_engine::tables::{write_changes, write_table};
 use origins_engine::until_end::UntilEnd;
+use origins_engine::watched::Watched;
 use rpki_base::Asn;
 use std::fs::File;
 use std::io::{BufWriter, Stdout};
@@ -84,12 +86,12 @@ fn told<'a>(printed: io::Result<()>) -> Result<u8, Failure<'a>> {
 /// the standard input is closed, it is not taken for it.
 fn answer<'a>(rt: &HostRuntime, name: &'a str, why: bool, check: bool) -> Result<u8, Failure<'a>> {
     let mut payloads = open(rt, name)?;
-    let mut routes = FromRead::new(rt.stdin());
+    let mut routes = FromRead::new(Retrying::new(rt.stdin()));
     let mut writer = Watched::new(IntoWrite::new(buffered(rt)?));
     match answer_routes(rt.alloc(), &mut payloads, why, &mut routes, &mut writer) {
         Ok(count) => {
-            let _ = eprintln!(rt; "origins: {count} payloads");
-            Ok(if check && writer.seen.has_found { 3 } else { 0 })
+            let _ = eprintln!(rt; "origins: {}", Counted(count));
+            Ok(if check && writer.has_found() { 3 } else { 0 })
         }
         Err(OriginsError::Payloads(error)) => Err(Failure::Payloads(name, error)),
         Err(OriginsError::Run(error)) => Err(Failure::Run(error)),
@@ -103,7 +105,7 @@ fn tell_table<'a>(rt: &HostRuntime, name: &'a str, of: Option<u32>) -> Result<u8
     let mut writer = IntoWrite::new(buffered(rt)?);
     match write_table(rt.alloc(), &mut payloads, of, &mut writer) {
         Ok(count) => {
-            let _ = eprintln!(rt; "origins: {count} payloads");
+            let _ = eprintln!(rt; "origins: {}", Counted(count));
             Ok(0)
         }
         Err(OriginsError::Payloads(error)) => Err(Failure::Payloads(name, error)),
@@ -118,7 +120,7 @@ fn tell_changes<'a>(rt: &HostRuntime, old: &'a str, new: &'a str) -> Result<u8, 
     let mut writer = IntoWrite::new(buffered(rt)?);
     match write_changes(rt.alloc(), &mut before, &mut after, &mut writer) {
         Ok((count, next)) => {
-            let _ = eprintln!(rt; "origins: {count} payloads, and then {next}");
+            let _ = eprintln!(rt; "origins: {}, and then {next}", Counted(count));
             Ok(0)
         }
         Err(ChangesError::Old(error)) => Err(Failure::Payloads(old, error)),
@@ -128,11 +130,11 @@ fn tell_changes<'a>(rt: &HostRuntime, old: &'a str, new: &'a str) -> Result<u8, 
 }
 
 /// A file of payloads.
-fn open<'a>(rt: &HostRuntime, name: &'a str) -> Result<UntilEnd<File>, Failure<'a>>
-    ensures { IfOk result (λ file. ⟦<UntilEnd<File> as Source>⟧.mark file ≡ false) }
+fn open<'a>(rt: &HostRuntime, name: &'a str) -> Result<UntilEnd<Retrying<File>>, Failure<'a>>
+    ensures { IfOk result (λ file. ⟦<UntilEnd<Retrying<File>> as Source>⟧.mark file ≡ false) }
 {
     match fs::open(rt, name) {
-        Ok(file) => Ok(UntilEnd::new(file)),
+        Ok(file) => Ok(UntilEnd::new(Retrying::new(file))),
         Err(_) => Err(Failure::NotOpened(name)),
     }
 }

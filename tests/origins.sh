@@ -66,6 +66,17 @@ origins: 2 payloads, and then 3" $? "$said"
 said=$("$program" --diff next next 2>/dev/null)
 expect "nothing changes" 0 "" $? "$said"
 
+# One payload is no plural.
+printf 'AS64496,192.0.2.0/23,24\n' >single
+said=$("$program" single <fine 2>&1 >/dev/null)
+expect "one payload, beside routes" 0 "origins: 1 payload" $? "$said"
+said=$("$program" --table single 2>&1 >/dev/null)
+expect "one payload, beside a table" 0 "origins: 1 payload" $? "$said"
+said=$("$program" --diff single next 2>&1 >/dev/null)
+expect "one payload, and then 3" 0 "origins: 1 payload, and then 3" $? "$said"
+said=$("$program" --diff next single 2>&1 >/dev/null)
+expect "3 payloads, and then one" 0 "origins: 3 payloads, and then 1" $? "$said"
+
 # Files that fail or are wrong: nothing is answered.
 for words in "none" "--table none" "--diff none next" "--diff next none"; do
     # shellcheck disable=SC2086 # the words
@@ -107,6 +118,54 @@ expect "memory is refused" 1 "origins: out of memory" $? "$said"
 # What was granted for the few payloads is enough for any number of routes.
 said=$(yes '10.0.0.0/8 AS1' | head -n 4000000 | (ulimit -v 16384 && "$program" payloads) 2>/dev/null | uniq -c)
 expect "routes take no memory" 0 "4000000 not-found" $? "$(echo "$said" | sed 's/^ *//')"
+
+# Sizes. Payload n, from 0, is the address 10.0.0.0 + n with AS n + 1: as a line, as an item, and as a line of the table.
+many=131072
+numbered() {
+    awk -v many=$many -v form="$1" 'BEGIN { for (n = 0; n < many; n++) {
+        address = sprintf("10.%d.%d.%d", int(n / 65536), int(n / 256) % 256, n % 256)
+        printf form, n + 1, address, n < many - 1 ? "," : "" } }'
+}
+numbered 'AS%d,%s/32,32\n' >many.csv
+{ echo '{"roas": ['; numbered '{"asn": %d, "prefix": "%s/32", "maxLength": 32}%s\n'; echo ']}'; } >many.json
+awk '{ print $2, $1 }' FS=, many.csv | sed 's/ /-32 /' >many.table
+printf '10.0.0.0/32 AS1\n10.0.255.255/32 AS65536\n10.1.0.0/32 AS65537\n10.1.255.255/32 AS131072\n' >asked
+printf '10.1.255.255/32 AS131071\n10.2.0.0/32 AS131073\n10.1.0.0/16 AS65537\n' >>asked
+for file in many.csv many.json; do
+    said=$("$program" "$file" <asked 2>&1)
+    expect "routes by $file" 0 "valid
+valid
+valid
+valid
+invalid-as
+not-found
+not-found
+origins: $many payloads" $? "$said"
+    said=$("$program" --table "$file" 2>count | cmp - many.table 2>&1)
+    expect "the table of $file" 0 "origins: $many payloads" $? "$said$(cat count)"
+done
+# Payloads 1 to n cover one route, each with its own AS. Their texts stand beside each other, the route's own first.
+for many in 1000 4000; do
+    awk -v many=$many 'BEGIN { for (n = 1; n <= many; n++) printf "AS%d,192.0.2.0/24,24\n", n }' >covering
+    awk -v many=$many 'BEGIN { printf "valid match:192.0.2.0/24-24:AS1"
+        for (n = 2; n <= many; n++) printf " as:192.0.2.0/24-24:AS%d", n
+        print "" }' >explained
+    said=$(echo '192.0.2.0/24 AS1' | "$program" --why covering 2>count | cmp - explained 2>&1)
+    expect "a route that $many payloads cover" 0 "origins: $many payloads" $? "$said$(cat count)"
+done
+size=$(wc -c <explained)
+expect "the last answer is longer than 64 KiB" 0 yes 0 "$([ "$size" -gt 65536 ] && echo yes || echo "$size")"
+# An item of JSON stands in two levels, and has so many more. A stack of 256 KiB is enough for the deepest text.
+for depth in 128 129; do
+    awk -v depth=$depth 'BEGIN { printf "{\"roas\": [{\"asn\": 64496, \"prefix\": \"192.0.2.0/23\", \"maxLength\": 24, \"x\": "
+        for (n = 3; n < depth; n++) printf "["
+        for (n = 3; n < depth; n++) printf "]"
+        print "}]}" }' >deep.$depth
+done
+said=$( (ulimit -s 256 && "$program" --table deep.128) 2>/dev/null)
+expect "JSON of 128 levels" 0 "192.0.2.0/23-24 AS64496" $? "$said"
+said=$( (ulimit -s 256 && "$program" --table deep.129) 2>&1)
+expect "JSON of 129 levels" 1 "origins: deep.129: not a JSON object" $? "$said"
 
 # Wrong usage
 for words in "" "--table" "--why" "--diff payloads" "payloads next" "--diff payloads next wrong" \

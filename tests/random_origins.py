@@ -145,6 +145,11 @@ def answer(line: bytes, payloads: list[Payload], why: bool) -> str:
         return "error: not UTF-8"
 
 
+def counted(payloads: list[Payload]) -> str:
+    """How many payloads there are, in words."""
+    return "1 payload" if len(payloads) == 1 else f"{len(payloads)} payloads"
+
+
 def text(payload: Payload) -> str:
     """A payload as it is told."""
     return f"{payload.prefix.text()} AS{payload.asn}"
@@ -180,7 +185,7 @@ class Comparison:
         octets = b"\n".join(lines) + b"\n"
         for why in (False, True):
             status, answers, said = run(self.program, ["--why", file] if why else [file], octets)
-            self.same("a run", (0, f"origins: {len(listed)} payloads\n", count), (status, said, len(answers)))
+            self.same("a run", (0, f"origins: {counted(listed)}\n", count), (status, said, len(answers)))
             for line, found in zip(lines, answers, strict=False):
                 self.same(repr(line), answer(line, listed, why), found)
         status, _, _ = run(self.program, ["--check", file], octets)
@@ -195,7 +200,7 @@ class Comparison:
         after = shared[5:] + [maker.payload() for _ in range(maker.random.randrange(20))]
         old, new = self.kept("old", maker.file(before)), self.kept("new", maker.file(after))
         status, found, said = run(self.program, ["--table", old])
-        self.same("a table", (0, f"origins: {len(before)} payloads\n"), (status, said))
+        self.same("a table", (0, f"origins: {counted(before)}\n"), (status, said))
         self.same("a table", [text(one) for one in table(before)], found)
         asn = maker.asn()
         _, found, _ = run(self.program, ["--table", "--of", f"AS{asn}", old])
@@ -204,7 +209,7 @@ class Comparison:
         changes = [f"withdraw {text(one)}" for one in table(withdrawn)]
         changes += [f"announce {text(one)}" for one in table(announced)]
         status, found, said = run(self.program, ["--diff", old, new])
-        self.same("a change", (0, f"origins: {len(before)} payloads, and then {len(after)}\n"), (status, said))
+        self.same("a change", (0, f"origins: {counted(before)}, and then {len(after)}\n"), (status, said))
         self.same("a change", changes, found)
 
     def wrong(self) -> None:

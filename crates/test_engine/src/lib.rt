@@ -9,6 +9,8 @@ mod large;
 #[cfg(test)]
 mod refused;
 #[cfg(test)]
+mod retries;
+#[cfg(test)]
 mod routes;
 #[cfg(test)]
 mod runs;

@@ -8,16 +8,16 @@ use std::alloc::Global;
 use test_support::{Outcome, Refusing, refuse_in_turn};
 
 /// The same two payloads in both forms.
-const FILES: [&[u8]; 2] = [
+pub const FILES: [&[u8]; 2] = [
     b"ASN,IP Prefix,Max Length\nAS64496,192.0.2.0/24,24\nAS64497,2001:db8::/32,48\n",
     b"{\"roas\": [{\"asn\": 64496, \"prefix\": \"192.0.2.0/24\", \"maxLength\": 24}, \
         {\"asn\": \"AS64497\", \"prefix\": \"2001:db8::/32\", \"maxLength\": 48}]}",
 ];
 
-const ROUTES: &[u8] =
+pub const ROUTES: &[u8] =
     b"192.0.2.0/24 AS64496\n192.0.2.0/25 AS64496\n2001:db8::/32 AS1\n10.0.0.0/8 AS1";
 
-const ANSWERS: &[u8] = b"valid\ninvalid-length\ninvalid-as\nnot-found\n";
+pub const ANSWERS: &[u8] = b"valid\ninvalid-length\ninvalid-as\nnot-found\n";
 
 /// How a run ended that may have been refused a request: before the payloads are there, no route was read and nothing
 /// written; behind them nothing was flushed.

@@ -1,0 +1,130 @@
+//! Reads that fail at first, by the adapters of `origins`, and what its errors are to code that passes errors up.
+use crate::routes::{ANSWERS, FILES, ROUTES};
+use crate::seen::ROOM;
+use crate::slices::{Habits, SliceSink};
+use lines_engine::adapters::FromRead;
+use lines_engine::error::RunError;
+use origins_engine::error::{ChangesError, OriginsError, PayloadsError};
+use origins_engine::retrying::Retrying;
+use origins_engine::routes::answer_routes;
+use origins_engine::until_end::UntilEnd;
+use payload_texts::FileFault;
+use std::alloc::Global;
+use std::io;
+use std::io::{ErrorKind, Read};
+use test_support::all_print;
+
+/// A reader of std over a slice, whose first reads fail, so many of them, with an error of a kind.
+#[derive(Drop)]
+struct Failing<'a> {
+    rest: &'a [u8],
+    kind: ErrorKind,
+    failures: u64,
+}
+
+impl Read for Failing<'_> {
+    fn read(&mut self, buffer: &mut [u8]) -> io::Result<usize> {
+        if self.failures > 0 {
+            self.failures -= 1;
+            return Err(io::Error::from(self.kind));
+        }
+        self.rest.read(buffer)
+    }
+}
+
+/// Wraps a reader that fails so often, as `origins` does.
+fn as_read(rest: &[u8], kind: ErrorKind, failures: u64) -> Retrying<Failing<'_>> {
+    Retrying::new(Failing {
+        rest,
+        kind,
+        failures,
+    })
+}
+
+/// Whether all routes are answered, where so many reads of the file, and of the routes, fail at first.
+fn answers(
+    heap: Global,
+    kind: ErrorKind,
+    of_file: u64,
+    of_routes: u64,
+) -> Result<bool, OriginsError> {
+    let mut room = [0u8; ROOM];
+    let mut payloads = UntilEnd::new(as_read(FILES[0], kind, of_file));
+    let mut routes = FromRead::new(as_read(ROUTES, kind, of_routes));
+    let mut sink = SliceSink::new(&mut room, Habits::GOOD);
+    let count = answer_routes(heap, &mut payloads, false, &mut routes, &mut sink)?;
+    Ok(count == 2 && sink.written() == ANSWERS && sink.is_flushed())
+}
+
+#[test]
+fn interrupted_reads_are_retried(rt: HostRuntime) {
+    for failures in [0, 1, 5] {
+        let of_file = answers(rt.alloc(), ErrorKind::Interrupted, failures, 0);
+        assert!(rt; of_file == Ok(true), "{failures} of the file: {of_file:?}");
+        let of_routes = answers(rt.alloc(), ErrorKind::Interrupted, 0, failures);
+        assert!(rt;
+            of_routes == Ok(true),
+            "{failures} of the routes: {of_routes:?}"
+        );
+    }
+}
+
+#[test]
+fn other_failed_reads_are_not_retried(rt: HostRuntime) {
+    for kind in [ErrorKind::WouldBlock, ErrorKind::TimedOut, ErrorKind::Other] {
+        let of_file = answers(rt.alloc(), kind, 1, 0);
+        assert!(rt;
+            of_file == Err(OriginsError::Payloads(PayloadsError::Read)),
+            "{of_file:?}"
+        );
+        let of_routes = answers(rt.alloc(), kind, 0, 1);
+        assert!(rt;
+            of_routes == Err(OriginsError::Run(RunError::Read)),
+            "{of_routes:?}"
+        );
+    }
+}
+
+/// Passes an error up, as code does that knows no type of error.
+fn passed_up<E: std::error::Error + Drop>(error: E) -> anyhow::Result<()> {
+    let failed: Result<(), E> = Err(error);
+    failed?;
+    Ok(())
+}
+
+#[test]
+fn errors_are_passed_up(rt: HostRuntime) {
+    assert!(rt; passed_up(PayloadsError::Read).is_err());
+    assert!(rt; passed_up(OriginsError::Run(RunError::Read)).is_err());
+    assert!(rt; passed_up(ChangesError::New(PayloadsError::Read)).is_err());
+}
+
+#[test]
+fn errors_are_printed(rt: HostRuntime) {
+    let payloads = [
+        (PayloadsError::Read, "read failed"),
+        (PayloadsError::File(FileFault::NoPayload), "no payload"),
+        (PayloadsError::Memory, "out of memory"),
+    ];
+    assert!(rt; all_print(rt.alloc(), &payloads) == Ok(true));
+    let origins = [
+        (
+            OriginsError::Payloads(PayloadsError::Memory),
+            "VRP file: out of memory",
+        ),
+        (OriginsError::Run(RunError::Write), "write failed"),
+    ];
+    assert!(rt; all_print(rt.alloc(), &origins) == Ok(true));
+    let changes = [
+        (
+            ChangesError::Old(PayloadsError::Read),
+            "old VRP file: read failed",
+        ),
+        (
+            ChangesError::New(PayloadsError::Memory),
+            "new VRP file: out of memory",
+        ),
+        (ChangesError::Run(RunError::Write), "write failed"),
+    ];
+    assert!(rt; all_print(rt.alloc(), &changes) == Ok(true));
+}

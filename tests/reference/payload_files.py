@@ -3,6 +3,7 @@
 import json
 import re
 from collections.abc import Iterator
+from typing import NamedTuple
 
 from . import asn, prefixes, texts
 from .faults import Fault
@@ -15,6 +16,7 @@ _NAMES = {
     "max_length": ("Max Length", "Max prefix length"),
 }
 _OPENS_OBJECT = re.compile(rb"[\t\n\f\r ]*\{")
+_OPENS_ARRAY = re.compile(rb"[\t\n\f\r ]*\[")
 
 
 class _Number(str):
@@ -119,9 +121,25 @@ def _columns(fields: list[str]) -> list[int] | None:
     return None if None in found else found
 
 
+class _Header(NamedTuple):
+    """The places of the three columns, how many columns there are, and whether a line has named them."""
+
+    columns: list[int]
+    count: int
+    is_named: bool
+
+    def wanted(self, fields: list[str]) -> list[str]:
+        """The fields of a row in the three columns."""
+        if self.is_named and len(fields) > self.count:
+            raise Fault(f"too many fields: {len(fields)}, but the header names {self.count}")
+        if any(column >= len(fields) for column in self.columns):
+            raise Fault(f"too few fields: {len(fields)} of {self.count}")
+        return [fields[column] for column in self.columns]
+
+
 def _of_lines(octets: bytes) -> Iterator[Payload]:
     lines = octets.split(b"\n")
-    columns = [0, 1, 2]
+    header = _Header([0, 1, 2], 3, False)
     for number, line in enumerate(lines[:-1] if lines[-1] == b"" else lines, 1):
         try:
             text = line.decode("utf-8")
@@ -132,17 +150,18 @@ def _of_lines(octets: bytes) -> Iterator[Payload]:
         if not texts.trim(text):
             continue
         if named is not None:
-            columns = named
+            header = _Header(named, len(fields), True)
             continue
-        wanted = [fields[column] if column < len(fields) else "" for column in columns]
         try:
-            yield _payload(*wanted)
+            yield _payload(*header.wanted(fields))
         except Fault as fault:
             raise Fault(f"line {number}: {fault}") from None
 
 
 def read(octets: bytes) -> list[Payload]:
     """The payloads of a file."""
+    if _OPENS_ARRAY.match(octets):
+        raise Fault("a JSON array, where an object with the member roas is expected")
     found = list(_of_json(octets) if _OPENS_OBJECT.match(octets) else _of_lines(octets))
     if not found:
         raise Fault("no payload")

@@ -1,5 +1,5 @@
 -- A file in either form writes one list of payloads, or has one fault.
-use Rattle.payload_texts.proofs.Common.{List, MatchResult, Result, arith, ℕ, MaxLenValue, AnswersOrMemory, FileFault}
+use Rattle.payload_texts.proofs.Common.{List, MatchResult, Result, arith, inl, inr, sym, ℕ, ◌∙◌, ◌≡◌, MaxLenValue, AnswersOrMemory, FileFault}
 use Rattle.std.specs.Prelude.{IfErr}
 use Rattle.rpki_text.specs.Memory.{IfRefused, IsMemory, MatchOrMemory}
 use Rattle.rpki_text.specs.declared.memory.OrMemory.{OrMemory}
@@ -7,6 +7,7 @@ use Rattle.rpki_text.proofs.ListLemmas.{AnswersOrMemory-from_found}
 use Rattle.payload_texts.specs.Asking.{MayWantMemory}
 use Rattle.payload_texts.specs.Files.{HasFileFault, IsPayloadFile}
 use Rattle.payload_texts.proofs.CsvLemmas.{csv_apart, csv_fault_one, csv_one}
+use Rattle.payload_texts.proofs.ItemLemmas.{Payloads}
 use Rattle.payload_texts.proofs.JsonLemmas.{json_apart, json_fault_one, json_one}
 
 -- so what is found says of the answer, and when memory is wanting
@@ -16,12 +17,37 @@ pub file_found : {V : Type 0} (text : List ℕ) (view : V → List (MaxLenValue 
     × IfErr r (λ e. IsMemory e → MayWantMemory text)
 file_found text view r found = grind (arith)
 
+module _ (text : List ℕ) where
+  -- the text has one form
+  file_one : (a b : Payloads) → IsPayloadFile text a → IsPayloadFile text b → a ≡ b
+  file_one a b (inl (_, h)) (inl (_, k)) = json_one text a b h k
+  file_one a b (inl (object, _)) (inr (csv, _)) = absurd (csv.no_object object)
+  file_one a b (inr (csv, _)) (inl (object, _)) = absurd (csv.no_object object)
+  file_one a b (inr (_, h)) (inr (_, k)) = csv_one text a b h k
+
+  file_apart : (a : Payloads) (f : FileFault) → IsPayloadFile text a → HasFileFault text f → ⊥
+  file_apart a f (inl (_, h)) (inl (_, k)) = json_apart text a f h k
+  file_apart a f (inl (object, _)) (inr (inl (no_object, _, _))) = no_object object
+  file_apart a f (inl (object, _)) (inr (inr (csv, _))) = csv.no_object object
+  file_apart a f (inr (csv, _)) (inl (object, _)) = csv.no_object object
+  file_apart a f (inr (csv, _)) (inr (inl (_, array, _))) = csv.no_array array
+  file_apart a f (inr (_, h)) (inr (inr (_, k))) = csv_apart text a f h k
+
+  file_fault_one : (d e : FileFault) → HasFileFault text d → HasFileFault text e → d ≡ e
+  file_fault_one d e (inl (_, h)) (inl (_, k)) = json_fault_one text d e h k
+  file_fault_one d e (inl (object, _)) (inr (inl (no_object, _, _))) = absurd (no_object object)
+  file_fault_one d e (inl (object, _)) (inr (inr (csv, _))) = absurd (csv.no_object object)
+  file_fault_one d e (inr (inl (no_object, _, _))) (inl (object, _)) = absurd (no_object object)
+  file_fault_one d e (inr (inl (_, _, is))) (inr (inl (_, _, iz))) = is ∙ sym iz
+  file_fault_one d e (inr (inl (_, array, _))) (inr (inr (csv, _))) = absurd (csv.no_array array)
+  file_fault_one d e (inr (inr (csv, _))) (inl (object, _)) = absurd (csv.no_object object)
+  file_fault_one d e (inr (inr (csv, _))) (inr (inl (_, array, _))) = absurd (csv.no_array array)
+  file_fault_one d e (inr (inr (_, h))) (inr (inr (_, k))) = csv_fault_one text d e h k
+
 -- what is found decides the answer
 pub file_answers : {V : Type 0} (text : List ℕ) (view : V → List (MaxLenValue × ℕ)) (r : Result V (OrMemory FileFault))
     → MatchResult r (λ v. IsPayloadFile text (view v)) (IfRefused (HasFileFault text))
     → AnswersOrMemory view (IsPayloadFile text) (HasFileFault text) r
 file_answers text view r found =
-    AnswersOrMemory-from_found view (IsPayloadFile text) (HasFileFault text)
-    (λ a b h k. grind (arith, json_one text a b, csv_one text a b))
-    (λ a f h k. grind (arith, json_apart text a f, csv_apart text a f))
-    (λ d e h k. grind (arith, json_fault_one text d e, csv_fault_one text d e)) r found
+    AnswersOrMemory-from_found view (IsPayloadFile text) (HasFileFault text) (file_one text) (file_apart text)
+    (file_fault_one text) r found

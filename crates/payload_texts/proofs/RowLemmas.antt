@@ -1,12 +1,13 @@
 -- A line writes one thing alone, or has one fault.
-use Rattle.payload_texts.proofs.Common.{List, MatchResult, Result, Some, [], ap, arith, ℕ, ◌-◌, ◌^◌, ◌≡◌, ◌≢◌, ◌⊎◌, IsUtf8, trim, HasMaxLenError, IsMaxLenOf, MaxLenValue, Answers, IsHeader, field, ArePayload, HasRowFault, HaveFault, IsBody, IsRow, Columns, PayloadFault, Row, Payload}
+use Rattle.payload_texts.proofs.Common.{List, MatchResult, Result, Some, [], ap, arith, inl, inr, sym, ℕ, ◌-◌, ◌^◌, ◌∙◌, ◌≡◌, ◌≢◌, ◌⊎◌, IsUtf8, trim, HasMaxLenError, IsMaxLenOf, MaxLenValue, Answers, IsHeader, field, ArePayload, HasRowFault, HaveFault, IsBody, IsRow, Columns, PayloadFault, Row, Payload}
+use Rattle.payload_texts.specs.Rows.{FitsColumns, HasCountFault, HaveColumnsFault}
 use Rattle.rpki_text.proofs.ReadingLemmas.{Answers-from_found}
 use Rattle.rpki_base.proofs.AsnLemmas.{IsAsnText-one}
 use Rattle.rpki_text.proofs.NumberTexts.{IsNumberText-one}
 use Rattle.rpki_prefix.specs.Values.{FamilyPrefix}
 use Rattle.rpki_prefix.specs.declared.error.MaxLenError.{MaxLenError}
 use Rattle.rpki_prefix.proofs.TextLemmas.{IsPrefixText-one, IsPrefixText-no_fault, HasPrefixTextFault-one, number_apart, same_number_fault}
-use Rattle.payload_texts.specs.declared.fault.PayloadFault.TheVariants.{NotUtf8, Asn, Prefix, MaxLenFormat, MaxLen}
+use Rattle.payload_texts.specs.declared.fault.PayloadFault.TheVariants.{NotUtf8, TooManyFields, TooFewFields, Asn, Prefix, MaxLenFormat, MaxLen}
 use Rattle.payload_texts.proofs.ColumnLemmas.{header_one}
 
 -- a number is a greatest length of a prefix, or has one error
@@ -37,7 +38,11 @@ module _ (a p m : List ℕ) where
   -- three texts have one fault
   pub have_one : (d e : PayloadFault) → HaveFault a p m d → HaveFault a p m e → d ≡ e
   have_one NotUtf8 e h k = absurd h
+  have_one (TooManyFields found named) e h k = absurd h
+  have_one (TooFewFields found named) e h k = absurd h
   have_one d NotUtf8 h k = absurd k
+  have_one d (TooManyFields found named) h k = absurd k
+  have_one d (TooFewFields found named) h k = absurd k
   have_one (Asn f) e h k = search (arith)
   have_one (Prefix f) e h k = search (arith, HasPrefixTextFault-one, IsPrefixText-no_fault)
   have_one (MaxLenFormat f) (MaxLenFormat g) (_, _, wrong) (_, _, other) =
@@ -56,31 +61,53 @@ pub body_of : (line : List ℕ) → IsUtf8 line → trim line ≢ [] → ((next 
 body_of line utf8 some_text no_header = record { utf8 = utf8; some_text = some_text; no_header = no_header }
 
 module _ (columns : Columns) (line : List ℕ) where
-  -- the three fields of a payload
+  -- the number of the fields has the fault, or their texts have
   abbrev Fails : PayloadFault → Type 0
-  Fails = HaveFault (field columns.asn line) (field columns.prefix line) (field columns.max_len line)
+  Fails f = HasCountFault columns line f ⊎ (FitsColumns columns line × HaveColumnsFault columns line f)
 
   -- the line isn't UTF-8, or its fields have the fault
   faults : (f : PayloadFault) → HasRowFault columns line f → ((¬ IsUtf8 line) × (f ≡ NotUtf8)) ⊎ (IsBody line × Fails f)
   faults f h = grind (arith)
 
   -- the fault of the fields is the line's
-  pub row_fault : (f : PayloadFault) → IsBody line → Fails f → HasRowFault columns line f
-  row_fault f body h = grind (arith)
+  pub count_fault : (f : PayloadFault) → IsBody line → HasCountFault columns line f → HasRowFault columns line f
+  count_fault f body h = grind (arith)
+
+  pub row_fault : (f : PayloadFault) → IsBody line → FitsColumns columns line → HaveColumnsFault columns line f
+      → HasRowFault columns line f
+  row_fault f body fits h = grind (arith)
+
+  -- the number of the fields has one fault, and none where it fits
+  count_apart : (f : PayloadFault) → FitsColumns columns line → HasCountFault columns line f → ⊥
+  count_apart f fits wrong = grind (arith)
+
+  count_one : (d e : PayloadFault) → HasCountFault columns line d → HasCountFault columns line e → d ≡ e
+  count_one d e h k = grind (arith)
+
+  fails_one : (d e : PayloadFault) → Fails d → Fails e → d ≡ e
+  fails_one d e h k = grind (arith, count_apart, count_one, have_one)
 
   pub row_one : (x y : Row) → IsRow columns line x → IsRow columns line y → x ≡ y
-  row_one (Payload p) (Payload q) (_, h) (_, k) = ap Payload (payload_one _ _ _ p q h k)
+  row_one (Payload p) (Payload q) (_, _, h) (_, _, k) = ap Payload (payload_one _ _ _ p q h k)
   row_one x y h k = grind (arith, header_one)
 
   body_apart : (x : Row) (f : PayloadFault) → IsRow columns line x → IsBody line → Fails f → ⊥
-  body_apart (Payload p) f (_, h) body wrong = fields_apart _ _ _ p.0 p.1 f h wrong
+  body_apart (Payload p) f (_, fits, h) body wrong =
+      grind (arith, count_apart f fits, fields_apart _ _ _ p.0 p.1 f h)
   body_apart x f h body wrong = grind (arith)
 
   pub row_apart : (x : Row) (f : PayloadFault) → IsRow columns line x → HasRowFault columns line f → ⊥
   row_apart x f h wrong = grind (arith, faults f wrong, body_apart x f h)
 
+  one_of : (d e : PayloadFault) → ((¬ IsUtf8 line) × (d ≡ NotUtf8)) ⊎ (IsBody line × Fails d)
+      → ((¬ IsUtf8 line) × (e ≡ NotUtf8)) ⊎ (IsBody line × Fails e) → d ≡ e
+  one_of d e (inl (_, is)) (inl (_, iz)) = is ∙ sym iz
+  one_of d e (inl (not_utf8, _)) (inr (body, _)) = absurd (not_utf8 body.utf8)
+  one_of d e (inr (body, _)) (inl (not_utf8, _)) = absurd (not_utf8 body.utf8)
+  one_of d e (inr (_, h)) (inr (_, k)) = fails_one d e h k
+
   pub row_fault_one : (d e : PayloadFault) → HasRowFault columns line d → HasRowFault columns line e → d ≡ e
-  row_fault_one d e h k = grind (arith, faults, have_one)
+  row_fault_one d e h k = one_of d e (faults d h) (faults e k)
 
   -- so what is found decides the answer
   pub row_answers : (r : Result Row PayloadFault) → MatchResult r (IsRow columns line) (HasRowFault columns line)

@@ -4,7 +4,7 @@ use Rattle.std.specs.Str.{IsUtf8}
 use Rattle.rpki_text.specs.Lines.{lines_of}
 use Rattle.payload_texts.specs.Columns.{usual}
 use Rattle.payload_texts.specs.Csv.{columns_after, payloads_of}
-use Rattle.payload_texts.specs.Files.{IsObjectText}
+use Rattle.payload_texts.specs.Files.{IsCsvText, IsObjectText}
 use Rattle.payload_texts.specs.Rows.{IsRow}
 use Rattle.payload_texts.specs.declared.columns.Columns.{Columns}
 use Rattle.payload_texts.specs.declared.row.Row.{Row}
@@ -19,6 +19,6 @@ BeginPayloads columns (line ∷ lines) =
 abbrev pub HasCsvPayload : List ℕ → Type 0
 HasCsvPayload text = BeginPayloads usual (lines_of text)
 
--- the file is UTF-8 that opens an object, or has a payload before its first wrong line
+-- the file is UTF-8 that opens an object, or lines with a payload before the first wrong line
 abbrev pub MayWantMemory : List ℕ → Type 0
-MayWantMemory text = (IsObjectText text × IsUtf8 text) ⊎ ((¬ IsObjectText text) × HasCsvPayload text)
+MayWantMemory text = (IsObjectText text × IsUtf8 text) ⊎ (IsCsvText text × HasCsvPayload text)

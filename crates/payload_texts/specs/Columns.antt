@@ -1,6 +1,6 @@
 -- The columns of a file: which field of a line is the AS number, which the prefix and which the greatest length.
-use Rattle.std.specs.Prelude.{◌≡◌, ◌⊎◌, ℕ, ◌<◌, List, codes}
-use Rattle.payload_texts.specs.Fields.{field}
+use Rattle.std.specs.Prelude.{◌≡◌, ◌⊎◌, ℕ, ◌<◌, List, codes, false, true}
+use Rattle.payload_texts.specs.Fields.{field, field_count}
 use Rattle.payload_texts.specs.declared.columns.Column.{Column}
 use Rattle.payload_texts.specs.declared.columns.Column.TheVariants.{Asn, Prefix, MaxLen}
 use Rattle.payload_texts.specs.declared.columns.Columns.{Columns}
@@ -16,12 +16,14 @@ pub record IsColumn (column : Column) (line : List ℕ) (n : ℕ) : Type 0 where
   pub named : Names column (field n line)
   pub first : (m : ℕ) → m < n → ¬ Names column (field m line)
 
--- the line names each of the columns
+-- the line names each of the columns, and each of its fields is a column
 pub record IsHeader (line : List ℕ) (columns : Columns) : Type 0 where
   pub asn : IsColumn Asn line columns.asn
   pub prefix : IsColumn Prefix line columns.prefix
   pub max_len : IsColumn MaxLen line columns.max_len
+  pub count : columns.count ≡ field_count line
+  pub is_named : columns.is_named ≡ true
 
 -- the columns before any line has named them
 abbrev pub usual : Columns
-usual = record { asn = 0; prefix = 1; max_len = 2 }
+usual = record { asn = 0; prefix = 1; max_len = 2; count = 3; is_named = false }

@@ -6,7 +6,7 @@ use Rattle.payload_texts.specs.Columns.{usual}
 use Rattle.payload_texts.specs.Rows.{IsRow, HasRowFault}
 use Rattle.payload_texts.specs.declared.columns.Columns.{Columns}
 use Rattle.payload_texts.specs.declared.fault.FileFault.{FileFault}
-use Rattle.payload_texts.specs.declared.fault.FileFault.TheVariants.{Line, NoPayload, NotObject, Roas, Item}
+use Rattle.payload_texts.specs.declared.fault.FileFault.TheVariants.{Line, NoPayload, JsonArray, NotObject, Roas, Item}
 use Rattle.payload_texts.specs.declared.fault.PayloadFault.{PayloadFault}
 use Rattle.payload_texts.specs.declared.row.Row.{Row}
 use Rattle.payload_texts.specs.declared.row.Row.TheVariants.{Blank, Header, Payload}
@@ -44,6 +44,7 @@ IsCsvFile text payloads = AreRows usual (lines_of text) payloads × (payloads �
 abbrev pub HasCsvFault : List ℕ → FileFault → Type 0
 HasCsvFault text (Line number wrong) = HaveFirstFault 1 usual (lines_of text) (Line number wrong)
 HasCsvFault text NoPayload = AreRows usual (lines_of text) []
+HasCsvFault text JsonArray = ⊥
 HasCsvFault text NotObject = ⊥
 HasCsvFault text (Roas wrong) = ⊥
 HasCsvFault text (Item place wrong) = ⊥

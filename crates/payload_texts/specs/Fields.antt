@@ -1,6 +1,6 @@
 -- How a line is cut into fields.
-use Rattle.std.specs.Prelude.{ℕ, zero, suc, Bool, List, ◌==◌, ◌&&◌, ◌-◌, length, nat_lt, slice_index, slice_range, if◌then◌else◌}
-use Rattle.std.specs.List.{before_first, after_first}
+use Rattle.std.specs.Prelude.{ℕ, zero, suc, Bool, List, ◌==◌, ◌&&◌, ◌+◌, ◌-◌, length, nat_lt, slice_index, slice_range, if◌then◌else◌}
+use Rattle.std.specs.List.{before_first, after_first, count_by}
 use Rattle.std.specs.Str.{trim}
 
 -- the comma, at which a field ends
@@ -23,3 +23,7 @@ unquoted text = if is_quoted text then slice_range text 1 (length text - 1) else
 -- the field of a line behind so many commas, without white space round it, and then without quotes
 abbrev pub field : ℕ → List ℕ → List ℕ
 field n line = unquoted (trim (before_first is_comma (behind n line)))
+
+-- How many fields a line has: one more than its commas. A comma between quotes cuts too.
+abbrev pub field_count : List ℕ → ℕ
+field_count line = count_by is_comma line + 1

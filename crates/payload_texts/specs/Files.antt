@@ -1,19 +1,33 @@
 -- What a file of validated payloads writes, in either form.
-use Rattle.std.specs.Prelude.{◌⊎◌, ℕ, List, ◌∷◌}
+use Rattle.std.specs.Prelude.{◌≡◌, ◌⊎◌, ℕ, List, ◌∷◌}
 use Rattle.std.specs.Str.{IsTrimAsciiStart}
 use Rattle.rpki_prefix.specs.MaxLen.{MaxLenValue}
 use Rattle.payload_texts.specs.Csv.{IsCsvFile, HasCsvFault}
 use Rattle.payload_texts.specs.JsonFiles.{IsJsonFile, HasJsonFault}
 use Rattle.payload_texts.specs.declared.fault.FileFault.{FileFault}
+use Rattle.payload_texts.specs.declared.fault.FileFault.TheVariants.{JsonArray}
 
 -- the first octet that is no white space is `{`, which opens an object (RFC 8259, 4)
 abbrev pub IsObjectText : List ℕ → Type 0
 IsObjectText text = (rest : List ℕ) × IsTrimAsciiStart text (123 ∷ rest)
 
--- the text writes these payloads, one at least: as JSON where it opens an object, else in lines
+-- that octet is `[`, which opens an array (RFC 8259, 5)
+abbrev pub IsArrayText : List ℕ → Type 0
+IsArrayText text = (rest : List ℕ) × IsTrimAsciiStart text (91 ∷ rest)
+
+-- the text is neither
+pub record IsCsvText (text : List ℕ) : Type 0 where
+  pub no_object : ¬ IsObjectText text
+  pub no_array : ¬ IsArrayText text
+
+-- The text writes these payloads, one at least: as JSON if it opens an object, in lines if it opens neither an object
+-- nor an array.
 abbrev pub IsPayloadFile : List ℕ → List (MaxLenValue × ℕ) → Type 0
-IsPayloadFile text payloads = (IsObjectText text × IsJsonFile text payloads) ⊎ ((¬ IsObjectText text) × IsCsvFile text payloads)
+IsPayloadFile text payloads = (IsObjectText text × IsJsonFile text payloads) ⊎ (IsCsvText text × IsCsvFile text payloads)
 
 -- this is what is wrong with it
 abbrev pub HasFileFault : List ℕ → FileFault → Type 0
-HasFileFault text fault = (IsObjectText text × HasJsonFault text fault) ⊎ ((¬ IsObjectText text) × HasCsvFault text fault)
+HasFileFault text fault =
+    (IsObjectText text × HasJsonFault text fault)
+    ⊎ ((¬ IsObjectText text) × IsArrayText text × (fault ≡ JsonArray))
+    ⊎ (IsCsvText text × HasCsvFault text fault)

@@ -6,7 +6,7 @@ use Rattle.rpki_prefix.specs.MaxLen.{MaxLenValue}
 use Rattle.payload_texts.specs.Items.{AreItems, HaveWrongItem}
 use Rattle.payload_texts.specs.Members.{values_in, AreWrong}
 use Rattle.payload_texts.specs.declared.fault.FileFault.{FileFault}
-use Rattle.payload_texts.specs.declared.fault.FileFault.TheVariants.{Line, NoPayload, NotObject, Roas, Item}
+use Rattle.payload_texts.specs.declared.fault.FileFault.TheVariants.{Line, NoPayload, JsonArray, NotObject, Roas, Item}
 
 -- the text is a JSON text, and its value is an object of these members
 abbrev pub IsJsonObject : List ℕ → Members → Type 0
@@ -24,6 +24,7 @@ WriteRoas values payloads = (items : Items) × (values ≡ array items ∷ []) �
 abbrev pub HaveRoasFault : List Json → FileFault → Type 0
 HaveRoasFault values (Line number wrong) = ⊥
 HaveRoasFault values NoPayload = ⊥
+HaveRoasFault values JsonArray = ⊥
 HaveRoasFault values NotObject = ⊥
 HaveRoasFault values (Roas wrong) = AreWrong (λ value. (items : Items) × (value ≡ array items)) values wrong
 HaveRoasFault values (Item place wrong) = (items : Items) × (values ≡ array items ∷ []) × HaveWrongItem 1 items (Item place wrong)
@@ -40,6 +41,7 @@ IsJsonFile text payloads = ((members : Members) × IsJsonObject text members × 
 abbrev pub HasJsonFault : List ℕ → FileFault → Type 0
 HasJsonFault text (Line number wrong) = ⊥
 HasJsonFault text NoPayload = (members : Members) × IsJsonObject text members × WriteRoas (values_in roas members) []
+HasJsonFault text JsonArray = ⊥
 HasJsonFault text NotObject = (members : Members) → ¬ IsJsonObject text members
 HasJsonFault text (Roas wrong) = (members : Members) × IsJsonObject text members × HaveRoasFault (values_in roas members) (Roas wrong)
 HasJsonFault text (Item place wrong) = (members : Members) × IsJsonObject text members × HaveRoasFault (values_in roas members) (Item place wrong)

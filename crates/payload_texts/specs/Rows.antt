@@ -1,5 +1,5 @@
 -- What a line of a file writes: nothing, names of columns, or a payload.
-use Rattle.std.specs.Prelude.{◌≡◌, ◌≢◌, ℕ, ◌-◌, ◌^◌, List, [], Some}
+use Rattle.std.specs.Prelude.{◌≡◌, ◌≢◌, ℕ, ◌<◌, ◌-◌, ◌^◌, List, [], Some, true}
 use Rattle.std.specs.Str.{IsUtf8, trim}
 use Rattle.rpki_text.specs.Numbers.{IsNumberText, HasNumberFault}
 use Rattle.rpki_base.specs.AsnText.{IsAsnText}
@@ -7,10 +7,10 @@ use Rattle.rpki_prefix.specs.MaxLen.{MaxLenValue, IsMaxLenOf, HasMaxLenError}
 use Rattle.rpki_prefix.specs.PrefixText.{IsPrefixText, HasPrefixTextFault}
 use Rattle.rpki_prefix.specs.Values.{FamilyPrefix}
 use Rattle.payload_texts.specs.Columns.{IsHeader}
-use Rattle.payload_texts.specs.Fields.{field}
+use Rattle.payload_texts.specs.Fields.{field, field_count}
 use Rattle.payload_texts.specs.declared.columns.Columns.{Columns}
 use Rattle.payload_texts.specs.declared.fault.PayloadFault.{PayloadFault}
-use Rattle.payload_texts.specs.declared.fault.PayloadFault.TheVariants.{NotUtf8, Asn, Prefix, MaxLenFormat, MaxLen}
+use Rattle.payload_texts.specs.declared.fault.PayloadFault.TheVariants.{NotUtf8, TooManyFields, TooFewFields, Asn, Prefix, MaxLenFormat, MaxLen}
 use Rattle.payload_texts.specs.declared.row.Row.{Row}
 use Rattle.payload_texts.specs.declared.row.Row.TheVariants.{Blank, Header, Payload}
 
@@ -33,6 +33,8 @@ WritesPrefix text = (p : FamilyPrefix) × IsPrefixText text p
 -- this is the first fault of three texts
 abbrev pub HaveFault : List ℕ → List ℕ → List ℕ → PayloadFault → Type 0
 HaveFault asn_text prefix_text max_text NotUtf8 = ⊥
+HaveFault asn_text prefix_text max_text (TooManyFields found named) = ⊥
+HaveFault asn_text prefix_text max_text (TooFewFields found named) = ⊥
 HaveFault asn_text prefix_text max_text (Asn f) = (n : ℕ) → ¬ IsAsnText asn_text n
 HaveFault asn_text prefix_text max_text (Prefix f) = WritesAsn asn_text × HasPrefixTextFault prefix_text f
 HaveFault asn_text prefix_text max_text (MaxLenFormat f) = WritesAsn asn_text × WritesPrefix prefix_text × HasNumberFault (2 ^ 8 - 1) max_text f
@@ -45,16 +47,51 @@ pub record IsBody (line : List ℕ) : Type 0 where
   pub some_text : trim line ≢ []
   pub no_header : (next : Columns) → ¬ IsHeader line next
 
+-- a line has more fields than the line that names the columns
+abbrev pub IsTooLong : Columns → List ℕ → Type 0
+IsTooLong columns line = (columns.is_named ≡ true) × (columns.count < field_count line)
+
+-- a line has a field in each of the three columns
+pub record HasColumns (columns : Columns) (line : List ℕ) : Type 0 where
+  pub asn : columns.asn < field_count line
+  pub prefix : columns.prefix < field_count line
+  pub max_len : columns.max_len < field_count line
+
+-- a line has as many fields as its columns allow and need
+abbrev pub FitsColumns : Columns → List ℕ → Type 0
+FitsColumns columns line = (¬ IsTooLong columns line) × HasColumns columns line
+
+-- this is what is wrong with the number of its fields: how many it has, and how many columns there are
+abbrev pub HasCountFault : Columns → List ℕ → PayloadFault → Type 0
+HasCountFault columns line NotUtf8 = ⊥
+HasCountFault columns line (TooManyFields found named) = IsTooLong columns line × (found ≡ field_count line) × (named ≡ columns.count)
+HasCountFault columns line (TooFewFields found named) =
+    (¬ IsTooLong columns line) × (¬ HasColumns columns line) × (found ≡ field_count line) × (named ≡ columns.count)
+HasCountFault columns line (Asn f) = ⊥
+HasCountFault columns line (Prefix f) = ⊥
+HasCountFault columns line (MaxLenFormat f) = ⊥
+HasCountFault columns line (MaxLen f) = ⊥
+
+-- the texts in the three columns of a line write a payload
+abbrev pub AreColumns : Columns → List ℕ → MaxLenValue × ℕ → Type 0
+AreColumns columns line payload = ArePayload (field columns.asn line) (field columns.prefix line) (field columns.max_len line) payload.0 payload.1
+
+-- this is their first fault
+abbrev pub HaveColumnsFault : Columns → List ℕ → PayloadFault → Type 0
+HaveColumnsFault columns line fault = HaveFault (field columns.asn line) (field columns.prefix line) (field columns.max_len line) fault
+
 -- what a line writes
 abbrev pub IsRow : Columns → List ℕ → Row → Type 0
 IsRow columns line Blank = IsUtf8 line × (trim line ≡ [])
 IsRow columns line (Header next) = IsUtf8 line × (trim line ≢ []) × IsHeader line next
-IsRow columns line (Payload payload) = IsBody line × ArePayload (field columns.asn line) (field columns.prefix line) (field columns.max_len line) payload.0 payload.1
+IsRow columns line (Payload payload) = IsBody line × FitsColumns columns line × AreColumns columns line payload
 
 -- this is what is wrong with a line
 abbrev pub HasRowFault : Columns → List ℕ → PayloadFault → Type 0
 HasRowFault columns line NotUtf8 = ¬ IsUtf8 line
-HasRowFault columns line (Asn f) = IsBody line × HaveFault (field columns.asn line) (field columns.prefix line) (field columns.max_len line) (Asn f)
-HasRowFault columns line (Prefix f) = IsBody line × HaveFault (field columns.asn line) (field columns.prefix line) (field columns.max_len line) (Prefix f)
-HasRowFault columns line (MaxLenFormat f) = IsBody line × HaveFault (field columns.asn line) (field columns.prefix line) (field columns.max_len line) (MaxLenFormat f)
-HasRowFault columns line (MaxLen f) = IsBody line × HaveFault (field columns.asn line) (field columns.prefix line) (field columns.max_len line) (MaxLen f)
+HasRowFault columns line (TooManyFields found named) = IsBody line × HasCountFault columns line (TooManyFields found named)
+HasRowFault columns line (TooFewFields found named) = IsBody line × HasCountFault columns line (TooFewFields found named)
+HasRowFault columns line (Asn f) = IsBody line × FitsColumns columns line × HaveColumnsFault columns line (Asn f)
+HasRowFault columns line (Prefix f) = IsBody line × FitsColumns columns line × HaveColumnsFault columns line (Prefix f)
+HasRowFault columns line (MaxLenFormat f) = IsBody line × FitsColumns columns line × HaveColumnsFault columns line (MaxLenFormat f)
+HasRowFault columns line (MaxLen f) = IsBody line × FitsColumns columns line × HaveColumnsFault columns line (MaxLen f)

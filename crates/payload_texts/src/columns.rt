@@ -3,7 +3,7 @@ ghost use Rattle.std.specs.Prelude.{◌↔◌, ℕ, IsTrue, MatchOption};
 ghost use Rattle.payload_texts.specs.Columns.{IsColumn, IsHeader, Names};
 ghost use Rattle.payload_texts.specs.Fields.{field};
 
-use crate::field::{cut_field, value_of};
+use crate::field::{cut_field, field_count, value_of};
 
 /// A column that a payload needs.
 #[derive(Clone, Copy, Debug, PartialEq, Eq)]
@@ -48,7 +48,7 @@ impl Column {
     }
 }
 
-/// Behind how many commas of a line each column stands.
+/// Behind how many commas of a line each column stands, and how many columns there are.
 #[derive(Clone, Copy, Debug, PartialEq, Eq)]
 pub struct Columns {
     /// The number of the AS.
@@ -57,6 +57,10 @@ pub struct Columns {
     pub prefix: usize,
     /// The greatest length.
     pub max_len: usize,
+    /// The number of columns.
+    pub count: usize,
+    /// Whether a line has named them. A line then has no more fields than there are columns.
+    pub is_named: bool,
 }
 
 impl Columns {
@@ -65,6 +69,8 @@ impl Columns {
         asn: 0,
         prefix: 1,
         max_len: 2,
+        count: 3,
+        is_named: false,
     };
 
     /// The columns that a line names, if it names each.
@@ -79,6 +85,8 @@ impl Columns {
             asn,
             prefix,
             max_len,
+            count: field_count(line),
+            is_named: true,
         })
     }
 }

@@ -7,12 +7,18 @@ use rpki_base::number::ParseIntError;
 use rpki_prefix::{MaxLenError, ParsePrefixError};
 use thiserror::Error;
 
-/// What is wrong with a payload. The first fault in this order is answered.
+/// What is wrong with a payload. The first fault in this order is returned. Lines alone have the first three.
 #[derive(Clone, Copy, Debug, PartialEq, Eq, Error)]
 pub enum PayloadFault {
     /// The line isn't UTF-8.
     #[error("not UTF-8")]
     NotUtf8,
+    /// The line has more fields than the line that names the columns: how many each has.
+    #[error("too many fields: {0}, but the header names {1}")]
+    TooManyFields(usize, usize),
+    /// The line has no field in one of the three columns: how many it has, and how many columns there are.
+    #[error("too few fields: {0} of {1}")]
+    TooFewFields(usize, usize),
     /// The text of the AS number writes none.
     #[error("{0}")]
     Asn(ParseAsnError),
@@ -98,6 +104,9 @@ pub enum FileFault {
     /// The first line that is wrong: its number, counted from 1, and what is wrong with it.
     #[error("line {0}: {1}")]
     Line(usize, PayloadFault),
+    /// The text opens a JSON array.
+    #[error("a JSON array, where an object with the member roas is expected")]
+    JsonArray,
     /// The text that opens an object is no JSON object, or nests deeper than 128.
     #[error("not a JSON object")]
     NotObject,

@@ -2,7 +2,7 @@
 ghost use Rattle.std.specs.Prelude.{◌≡◌, ◌<◌, length};
 ghost use Rattle.std.specs.List.{before_first, after_first};
 ghost use Rattle.std.specs.Str.{trim};
-ghost use Rattle.payload_texts.specs.Fields.{field, is_comma, unquoted};
+ghost use Rattle.payload_texts.specs.Fields.{field, field_count, is_comma, unquoted};
 
 /// What stands before the first comma of a text, and what stands behind it: nothing, where there is none.
 pub(crate) fn cut_field(text: &str) -> (&str, &str)
@@ -48,4 +48,12 @@ pub(crate) fn field_at(line: &str, commas: usize) -> &str
     }
     let (part, _) = cut_field(rest);
     value_of(part)
+}
+
+/// Returns how many fields a line has: one more than its commas.
+#[tactic(auto, using(crate::proofs::FieldLemmas::few_commas))]
+pub(crate) fn field_count(line: &str) -> usize
+    ensures { result ≡ field_count line.now }
+{
+    line.as_bytes().iter().filter(|byte| **byte == b',').count() + 1
 }

@@ -3,7 +3,7 @@ ghost use Rattle.std.specs.Prelude.{◌↔◌, IfErr, IsTrue, MatchResult};
 ghost use Rattle.rpki_text.specs.Memory.{IsMemory, MatchOrMemory};
 ghost use Rattle.rpki_text.specs.Reading.{AnswersOrMemory};
 ghost use Rattle.payload_texts.specs.Asking.{MayWantMemory};
-ghost use Rattle.payload_texts.specs.Files.{IsObjectText, IsPayloadFile, HasFileFault};
+ghost use Rattle.payload_texts.specs.Files.{IsArrayText, IsObjectText, IsPayloadFile, HasFileFault};
 
 use crate::csv::read_csv;
 use crate::fault::FileFault;
@@ -22,10 +22,10 @@ use std::alloc::Allocator;
 ///
 /// Otherwise it is lines of comma separated values. A line is white space, the names of columns, or a payload: an AS
 /// number, a prefix and a greatest length. These are its first three fields in this order, or stand in the columns that
-/// the last line before it which names them tells.
+/// the last line before it which names them tells. A line has no more fields than that line.
 ///
-/// Refused by the first line, or the first item, that is wrong, and what is wrong with it; where the text is no JSON or
-/// lacks the array; and where nothing in it writes a payload.
+/// Errors: the first line or item that is wrong, and its fault; a text that opens an array, or an object that is not
+/// valid JSON or has no array `roas`; a file without a payload.
 pub fn read_payloads<A: Allocator + Copy>(
     alloc: A,
     text: &[u8],
@@ -50,6 +50,8 @@ fn payloads_in<A: Allocator + Copy>(
 {
     if opens_object(text) {
         read_json(alloc, text)
+    } else if opens_array(text) {
+        Err(OrMemory::Refused(FileFault::JsonArray))
     } else {
         read_csv(alloc, text)
     }
@@ -60,4 +62,11 @@ fn opens_object(text: &[u8]) -> bool
     ensures { IsTrue result ↔ IsObjectText text.now }
 {
     text.trim_ascii_start().starts_with(b"{")
+}
+
+/// Whether the first octet that is no white space opens an array.
+fn opens_array(text: &[u8]) -> bool
+    ensures { IsTrue result ↔ IsArrayText text.now }
+{
+    text.trim_ascii_start().starts_with(b"[")
 }

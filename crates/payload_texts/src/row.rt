@@ -1,12 +1,12 @@
 //! A line of a file of payloads.
 ghost use Rattle.rpki_text.specs.Reading.{Answers};
-ghost use Rattle.payload_texts.specs.Rows.{ArePayload, HaveFault, IsRow, HasRowFault};
+ghost use Rattle.payload_texts.specs.Rows.{AreColumns, ArePayload, FitsColumns, HasCountFault, HasRowFault, HaveColumnsFault, HaveFault, IsRow};
 ghost use Rattle.std.specs.Prelude.{◌≡◌, ◌↔◌, [], IsTrue, MatchResult};
 ghost use Rattle.std.specs.Str.{trim};
 
 use crate::columns::Columns;
 use crate::fault::PayloadFault;
-use crate::field::field_at;
+use crate::field::{field_at, field_count};
 use rpki_base::Asn;
 use rpki_base::number::parse_u8;
 use rpki_prefix::{MaxLenPrefix, Prefix};
@@ -23,8 +23,11 @@ pub enum Row {
     Payload((MaxLenPrefix, Asn)),
 }
 
-/// What a line writes whose fields stand in these columns. White space and quotes round a field are no part of it, and
-/// further fields aren't looked at.
+/// Reads a line whose fields are in these columns. White space and quotes round a field are no part of it. A field
+/// ends at each comma, a quoted one too.
+///
+/// Errors: the first [`PayloadFault`] of the line. A line that writes a payload has a field in each of the three
+/// columns, and no more fields than the line that names the columns. Fields in other columns are not read.
 pub fn read_row(columns: Columns, line: &[u8]) -> Result<Row, PayloadFault>
     ensures { Answers (IsRow columns line.now) (HasRowFault columns line.now) result }
 {
@@ -32,7 +35,7 @@ pub fn read_row(columns: Columns, line: &[u8]) -> Result<Row, PayloadFault>
 }
 
 /// What a line writes, or its fault.
-#[tactic(auto, using(crate::proofs::RowLemmas::row_fault, crate::proofs::RowLemmas::body_of))]
+#[tactic(auto, using(crate::proofs::RowLemmas::row_fault, crate::proofs::RowLemmas::count_fault, crate::proofs::RowLemmas::body_of))]
 fn row_of(columns: Columns, line: &[u8]) -> Result<Row, PayloadFault>
     ensures { MatchResult result (IsRow columns line.now) (HasRowFault columns line.now) }
 {
@@ -45,13 +48,37 @@ fn row_of(columns: Columns, line: &[u8]) -> Result<Row, PayloadFault>
     if let Some(next) = Columns::named_by(text) {
         return Ok(Row::Header(next));
     }
-    let asn = field_at(text, columns.asn);
-    let prefix = field_at(text, columns.prefix);
-    let max_len = field_at(text, columns.max_len);
-    match read_fields(asn, prefix, max_len) {
+    check_count(columns, text)?;
+    match read_columns(columns, text) {
         Ok(payload) => Ok(Row::Payload(payload)),
         Err(fault) => Err(fault),
     }
+}
+
+/// Checks how many fields a line has that is to write a payload.
+fn check_count(columns: Columns, line: &str) -> Result<(), PayloadFault>
+    ensures { MatchResult result (λ _. FitsColumns columns line.now) (HasCountFault columns line.now) }
+{
+    let count = field_count(line);
+    if columns.is_named && columns.count < count {
+        return Err(PayloadFault::TooManyFields(count, columns.count));
+    }
+    if columns.asn < count && columns.prefix < count && columns.max_len < count {
+        Ok(())
+    } else {
+        Err(PayloadFault::TooFewFields(count, columns.count))
+    }
+}
+
+/// The payload that the three columns of a line write, or the first fault of their texts.
+fn read_columns(columns: Columns, line: &str) -> Result<(MaxLenPrefix, Asn), PayloadFault>
+    ensures { MatchResult result (AreColumns columns line.now)
+        (HaveColumnsFault columns line.now) }
+{
+    let asn = field_at(line, columns.asn);
+    let prefix = field_at(line, columns.prefix);
+    let max_len = field_at(line, columns.max_len);
+    read_fields(asn, prefix, max_len)
 }
 
 /// Whether a line is white space alone.

@@ -28,9 +28,25 @@ def _prefix(text: str) -> Prefix:
 
 def _origin_of(path: str) -> int:
     last = texts.trim(path).split(" ")[-1]
-    if not last or (last[0] == "{" and last[-1] == "}"):
+    is_set = last.startswith("{") and last.endswith("}")
+    is_confederation = last.endswith((")", "]"))
+    if not last or is_set or is_confederation:
         return 0
     return asn.read_asn(last)
+
+
+def _words(line: str, mark: str) -> Route:
+    prefix, _, origin = line.partition(mark)
+    return Route(_prefix(texts.trim(prefix)), asn.read_asn(texts.trim(origin)))
+
+
+def _is_route_with_comma(line: str) -> bool:
+    """Whether a line has no space, and is a route with one in place of its first comma."""
+    try:
+        _words(line, ",")
+    except Fault:
+        return False
+    return " " not in line
 
 
 def read_route(line: str) -> Route:
@@ -42,8 +58,9 @@ def read_route(line: str) -> Route:
         if len(fields) <= place:
             raise Fault("too few fields")
         return Route(_prefix(fields[PREFIX_PLACE]), _origin_of(fields[place]))
-    prefix, _, origin = line.partition(" ")
-    return Route(_prefix(texts.trim(prefix)), asn.read_asn(texts.trim(origin)))
+    if _is_route_with_comma(line):
+        raise Fault("a comma where a space is expected")
+    return _words(line, " ")
 
 
 def _reason(route: Route, payload: Payload) -> str:

@@ -1,12 +1,16 @@
 -- A line writes one route alone, or has one fault.
-use Rattle.origin_lines.proofs.Common.{Err, List, MatchResult, Ok, Option, Result, Some, ap, arith, inr, ℕ, ◌≡◌, ◌⊎◌, IsUtf8, trim, AreRouteWords, HasDumpFault, HasFaultBy, HasLineFault, HasRouteFault, HasWordFault, HaveWordsFault, IsAsnOrigin, IsDumpRoute, IsFieldAt, IsLineOf, IsNoAsnText, IsNoFieldAt, IsPathPlace, IsRouteBy, IsRouteLine, IsWordOrigin, last_word, origin_word, prefix_word, Route}
+use Rattle.origin_lines.proofs.Common.{Err, List, MatchResult, Ok, Option, Result, Some, [], ap, arith, inl, inr, length, ℕ, ◌++◌, ◌+◌, ◌<◌, ◌∙◌, ◌≡◌, ◌⊎◌, length-append, after_first, position_or_len, is_gap, IsUtf8, trim, AreRouteWords, HasDumpFault, HasFaultBy, HasLineFault, HasRouteFault, HasWordFault, HaveWordsFault, IsAsnOrigin, IsDumpRoute, IsFieldAt, IsLineOf, IsNoAsnText, IsNoFieldAt, IsPathPlace, IsRouteBy, IsRouteLine, IsWordOrigin, last_word, origin_word, prefix_word, Route}
 use Rattle.rpki_text.specs.Reading.{Answers}
 use Rattle.rpki_text.proofs.ReadingLemmas.{Answers-from_found}
 use Rattle.rpki_base.proofs.AsnLemmas.{IsAsnText-one}
 use Rattle.rpki_prefix.proofs.TextLemmas.{IsPrefixText-one, IsPrefixText-no_fault, HasPrefixTextFault-one}
-use Rattle.origin_lines.specs.Routes.{AreDumpTexts}
+use Rattle.origin_lines.specs.Routes.{AreDumpTexts, HasCommaForSpace, TellsNone, origin_part, prefix_part}
+use Rattle.rpki_base.specs.AsnText.{IsAsnText}
+use Rattle.std.specs.Str.Parse.{without_leading_plus}
+use Rattle.std.proofs.lemmas.List.{drop_all, nil_from_length}
+use Rattle.rpki_text.proofs.PrintedLemmas.{trim_shown}
 use Rattle.origin_lines.specs.declared.fault.RouteFault.{RouteFault}
-use Rattle.origin_lines.specs.declared.fault.RouteFault.TheVariants.{NotUtf8, TooFewFields}
+use Rattle.origin_lines.specs.declared.fault.RouteFault.TheVariants.{NotUtf8, TooFewFields, CommaForSpace}
 
 -- a text has one value or one fault at most
 pub record IsDecided (Has : Route → Type 0) (Fails : RouteFault → Type 0) : Type 0 where
@@ -25,7 +29,11 @@ module _ (Origin : Option ℕ → Type 0) (NoOrigin : Type 0) (origin_one : (a b
 
   by_fault : (d e : RouteFault) → HasFaultBy NoOrigin text d → HasFaultBy NoOrigin text e → d ≡ e
   by_fault NotUtf8 e h k = absurd h
+  by_fault TooFewFields e h k = absurd h
+  by_fault CommaForSpace e h k = absurd h
   by_fault d NotUtf8 h k = absurd k
+  by_fault d TooFewFields h k = absurd k
+  by_fault d CommaForSpace h k = absurd k
   by_fault d e h k = search (arith, HasPrefixTextFault-one, IsPrefixText-no_fault)
 
   by_word : IsDecided (IsRouteBy Origin text) (HasFaultBy NoOrigin text)
@@ -44,11 +52,11 @@ module _ (word text : List ℕ) where
 
   -- the last word of a path
   word_one : (a b : Option ℕ) → IsWordOrigin word a → IsWordOrigin word b → a ≡ b
-  word_one (Some m) (Some n) h k = ap Some (IsAsnText-one word m n h.2 k.2)
+  word_one (Some m) (Some n) h k = ap Some (IsAsnText-one word m n h.1 k.1)
   word_one a b h k = grind (arith)
 
   word_apart : (a : Option ℕ) → IsWordOrigin word a → HasWordFault word → ⊥
-  word_apart (Some n) h wrong = wrong.2 n h.2
+  word_apart (Some n) h wrong = wrong.1 n h.1
   word_apart a h wrong = grind (arith)
 
   path_decided : IsDecided (IsRouteBy (IsWordOrigin word) text) (HasFaultBy (HasWordFault word) text)
@@ -91,6 +99,46 @@ module _ (IsKind : Type 0) (other : RouteFault) {Has : Route → Type 0} {Fails 
     same = λ d e h k. grind (arith, found.same);
   }
 
+-- ---- a comma where a space is expected
+
+-- nothing is no AS number
+no_asn : (n : ℕ) → ¬ IsAsnText [] n
+no_asn n h =
+    let none : h.digits ≡ [] =
+    nil_from_length h.digits (omega (arith, ap length h.split ∙ length-append h.letters h.digits)) in
+    let some : 0 < length (without_leading_plus h.digits) = h.number.digits.0 in
+    absurd (omega (arith, rw none at some))
+
+module _ (line : List ℕ) where
+  -- a line without a space has no word of an origin
+  no_word : position_or_len is_gap line ≡ length line → origin_word line ≡ []
+  no_word no_space =
+      ap trim (drop_all (position_or_len is_gap line + 1) line (omega (arith, no_space))) ∙ trim_shown [] tt
+
+  -- so it writes no route
+  no_words : position_or_len is_gap line ≡ length line → (a : Route) → ¬ AreRouteWords line a
+  no_words no_space a h = grind (arith, no_word no_space, no_asn, h.origin)
+
+  comma_decided : IsDecided (AreRouteWords line) (HaveWordsFault line)
+  comma_decided =
+      let words = words_decided (origin_word line) (prefix_word line) in
+      record {
+        one = words.one;
+        apart = λ a f h wrong. grind (arith, words.apart a f h, λ (comma : HasCommaForSpace line). no_words comma.no_space a h);
+        same = λ d e h k. grind (arith, words.same d e);
+      }
+
+  -- what stands round its first comma writes no route
+  pub no_comma_route : (prefix origin : List ℕ) (f : RouteFault) → prefix ≡ prefix_part line
+      → origin ≡ origin_part line → HasFaultBy (IsNoAsnText origin) prefix f → ¬ HasCommaForSpace line
+  no_comma_route prefix origin f one other wrong comma =
+      (words_decided (origin_part line) (prefix_part line)).apart comma.route f comma.writes (rw (one, other) at wrong)
+
+  pub comma_route : (prefix origin : List ℕ) (a : Route) → prefix ≡ prefix_part line → origin ≡ origin_part line
+      → position_or_len is_gap line ≡ length line → IsRouteBy (IsAsnOrigin origin) prefix a → HasCommaForSpace line
+  comma_route prefix origin a one other no_space writes =
+      record { no_space = no_space; route = a; writes = rw (one, other) at writes }
+
 -- ---- any line
 
 module _ (line : List ℕ) where
@@ -102,7 +150,7 @@ module _ (line : List ℕ) where
 
   line_decided : IsDecided (IsLineOf line) (HasLineFault line)
   line_decided =
-      by_place (IsPathPlace line) place_one (words_decided (origin_word line) (prefix_word line)) dump_decided
+      by_place (IsPathPlace line) place_one (comma_decided line) dump_decided
 
 pub route_decided : (line : List ℕ) → IsDecided (IsRouteLine line) (HasRouteFault line)
 route_decided line = by_kind (IsUtf8 line) NotUtf8 (line_decided (trim line))
@@ -116,11 +164,14 @@ route_answers line r found =
 
 -- ---- what is found of parts is found of the line
 
-pub words_found : (text prefix origin : List ℕ) (r : Result Route RouteFault) → prefix ≡ prefix_word text
-    → origin ≡ origin_word text
-    → MatchResult r (IsRouteBy (IsAsnOrigin origin) prefix) (HasFaultBy (IsNoAsnText origin) prefix)
-    → MatchResult r (AreRouteWords text) (HaveWordsFault text)
-words_found text prefix origin r one other found = rw (one, other) at found
+pub words_found : (text prefix origin : List ℕ) (a : Route) → prefix ≡ prefix_word text → origin ≡ origin_word text
+    → IsRouteBy (IsAsnOrigin origin) prefix a → AreRouteWords text a
+words_found text prefix origin a one other found = rw (one, other) at found
+
+pub words_wrong : (text prefix origin : List ℕ) (f : RouteFault) → prefix ≡ prefix_word text
+    → origin ≡ origin_word text → ¬ HasCommaForSpace text → HasFaultBy (IsNoAsnText origin) prefix f
+    → HaveWordsFault text f
+words_wrong text prefix origin f one other no_comma wrong = inr (no_comma, rw (one, other) at wrong)
 
 pub dump_found : (n : ℕ) (line prefix path word : List ℕ) (r : Result Route RouteFault) → IsFieldAt 5 line prefix
     → IsFieldAt n line path → word ≡ last_word path

@@ -1,14 +1,14 @@
 -- The route that a line writes: a prefix and an AS number, or a line of `bgpdump -m`, which prints the tables of route
 -- collectors (RFC 6396, 4.3; RFC 8050, 4).
 use Rattle.std.specs.Prelude.{◌≡◌, ◌≢◌, ◌⊎◌, ◌==◌, ◌-◌, ◌++◌, ℕ, Bool, List, [], Option, Some, None, codes, length, slice_get, slice_index}
-use Rattle.std.specs.List.{after_first, after_last, before_first, slice_split}
+use Rattle.std.specs.List.{after_first, after_last, before_first, position_or_len, slice_split}
 use Rattle.std.specs.Str.{IsUtf8, trim}
-use Rattle.origin_lines.specs.Words.{is_gap}
+use Rattle.origin_lines.specs.Words.{is_comma_byte, is_gap}
 use Rattle.rpki_base.specs.AsnText.{IsAsnText}
 use Rattle.rpki_prefix.specs.PrefixText.{IsPrefixText, HasPrefixTextFault, prefix_fault_text}
 use Rattle.rpki_prefix.specs.Values.{FamilyPrefix}
 use Rattle.origin_lines.specs.declared.fault.RouteFault.{RouteFault}
-use Rattle.origin_lines.specs.declared.fault.RouteFault.TheVariants.{NotUtf8, TooFewFields, Prefix, Asn}
+use Rattle.origin_lines.specs.declared.fault.RouteFault.TheVariants.{NotUtf8, TooFewFields, CommaForSpace, Prefix, Asn}
 use Rattle.origin_lines.specs.declared.route.Route.{Route}
 
 -- a text writes the prefix of a route, and what it says of its origin holds
@@ -20,6 +20,7 @@ pub record IsRouteBy (Origin : Option ℕ → Type 0) (prefix_text : List ℕ) (
 abbrev pub HasFaultBy : Type 0 → List ℕ → RouteFault → Type 0
 HasFaultBy NoOrigin prefix_text NotUtf8 = ⊥
 HasFaultBy NoOrigin prefix_text TooFewFields = ⊥
+HasFaultBy NoOrigin prefix_text CommaForSpace = ⊥
 HasFaultBy NoOrigin prefix_text (Prefix f) = HasPrefixTextFault prefix_text f
 HasFaultBy NoOrigin prefix_text (Asn f) = ((p : FamilyPrefix) × IsPrefixText prefix_text p) × NoOrigin
 
@@ -44,8 +45,24 @@ IsAsnOrigin text (Some n) = IsAsnText text n
 abbrev pub AreRouteWords : List ℕ → Route → Type 0
 AreRouteWords line = IsRouteBy (IsAsnOrigin (origin_word line)) (prefix_word line)
 
+-- the line up to its first comma, and what stands behind that, without white space round them
+abbrev pub prefix_part : List ℕ → List ℕ
+prefix_part line = trim (before_first is_comma_byte line)
+
+abbrev pub origin_part : List ℕ → List ℕ
+origin_part line = trim (after_first is_comma_byte line)
+
+-- the line has no space, and would write a route with a space in place of its first comma
+pub record HasCommaForSpace (line : List ℕ) : Type 0 where
+  pub no_space : position_or_len is_gap line ≡ length line
+  pub route : Route
+  pub writes : IsRouteBy (IsAsnOrigin (origin_part line)) (prefix_part line) route
+
+-- that comma, or else the first fault of both words
 abbrev pub HaveWordsFault : List ℕ → RouteFault → Type 0
-HaveWordsFault line = HasFaultBy (IsNoAsnText (origin_word line)) (prefix_word line)
+HaveWordsFault line fault =
+    (HasCommaForSpace line × (fault ≡ CommaForSpace))
+    ⊎ ((¬ HasCommaForSpace line) × HasFaultBy (IsNoAsnText (origin_word line)) (prefix_word line) fault)
 
 -- ---- a line of a dump
 
@@ -83,14 +100,24 @@ pub record IsSetWord (word : List ℕ) : Type 0 where
   pub begins : slice_index word 0 ≡ 123
   pub ends : slice_index word (length word - 1) ≡ 125
 
--- Of a path that is empty, or ends in a set, no AS is the origin; of any other the last word is (RFC 6811, 2). For an
--- empty path it is the AS of the collector, which the line doesn't tell.
+-- The word ends a segment of a confederation (RFC 5065, 3): with `)` a sequence, with `]` a set. The segment may have
+-- spaces, so the bracket that opens it need not be in the word.
+abbrev pub IsConfedWord : List ℕ → Type 0
+IsConfedWord word = (slice_index word (length word - 1) ≡ 41) ⊎ (slice_index word (length word - 1) ≡ 93)
+
+-- The last word of a path that tells no origin (RFC 6811, 2). A path that ends in a set has none. The origin of an
+-- empty path, and of one that ends in a segment of a confederation, is the speaker's own AS, which the line doesn't
+-- tell.
+abbrev pub TellsNone : List ℕ → Type 0
+TellsNone word = (word ≡ []) ⊎ IsSetWord word ⊎ IsConfedWord word
+
+-- the origin that the last word of a path tells: of any other path this word
 abbrev pub IsWordOrigin : List ℕ → Option ℕ → Type 0
-IsWordOrigin word None = (word ≡ []) ⊎ IsSetWord word
-IsWordOrigin word (Some n) = (word ≢ []) × (¬ IsSetWord word) × IsAsnText word n
+IsWordOrigin word None = TellsNone word
+IsWordOrigin word (Some n) = (¬ TellsNone word) × IsAsnText word n
 
 abbrev pub HasWordFault : List ℕ → Type 0
-HasWordFault word = (word ≢ []) × (¬ IsSetWord word) × IsNoAsnText word
+HasWordFault word = (¬ TellsNone word) × IsNoAsnText word
 
 -- the route of a dump's line whose path stands behind n fields
 abbrev pub IsDumpRoute : ℕ → List ℕ → Route → Type 0
@@ -127,5 +154,6 @@ HasRouteFault line fault = ((¬ IsUtf8 line) × (fault ≡ NotUtf8)) ⊎ (IsUtf8
 abbrev pub route_fault_text : RouteFault → List ℕ
 route_fault_text NotUtf8 = codes "not UTF-8"
 route_fault_text TooFewFields = codes "too few fields"
+route_fault_text CommaForSpace = codes "a comma where a space is expected"
 route_fault_text (Prefix f) = codes "invalid prefix: " ++ prefix_fault_text f
 route_fault_text (Asn f) = codes "invalid AS number"

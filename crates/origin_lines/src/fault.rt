@@ -6,13 +6,15 @@ use rpki_prefix::ParsePrefixError;
 use std::error::Error;
 use std::fmt;
 
-/// What is wrong with the line of a route. The first fault in this order is answered.
+/// What is wrong with the line of a route. The first fault in this order is returned.
 #[derive(Clone, Copy, Debug, PartialEq, Eq)]
 pub enum RouteFault {
     /// The line isn't UTF-8.
     NotUtf8,
     /// It is a line of a dump, and has no field for the path.
     TooFewFields,
+    /// The line has no space, and is a route with a space in place of its first comma.
+    CommaForSpace,
     /// What stands in the prefix's place writes none.
     Prefix(ParsePrefixError),
     /// What stands in the origin's place writes no AS number.
@@ -28,6 +30,7 @@ impl fmt::Display for RouteFault {
         match self {
             RouteFault::NotUtf8 => f.write_str("not UTF-8"),
             RouteFault::TooFewFields => f.write_str("too few fields"),
+            RouteFault::CommaForSpace => f.write_str("a comma where a space is expected"),
             RouteFault::Prefix(fault) => write!(f, "invalid prefix: {fault}"),
             RouteFault::Asn(fault) => write!(f, "{fault}"),
         }

@@ -1,9 +1,9 @@
 //! A line of a route.
-ghost use Rattle.std.specs.Prelude.{◌≡◌, ◌⊎◌, ◌↔◌, ◌∷◌, [], IsTrue, MatchOption, MatchResult};
-ghost use Rattle.std.specs.List.{after_first, after_last, before_first};
-ghost use Rattle.origin_lines.specs.Words.{is_gap};
+ghost use Rattle.std.specs.Prelude.{◌≡◌, ◌↔◌, ◌∷◌, [], ◌<◌, IsTrue, MatchBool, MatchOption, MatchResult, length};
+ghost use Rattle.std.specs.List.{after_first, after_last, before_first, position_or_len};
+ghost use Rattle.origin_lines.specs.Words.{is_comma_byte, is_gap};
 ghost use Rattle.rpki_text.specs.Reading.{Answers};
-ghost use Rattle.origin_lines.specs.Routes.{AreRouteWords, HasDumpFault, HasFaultBy, HasLineFault, HasRouteFault, HasWordFault, HaveWordsFault, IsAsnOrigin, IsDumpRoute, IsFieldAt, IsLineOf, IsNoAsnText, IsNoDump, IsNoFieldAt, IsPathPlace, IsRouteLine, IsRouteBy, IsSetWord, IsWordOrigin, fields_of, origin_word, prefix_word};
+ghost use Rattle.origin_lines.specs.Routes.{AreRouteWords, HasDumpFault, HasCommaForSpace, HasFaultBy, HasLineFault, HasRouteFault, HasWordFault, HaveWordsFault, IsAsnOrigin, IsConfedWord, IsDumpRoute, IsFieldAt, IsLineOf, IsNoAsnText, IsNoDump, IsNoFieldAt, IsPathPlace, IsRouteLine, IsRouteBy, IsSetWord, IsWordOrigin, TellsNone, fields_of, origin_part, origin_word, prefix_part, prefix_word};
 
 use crate::fault::RouteFault;
 use rpki_base::Asn;
@@ -25,14 +25,17 @@ pub struct Route {
     pub origin: Option<Asn>,
 }
 
-/// The route that a line writes, in one of two forms.
+/// Reads the route that a line writes, in one of two forms.
 ///
 /// A prefix and an AS number, with a space between them, and more white space round each or none.
 ///
 /// A line of `bgpdump -m`, whose fields are cut at each `|`. Where the first field is `TABLE_DUMP2`, the sixth is the
 /// prefix and the seventh the path; where it is `TABLE_DUMP2_AP`, the path is the eighth, behind its identifier. The
-/// last word of the path is the origin. A path that is empty, or ends in a set of AS numbers as `{64496,64497}`, tells
-/// no origin (RFC 6811, 2).
+/// last word of the path is the origin. Three kinds of paths tell no origin (RFC 6811, 2): one that is empty, one that
+/// ends in a set of AS numbers as `{64496,64497}`, and one that ends in a segment of a confederation. The last word of
+/// such a segment ends in `)` or `]`, as in `(64512 64513)` and `[64512,64513]`.
+///
+/// Errors: the first [`RouteFault`] of the line.
 #[tactic(auto, using(crate::proofs::LineLemmas::route_answers))]
 pub fn read_route(line: &[u8]) -> Result<Route, RouteFault>
     ensures { Answers (IsRouteLine line.now) (HasRouteFault line.now) result }
@@ -100,11 +103,60 @@ fn cut_field(text: &str) -> Option<(&str, &str)>
 }
 
 /// The route of a prefix and an AS number with a space between them.
+#[tactic(auto, using(crate::proofs::LineLemmas::words_found))]
 fn read_words(text: &str) -> Result<Route, RouteFault>
     ensures { MatchResult result (AreRouteWords text.now) (HaveWordsFault text.now) }
 {
     let (prefix, origin) = words_of(text);
-    read_pair(prefix, origin)
+    match read_pair(prefix, origin) {
+        Ok(route) => Ok(route),
+        Err(fault) => if has_comma_for_space(text) {
+            Err(RouteFault::CommaForSpace)
+        } else {
+            Err(fault)
+        },
+    }
+}
+
+/// Whether a line has no space, and is a route with a space in place of its first comma.
+#[tactic(auto, using(crate::proofs::LineLemmas::comma_route, crate::proofs::LineLemmas::no_comma_route))]
+fn has_comma_for_space(line: &str) -> bool
+    ensures { IsTrue result ↔ HasCommaForSpace line.now }
+{
+    if has_space(line) {
+        return false;
+    }
+    let (prefix, origin) = parts_of(line);
+    read_pair(prefix, origin).is_ok()
+}
+
+/// Whether a text has a space.
+fn has_space(text: &str) -> bool
+    ensures { MatchBool result (position_or_len is_gap text.now < length text.now)
+        (position_or_len is_gap text.now ≡ length text.now) }
+{
+    text.split_once(' ').is_some()
+}
+
+/// What stands before the first comma of a line and what stands behind it, without white space round them: nothing, if
+/// there is no comma.
+fn parts_of(line: &str) -> (&str, &str)
+    ensures prefix { result.0.now ≡ prefix_part line.now }
+    ensures origin { result.1.now ≡ origin_part line.now }
+{
+    let (prefix, origin) = cut_at_comma(line);
+    (prefix.trim(), origin.trim())
+}
+
+/// What stands before the first comma of a text and what stands behind it: nothing, if there is no comma.
+fn cut_at_comma(text: &str) -> (&str, &str)
+    ensures before { result.0.now ≡ before_first is_comma_byte text.now }
+    ensures behind { result.1.now ≡ after_first is_comma_byte text.now }
+{
+    match text.split_once(',') {
+        Some((before, behind)) => (before, behind),
+        None => (text, ""),
+    }
 }
 
 /// The route of a prefix and an AS number.
@@ -176,11 +228,12 @@ fn read_origin(word: &str) -> Result<Option<Asn>, ParseAsnError>
     Ok(Some(origin))
 }
 
-/// Whether the last word of a path tells no origin: it is empty, or a set of AS numbers.
+/// Whether the last word of a path tells no origin: it is empty, or ends a set of AS numbers or a segment of a
+/// confederation.
 fn tells_none(word: &str) -> bool
-    ensures { IsTrue result ↔ ((word.now ≡ []) ⊎ IsSetWord word.now) }
+    ensures { IsTrue result ↔ TellsNone word.now }
 {
-    word.is_empty() || is_set(word)
+    word.is_empty() || is_set(word) || ends_confed(word)
 }
 
 /// What stands behind the last space of a text: all, where there is no space.
@@ -198,4 +251,11 @@ fn is_set(word: &str) -> bool
     ensures { IsTrue result ↔ IsSetWord word.now }
 {
     word.starts_with('{') && word.ends_with('}')
+}
+
+/// Whether a word ends a segment of a confederation.
+fn ends_confed(word: &str) -> bool
+    ensures { IsTrue result ↔ IsConfedWord word.now }
+{
+    word.ends_with(')') || word.ends_with(']')
 }

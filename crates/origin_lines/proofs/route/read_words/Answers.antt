@@ -1,7 +1,10 @@
-use Rattle.origin_lines.proofs.LineLemmas.{words_found}
+use Rattle.origin_lines.proofs.Common.{arith}
+use Rattle.origin_lines.proofs.LineLemmas.{words_wrong}
 use Rattle.origin_lines.proofs.route.read_words.Goals as goal
 
-pub returns : goal.returns
-returns c =
-    words_found c.args.text.now c.words_of.result.0.now c.words_of.result.1.now c.read_pair.result
-    c.words_of.ensures.prefix c.words_of.ensures.origin c.read_pair.ensures
+-- neither word is right, and no comma stands for the space
+pub returns-else-has_comma_for_space : goal.returns-else-has_comma_for_space
+returns-else-has_comma_for_space c =
+    words_wrong c.args.text.now c.words_of.result.0.now c.words_of.result.1.now c.in-Err.fault
+    c.words_of.ensures.prefix c.words_of.ensures.origin (grind (arith, c.if-has_comma_for_space.ensures.1))
+    c.in-Err.ensures

@@ -32,6 +32,17 @@ invalid-length length:192.0.2.0/23-24:AS64496
 invalid-as as:192.0.2.0/23-24:AS64496
 not-found
 error: invalid prefix: non-zero host portion" $? "$said"
+said=$("$program" payloads 2>/dev/null <<'END'
+192.0.2.0/24,AS64496
+TABLE_DUMP2|1732579200|B|203.0.113.1|64500|192.0.2.0/24|64500 (64512 64496)|IGP
+TABLE_DUMP2|1732579200|B|203.0.113.1|64500|192.0.2.0/24|64500 [64496]|IGP
+TABLE_DUMP2|1732579200|B|203.0.113.1|64500|192.0.2.0/24|(64512 64513) 64496|IGP
+END
+)
+expect "a comma for the space, and segments of a confederation" 0 "error: a comma where a space is expected
+invalid-as
+invalid-as
+valid" $? "$said"
 said=$("$program" payloads </dev/null 2>&1)
 expect "no route" 0 "origins: 2 payloads" $? "$said"
 said=$("$program" payloads --check <fine 2>/dev/null)
@@ -93,6 +104,16 @@ for words in "wrong" "--table wrong" "--diff wrong next" "--diff next wrong"; do
     said=$("$program" $words <routes 2>&1)
     expect "a wrong line: $words" 1 "origins: wrong: line 2: invalid prefix: non-zero host portion" $? "$said"
 done
+printf 'ASN,IP Prefix,Max Length,TA\nAS1,10.0.0.0/8,8,x\nAS1,11.0.0.0/8,8,x,y,z\n' >long
+said=$("$program" long <routes 2>&1)
+expect "a row with more fields than the header" 1 \
+    "origins: long: line 3: too many fields: 6, but the header names 4" $? "$said"
+printf 'AS1,10.0.0.0/8,8\nAS1,10.0.0.0/8\n' >short
+said=$("$program" --table short 2>&1)
+expect "a row with too few fields" 1 "origins: short: line 2: too few fields: 2 of 3" $? "$said"
+printf ' [{"asn":1,"prefix":"10.0.0.0/8","maxLength":8}]\n' >array
+said=$("$program" --diff next array 2>&1)
+expect "a JSON array" 1 "origins: array: a JSON array, where an object with the member roas is expected" $? "$said"
 : >empty
 said=$("$program" empty <routes 2>&1)
 expect "a file without payloads" 1 "origins: empty: no payload" $? "$said"

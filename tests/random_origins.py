@@ -23,6 +23,12 @@ TOP = Path(__file__).resolve().parent.parent
 PROGRAM = TOP / "crates" / "origins" / "out" / "origins"
 FILES = 20
 SHOWN = 10
+# Paths whose last segment is a set of AS numbers or one of a confederation, or that have none, and malformed ones.
+PATHS = (
+    *("", "64500 {7,8}", "{64496}", "7 {}", "64500 (64512)", "64500 (64512 64513)", "(64496 64497)", "64500 [64496]"),
+    *("64500 [64496,64497]", "[64512, 64513]", "64500 ( 64512 )", "(64512) 64496", "[64512] {7}", "(64512 [64496])"),
+    *("64500 )", "]", "64500 64496)", "64500 (64496", "[", "{64496)", "(64496}", "64496]x"),
+)
 DAMAGE = "0123456789ASas.:/-+,|{} \t\"\u00a0\u0661"
 
 
@@ -64,15 +70,22 @@ class Maker:
             text = text[:at] + inserted + text[at + self.random.randrange(2) :]
         return text
 
+    def resized(self, row: str) -> str:
+        """A row with fields more or less."""
+        fields = row.split(",")
+        more = self.random.choice(("", "x", '"a,b"', ",,"))
+        return self.random.choice((",".join((row, more)), ",".join(fields[:-1]), fields[0], f"x,{row}"))
+
     def file(self, payloads: list[Payload]) -> bytes:
         """A file of payloads in one of the forms that validators write."""
         return self.random.choice((self._plain, self._quoted, self._later, self._json, self._json))(payloads)
 
     def _plain(self, payloads: list[Payload]) -> bytes:
         end = self.random.choice(("\n", "\r\n"))
-        names = ("ASN,IP Prefix,Max Length,Trust Anchor", "ASN,Prefix,Max prefix length")
-        head = self.random.choice(("", *(f"{name}{end}" for name in names)))
-        lines = [f"AS{asn},{prefix.prefix.text()},{prefix.max_length},ripe" for prefix, asn in payloads]
+        names = ("ASN,IP Prefix,Max Length,Trust Anchor", "ASN,Prefix,Max prefix length", "")
+        name = self.random.choice(names)
+        head, last = f"{name}{end}" if name else "", "" if name == names[1] else ",ripe"
+        lines = [f"AS{asn},{prefix.prefix.text()},{prefix.max_length}{last}" for prefix, asn in payloads]
         return (head + end.join(lines) + self.random.choice(("", end, end + end))).encode()
 
     def _quoted(self, payloads: list[Payload]) -> bytes:
@@ -99,24 +112,28 @@ class Maker:
         return json.dumps(value, indent=self.random.choice((None, 1))).encode()
 
     def wrong(self, payloads: list[Payload]) -> bytes:
-        """The same, damaged or cut."""
+        """The same, damaged or cut, with a row of another length, or as an array."""
         octets = self.file(payloads)
+        if self.one_in(8):
+            return self.random.choice((b"", b" \n\t", b"\xc2\xa0", b"x")) + b"[" + octets + b"]"
         if self.one_in(4):
             return octets[: self.random.randrange(len(octets) + 1)]
         lines = octets.decode().split("\n")
         at = self.random.randrange(len(lines))
-        lines[at] = self.damaged(lines[at])
+        lines[at] = self.resized(lines[at]) if self.one_in(3) else self.damaged(lines[at])
         return "\n".join(lines).encode()
 
     def line(self) -> bytes:
         """A line of a route."""
         prefix, origin = self.prefix(), self.asn()
-        path = f"64500 {origin}" if not self.one_in(6) else self.random.choice(("", "64500 {7,8}", "{64496}", "7 {}"))
+        path = self.random.choice(PATHS) if self.one_in(4) else f"64500 {origin}"
         text = self.random.choice(
             (
                 f"{prefix.text()} AS{origin}",
                 f"{prefix.text()} {origin}",
                 f"\t{prefix.text()}  as{origin}\r",
+                f"{prefix.text()},AS{origin}",
+                f"{prefix.text()}{self.random.choice((',', ', ', ' ,', ',,', ';', chr(9) + ','))}{origin}",
                 f"TABLE_DUMP2|1732579200|B|203.0.113.1|64500|{prefix.text()}|{path}|IGP|203.0.113.1|0|0||NAG||",
                 f"TABLE_DUMP2_AP|1732579200|B|203.0.113.1|64500|{prefix.text()}|7|{path}|IGP|203.0.113.1|0|0||NAG||",
             )

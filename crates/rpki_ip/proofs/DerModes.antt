@@ -1,10 +1,11 @@
 -- Prefixes in either mode: strictly, the octets are those that are written of them.
-use Rattle.rpki_ip.proofs.Common.{Bool, Err, List, Ok, Result, [], ap, arith, cond, drop, false, get_or, length, refl, subst, suc, sym, true, zero, ℕ, ◌%◌, ◌*◌, ◌++◌, ◌+◌, ◌-◌, ◌/◌, ◌<◌, ◌^◌, ◌∙◌, ◌∷◌, ◌≡◌, ◌≤◌, mul-div_cancel, mul_assoc, and_parts, eqb-true, le-leb, le-ltb, leb-true, lt-ltb, ltb-false, ltb-true, or_from, or_parts, take-append-drop, pow-add, pow_pos, shr_split, bytes_high_first, to_be_bytes, w128, IsPrefix, PrefixValue, bits_of, mod_multiple, multiple_gap, multiple_mod, multiple_self, multiple_smaller, multiple_sum, bits_check, bind_tightens, is_padded_of, looked_tightens, padded_is, passed_is, passes, then_passing, IsTagged, content_reading, fits_content, on_bytes, same_reading, IsBytes-rest, IsCheck, bind_ok, fits_front, value_is, Bits, IsBitString, IsBits, IsBytes, IsPadded, Refines, Spells, Where, big_endian, big_endian_after, bit_content, bit_string_value, last_octet, IsModal, IsReading, Tightens, bits, bits_by, is_padded, passing, ◌>>=◌, Takes, is_strict, left, DerError, BadPrefix, IsPrefixWithin, IsStrictContent, SaysPrefix, is_longer, octet_count, prefix_at, prefix_bits, prefix_by, prefix_der, prefix_in, prefix_in_by, prefix_of, prefix_of_by, IsRangeWithin, IsSpan, RangeValue, exact_by, parses_by, reads_by, refused_by, refused_in, same_found, Gives, content_octets, is_strict_in, IsPrefixContent, IsPrefixDer, Lenient, LenientIn, NotCanonicalInOr, NotCanonicalOr, Parses, ReadsValue, Strict, StrictIn, mul-add-mod_self_right, zero-div, field_of}
+use Rattle.rpki_ip.proofs.Common.{Bool, Err, List, Ok, Result, [], ap, arith, cond, drop, false, get_or, length, refl, subst, suc, sym, true, zero, ℕ, ◌%◌, ◌*◌, ◌++◌, ◌+◌, ◌-◌, ◌/◌, ◌<◌, ◌^◌, ◌∙◌, ◌∷◌, ◌≡◌, ◌≤◌, mul-div_cancel, mul_assoc, and_parts, eqb-true, le-leb, le-ltb, leb-true, lt-ltb, ltb-false, ltb-true, or_from, or_parts, take-append-drop, pow-add, pow_pos, shr_split, bytes_high_first, to_be_bytes, w128, IsPrefix, PrefixValue, bits_of, mod_multiple, multiple_gap, multiple_mod, multiple_self, multiple_smaller, multiple_sum, bits_check, bind_tightens, is_padded_of, looked_tightens, padded_is, passed_is, passes, then_passing, IsTagged, content_reading, fits_content, on_bytes, same_reading, IsBytes-rest, IsCheck, bind_ok, fits_front, value_is, Bits, IsBits, IsBytes, IsPadded, Refines, Spells, big_endian, big_endian_after, bit_content, bit_string_value, last_octet, IsModal, IsReading, Tightens, bits, bits_by, is_padded, passing, ◌>>=◌, Takes, is_strict, left, DerError, BadPrefix, IsPrefixWithin, IsStrictContent, SaysPrefix, is_longer, octet_count, prefix_at, prefix_bits, prefix_by, prefix_der, prefix_in, prefix_in_by, prefix_of, prefix_of_by, IsRangeWithin, IsSpan, RangeValue, exact_by, parses_by, reads_by, refused_by, refused_in, same_found, Gives, content_octets, is_strict_in, IsPrefixContent, IsPrefixDer, Lenient, LenientIn, NotCanonicalInOr, NotCanonicalOr, Parses, ReadsValue, Strict, StrictIn, mul-add-mod_self_right, zero-div, field_of}
 use Rattle.rpki_der.specs.declared.cursor.Cursor.{Cursor}
 use Rattle.rpki_der.specs.declared.family.AddressFamily.{AddressFamily}
 use Rattle.rpki_der.proofs.SequenceModes.{value_back_by}
 use Rattle.rpki_ip.proofs.DerReadings.{bits_prefix_check, prefix_check, prefix_reading}
 use Rattle.rpki_der.specs.declared.content.Content.{Content}
+use Rattle.rpki_ip.specs.PrefixDer.{IsStrictPrefix}
 use Rattle.rpki_ip.proofs.PrefixBits.{bits_few, bits_fit, bits_say, byte_is, first_bits, said_prefix}
 
 -- addresses of a family have 128 bits at most
@@ -12,10 +13,6 @@ pub bits_few_enough : (family : AddressFamily) → bits_of family ≤ 128
 bits_few_enough family = grind (arith)
 
 -- ---- the reading
-
--- what strict cursors take
-abbrev pub IsStrictPrefix : ℕ → List ℕ → PrefixValue → Type 0
-IsStrictPrefix limit = Refines (Where IsBitString IsPadded) (SaysPrefix limit)
 
 -- a content
 pub strict_content_check : (limit : ℕ) → IsCheck (λ _. Unit {0}) (IsStrictContent limit) (prefix_in_by true limit)

@@ -58,6 +58,10 @@ IsPrefixWithin limit p = IsPrefix 128 p × (p.len ≤ limit)
 abbrev pub IsStrictContent : ℕ → List ℕ → PrefixValue → Type 0
 IsStrictContent limit = Refines (Where IsBitContent IsPadded) (SaysPrefix limit)
 
+-- what strict cursors take
+abbrev pub IsStrictPrefix : ℕ → List ℕ → PrefixValue → Type 0
+IsStrictPrefix limit = Refines (Where IsBitString IsPadded) (SaysPrefix limit)
+
 -- strictly, the unused bits are zero, which is looked at behind the length
 unfoldable pub prefix_of_by : Bool → ℕ → Bits → Result PrefixValue DerError
 prefix_of_by strict limit b = prefix_of limit b >>= passing strict (λ p. is_padded b)

@@ -205,7 +205,11 @@ fn put_range(out: &mut [u8], family: AddressFamily, range: AddressRange) -> usiz
 }
 
 impl Prefix {
-    /// Reads an IPv4 address and a length round the first slash, as [`read_prefix`] does.
+    /// Reads an IPv4 prefix: an address, a slash and a length. The bits behind the length are cleared.
+    ///
+    /// Errors, of which the first is returned: [`FromStrError::MissingSeparator`] if there is no slash;
+    /// [`FromStrError::Addr`] if the text before the first slash is no IPv4 address; [`FromStrError::PrefixLen`] if the
+    /// text behind that slash is no number from 0 to 32.
     pub fn from_v4_str(text: &str) -> Result<Prefix, FromStrError>
         ensures { Answers (IsIpPrefixText (Some Ipv4) text.now)
             (HasIpPrefixTextFault (Some Ipv4) text.now) result }
@@ -213,7 +217,11 @@ impl Prefix {
         read_prefix(Some(AddressFamily::Ipv4), text)
     }
 
-    /// Reads an IPv6 address and a length round the first slash, as [`read_prefix`] does.
+    /// Reads an IPv6 prefix: an address, a slash and a length. The bits behind the length are cleared.
+    ///
+    /// Errors, of which the first is returned: [`FromStrError::MissingSeparator`] if there is no slash;
+    /// [`FromStrError::Addr`] if the text before the first slash is no IPv6 address; [`FromStrError::PrefixLen`] if the
+    /// text behind that slash is no number from 0 to 128.
     pub fn from_v6_str(text: &str) -> Result<Prefix, FromStrError>
         ensures { Answers (IsIpPrefixText (Some Ipv6) text.now)
             (HasIpPrefixTextFault (Some Ipv6) text.now) result }
@@ -263,7 +271,11 @@ impl FromStr for Prefix {
 }
 
 impl AddressRange {
-    /// Reads two IPv4 addresses round the first dash, as [`read_range`] does.
+    /// Reads an IPv4 range: its first address, a dash and its last address.
+    ///
+    /// Errors, of which the first is returned: [`FromStrError::MissingSeparator`] if there is no dash;
+    /// [`FromStrError::Addr`] if the text before or behind the first dash is no IPv4 address;
+    /// [`FromStrError::BadRange`] if the first address is above the last.
     pub fn from_v4_str(text: &str) -> Result<AddressRange, FromStrError>
         ensures { Answers (IsRangeText (Some Ipv4) text.now)
             (HasRangeTextFault (Some Ipv4) text.now) result }
@@ -271,7 +283,11 @@ impl AddressRange {
         read_range(Some(AddressFamily::Ipv4), text)
     }
 
-    /// Reads two IPv6 addresses round the first dash, as [`read_range`] does.
+    /// Reads an IPv6 range: its first address, a dash and its last address.
+    ///
+    /// Errors, of which the first is returned: [`FromStrError::MissingSeparator`] if there is no dash;
+    /// [`FromStrError::Addr`] if the text before or behind the first dash is no IPv6 address;
+    /// [`FromStrError::BadRange`] if the first address is above the last.
     pub fn from_v6_str(text: &str) -> Result<AddressRange, FromStrError>
         ensures { Answers (IsRangeText (Some Ipv6) text.now)
             (HasRangeTextFault (Some Ipv6) text.now) result }

@@ -27,11 +27,11 @@ pub use Rattle.rpki_der.proofs.Readings.{fits_content, one_front, same_reading}
 pub use Rattle.rpki_der.specs.Der.{Each, IsBytes, Spells}
 pub use Rattle.rpki_der.specs.Reading.{IsReading, optional, value_at}
 pub use Rattle.rpki_der.specs.Views.{Lenient, NotCanonicalOr, ReadsOptional, Strict, Takes, is_strict, left}
-pub use Rattle.rpki_ip.proofs.DerModes.{IsStrictPrefix, bits_few_enough, prefix_is_spelled, spelled_is_prefix, within}
+pub use Rattle.rpki_ip.proofs.DerModes.{bits_few_enough, prefix_is_spelled, spelled_is_prefix, within}
 pub use Rattle.rpki_ip.proofs.DerWritten.{few_bits, prefix_written, range_spelled, range_written}
 pub use Rattle.rpki_ip.proofs.TextLemmas.{answers_by_one, prefix_one, range_one, single_of, single_one}
 pub use Rattle.rpki_ip.specs.BlockText.{HasAddressFault, HasIpPrefixTextFault, HasRangeTextFault, IsAddressText, IsIpPrefixText, IsPrefixAt, IsRangeFrom, IsRangeText, IsSingleText}
-pub use Rattle.rpki_ip.specs.PrefixDer.{prefix_at, prefix_der, prefix_in}
+pub use Rattle.rpki_ip.specs.PrefixDer.{IsStrictPrefix, prefix_at, prefix_der, prefix_in}
 pub use Rattle.rpki_ip.specs.PrintedText.{as_ip, shown_bits}
 pub use Rattle.rpki_ip.specs.RangeDer.{IsSpan, is_written_as, range_content, range_in, without_end_ones, without_end_zeros}
 pub use Rattle.rpki_ip.specs.Ranges.{IsRangeOf, RangeValue, range_bounds}

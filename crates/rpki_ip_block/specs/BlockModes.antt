@@ -5,7 +5,7 @@ use Rattle.rpki_block.specs.Beyond.{IsBeyond}
 use Rattle.rpki_der.specs.Der.{IsSequence, Refines, Where}
 use Rattle.rpki_ip.specs.RangeDer.{IsSpan}
 use Rattle.rpki_ip.specs.Ranges.{RangeValue}
-use Rattle.rpki_ip.proofs.DerModes.{IsStrictPrefix}
+use Rattle.rpki_ip.specs.PrefixDer.{IsStrictPrefix}
 use Rattle.rpki_ip_block.specs.BlockReading.{is_set_range}
 use Rattle.rpki_ip_block.specs.Blocks.{ip_bounds}
 use Rattle.rpki_ip_block.specs.declared.block.IpBlock.{IpBlock}

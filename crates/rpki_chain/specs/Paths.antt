@@ -1,6 +1,6 @@
 -- Claims on the numbers that an issuer has, and what a path of claims leaves of a root: sets by membership
 -- (RFC 3779, 2.3 and 3.3; RFC 6487, 7.2; RFC 8360, 4).
-use Rattle.std.specs.Prelude.{◌≡◌, ◌≢◌, ℕ, ◌<◌, List, [], ◌∷◌, take, slice_index_or, length, All, ⊤}
+use Rattle.std.specs.Prelude.{◌≡◌, ◌≢◌, ℕ, ◌<◌, List, [], ◌∷◌, ◌++◌, Option, All, codes, decimal, length, option_map, slice_index_or, take, ⊤}
 use Rattle.rpki_chain.specs.Claims.{Claim}
 use Rattle.rpki_chain.specs.Runs.{Runs, Holds, IsRunsOf}
 use Rattle.rpki_chain.specs.declared.choice.ResourcesChoice.TheVariants.{Missing, Inherit, Blocks}
@@ -76,3 +76,10 @@ module _ {R : Type 0} (claim : R → Claim) where
     pub excess : IsRunsOf (ExceedsAt S steps refusal.step) refusal.fault
     pub some : refusal.fault ≢ []
     pub first : (at n : ℕ) → at < refusal.step → ExceedsAt S steps at n → ⊥
+
+-- ---- what is printed of a refusal
+
+-- the index of the step and the text of its fault, if that is known
+abbrev pub path_refusal_text : {F : Type 0} → (F → Option (List ℕ)) → PathRefusal F → Option (List ℕ)
+path_refusal_text fault_text refusal =
+    option_map (λ text. codes "refused at step " ++ decimal refusal.step ++ codes ": " ++ text) (fault_text refusal.fault)

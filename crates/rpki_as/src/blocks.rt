@@ -155,7 +155,10 @@ impl<A: Allocator> AsBlocks<A> {
         count
     }
 
-    /// Tells a proof that the set is one of AS numbers, and does nothing.
+    /// States an invariant for the proofs of callers: the set is one of AS numbers.
+    ///
+    /// This call is no test. It does nothing and returns nothing.
+    #[doc(hidden)]
     pub fn is_lawful(&self)
         ensures { IsAsSet self.now }
     {

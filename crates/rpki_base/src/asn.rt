@@ -47,7 +47,10 @@ impl Asn {
         Asn(value)
     }
 
-    /// Tells a proof that the AS number has 32 bits, and does nothing.
+    /// States an invariant for the proofs of callers: the AS number has 32 bits.
+    ///
+    /// This call is no test. It does nothing and returns nothing.
+    #[doc(hidden)]
     pub fn is_lawful(self)
         ensures { self < 2 ^ 32 }
     {

@@ -108,7 +108,10 @@ impl<T: Block, A: Allocator> BlockSet<T, A> {
         Ok(BlockSet { chain })
     }
 
-    /// Tells a proof that the set is one of items of the kind, and does nothing.
+    /// States an invariant for the proofs of callers: the set is one of items of the kind.
+    ///
+    /// This call is no test. It does nothing and returns nothing.
+    #[doc(hidden)]
     pub fn is_lawful(&self)
         ensures { IsBlockSet T.first T.last self.now }
     {

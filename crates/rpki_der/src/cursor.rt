@@ -67,7 +67,10 @@ impl<'a> Cursor<'a> {
         self.octets.is_empty()
     }
 
-    /// Tells a proof that fewer than 2^64 octets are left, and does nothing.
+    /// States an invariant for the proofs of callers: fewer than 2^64 octets are left.
+    ///
+    /// This call is no test. It does nothing and returns nothing.
+    #[doc(hidden)]
     pub fn is_lawful(&self)
         ensures { length (left self.now) < 2 ^ 64 }
     {}

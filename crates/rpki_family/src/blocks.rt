@@ -94,7 +94,10 @@ impl<F: Family, A: Allocator> FamilyBlocks<F, A> {
         }
     }
 
-    /// Tells a proof that the set is one of addresses of the family, and does nothing.
+    /// States an invariant for the proofs of callers: the set is one of addresses of the family.
+    ///
+    /// This call is no test. It does nothing and returns nothing.
+    #[doc(hidden)]
     #[tactic(auto, using(crate::proofs::FamilyLemmas::is_family_set))]
     pub fn is_lawful(&self)
         ensures { IsFamilySet F.FAMILY self.now }

@@ -52,22 +52,28 @@ impl Addr {
         Addr(addr.to_bits())
     }
 
-    /// Reads the text of an IPv4 address, as the least address that it stands for. Any other text is refused by
-    /// [`AddrParseError::Ipv4`].
+    /// Reads an IPv4 address, and returns the least address that it stands for.
+    ///
+    /// Error: [`AddrParseError::Ipv4`] if the text is no IPv4 address.
     pub fn from_v4_str(text: &str) -> Result<Addr, AddrParseError>
         ensures { ReadsIpv4Addr text.now result }
     {
         Ok(Addr::from_v4(Ipv4Addr::from_str(text)?))
     }
 
-    /// Reads the text of an IPv6 address. Any other text is refused by [`AddrParseError::Ipv6`].
+    /// Reads an IPv6 address.
+    ///
+    /// Error: [`AddrParseError::Ipv6`] if the text is no IPv6 address.
     pub fn from_v6_str(text: &str) -> Result<Addr, AddrParseError>
         ensures { ReadsIpv6Addr text.now result }
     {
         Ok(Addr::from_v6(Ipv6Addr::from_str(text)?))
     }
 
-    /// Tells a proof that the number of the address has 128 bits, and does nothing.
+    /// States an invariant for the proofs of callers: the number of the address has 128 bits.
+    ///
+    /// This call is no test. It does nothing and returns nothing.
+    #[doc(hidden)]
     pub fn is_lawful(self)
         ensures { self < 2 ^ 128 }
     {

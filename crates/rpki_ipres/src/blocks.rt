@@ -128,7 +128,10 @@ impl<A: Allocator> IpBlocks<A> {
         self.set.is_empty()
     }
 
-    /// Tells a proof that the set is one of addresses, and does nothing.
+    /// States an invariant for the proofs of callers: the set is one of addresses.
+    ///
+    /// This call is no test. It does nothing and returns nothing.
+    #[doc(hidden)]
     pub fn is_lawful(&self)
         ensures { IsIpSet self.now }
     {

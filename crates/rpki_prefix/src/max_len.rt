@@ -94,7 +94,10 @@ impl MaxLenPrefix {
         self.prefix.len()
     }
 
-    /// Tells a proof that the greatest length is one of the prefix, and does nothing.
+    /// States an invariant for the proofs of callers: the maximum length is one of the prefix.
+    ///
+    /// This call is no test. It does nothing and returns nothing.
+    #[doc(hidden)]
     pub fn is_lawful(self)
         ensures { IsMaxLenPrefix self }
     {

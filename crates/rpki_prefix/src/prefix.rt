@@ -153,7 +153,10 @@ impl Prefix {
         self.addr
     }
 
-    /// Tells a proof that the value is a prefix of its family, and does nothing.
+    /// States an invariant for the proofs of callers: the value is a prefix of its family.
+    ///
+    /// This call is no test. It does nothing and returns nothing.
+    #[doc(hidden)]
     pub fn is_lawful(self)
         ensures { IsFamilyPrefix self }
     {

@@ -87,7 +87,10 @@ impl<A: Allocator> ResourceSet<A> {
         ResourceSet::of_three(asn, ipv4, self.ipv6.clone())
     }
 
-    /// Tells a proof that there is a set of each kind, and does nothing.
+    /// States an invariant for the proofs of callers: there is a set of each kind.
+    ///
+    /// This call is no test. It does nothing and returns nothing.
+    #[doc(hidden)]
     pub fn is_lawful(&self)
         ensures { IsTriple self.now }
     {

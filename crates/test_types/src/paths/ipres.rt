@@ -164,3 +164,16 @@ pub const BLOCK_ITER: Names<rpki_family::BlockIter<'static, rpki_family::Ipv4Blo
     PhantomData::<there::BlockIter<'static, there::Ipv4Block>>,
     PhantomData::<rpki_family::iter::BlockIter<'static, rpki_family::Ipv4Block>>,
 ];
+
+/// The family of an iterator's type. The compiler refuses two implementations for one type.
+pub trait CoversOf {
+    const FAMILY: resources::AddressFamily;
+}
+
+impl CoversOf for resources::V4SetPrefixes<'_> {
+    const FAMILY: resources::AddressFamily = resources::AddressFamily::Ipv4;
+}
+
+impl CoversOf for resources::V6SetPrefixes<'_> {
+    const FAMILY: resources::AddressFamily = resources::AddressFamily::Ipv6;
+}

@@ -40,10 +40,10 @@ impl<A: Allocator> OverclaimedIpResources<A> {
         &self.excess
     }
 
-    /// The fault, to be displayed as one of the family.
+    /// Returns the fault to be printed as one of a family, without the precondition of [`OverclaimedIpResources::v4`].
     ///
     /// The family is a value, and the fault is borrowed. [`OverclaimedIpResources::of_family`] takes the fault, and the
-    /// family is a type.
+    /// family is a type. Internal API of the crates above: a caller prints the fault that `v4` or `v6` returns.
     pub fn as_family(&self, family: AddressFamily) -> OverclaimedForFamily<'_, A>
         ensures { result ≡ (family, self.now) }
     {

@@ -12,6 +12,7 @@ use std::alloc::{AllocError, Allocator, Global};
 
 /// What a router is told so that it gets from one table to the next.
 #[derive(Drop)]
+#[derive_where(Debug)]
 pub struct PayloadChanges<A: Allocator = Global> {
     /// The payloads that the next table has and the one before it hasn't.
     pub announced: PayloadTable<A>,

@@ -7,6 +7,7 @@ use crate::entry::Entry;
 use crate::links::{Link, nearest};
 use rpki_base::Asn;
 use rpki_prefix::MaxLenPrefix;
+use std::fmt;
 use std::marker::Model;
 
 /// The payloads of a table that cover a route and are left, the longest prefix first. Contracts see it as their list.
@@ -49,6 +50,15 @@ impl<'a> Covering<'a> {
             at,
             route,
         }
+    }
+}
+
+/// Shows the route's prefix. The payloads that are left are left out.
+impl fmt::Debug for Covering<'_> {
+    fn fmt<W: fmt::Write>(&self, f: &mut fmt::Formatter<W>) -> fmt::Result {
+        f.debug_struct("Covering")
+            .field("route", &self.route.prefix())
+            .finish_non_exhaustive()
     }
 }
 

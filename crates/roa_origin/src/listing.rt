@@ -5,6 +5,7 @@ ghost use Rattle.std.specs.Iterator.{YieldsFirst, item_count};
 use crate::entry::Entry;
 use rpki_base::Asn;
 use rpki_prefix::MaxLenPrefix;
+use std::fmt;
 use std::marker::Model;
 
 /// The payloads of a table that are left, in its order. Contracts see it as their list.
@@ -30,6 +31,15 @@ impl<'a> TablePayloads<'a> {
         ensures { result ≡ entries.now }
     {
         TablePayloads { entries }
+    }
+}
+
+/// Lists the payloads that are left.
+impl fmt::Debug for TablePayloads<'_> {
+    fn fmt<W: fmt::Write>(&self, f: &mut fmt::Formatter<W>) -> fmt::Result {
+        f.debug_list()
+            .entries(TablePayloads::of(self.entries))
+            .finish()
     }
 }
 

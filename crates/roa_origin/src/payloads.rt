@@ -5,6 +5,7 @@ ghost use Rattle.roa_origin.specs.Tables.{IsAscending, IsTableOf, as_sent};
 use rpki_base::Asn;
 use rpki_prefix::MaxLenPrefix;
 use std::alloc::{AllocError, Allocator, Global};
+use std::fmt;
 use std::marker::Model;
 
 /// Payloads as routers get them, ascending and each once: each has its greatest length, which is that of its prefix
@@ -59,6 +60,13 @@ impl<A: Allocator> PayloadTable<A> {
         ensures { result ≡ payloads.items }
     {
         PayloadTable { payloads }
+    }
+}
+
+/// Lists the payloads, ascending.
+impl<A: Allocator> fmt::Debug for PayloadTable<A> {
+    fn fmt<W: fmt::Write>(&self, f: &mut fmt::Formatter<W>) -> fmt::Result {
+        f.debug_list().entries(self.as_slice()).finish()
     }
 }
 

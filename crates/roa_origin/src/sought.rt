@@ -12,6 +12,7 @@ use crate::entry::Entry;
 use crate::links::Link;
 use crate::table::{count_between, is_held_in, validity_in};
 use crate::validation::Validity;
+use std::fmt;
 use std::marker::Model;
 
 /// A route that is sought in a table. Each step reads another place there. Whoever asks for many routes takes a step
@@ -117,5 +118,16 @@ impl<'a> Sought<'a> {
     {
         let at = self.count();
         Covering::from(self.payloads, self.links, at, self.route)
+    }
+}
+
+/// Shows the route. The table's payloads are left out.
+impl fmt::Debug for Sought<'_> {
+    fn fmt<W: fmt::Write>(&self, f: &mut fmt::Formatter<W>) -> fmt::Result {
+        let (prefix, asn) = self.route.payload();
+        f.debug_struct("Sought")
+            .field("route", &prefix.prefix())
+            .field("asn", &asn)
+            .finish_non_exhaustive()
     }
 }

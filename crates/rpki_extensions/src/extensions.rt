@@ -1,8 +1,10 @@
 //! What a certificate says of resources, and what it claims by that.
-ghost use Rattle.std.specs.Prelude.{IfOk, MatchResult};
+ghost use Rattle.std.specs.Prelude.{◌≡◌, Err, IfOk, MatchResult};
 ghost use Rattle.rpki_text.specs.Memory.{IfRefused};
+ghost use Rattle.rpki_text.specs.declared.memory.OrMemory.TheVariants.{Refused};
 ghost use Rattle.rpki_ipres.specs.Resources.{IsWholeClaim};
-ghost use Rattle.rpki_extensions.specs.Claims.{AreClaims, AreNoClaims};
+ghost use Rattle.rpki_extensions.specs.Claims.{AreAbsent, AreClaims, AreNoClaims};
+ghost use Rattle.rpki_extensions.specs.declared.error.Unverified.TheVariants.{Absent};
 
 use crate::encoding::Encoding;
 use crate::error::Unverified;
@@ -28,6 +30,7 @@ pub struct Extensions<'a> {
 ///
 /// This is a struct of three claims. `rpki_chain::path::Claims` is the trait that each claim of one kind has.
 #[derive(Drop)]
+#[derive_where(Debug)]
 pub struct Claims<A: Allocator = Global> {
     /// AS numbers.
     pub asn: AsResources<A>,
@@ -38,9 +41,11 @@ pub struct Claims<A: Allocator = Global> {
 }
 
 impl Extensions<'_> {
-    /// What the certificate claims; missing resources where an extension is absent, and of a family that isn't there.
-    /// `Refused` where both extensions are absent, and else with the first fault of AS identifiers, or else of IP
-    /// address blocks; `Memory` where there is no memory for the claims.
+    /// Returns what the certificate claims. An absent extension and an absent family are missing resources.
+    ///
+    /// Errors: [`Unverified::Absent`] if both extensions are absent, whatever memory there is. Else the first fault of
+    /// AS identifiers ([`Unverified::AsOctets`]), and then of IP address blocks ([`Unverified::AddressOctets`]).
+    /// `Memory` if an allocation for the claims fails.
     pub fn claims<A: Allocator + Copy>(
         &self,
         alloc: A,
@@ -48,6 +53,7 @@ impl Extensions<'_> {
         ensures claims { MatchResult result
             (λ claims. AreClaims self.now claims.asn claims.ipv4 claims.ipv6)
             (IfRefused (AreNoClaims self.now)) }
+        ensures absent { AreAbsent self.now → result ≡ Err (Refused Absent) }
         ensures whole { IfOk result (λ claims. IsWholeClaim claims.ipv4) }
     {
         if self.numbers.is_none() && self.addresses.is_none() {

@@ -193,6 +193,7 @@ makes_the_same() {
     tar --numeric-owner --full-time -tvzf "$out/made/$archive" >"$out/list"
     [ -s "$out/list" ] && ! grep -v ' 0/0 .* 2023-11-14 22:13:20 ' "$out/list" ||
         fail "owners are 0, and times that of the commit"
+    tar -tzf "$out/made/$archive" | LC_ALL=C sort -c || fail "files in the archive are in order"
     modes "$out/made/pigyelund-$version" bin || fail "modes of the release"
     ! grep -rlF -e "$copy" -e "$top" -e "$(uname -n)" "$out/made/pigyelund-$version" ||
         fail "a release names its builder"

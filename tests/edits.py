@@ -7,7 +7,8 @@ that stand on such code; with --all every crate. Each edit is tried as the kit t
 of the crate and of those below.
 
 For each edit it prints one of these results, with the prover's line:
-  refused at a goal                   a clause, an invariant or a bound of the changed function is not proved
+  refused at a goal                   a clause, an invariant or a bound of the changed function is not proved, or its
+                                      written proof fails
   refused at a callee's precondition  only the precondition of a call in the changed function is not proved
   refused by a limit alone            the tactics gave up at a limit, at each goal that is not proved
   refused for a name alone            a proof names what the edit took away, so the result says little of the contract

@@ -15,13 +15,13 @@ from dataclasses import dataclass
 from pathlib import Path
 
 TOP = Path(__file__).resolve().parent.parent
-IF = "(?:where|if|when|for|on|after)"
+IF = "(?:(?:where|if|when|for|on|after) )?"
 # What a page says of a status, each with the number of the status.
 PATTERNS = {
-    "answered": (rf"\b(\d) {IF} (?:each|every|all)\b[^.;:]*\banswered\b", r"\bstatus (?:stays|is still|remains) (\d)"),
-    "failed": (rf"\b(\d) {IF} [^.;:]*?\b(?:memory|stream|reading|read|writing)\b",),
-    "usage": (rf"\b(\d) {IF} [^.;:]*?\b(?:usage|option)\b",),
-    "check": (r"--check\b[^.;:]{0,40}?\bstatus (?:is )?(\d)", rf"\b(\d) {IF} --check\b"),
+    "answered": (rf"\b(\d) {IF}(?:each|every|all)\b[^.;:\d]*\banswered\b", r"\bstatus (?:stays|is still|remains) (\d)"),
+    "failed": (rf"\b(\d) {IF}[^.;:\d]*?\b(?:memory|stream|reading|read|writing)\b",),
+    "usage": (rf"\b(\d) {IF}[^.;:\d]*?\b(?:usage|unknown option)\b",),
+    "check": (r"--check\b[^.;:]{0,40}?\bstatus (?:is )?(\d)", rf"\b(\d) (?:with )?{IF}--check\b"),
 }
 NAMED = re.compile(r"\bstatus (?:is|stays|remains) (\d)")
 

@@ -135,19 +135,14 @@ PAGES = (
     Case(NUMBERS, "check", "tests/rows.py --random 1 20000", "tests/rows.py --random 1 200", "and check asks 200\n"),
     Case(NUMBERS, "foreign/rust/Cargo.toml", '\nversion = "', '\nversion = "9', "foreign/rust/Cargo.toml: version"),
     Case(NUMBERS, "foreign/pigyelund.pc", "Version: ", "Version: 9", "foreign/pigyelund.pc: version"),
-    Case(MANUAL, "respath", "2 for", "3 for", "respath --help: names status 3 for 'usage'"),
-    Case(MANUAL, "respath", "status is 3", "status is 2", "respath --help: names status 2 for 'check'"),
-    Case(MANUAL, "respath", "status is 1", "status is 2", "respath --help: names status 2 for 'failed'"),
+    Case(MANUAL, "respath", "        exit 2\n", "        exit 3\n", "respath --help: names status 2 for 'usage'"),
+    Case(MANUAL, "respath", "return 3", "return 2", "respath --help: names status 3 for 'check'"),
     Case(MANUAL, "respath", "= - ]; then\n            answer_input", "= + ]; then\n            answer_input",
          "is the standard input"),
-    Case(MANUAL, "docs/respath.1", "1 where reading", "2 where reading", "docs/respath.1: names status 2"),
 )
 OF_ORIGINS = (
     # The help is in the program, and is replaced by as many octets.
     Case(MANUAL, str(ORIGINS), "--diff OLD NEW", "--diff NEW OLD", "origins --help: says of withdraw"),
-    Case(MANUAL, str(ORIGINS), "status is 3", "status is 2", "origins --help: names status 2 for 'check'"),
-    Case(MANUAL, str(ORIGINS), "status is 1", "status is 2", "origins --help: names status 2 for 'failed'"),
-    Case(MANUAL, "docs/origins.1", "; 2 for", "; 3 for", "docs/origins.1: names status 3 for 'usage'"),
     Case(MANUAL, "docs/origins.1", ".I OLD NEW", ".I NEW OLD", "docs/origins.1: says of withdraw"),
     Case(MANUAL, "docs/origins.1", "\nis a file of that name", "\nis the standard input", "does not say that - is"),
 )
@@ -265,6 +260,20 @@ def of_pages(folder: Path) -> Iterator[tuple[str, str | None]]:
         yield f"{test} passes", None if status == 0 else said
     for case in cases:
         yield f"{case.test}: {case.file}, {case.new[:60]!r}", fault_of(case, folder)
+    if (TOP / ORIGINS).is_file():
+        yield from of_statuses(folder)
+
+
+def of_statuses(folder: Path) -> Iterator[tuple[str, str | None]]:
+    """The pages of `origins` beside the program with another status in place of one of its statuses."""
+    program = folder / ORIGINS
+    for status, other in ((0, 4), (1, 2), (2, 3), (3, 2)):
+        program.write_text(f'#!/bin/sh\n"{TOP / ORIGINS}" "$@"\ns=$?\n[ $s -ne {status} ] || exit {other}\nexit $s\n')
+        found, said = said_by((MANUAL,), folder)
+        pages = ["docs/origins.1"] if status == 0 else ["docs/origins.1", "origins --help"]
+        missing = [it for it in pages if not re.search(rf"^{it}: .* {status} .* returns {other}$", said, re.MULTILINE)]
+        fault = f"status {found}, nothing of {missing}: {said}" if missing or found != 1 else None
+        yield f"{MANUAL}: origins returns {other} in place of {status}", fault
 
 
 RUST = (

@@ -90,14 +90,13 @@ def made_crate(folder: Path) -> dict[str, bool]:
             for at, (body, is_wrong) in enumerate(ASKED.get(call, ())):
                 test = f"{name}_{call}_{at}"
                 fails[f"asked::{test}"] = is_wrong
-                body = re.sub(r"\b(holds|same|is_shown)\(", rf"{name}::\1(", body)
+                body = re.sub(r"\b(holds|same|is_shown)\(", rf"crate::{name}::\1(", body)
                 asked.append(f"#[test]\nfn {test}(rt: HostRuntime) {{\n    {body};\n}}\n")
             if call not in ASKED:
                 fails[f"asked::{name}::{call}"] = True  # nobody asks it
-    uses = "".join(f"use crate::{name};\n" for name in names)
     modules = "".join(f"#[cfg(test)]\nmod {name};\n" for name in [*names, "asked"])
     (sources / "lib.rt").write_text(f"//! Right and wrong expectations.\n#![tactic(auto)]\n\n{modules}")
-    (sources / "asked.rt").write_text(uses + "\n" + "\n".join(asked))
+    (sources / "asked.rt").write_text("\n".join(asked))
     return fails
 
 

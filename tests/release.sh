@@ -47,8 +47,9 @@ END
     chmod +x "$kit/bin/rt"
     sed -n 's/^Last proved whole with `\(.*\)`\.$/\1/p' README.md >"$kit/identity"
     local name
+    sum=$(sed 's/.* //' "$kit/identity")
     for name in respath origins pigyelund_c; do
-        printf 'axioms %s\nlogic=proved axioms=6\n' "$name" >"$kit/said/$name"
+        printf 'axioms %s\nlogic=proved axioms=6 sum=%s native=nat\n' "$name" "$sum" >"$kit/said/$name"
     done
     for name in respath origins; do
         printf '#!/bin/sh\necho %s\n' "$name" >"$kit/proved/$name"
@@ -112,13 +113,18 @@ refuses_what_is_not_proved() {
     for crate in respath origins pigyelund_c; do
         verb=check
         [ "$crate" != pigyelund_c ] || verb=lib
-        for verdict in "logic=refused axioms=6" "logic=built proved axioms=6" "proved" ""; do
+        for verdict in "logic=not-proved sum=$sum" "logic=built proved sum=$sum" "proved" ""; do
             refuses "$crate with the verdict '$verdict'" "rt $verb gives no verdict of $crate" \
                 "printf 'axioms\n%s\n' '$verdict' >'$kit/said/$crate'"
             make_kit
         done
         refuses "$crate with two verdicts" "rt $verb gives another verdict of $crate" \
-            "echo logic=refused >>'$kit/said/$crate'"
+            "echo logic=not-proved >>'$kit/said/$crate'"
+        make_kit
+        for verdict in "sum=0123456789abcdef" "sum=${sum}0" "other-sum=$sum" ""; do
+            refuses "$crate by another logic: '$verdict'" "rt $verb proves $crate by another logic" \
+                "echo 'logic=proved axioms=6 $verdict' >'$kit/said/$crate'"
+        done
         make_kit
     done
     refuses "another logic of the prover" "the README names $(sed 's/^[^ ]* //' "$kit/identity"), and rt has logic 0" \

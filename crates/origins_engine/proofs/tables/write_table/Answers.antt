@@ -10,6 +10,13 @@ returns-in-Ok-tell_table-clause-told g c =
     by_file (g.P.Source.left c.args.payloads.now) _ c.in-Ok.listed.items c.in-Ok.ensures.payloads
     (count, rw c.as_slice.ensures.value at c.in-Ok-tell_table.ensures.told)
 
+-- out of memory, before the first line or after it
+pub returns-clause-some_told : goal.returns-clause-some_told
+returns-clause-some_told g c is =
+    let same : c.in-Err-tell_table.error ≡ RunError.Memory = cc in
+    by_file (g.P.Source.left c.args.payloads.now) _ c.in-Ok.listed.items c.in-Ok.ensures.payloads
+    (rw c.as_slice.ensures.value at (c.in-Err-tell_table.ensures.some_told (ap Err same)))
+
 pub returns-clause-some_written : goal.returns-clause-some_written
 returns-clause-some_written g c is =
     let same : c.in-Err-tell_table.error ≡ RunError.Write = cc in

@@ -1,8 +1,9 @@
 // What `{:?}` writes of a value of each type: by derive the name and the fields as they stand, as std does.
 use crate::checks::{holds, is_shown};
+use roa_origin::{OriginTable, PayloadTable};
 use rpki_as::block::AsBlock;
 use rpki_as::blocks::AsBlocks;
-use rpki_as::builder::AsBlocksBuilder;
+use rpki_as::builder::{AsBlocksBuilder, AsResourcesBuilder};
 use rpki_as::error::{FromStrError as AsFromStrError, InheritedAsResources};
 use rpki_as::range::AsRange;
 use rpki_as::resources::AsResources;
@@ -15,6 +16,8 @@ use rpki_base::small_set::SmallAsnSet;
 use rpki_chain::path::{Overclaim, PathRefusal};
 use rpki_chains::owned::OwnedChain;
 use rpki_chains::shared::SharedChain;
+use rpki_extensions::error::{RefusedBelow, Unverified};
+use rpki_extensions::extensions::Claims;
 use rpki_family::v4::{Ipv4Block, Ipv4Blocks};
 use rpki_family::v6::{Ipv6Block, Ipv6Blocks};
 use rpki_ip::addr::Addr;
@@ -198,6 +201,11 @@ fn debug_of_as_chains(rt: HostRuntime) {
         &rt,
         let_go_is_shown(alloc, AsBlocksBuilder::new(alloc), "AsBlocksBuilder { .. }"),
     );
+    let builder = AsResourcesBuilder::new(alloc);
+    holds(
+        &rt,
+        let_go_is_shown(alloc, builder, "ResourcesBuilder { .. }"),
+    );
 }
 
 fn shows_small(alloc: Global, list: &[Asn]) -> bool {
@@ -274,6 +282,15 @@ fn shows_all_v4(alloc: Global) -> bool {
     made_is_shown(alloc, Ipv4Blocks::all(alloc), v4)
 }
 
+/// The iterator over a set's blocks, before its first block.
+fn shows_blocks(alloc: Global) -> bool {
+    let left = "BlockIter(Iter([Prefix(Prefix { addr: Addr(0), len: 0 })]))";
+    match Ipv4Blocks::all(alloc) {
+        Ok(set) => let_go_is_shown(alloc, set.iter(), left),
+        Err(_) => false,
+    }
+}
+
 fn shows_all_v6(alloc: Global) -> bool {
     let v6 = "{Ipv6Block { block: Prefix(Prefix { addr: Addr(0), len: 0 }) }}";
     made_is_shown(alloc, Ipv6Blocks::all(alloc), v6)
@@ -284,6 +301,7 @@ fn debug_of_sets_of_a_family(rt: HostRuntime) {
     let alloc = rt.alloc();
     holds(&rt, shows_all_v4(alloc));
     holds(&rt, shows_all_v6(alloc));
+    holds(&rt, shows_blocks(alloc));
     let inherited: IpResources = IpResources::inherit();
     holds(&rt, let_go_is_shown(alloc, inherited, "Inherit"));
     holds(
@@ -314,4 +332,60 @@ fn debug_of_sets_of_three_kinds(rt: HostRuntime) {
     let alloc = rt.alloc();
     holds(&rt, shows_empty(alloc));
     holds(&rt, shows_no_changes(alloc));
+}
+
+fn shows_certificates(alloc: Global) -> bool {
+    let claims: Claims = Claims {
+        asn: AsResources::missing(),
+        ipv4: IpResources::inherit(),
+        ipv6: IpResources::missing(),
+    };
+    let text = "Claims { asn: Missing, ipv4: Inherit, ipv6: Missing }";
+    let_go_is_shown(alloc, claims, text) && shows_refusal(alloc)
+}
+
+fn shows_refusal(alloc: Global) -> bool {
+    let reason: RefusedBelow = RefusedBelow::Anchor(Unverified::Inherited);
+    let_go_is_shown(alloc, reason, "a trust anchor inherits resources")
+}
+
+#[test]
+fn debug_of_certificates(rt: HostRuntime) {
+    holds(&rt, shows_certificates(rt.alloc()));
+}
+
+/// Of a table, and of what it is asked.
+fn shows_table(alloc: Global, table: &OriginTable, prefix: Prefix) -> bool {
+    let listed =
+        "[(MaxLenPrefix { prefix: Prefix { addr: V4(Ipv4Addr(0)), len: 0 }, max_len: None }, Asn(7))]";
+    let sought = "Sought { route: Prefix { addr: V4(Ipv4Addr(0)), len: 0 }, asn: Asn(9), .. }";
+    let covering = "Covering { route: Prefix { addr: V4(Ipv4Addr(0)), len: 0 }, .. }";
+    is_shown(alloc, table, listed)
+        && is_shown(alloc, &table.payloads(), listed)
+        && is_shown(alloc, &table.sought(prefix, Asn::from_u32(9)), sought)
+        && is_shown(alloc, &table.covering(prefix), covering)
+}
+
+fn shows_changes_of(alloc: Global, table: &PayloadTable) -> bool {
+    let none = "PayloadChanges { announced: [], withdrawn: [] }";
+    made_is_shown(alloc, table.changes_to(alloc, table), none)
+}
+
+/// The tables of one payload.
+fn shows_tables(alloc: Global, prefix: Prefix) -> Result<bool, AllocError> {
+    let payloads = [(MaxLenPrefix::from(prefix), Asn::from_u32(7))];
+    let sent =
+        "[(MaxLenPrefix { prefix: Prefix { addr: V4(Ipv4Addr(0)), len: 0 }, max_len: Some(0) }, Asn(7))]";
+    let table = OriginTable::new(alloc, &payloads)?;
+    let to_send = PayloadTable::new(alloc, &payloads)?;
+    let is_sent = is_shown(alloc, &to_send, sent) && shows_changes_of(alloc, &to_send);
+    Ok(is_sent && shows_table(alloc, &table, prefix))
+}
+
+#[test]
+fn debug_of_tables(rt: HostRuntime) {
+    match Prefix::from_str("0.0.0.0/0") {
+        Ok(prefix) => holds(&rt, shows_tables(rt.alloc(), prefix) == Ok(true)),
+        Err(_) => holds(&rt, false),
+    }
 }

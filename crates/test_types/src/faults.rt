@@ -1,10 +1,15 @@
 // The text of each fault, and faults that are made of others.
 use crate::checks::{holds, same};
+use rpki_as::block::AsBlock;
+use rpki_as::blocks::AsBlocks;
 use rpki_as::error::{FromStrError as AsFromStrError, InheritedAsResources};
+use rpki_as::resources::AsResources;
+use rpki_as::verify::AsStep;
 use rpki_base::addr::AddrParseError;
-use rpki_base::asn::ParseAsnError;
+use rpki_base::asn::{Asn, ParseAsnError};
 use rpki_base::memory::OrMemory;
 use rpki_base::number::ParseIntError;
+use rpki_chain::path::{Overclaim, PathRefusal};
 use rpki_ip::der::{DecodeFamilyError, DecodePrefixError};
 use rpki_ip::error::FromStrError;
 use rpki_ipres::blocks::IpBlocks;
@@ -190,6 +195,48 @@ const OR_MEMORY: [(OrMemory<ParseAsnError>, &str); 2] = [
 #[test]
 fn faults_of_memory(rt: HostRuntime) {
     holds(&rt, errors_print(rt.alloc(), &OR_MEMORY) == Ok(true));
+}
+
+const PATH_REFUSALS: [(PathRefusal<InheritedAsResources>, &str); 1] = [(
+    PathRefusal {
+        step: 1,
+        fault: InheritedAsResources,
+    },
+    "refused at step 1: inherited AS resources",
+)];
+
+/// What a path leaves of a set, or its refusal as an error of any kind.
+fn left_on_path(alloc: Global, root: &AsBlocks, steps: &[AsStep]) -> anyhow::Result<AsBlocks> {
+    let left = root.verify_path(alloc, steps)?;
+    Ok(left)
+}
+
+/// A step that claims AS7.
+fn step_of_seven(alloc: Global) -> Result<AsStep, AllocError> {
+    let set = AsBlocks::from_blocks(alloc, &[AsBlock::Id(Asn::from_u32(7))])?;
+    Ok(AsStep {
+        claim: AsResources::blocks(set),
+        mode: Overclaim::Refuse,
+    })
+}
+
+/// Whether the refusal of that step by the empty set prints as `respath` answers it.
+fn refusal_of_seven_prints(alloc: Global, steps: &[AsStep]) -> bool {
+    let text = "refused at step 0: overclaimed AS resources: AS7";
+    match left_on_path(alloc, &AsBlocks::empty(), steps) {
+        Ok(_) => false,
+        Err(error) => prints(alloc, &error, text) == Ok(true),
+    }
+}
+
+#[test]
+fn refusals_of_paths(rt: HostRuntime) {
+    holds(&rt, errors_print(rt.alloc(), &PATH_REFUSALS) == Ok(true));
+    let is_so = match step_of_seven(rt.alloc()) {
+        Ok(step) => refusal_of_seven_prints(rt.alloc(), &[step]),
+        Err(_) => false,
+    };
+    holds(&rt, is_so);
 }
 
 /// The fault of a claim of a set whose issuer has nothing.

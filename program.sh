@@ -1,8 +1,7 @@
 # shellcheck shell=sh
-# Read by the scripts that start a program: it is proved and built where it isn't yet, or where a source of a crate
-# that it needs is newer. Before that `top` is the folder of the sources and `started` the name of the program and of
-# its crate; `wanting` says what there is no rt for, and `meanwhile` and `instead` what else can be done than to wait or
-# to copy.
+# The scripts respath and origins read this file. It proves and builds their program if the program is missing or older
+# than a source that it needs. The script sets two variables before: `top`, the folder of the sources, and `started`,
+# the name of the program and of its crate.
 program=$top/crates/$started/out/$started
 noted=${program%/*}/proved-with # the kit that proved the program, and the sum of that program
 
@@ -145,11 +144,112 @@ prove() {
     fi
 }
 
-minutes() {
-    echo "$((($(date +%s) - began) / 60)) min"
+# The seconds of one processor that the proof of each crate takes, measured on a quiet machine of four processors. They
+# are for the estimate alone: a crate that is missing here counts as a minute.
+seconds_of_crates() {
+    cat <<'END'
+lines_engine 60
+origin_lines 110
+origins 90
+origins_engine 120
+payload_texts 170
+respath 60
+respath_lines 200
+roa_origin 200
+rpki_addr 75
+rpki_as 110
+rpki_as_block 90
+rpki_base 75
+rpki_block 20
+rpki_chain 130
+rpki_chains 260
+rpki_cover 35
+rpki_der 130
+rpki_ip 130
+rpki_ip_block 90
+rpki_ipres 170
+rpki_prefix 80
+rpki_text 45
+END
 }
 
-# Proves and builds a crate as soon as those that it stands on are, and marks it; where one fails the marks are gone.
+# Whether a library is built and none of its sources is newer. Its proof then takes seconds.
+is_proved() {
+    built=$top/crates/$1/out/rlib/stamp
+    [ -e "$built" ] && [ -z "$(find "$top/crates/$1" -name out -prune -o -type f -newer "$built" -print | head -n 1)" ]
+}
+
+# The plan of a build: a line for each crate in the order in which the crates end, with the second at which it ends. It
+# simulates the build: crates without unproved dependencies run side by side and share the processors as jobs_for says.
+plan() {
+    needed_lines | while read -r line; do
+        # shellcheck disable=SC2086 # a line is words
+        set -- $line
+        seconds=$(seconds_of_crates | sed -n "s/^$1 //p")
+        [ "$started" = "$1" ] || ! is_proved "$1" || seconds=2
+        echo "${seconds:-60} $line"
+    done | awk -v processors="$(nproc)" '
+        { left[$2] = $1; names[NR] = $2; for (at = 3; at <= NF; at++) needs[$2] = needs[$2] " " $at }
+        function is_open(name,    words, count, at) {
+            if (name in done) return 0
+            count = split(needs[name], words, " ")
+            for (at = 1; at <= count; at++) if (!(words[at] in done)) return 0
+            return 1
+        }
+        # How much faster a crate is proved by so many jobs.
+        function gain(jobs) { return jobs < 1.5 ? 1 : jobs < 2.5 ? 1.4 : jobs < 3.5 ? 1.65 : 1.8 }
+        END {
+            for (ended = 0; ended < NR;) {
+                all = jobs = 0
+                for (at = 1; at <= NR; at++) if (is_open(names[at])) all += left[names[at]]
+                for (at = 1; at <= NR; at++) {
+                    if (!is_open(name = names[at])) continue
+                    share = int(processors * left[name] / all + 0.5)
+                    if (share < 1) share = 1
+                    if (share > 4) share = 4
+                    rate[name] = gain(share)
+                    jobs += share
+                }
+                slower = jobs > processors ? processors / jobs : 1
+                step = -1
+                for (at = 1; at <= NR; at++) {
+                    if (!is_open(name = names[at])) continue
+                    rate[name] *= slower
+                    if (step < 0 || left[name] / rate[name] < step) step = left[name] / rate[name]
+                }
+                now += step
+                for (at = 1; at <= NR; at++) if (is_open(names[at])) running[names[at]]
+                for (name in running) {
+                    left[name] -= step * rate[name]
+                    if (left[name] < 0.001) { done[name]; ended++; print name, int(now + 0.5) }
+                    delete running[name]
+                }
+            }
+        }'
+}
+
+# The minutes of so many seconds, rounded up.
+in_minutes() {
+    echo "$((($1 + 59) / 60)) min"
+}
+
+# Prints that a crate is proved, and an estimate of the time that is left: the rest of the plan, slower or faster by the
+# ratio of the time gone to the time that the plan has for the proved crates.
+report_proved() {
+    gone=$(($(date +%s) - began))
+    proved=$(find "$marks" -type f 2>/dev/null | wc -l)
+    [ "$proved" -lt "$all" ] || return 0
+    for mark in "$marks"/*; do echo "${mark##*/}"; done | awk -v gone="$gone" '
+        NR == FNR { marked[$1]; next }
+        { all = $2 }
+        $1 in marked { planned = $2 }
+        END { print int(gone * (all - planned) / (planned > 0 ? planned : 1)) }
+    ' - "$work/plan" >"$work/left-$1" 2>/dev/null || return 0
+    seconds_left=$(cat "$work/left-$1")
+    tell "$proved of $all crates are proved, $(in_minutes "$gone") gone, about $(in_minutes "$seconds_left") left"
+}
+
+# Proves and builds a crate as soon as its dependencies are proved, and marks it. If a proof fails the marks are removed.
 prove_in_turn() {
     crate=$1
     shift
@@ -159,9 +259,9 @@ prove_in_turn() {
             sleep 1
         done
     done
-    echo "$started: proving $crate ($(find "$marks" -type f | wc -l) of $all are proved, after $(minutes))" >&2
     if prove "$crate"; then
-        { : >"$marks/$crate"; } 2>/dev/null # no marks where another one failed
+        { : >"$marks/$crate"; } 2>/dev/null || return 0 # there are no marks if another proof failed
+        report_proved "$crate"
     else
         rm -rf "$marks"
         return 1
@@ -186,12 +286,15 @@ end_build() {
     exit "$1"
 }
 
-# Proves and builds the crates, those that don't stand on each other side by side, and says how long it takes.
+# Proves and builds the crates, independent ones side by side, and reports the progress. An interrupted build goes on
+# where it stopped: what was proved is kept.
 build() {
-    tell "the program is proved and built first, ten to twenty-five minutes on four processors$meanwhile"
     began=$(date +%s)
     all=$(needed_crates | wc -l)
     work=$(mktemp -d) || exit 1
+    plan >"$work/plan"
+    tell "proving and building the program first: $all crates, about $(in_minutes "$(sed -n '$s/.* //p' "$work/plan")")\
+ on $(nproc) processors; --try answers at once, unproved"
     marks=$work/marks
     copies=$work/copies
     mkdir "$marks" "$copies" || exit 1
@@ -220,11 +323,11 @@ END
         tell "the program was not built"
         exit 1
     fi
-    tell "proved and built in $(minutes)"
+    tell "proved and built in $(in_minutes $(($(date +%s) - began)))"
     [ -x "$program" ] && touch "$program" && note_kit
 }
 
-# Whether the program can be built here; where not, it says so at once.
+# Whether the program can be built here; if not, prints why.
 can_build() {
     can=${can-yes}
     has_prover || can=
@@ -232,7 +335,7 @@ can_build() {
         folder=$top/crates/$crate/out
         [ -d "$folder" ] || folder=$top/crates/$crate
         if ! [ -w "$folder" ]; then
-            tell "the program isn't built, and $folder can't be written: copy the sources$instead"
+            tell "the program is not built, and $folder is not writable: copy the sources, or use --try"
             can=
             break
         fi
@@ -242,8 +345,16 @@ can_build() {
 
 has_prover() {
     command -v rt >/dev/null || {
-        tell "the program isn't built, and there is no rt to $wanting it: put the Rattle kit's bin folder on the PATH"
+        tell "the program is not built, and rt is not on the PATH to build or try it: add the Rattle kit's bin folder"
         return 1
+    }
+}
+
+# Ends the script if the program is not current and must not be built (--no-build).
+need_current() {
+    is_current || {
+        tell "the program is not built, or is older than its sources: run $0 once without --no-build"
+        exit 1
     }
 }
 

@@ -11,3 +11,9 @@ expect() {
         failed=1
     fi
 }
+
+# Whether a case is left out, and says so: it grants less memory than a program with run-time checks needs. check --quick
+# sets UNPROVED where the programs are compiled so.
+needs_more() {
+    [ -n "${UNPROVED-}" ] && echo "left out  $1: a program with run-time checks needs more memory"
+}

@@ -52,6 +52,10 @@ is_built() {
     touch -d '1 minute ago' "$out/$1"
 }
 
+# The first line of a build, with N in the place of numbers
+built_first="respath: proving and building the program first: N crates, about N min on N processors; --try answers at\
+ once, unproved"
+
 # The second line of a script's --version: what proved the program that is in place
 version() {
     run "$copy/$1" --version | sed -n '2p'
@@ -103,19 +107,19 @@ of_version() {
     expect "$1: a folder in another repository" 0 "$1, revision unknown" $? "$said"
 }
 
-# NAME, and what the script says behind its first words: the program is older than its sources.
+# Starts a script whose program is older than its sources.
 of_no_rt() {
     said=$(without_rt "$copy/$1" "$files/a file")
-    expect "$1: no rt, and the program isn't built" 1 "$1: the program isn't built, and there is no rt to $2 it: put\
- the Rattle kit's bin folder on the PATH" $? "$said"
+    expect "$1: no rt, and the program isn't built" 1 "$1: the program is not built, and rt is not on the PATH to build\
+ or try it: add the Rattle kit's bin folder" $? "$said"
 }
 
 for script in origins respath; do
     of_start "$script"
     of_version "$script"
 done
-of_no_rt origins build
-of_no_rt respath "build or try"
+of_no_rt origins
+of_no_rt respath
 said=$(run "$copy/origins" --table payloads)
 expect "origins: a proof that fails" 1 "origins: the program was not built" $? "$(echo "$said" | tail -n 1)"
 
@@ -164,18 +168,15 @@ cp "$files/kept" "$copy/crates/respath/out/respath"
 is_built respath
 rm "$copy/bin/awk"
 
-built_first="respath: the program is proved and built first, ten to twenty-five minutes on four processors; with --try\
- it answers within a minute, by the sources unproved"
-
 # A tool or a right that is missing is named before anything is proved.
 touch "$copy/crates/rpki_text/new"
-no_rt="respath: the program isn't built, and there is no rt to build or try it: put the Rattle kit's bin folder on the PATH"
+no_rt="respath: the program is not built, and rt is not on the PATH to build or try it: add the Rattle kit's bin folder"
 said=$(without_rt "$copy/respath" --try)
 expect "no rt to try the sources" 1 "$no_rt" $? "$said"
 said=$(run "$copy/respath" "$files" "$files/none")
 expect "files that can't be read where the program isn't built" 1 "respath: $files: read failed
 respath: $files/none: can't be opened" $? "$said"
-no_room="respath: the program isn't built, and $copy/crates/rpki_text/out can't be written: copy the sources, or take\
+no_room="respath: the program is not built, and $copy/crates/rpki_text/out is not writable: copy the sources, or use\
  --try"
 chmod a-w "$copy/crates/rpki_text/out"
 if [ -w "$copy/crates/rpki_text/out" ]; then
@@ -194,28 +195,52 @@ fi
 chmod u+w "$copy/crates/rpki_text/out"
 
 # Proving: what fails is shown, a crate comes behind those that it stands on, and the program is noted.
-# The three crates that stand on none begin side by side, in any order.
+# The three crates without dependencies begin side by side.
 prover "a-kit logic 12" 'sleep 1; echo proving; exit 1'
 said=$(run "$copy/respath")
 expect "a proof that fails" 1 "proving
 proving
 proving
-respath: proving rpki_block (0 of N)
-respath: proving rpki_cover (0 of N)
-respath: proving rpki_text (0 of N)
 $built_first
-respath: the program was not built" $? \
-    "$(echo "$said" | sed 's/ of [0-9]* are proved, after [0-9]* min)/ of N)/' | LC_ALL=C sort)"
+respath: the program was not built" $? "$(echo "$said" | sed '/^respath: proving/s/[0-9][0-9]*/N/g' | LC_ALL=C sort)"
 # shellcheck disable=SC2016 # the prover's own words
 prover "the-kit logic 12" 'echo "$1 ${PWD##*/}" >>"${0%/*}/../asked"
 for crate in $(sed "/^#/d; s/[ :].*//" ../../crates.txt); do
     [ -d "../$crate" ] || echo "there is no folder for $crate" >>"${0%/*}/../asked"
 done'
-said=$(run "$copy/respath" | tail -n 2)
-expect "all that the program needs is proved" 0 "respath: proved and built in 0 min
+said=$(run "$copy/respath")
+expect "all that the program needs is proved" 0 "respath: proved and built in N min
 ran
-run respath" $? "$said
+run respath" $? "$(echo "$said" | tail -n 2 | sed 's/in [01] min/in N min/')
 $(tail -n 1 "$copy/asked")"
+all=$( (top=$copy started=respath && . "$top/program.sh" && needed_crates) | wc -l)
+expect "each crate but the last is reported when it is proved" 0 "$((all - 1))" $? \
+    "$(echo "$said" | grep -cE "^respath: [0-9]+ of $all crates are proved, [0-9]+ min gone, about [0-9]+ min left\$")"
+
+# The estimate: the rest of the plan, slower by as much as the proved crates were. Three are proved, twice as slowly.
+estimate() (
+    top=$copy started=respath all=$all work=$copy/tmp marks=$copy/tmp/marks
+    . "$top/program.sh"
+    mkdir "$marks"
+    plan >"$work/plan"
+    for crate in $(head -n 3 "$work/plan" | cut -d ' ' -f 1); do : >"$marks/$crate"; done
+    planned=$(sed -n '3s/.* //p' "$work/plan")
+    whole=$(sed -n '$s/.* //p' "$work/plan")
+    began=$(($(date +%s) - 2 * planned))
+    report_proved one 2>&1 | sed "s/about $(((2 * (whole - planned) + 59) / 60)) min/about the rest/; s/ [0-9]* min gone/ gone/"
+    rm -rf "$marks" "$work/plan" "$work/left-one"
+)
+said=$(PATH=$copy/bin:$copy/tools estimate)
+expect "an estimate after three crates" 0 "respath: 3 of $all crates are proved, gone, about the rest left" $? "$said"
+
+# Without a build
+touch "$copy/crates/rpki_text/new"
+unbuilt="respath: the program is not built, or is older than its sources: run $copy/respath once without --no-build"
+said=$(run "$copy/respath" --no-build)
+expect "a program that is older than its sources, and no build" 1 "$unbuilt" $? "$said"
+touch "$out/respath"
+said=$(run "$copy/respath" --no-build)
+expect "a program that is current, and no build" 0 "ran" $? "$said"
 said=$(awk 'NR == FNR { at[$2] = FNR; next }
     !/^#/ && sub(":", "", $1) && $1 in at { for (one = 2; one <= NF; one++) if (at[$one] > at[$1]) print $1, $one }' \
     "$copy/asked" "$copy/crates.txt")
@@ -229,8 +254,8 @@ touch "$copy/crates/rpki_text/new"
 # NAME, signal, status, what the prover runs first, and an option
 interrupt() {
     # shellcheck disable=SC2016 # the prover's own words
-    prover "a-kit logic 12" "$4"' sleep 60 & echo $! >"${0%/*}/child"; wait'
-    rm -f "$copy/bin/child"
+    prover "a-kit logic 12" "$4"' mkdir -p out; : >out/kept; sleep 60 & echo $! >"${0%/*}/child"; wait'
+    rm -f "$copy/bin/child" "$copy"/crates/*/out/kept
     # A shell's job ignores an interrupt; what timeout starts doesn't, and it hands its signals on to all of the group.
     PATH=$copy/bin:$copy/tools TMPDIR=$copy/tmp timeout --preserve-status -k 20 60 "$copy/respath" "$5" \
         </dev/null >/dev/null 2>&1 &
@@ -241,6 +266,7 @@ interrupt() {
     wait $!
     status=$?
     left=$(ls "$copy/tmp")
+    [ "$5" = --try ] || [ -e "$copy/crates/rpki_text/out/kept" ] || left="$left, and what was proved is lost"
     [ -e "$copy/bin/child" ] || left="$left, and no child was begun"
     # An ended process that nobody has waited for yet is there as a zombie.
     ! grep -qs '^State:.[^ZX]' "/proc/$(cat "$copy/bin/child")/status" || left="$left, and the child of the prover"

@@ -2,7 +2,6 @@
 # What no contract can say of the program origins: its options, its statuses, its lines on standard error where a file
 # or a stream fails; and that ./origins starts it. Ends with status 0 where each case is as it must be.
 top=$(CDPATH='' cd -- "$(dirname -- "$0")/.." && pwd) || exit 1
-"$top/origins" --help >/dev/null || exit 1
 program=$top/crates/origins/out/origins
 
 # shellcheck source=tests/expect.sh
@@ -10,6 +9,9 @@ program=$top/crates/origins/out/origins
 files=$(mktemp -d) || exit 1
 trap 'rm -rf "$files"' EXIT
 cd "$files" || exit 1
+# This builds the program if it is not current.
+printf 'AS1,10.0.0.0/8,8\n' >one
+"$top/origins" --table one >/dev/null || exit 1
 
 printf 'ASN,IP Prefix,Max Length,Trust Anchor\nAS64497,2001:db8::/32,48,x\nAS64496,192.0.2.0/23,24,x\n' >payloads
 printf 'AS64496,192.0.2.0/23,24\nAS64496,192.0.2.0/23,24\nAS64498,198.51.100.0/24,24\n' >next
@@ -134,11 +136,15 @@ expect "nothing can be told on standard error" 0 "valid" $? "$(echo "$said" | he
 said=$({ yes '10.0.0.0/8 AS1' | { "$program" payloads 2>&3; echo "status $?" >&3; } | true; } 3>&1)
 expect "a pipe whose reader has ended, and lines without end" 0 "origins: write failed
 status 1" $? "$said"
-said=$(head -c 67108864 /dev/zero | tr '\0' '1' | (ulimit -v 49152 && "$program" payloads) 2>&1 >/dev/null)
-expect "memory is refused" 1 "origins: out of memory" $? "$said"
-# What was granted for the few payloads is enough for any number of routes.
-said=$(yes '10.0.0.0/8 AS1' | head -n 4000000 | (ulimit -v 16384 && "$program" payloads) 2>/dev/null | uniq -c)
-expect "routes take no memory" 0 "4000000 not-found" $? "$(echo "$said" | sed 's/^ *//')"
+needs_more "memory is refused" || {
+    said=$(head -c 67108864 /dev/zero | tr '\0' '1' | (ulimit -v 49152 && "$program" payloads) 2>&1 >/dev/null)
+    expect "memory is refused" 1 "origins: out of memory" $? "$said"
+}
+# The memory that the few VRPs need is enough for any number of routes.
+needs_more "routes take no memory" || {
+    said=$(yes '10.0.0.0/8 AS1' | head -n 4000000 | (ulimit -v 16384 && "$program" payloads) 2>/dev/null | uniq -c)
+    expect "routes take no memory" 0 "4000000 not-found" $? "$(echo "$said" | sed 's/^ *//')"
+}
 
 # Sizes. Payload n, from 0, is the address 10.0.0.0 + n with AS n + 1: as a line, as an item, and as a line of the table.
 many=131072

@@ -39,7 +39,8 @@ for program in respath origins; do
 done
 cd "$folder/run" || exit 1
 ./respath </dev/null || exit 1
-./origins --help >/dev/null || exit 1
+printf 'AS1,10.0.0.0/8,8\n' >"$folder/one"
+./origins --table "$folder/one" >/dev/null 2>&1 || exit 1
 failed=0
 for command in "$folder"/page/command.*; do
     number=${command##*.}

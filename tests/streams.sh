@@ -24,12 +24,14 @@ expect "a pipe whose reader has ended" 0 "respath: write failed
 status 1" $? "$said"
 
 # Half of a line of 64 MiB fits into the memory that is granted.
-said=$(head -c 67108864 /dev/zero | tr '\0' '1' | (ulimit -v 49152 && "$program") 2>&1 >/dev/null)
-expect "memory is refused" 1 "respath: out of memory" $? "$said"
+needs_more "memory is refused" || {
+    said=$(head -c 67108864 /dev/zero | tr '\0' '1' | (ulimit -v 49152 && "$program") 2>&1 >/dev/null)
+    expect "memory is refused" 1 "respath: out of memory" $? "$said"
+}
 
 said=$("$top/respath" --strange 2>&1 >/dev/null </dev/null)
 expect "an unknown option" 2 "respath: unknown option: --strange
-usage: respath [--check] [--where] [--try] [--] [FILE ..] | --help | --version" $? "$said"
+usage: respath [--check] [--where] [--try | --no-build] [--] [FILE ..] | --help | --version" $? "$said"
 
 revision=$(git -C "$top" rev-parse --short=12 HEAD 2>/dev/null) || revision=unknown
 said=$("$top/respath" --version | head -n 1)

@@ -1,4 +1,4 @@
-//! What the program says of itself.
+//! The texts that the program prints about itself. The script `./origins` reads them from this file.
 
 /// The version of the program, which is that of the repository.
 pub const VERSION: &str = "0.1.0";
@@ -9,27 +9,39 @@ pub const USAGE: &str = "usage: origins [--why] [--check] PAYLOADS < ROUTES
        origins --diff OLD NEW
        origins --help | --version";
 
-/// What it is called for.
+/// What the program does, its options and its exit statuses.
 pub const HELP: &str = "
-What validated payloads say of routes (RFC 6811). PAYLOADS, OLD and NEW are files that a validator of
-the RPKI wrote, in comma separated values or in JSON. Each line of routes is answered by one line:
+Validate the origin of BGP routes (RFC 6811) against validated ROA payloads (VRPs). PAYLOADS, OLD and
+NEW are files of VRPs, which rpki-client, FORT, Routinator or another validator wrote as CSV or JSON.
+The program prints one line for each line of ROUTES:
 
-  valid            a payload matches the route
-  invalid-length   one with the route's AS covers it, and none matches it: the route is too long
-  invalid-as       payloads cover it, and none has its AS
-  not-found        no payload covers it
-  error: ..        the line writes no route
+  valid            a VRP matches the route
+  invalid-length   a VRP covers the route and has its AS, but the route is longer than its maxLength
+  invalid-as       VRPs cover the route, and none of them has its AS
+  not-found        no VRP covers the route
+  error: ..        the line is not a route
 
 A route is a prefix, a space and an AS number, as 192.0.2.0/24 AS64496, or a line of bgpdump -m.
 
-  --why        behind the word, each payload that covers the route, the longest prefix first, and what
-               stands against the route by it: match:192.0.2.0/23-24:AS64496, length:.. or as:..
-  --check      the status is 3 where a route is invalid or a line is wrong
-  --table      the payloads themselves, in order and each once: 192.0.2.0/23-24 AS64496
-  --of ASN     of these the ones of one AS
-  --diff       lines `withdraw ..` of the payloads that OLD has and NEW hasn't, and then `announce ..`
-               of those that NEW has and OLD hasn't
+Options:
 
-How many payloads a file has is told on standard error. The status is 1 where a file or a stream can't
-be read or written, where memory is wanting, and where a file of payloads is wrong: its first line or
-item that is wrong is named, and nothing is answered. It is 2 for wrong usage.";
+  --why        print behind the result each VRP that covers the route, the longest prefix first, with
+               the reason: match:192.0.2.0/23-24:AS64496, length:.. or as:..
+  --check      exit with status 3 if a route is invalid or a line is not a route
+  --table      print the VRPs, sorted and each once: 192.0.2.0/23-24 AS64496
+  --of ASN     with --table: print only the VRPs of this AS
+  --diff       print a line withdraw .. for each VRP that only OLD has, and then a line announce .. for
+               each VRP that only NEW has
+  -h, --help   print this text
+  --version    print the version
+
+The program prints on standard error how many VRPs it read. Check this number: a file that was cut at
+the end of a line is not reported.
+
+Exit status:
+
+  0  every line was answered
+  1  a file or a stream could not be read or written, memory ran out, or a file of VRPs is invalid: its
+     first invalid line or item is named, and no route is answered
+  2  wrong usage
+  3  with --check: a route is invalid or a line is not a route";

@@ -266,7 +266,7 @@ interrupt() {
     wait $!
     status=$?
     left=$(ls "$copy/tmp")
-    [ "$5" = --try ] || [ -e "$copy/crates/rpki_text/out/kept" ] || left="$left, and what was proved is lost"
+    [ "$5" = --try ] || ls "$copy"/crates/*/out/kept >/dev/null 2>&1 || left="$left, and what was proved is lost"
     [ -e "$copy/bin/child" ] || left="$left, and no child was begun"
     # An ended process that nobody has waited for yet is there as a zombie.
     ! grep -qs '^State:.[^ZX]' "/proc/$(cat "$copy/bin/child")/status" || left="$left, and the child of the prover"

@@ -150,13 +150,13 @@ refuses_what_is_not_committed() {
 }
 
 # tool NAME PATTERN FILE: makes a tool that the release finds in place of another one. If its words match the pattern it
-# does the same, and then adds an octet to a file, in which LAST is its last word.
+# does the same, and then adds a line to a file, in which LAST is its last word.
 tool() {
     cat >"$kit/tools/$1" <<END
 #!/bin/sh
 "$(command -v "$1")" "\$@" || exit
 case \$* in
-$2) for LAST; do :; done; echo >>"$3" ;;
+$2) for LAST; do :; done; echo other >>"$3" ;;
 esac
 END
     chmod +x "$kit/tools/$1"
@@ -173,6 +173,8 @@ refuses_other_sums() {
         "tool make '*install*' '$copy/crates/pigyelund_c/out/libpigyelund_c.a'"
     refuses "an archive with another file" "the archive doesn't have the files whose sums were noted" \
         "tool tar '*-xzf*' '\$LAST/${archive%.tar.gz}/share/doc/pigyelund/LICENSE'"
+    refuses "an archive with one file more" "the archive doesn't have the files whose sums were noted" \
+        "tool tar '*-xzf*' '\$LAST/${archive%.tar.gz}/more'"
     refuses "an archive without its sums" "the archive doesn't have the files whose sums were noted" \
         "tool sha256sum '*/LICENSE*' /dev/stdout"
     refuses "an archive that can't be read" "the archive doesn't have the files whose sums were noted" \

@@ -174,9 +174,14 @@ def of_python() -> list[str]:
 
 def of_stack() -> list[str]:
     """Returns where another stack is stated than the one on which foreign/c/test.c makes its calls."""
-    test = re.search(r"\bSTACK = (\d+) << 10\b", (TOP / "foreign" / "c" / "test.c").read_text())
-    text = f"The stack has {test[1] if test else '?'} KiB left"
-    return [f"{file.name} doesn't say: {text}" for file in (HEADER, PAGE) if text not in file.read_text()]
+    test = (TOP / "foreign" / "c" / "test.c").read_text()
+    stack, used = (re.search(rf"\b{name} = (\d+) << 10\b", test) for name in ("STACK", "USED"))
+    if not stack or not used:
+        return ["foreign/c/test.c has no STACK or no USED"]
+    wanted = (f"The stack has {stack[1]} KiB left.", f"use less than {used[1]} KiB of it")
+    return [
+        f"{file.name} doesn't say: {text}" for file in (HEADER, PAGE) for text in wanted if text not in file.read_text()
+    ]
 
 
 def numbers_differ() -> list[str]:

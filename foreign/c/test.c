@@ -590,8 +590,8 @@ static void ask_on_threads(questions rows) {
 
 /* ---- the stack */
 
-/* the stack that the header states, and that of the thread, which has room for much more */
-enum { STACK = 128 << 10, ROOM_OF_STACK = 8 << 20, ALIGNED = 4096 };
+/* the stack that the header states, what it says of these calls, and the stack of the thread, which is much larger */
+enum { STACK = 128 << 10, USED = 8 << 10, ROOM_OF_STACK = 8 << 20, ALIGNED = 4096 };
 
 /* the rows, and where the frame of the first call is */
 typedef struct {
@@ -624,7 +624,7 @@ static void ask_stack(questions rows) {
   if (pthread_create(&thread, &how, ask_on_stack, &one) || pthread_join(thread, 0)) exit(2);
   while (unused < ROOM_OF_STACK && stack[unused] == MARK) unused++;
   used = (size_t)(one.frame - stack) - unused;
-  expect(used < STACK, 0, "the calls use more than the stack that the header states");
+  expect(used < STACK && used < USED, 0, "the calls use more of the stack than the header says");
   expect(calls > rows.count && used > 0, 0, "no calls on the stack");
   printf("C: %u calls use %zu octets of the stack, of %u that are stated\n", calls, used, (unsigned)STACK);
   pthread_attr_destroy(&how);

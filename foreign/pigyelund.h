@@ -32,8 +32,8 @@
  *   until the call returns.
  * - malloc, realloc and free are those of one allocator, and a block is aligned to each power of two up to 16 that
  *   divides its size, as those of the C library are.
- * - The stack has 128 KiB left. The calls of foreign/c/test.c use less than 8 KiB of it: this was measured on x86-64, and
- *   isn't proved.
+ * - The stack has 128 KiB left. The calls of foreign/c/test.c use less than 8 KiB of it: this was measured on x86-64,
+ *   and isn't proved.
  * - No call stands in a signal handler, or in the forked child of a process with threads.
  *
  * THREADS. Calls have no state in common, so any number may run at once where what is owed holds of each: inputs may be

@@ -90,6 +90,7 @@ INTERNAL = (
     "rpki_ip_block::SetPrefixes::over",
     "rpki_ip_block::der::IpBlockReader",
     "rpki_ip_block::list",
+    "rpki_ipres::OverclaimedIpResources::as_family",
     "rpki_family::iter::BlockOfSet",
     "route_calls",
 )

@@ -21,8 +21,25 @@ use rpki_base::Asn;
 use rpki_prefix::MaxLenPrefix;
 use std::alloc::Allocator;
 
-/// Reads all payloads, and then answers each line of routes as it is read, in order, with one line; with `why` behind
-/// the word each payload that covers the route. Answers how many payloads were read.
+/// Reads a file of VRPs whole, then answers each line of routes as it is read, in order, by one line (RFC 6811, 2).
+///
+/// - `alloc`: the allocator of the table and of the answers.
+/// - `payloads`: the file of VRPs.
+/// - `why`: whether each answer also lists the VRPs that cover the route.
+/// - `routes`: the lines of routes. The last line may lack its end.
+/// - `writer`: the output. The call flushes it at the end.
+///
+/// Returns how many VRPs the file has. No failed call of a device is repeated.
+///
+/// # Errors
+///
+/// - [`OriginsError::Payloads`]: the file could not be read, is wrong, or needs more memory. No route was read, and
+///   nothing was written.
+/// - [`OriginsError::Run`] with [`RunError::Read`]: a read of the routes failed. The lines whose ends were read are
+///   answered.
+/// - [`OriginsError::Run`] with [`RunError::Write`]: a write or the flush failed, or a write took nothing. A beginning of
+///   the answers was written.
+/// - [`OriginsError::Run`] with [`RunError::Memory`]: an allocation failed. Some first lines are answered, each whole.
 #[tactic(auto, using(crate::proofs::AnswerLemmas::by_file))]
 pub fn answer_routes<A: Allocator + Copy, P: Source, R: Source, W: Sink>(
     alloc: A,

@@ -20,8 +20,22 @@ use rpki_base::Asn;
 use rpki_prefix::MaxLenPrefix;
 use std::alloc::Allocator;
 
-/// Reads all payloads, and writes a line for each of an AS, or for each where none is asked for, ascending and each
-/// once. Answers how many were read.
+/// Reads a file of VRPs whole, then writes a line for each VRP, sorted and each once.
+///
+/// - `alloc`: the allocator of the table.
+/// - `payloads`: the file of VRPs.
+/// - `of`: the AS whose VRPs alone are written; None for all.
+/// - `writer`: the output. The call flushes it at the end.
+///
+/// Returns how many VRPs the file has. No failed call of a device is repeated.
+///
+/// # Errors
+///
+/// - [`OriginsError::Payloads`]: the file could not be read, is wrong, or needs more memory. Nothing was written.
+/// - [`OriginsError::Run`] with [`RunError::Write`]: a write or the flush failed, or a write took nothing. A beginning of
+///   the lines was written.
+/// - [`OriginsError::Run`] with [`RunError::Memory`]: an allocation failed. Nothing was written, or a beginning of the
+///   lines.
 pub fn write_table<A: Allocator + Copy, P: Source, W: Sink>(
     alloc: A,
     payloads: &mut P,
@@ -106,9 +120,23 @@ fn tell_table<A: Allocator + Copy, W: Sink>(
     flush_all(writer)
 }
 
-/// Reads all payloads of two files, and writes a line `withdraw ..` for each that the old one has and the new one
-/// hasn't, and then a line `announce ..` for each that the new one has and the old one hasn't, both ascending. Answers
-/// how many were read of each file.
+/// Reads two files of VRPs whole, then writes a line `withdraw ..` for each VRP that only the old file has, and a line
+/// `announce ..` for each VRP that only the new file has, both sorted.
+///
+/// - `alloc`: the allocator of the tables.
+/// - `old`, `new`: the files of VRPs. The old one is read first.
+/// - `writer`: the output. The call flushes it at the end.
+///
+/// Returns how many VRPs each file has. No failed call of a device is repeated.
+///
+/// # Errors
+///
+/// - [`ChangesError::Old`], [`ChangesError::New`]: this file could not be read, is wrong, or needs more memory. Nothing
+///   was written. The new file is not read if the old one is refused.
+/// - [`ChangesError::Run`] with [`RunError::Write`]: a write or the flush failed, or a write took nothing. A beginning of
+///   the lines was written.
+/// - [`ChangesError::Run`] with [`RunError::Memory`]: an allocation failed. Nothing was written, or a beginning of the
+///   lines.
 pub fn write_changes<A: Allocator + Copy, P: Source, N: Source, W: Sink>(
     alloc: A,
     old: &mut P,

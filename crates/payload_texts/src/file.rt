@@ -13,19 +13,28 @@ use rpki_base::memory::OrMemory;
 use rpki_prefix::MaxLenPrefix;
 use std::alloc::Allocator;
 
-/// The payloads of a file, in its order, each as often as it stands there.
+/// Reads the VRPs of a file, in the order of the file, each as often as the file has it.
 ///
-/// Where its first octet that is no white space opens an object, the file is JSON (RFC 8259), and its payloads are the
-/// items of the object's member `roas`, an array. An item is an object with the members `asn`, a number or a text,
-/// `prefix`, a text, and `maxLength`, a number. Each of these members stands there once; no other one is looked at. The
-/// text nests no deeper than 128.
+/// - `alloc`: the allocator of the list.
+/// - `text`: the whole file.
 ///
-/// Otherwise it is lines of comma separated values. A line is white space, the names of columns, or a payload: an AS
-/// number, a prefix and a greatest length. These are its first three fields in this order, or stand in the columns that
-/// the last line before it which names them tells. A line has no more fields than that line.
+/// A file whose first octet that is not white space is `{` is JSON (RFC 8259). Its VRPs are the items of the member
+/// `roas`, an array. An item is an object with the members `asn` (a number or a text), `prefix` (a text) and `maxLength`
+/// (a number), each exactly once. Other members are ignored. The text nests at most 128 deep.
 ///
-/// Errors: the first line or item that is wrong, and its fault; a text that opens an array, or an object that is not
-/// valid JSON or has no array `roas`; a file without a payload.
+/// Any other file is CSV. A line is blank, or names the columns, or is a VRP: an AS number, a prefix and a maxLength.
+/// These are the first three fields of a line. If an earlier line names the columns, they are the fields in the columns
+/// that the last such line names. A line then has no more fields than that line.
+///
+/// # Errors
+///
+/// - [`FileFault::Line`]: the first line that is wrong, by its number, from 1, and its first fault.
+/// - [`FileFault::Item`]: the first item of `roas` that is wrong, by its number, from 1, and its first fault.
+/// - [`FileFault::JsonArray`]: the text opens an array.
+/// - [`FileFault::NotObject`]: the text opens an object, and is not valid JSON or nests deeper than 128.
+/// - [`FileFault::Roas`]: the object has no member `roas`, or several, or one that is not an array.
+/// - [`FileFault::NoPayload`]: the file has no VRP.
+/// - [`OrMemory::Memory`]: an allocation failed.
 pub fn read_payloads<A: Allocator + Copy>(
     alloc: A,
     text: &[u8],

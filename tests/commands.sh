@@ -1,7 +1,8 @@
 #!/bin/sh
-# Runs the commands of README.md and docs/CALLING.md in a copy of the sources, and compares what ./respath answers with the
-# comment behind its line. Left out, and named: the test command itself, and a check that proves what a crate stands on,
-# which with --prove is made. What needs rt is left out where there is none.
+# Runs the commands of README.md and docs/CALLING.md in a copy of the sources. In a block `sh` it compares what ./respath
+# prints with the comment behind its line. In a block `console` it compares what all commands print on standard output
+# with the other lines of the block. Left out, and named: the test command itself, and a check that proves the
+# dependencies of a crate, which --prove runs. A block that needs rt is left out if there is no rt.
 # tests/recipes.sh runs docs/RECIPES.md, tests/errors_page.py the lines of docs/ERRORS.md, tests/streams.sh the options.
 top=$(CDPATH='' cd -- "$(dirname -- "$0")/.." && pwd) || exit 1
 prove=${1-}
@@ -16,9 +17,10 @@ cat >"$folder/copy/respath" <<END
 #!/bin/sh
 "$top/respath" "\$@" | tee -a "$folder/answers"
 END
-cat >"$folder/copy/check" <<END
+printf '#!/bin/sh\nexec "%s/origins" "$@"\n' "$top" >"$folder/copy/origins"
+cat >"$folder/copy/check" <<'END'
 #!/bin/sh
-echo "left out  ./check: it is what runs this, and takes an hour" >&2
+echo "left out  ./check $*: it is what runs this, and takes minutes" >&2
 END
 
 # rt as it is, but for its check.
@@ -62,7 +64,30 @@ run() {
     fi
 }
 
+# Runs the commands of each block `console` of a page, and compares what they print with its other lines.
+consoles() {
+    awk -v name="$folder/$2" '
+        /^```/ && file { file = ""; next }
+        /^```console$/ { file = name "." ++count; printf "" > file; printf "" > (file ".wanted"); next }
+        file && /^[$] / { print substr($0, 3) > file; next }
+        file { print > (file ".wanted") }
+    ' "$top/$1"
+    for block in "$folder/$2".*; do
+        case $block in *.wanted) continue ;; esac
+        if (cd "$folder/copy" && sh -e "$block") >"$folder/printed" 2>"$folder/errors" &&
+            cmp -s "$folder/printed" "$block.wanted"; then
+            echo "ok        commands: ${block##*/}"
+        else
+            echo "FAILED    commands: ${block##*/}"
+            diff "$block.wanted" "$folder/printed"
+            cat "$folder/errors"
+            failed=1
+        fi
+    done
+}
+
 failed=0
+consoles README.md console
 blocks README.md readme
 blocks docs/CALLING.md calling
 for block in "$folder"/readme.* "$folder"/calling.*; do

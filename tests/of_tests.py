@@ -24,6 +24,7 @@ from queue import SimpleQueue
 
 import wrong_checks
 import wrong_programs
+import wrong_quick
 
 TOP = Path(__file__).resolve().parent.parent
 COPIES = min(4, os.cpu_count() or 1)
@@ -360,6 +361,7 @@ def all_cases(folder: Path) -> Iterator[tuple[str, str | None]]:
         *(partial(wrong_programs.of_stubbed, it, folder / f"stubbed {at}" / "copy")
           for at, it in enumerate(wrong_programs.STUBBED)),
         lambda: wrong_checks.of_assertions(folder / "assertions"),
+        lambda: wrong_quick.of_quick(folder / "quick"),
     ]
     with ThreadPoolExecutor(COPIES) as pool:
         for results in pool.map(lambda group: list(group()), groups):

@@ -23,6 +23,13 @@ said=$({ yes 'norm as 1' | head -n 100000 | { "$program" 2>&3; echo "status $?" 
 expect "a pipe whose reader has ended" 0 "respath: write failed
 status 1" $? "$said"
 
+# The README promises that a stack of 128 KiB is enough.
+needs_more "a stack of 128 KiB" || {
+    said=$(awk 'BEGIN { printf "norm as 1"; for (n = 3; n < 120000; n += 2) printf ",%d", n; print "" }' |
+        (ulimit -s 128 && "$program") | tr ',' '\n' | wc -l)
+    expect "a stack of 128 KiB, a line of 60,000 blocks" 0 "60000" $? "$said"
+}
+
 # Half of a line of 64 MiB fits into the memory that is granted.
 needs_more "memory is refused" || {
     said=$(head -c 67108864 /dev/zero | tr '\0' '1' | (ulimit -v 49152 && "$program") 2>&1 >/dev/null)

@@ -37,8 +37,8 @@ use std::alloc::Allocator;
 ///   nothing was written.
 /// - [`OriginsError::Run`] with [`RunError::Read`]: a read of the routes failed. The lines whose ends were read are
 ///   answered.
-/// - [`OriginsError::Run`] with [`RunError::Write`]: a write or the flush failed, or a write took nothing. A beginning of
-///   the answers was written.
+/// - [`OriginsError::Run`] with [`RunError::Write`]: a write or the flush failed, or a write took nothing. A beginning
+///   of the answers was written.
 /// - [`OriginsError::Run`] with [`RunError::Memory`]: an allocation failed. Some first lines are answered, each whole.
 #[tactic(auto, using(crate::proofs::AnswerLemmas::by_file))]
 pub fn answer_routes<A: Allocator + Copy, P: Source, R: Source, W: Sink>(

@@ -32,8 +32,8 @@ use std::alloc::Allocator;
 /// # Errors
 ///
 /// - [`OriginsError::Payloads`]: the file could not be read, is wrong, or needs more memory. Nothing was written.
-/// - [`OriginsError::Run`] with [`RunError::Write`]: a write or the flush failed, or a write took nothing. A beginning of
-///   the lines was written.
+/// - [`OriginsError::Run`] with [`RunError::Write`]: a write or the flush failed, or a write took nothing. A beginning
+///   of the lines was written.
 /// - [`OriginsError::Run`] with [`RunError::Memory`]: an allocation failed. Nothing was written, or a beginning of the
 ///   lines.
 pub fn write_table<A: Allocator + Copy, P: Source, W: Sink>(
@@ -133,8 +133,8 @@ fn tell_table<A: Allocator + Copy, W: Sink>(
 ///
 /// - [`ChangesError::Old`], [`ChangesError::New`]: this file could not be read, is wrong, or needs more memory. Nothing
 ///   was written. The new file is not read if the old one is refused.
-/// - [`ChangesError::Run`] with [`RunError::Write`]: a write or the flush failed, or a write took nothing. A beginning of
-///   the lines was written.
+/// - [`ChangesError::Run`] with [`RunError::Write`]: a write or the flush failed, or a write took nothing. A beginning
+///   of the lines was written.
 /// - [`ChangesError::Run`] with [`RunError::Memory`]: an allocation failed. Nothing was written, or a beginning of the
 ///   lines.
 pub fn write_changes<A: Allocator + Copy, P: Source, N: Source, W: Sink>(

@@ -19,8 +19,8 @@ use std::alloc::Allocator;
 /// - `text`: the whole file.
 ///
 /// A file whose first octet that is not white space is `{` is JSON (RFC 8259). Its VRPs are the items of the member
-/// `roas`, an array. An item is an object with the members `asn` (a number or a text), `prefix` (a text) and `maxLength`
-/// (a number), each exactly once. Other members are ignored. The text nests at most 128 deep.
+/// `roas`, an array. An item is an object with the members `asn` (a number or a text), `prefix` (a text) and
+/// `maxLength` (a number), each exactly once. Other members are ignored. The text nests at most 128 deep.
 ///
 /// Any other file is CSV. A line is blank, or names the columns, or is a VRP: an AS number, a prefix and a maxLength.
 /// These are the first three fields of a line. If an earlier line names the columns, they are the fields in the columns

@@ -1,6 +1,6 @@
 #!/usr/bin/env python3
-"""Finds names in README.md, docs/ and the heads of sources that aren't there: files, crates, calls, and code that its
-file doesn't have.
+"""Finds names in README.md, CONTRIBUTING.md, docs/ and the heads of sources that aren't there: files, crates, calls, and
+code that its file doesn't have.
 
 Of what stands between backticks it takes paths, names of files, names of crates, and words with an underscore or of the
 form Type::call, each of which must stand somewhere in the sources, definitions or scripts. docs/DIFFERENCES.md and
@@ -23,7 +23,7 @@ from rooms import room_of
 
 TOP = Path(__file__).resolve().parent.parent
 CRATES = TOP / "crates"
-PAGES = [TOP / "README.md", *sorted((TOP / "docs").glob("*.md"))]
+PAGES = [TOP / "README.md", TOP / "CONTRIBUTING.md", *sorted((TOP / "docs").glob("*.md"))]
 OF_THE_RUST_CRATE = {"DIFFERENCES.md", "PATHS.md"}
 FOLDERS = ("crates", "docs", "tests", "bench", "foreign")
 SCRIPTS = {".py", ".sh", ".h", ".c", ".rs"}

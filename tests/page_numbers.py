@@ -58,7 +58,7 @@ COUNTED: tuple[tuple[str, str, Callable[[], int]], ...] = (
 # Numbers that have to be exactly those of `check`.
 EXACT: tuple[tuple[str, str, Callable[[], int]], ...] = tuple(
     (name, pattern, random_lines(command))
-    for name in ("README.md", "docs/CARRYING_ON.md")
+    for name in ("README.md", "CONTRIBUTING.md")
     for pattern, command in (
         (rf"\b{NUMBER} random lines", r"tests/rows\.py --random"),
         (rf"\b{NUMBER} random routes", r"tests/random_origins\.py"),

@@ -1,6 +1,22 @@
-//! What an issuer verifies of a certificate's resources (RFC 3779), or an anchor of a path of certificates, operations
-//! on sets of resources, shortest covers, the validity of routes by payloads (RFC 6811), and the answers of the program
-//! `respath`, safe over the proved static library. What is as in C stands in [`raw`].
+//! Bindings to Pigyelund, a formally verified library for RPKI resource sets.
+//!
+//! The crate is for programs that check the resources of certificates (RFC 3779), operate on sets of resources, or
+//! validate route origins (RFC 6811). It is a safe wrapper around the proved static library. The wrapper itself is
+//! tested, not proved. `docs/FOREIGN.md` is the guide.
+//!
+//! - [`verify`] computes the resources of a certificate. [`verify_path`] computes those of the last one of a path.
+//! - [`union`], [`intersection`], [`difference`], [`contains`] and [`equal`] operate on two sets.
+//! - [`cover`] returns the shortest list of prefixes of a set.
+//! - [`origins`] and [`Table`] validate routes against VRPs. A VRP (validated ROA payload) is a [`Payload`] here.
+//! - [`answer`] returns the answer of the program `respath` to a line.
+//!
+//! A set of resources is the DER of two certificate extensions: AS identifiers (RFC 3779, 3.2.3) and IP address blocks
+//! (RFC 3779, 2.2.3). The value of an extension is empty if the set lists nothing there. The calls return canonical
+//! DER. Two sets that calls returned are equal if and only if their octets are equal.
+//!
+//! [`raw`] has the same calls with the statuses and numbers of `pigyelund.h`.
+//!
+//! # Example
 //!
 //! ```
 //! use pigyelund::{cover, difference, Encoding, Family, Octets};
@@ -35,22 +51,25 @@ use core::net::{IpAddr, Ipv4Addr, Ipv6Addr};
 
 use raw::{HAS_AS, HAS_IP, NO, OK, TOO_SMALL};
 
-/// The values of a certificate's extensions, each None where it is absent.
+/// The two resource extensions of a certificate, as DER.
+///
+/// `None` means that the certificate does not have the extension; it then claims nothing there. An extension that is
+/// present but empty is invalid. A certificate has at least one of them (RFC 6487, 4.8.10 and 4.8.11).
 #[derive(Clone, Copy, Debug, Default, PartialEq, Eq)]
 pub struct Extensions<'a> {
-    /// Of AS identifiers (RFC 3779, 3.2.3).
+    /// The value of the extension of AS identifiers (RFC 3779, 3.2.3).
     pub asn: Option<&'a [u8]>,
-    /// Of IP address blocks (RFC 3779, 2.2.3).
+    /// The value of the extension of IP address blocks (RFC 3779, 2.2.3).
     pub ip: Option<&'a [u8]>,
 }
 
 impl<'a> Extensions<'a> {
-    /// The number of the extensions that are there.
+    /// Returns the number that says which extensions are present: 0, [`HAS_AS`], [`HAS_IP`], or their sum.
     fn present(&self) -> u32 {
         HAS_AS * u32::from(self.asn.is_some()) + HAS_IP * u32::from(self.ip.is_some())
     }
 
-    /// Their octets, none of one that is absent.
+    /// Returns the octets of both extensions. An absent extension has no octets.
     fn octets(&self) -> Octets<'a> {
         Octets {
             asn: self.asn.unwrap_or_default(),
@@ -59,26 +78,26 @@ impl<'a> Extensions<'a> {
     }
 }
 
-/// A certificate of a path: its extensions, and what becomes of a claim of theirs that lists too much.
+/// A certificate of a path: its extensions, and the policy for its overclaimed resources.
 #[derive(Clone, Copy, Debug, PartialEq, Eq)]
 pub struct Certificate<'a> {
-    /// Its extensions.
+    /// The two resource extensions of the certificate.
     pub extensions: Extensions<'a>,
-    /// What becomes of an excess.
+    /// The policy for overclaimed resources: those that are claimed and the issuer does not have.
     pub mode: Overclaim,
 }
 
-/// A set of resources, as the values of both extensions.
+/// A set of resources, as the DER of both extensions.
 #[derive(Clone, Debug, Default, PartialEq, Eq)]
 pub struct Resources {
-    /// Of AS identifiers (RFC 3779, 3.2.3).
+    /// The AS identifiers (RFC 3779, 3.2.3), or empty if the set has no AS numbers.
     pub asn: Vec<u8>,
-    /// Of IP address blocks (RFC 3779, 2.2.3).
+    /// The IP address blocks (RFC 3779, 2.2.3), or empty if the set has no addresses.
     pub ip: Vec<u8>,
 }
 
 impl Resources {
-    /// The set, as octets that are lent.
+    /// Borrows the encoded set.
     pub fn octets(&self) -> Octets<'_> {
         Octets {
             asn: &self.asn,
@@ -87,25 +106,25 @@ impl Resources {
     }
 }
 
-/// Which octets are read: all that the syntax allows, or the canonical ones alone.
+/// The encodings that a call accepts. The choice applies to all octets that the call reads, the issuer's too.
 #[derive(Clone, Copy, Debug, PartialEq, Eq)]
 pub enum Encoding {
-    /// Blocks in any order, which may overlap.
+    /// Any DER that the grammar allows: blocks in any order, which may overlap.
     Lenient = raw::LENIENT as isize,
-    /// The canonical octets alone.
+    /// Canonical DER only (RFC 3779, 2.2.3.6 and 3.2.3.4).
     Strict = raw::STRICT as isize,
 }
 
-/// What becomes of a claim that lists more than the issuer has.
+/// The policy for overclaimed resources: those that are claimed and the issuer does not have.
 #[derive(Clone, Copy, Debug, PartialEq, Eq)]
 pub enum Overclaim {
-    /// It is refused (RFC 6487, 7.2).
+    /// The certificate is refused (RFC 6487, 7.2).
     Refuse = raw::REFUSE as isize,
-    /// It counts for what the issuer has of it (RFC 8360, 4).
+    /// The claim is reduced to what the issuer has of it (RFC 8360, 4).
     Trim = raw::TRIM as isize,
 }
 
-/// A family of addresses.
+/// An address family (RFC 3779, 2.2.3.3).
 #[derive(Clone, Copy, Debug, PartialEq, Eq)]
 pub enum Family {
     /// IPv4.
@@ -114,12 +133,12 @@ pub enum Family {
     V6 = raw::IPV6 as isize,
 }
 
-/// A prefix of addresses: its first address, and its length.
+/// An address prefix.
 #[derive(Clone, Copy, Debug, PartialEq, Eq, Hash)]
 pub struct Prefix {
     /// The first address.
     pub address: IpAddr,
-    /// The length, in bits.
+    /// The length in bits: 0 to 32 for IPv4, 0 to 128 for IPv6.
     pub len: u8,
 }
 
@@ -129,18 +148,18 @@ impl Display for Prefix {
     }
 }
 
-/// What payloads say of a route (RFC 6811, 2).
+/// The validity of a route (RFC 6811, 2), numbered as in RFC 8097, 2.
 #[derive(Clone, Copy, Debug, PartialEq, Eq)]
 pub enum Validity {
-    /// One matches it.
+    /// A VRP matches the route.
     Valid = raw::VALID as isize,
-    /// None covers it.
+    /// No VRP covers the route.
     NotFound = raw::NOT_FOUND as isize,
-    /// One covers it, and none matches it.
+    /// A VRP covers the route, and no VRP matches it.
     Invalid = raw::INVALID as isize,
 }
 
-/// What a call tells, with rooms that grow to what it wants.
+/// Runs a call that returns a set. The buffers grow to the lengths that the call reports.
 fn with_room(
     mut call: impl FnMut(&mut [u8], &mut [u8]) -> (u32, usize, usize),
 ) -> Result<Resources, Refused> {
@@ -165,7 +184,7 @@ fn with_room(
     }
 }
 
-/// What a call with one room tells, with a room that grows to what it wants: the status, and the octets.
+/// Runs a call with one buffer, which grows to the length that the call reports. Returns the status and the octets.
 fn with_one_room(call: impl Fn(&mut [u8]) -> (u32, usize)) -> (u32, Vec<u8>) {
     let mut octets = Vec::new();
     loop {
@@ -177,7 +196,33 @@ fn with_one_room(call: impl Fn(&mut [u8]) -> (u32, usize)) -> (u32, Vec<u8>) {
     }
 }
 
-/// What the issuer's set leaves of the certificate's claims.
+/// Computes the resources of a certificate from its issuer's set (RFC 3779, 2.3 and 3.3).
+///
+/// The result for AS numbers, for IPv4 and for IPv6 is:
+///
+/// - nothing, if the certificate does not have the extension, or the extension does not have the family;
+/// - all that the issuer has, if the certificate inherits;
+/// - otherwise what the certificate lists and the issuer has.
+///
+/// # Parameters
+///
+/// - `issuer`: the issuer's set.
+/// - `certificate`: the extensions of the certificate.
+/// - `encoding`: which encodings are accepted of both.
+/// - `mode`: the policy for overclaimed resources.
+///
+/// # Errors
+///
+/// The first of these, in this order:
+///
+/// - [`Reason::BadAs`], [`Reason::BadIp`] with [`Side::First`]: an extension of the issuer is invalid.
+/// - [`Reason::Inherited`] with [`Side::First`]: the issuer's set inherits, and does not list its resources.
+/// - [`Reason::Absent`]: the certificate has neither extension.
+/// - [`Reason::BadAs`], [`Reason::BadIp`] with [`Side::Second`]: an extension of the certificate is invalid.
+/// - [`Reason::OverclaimedAs`], [`Reason::OverclaimedV4`], [`Reason::OverclaimedV6`]: the certificate overclaims, and
+///   `mode` is [`Overclaim::Refuse`]. [`Refused::excess`] has the overclaimed resources of this kind.
+///
+/// The call may return [`Reason::Memory`] instead of any other result.
 pub fn verify(
     issuer: Octets<'_>,
     certificate: Extensions<'_>,
@@ -198,7 +243,7 @@ pub fn verify(
     })
 }
 
-/// The octets of some certificates in one run, and where in it each has its own.
+/// Writes the octets of all certificates into one array. Returns it with the position of each certificate's octets.
 fn laid_out(certificates: &[Certificate<'_>]) -> (Vec<u8>, Vec<raw::Certificate>) {
     let mut run = Vec::new();
     let mut places = Vec::new();
@@ -220,8 +265,22 @@ fn laid_out(certificates: &[Certificate<'_>]) -> (Vec<u8>, Vec<raw::Certificate>
     (run, places)
 }
 
-/// What certificates on a path leave of the anchor's set: the first is verified by the anchor's set, each other one by
-/// what the ones before it leave.
+/// Computes the resources of the last certificate of a path.
+///
+/// The first certificate is verified against the anchor's set, as by [`verify`]. Each other one is verified against
+/// what the certificates before it leave.
+///
+/// # Parameters
+///
+/// - `anchor`: the trust anchor's set.
+/// - `certificates`: the certificates in the order of the path, the one under the anchor first.
+/// - `encoding`: which encodings are accepted of all of them.
+///
+/// # Errors
+///
+/// [`RefusedPath`] has the reason and the number of verified certificates. The anchor's octets are checked first, with
+/// the reasons that [`verify`] has for the issuer. The first certificate that is not verified follows, with the other
+/// reasons of [`verify`]. The call may return [`Reason::Memory`] instead of any other result.
 pub fn verify_path(
     anchor: Octets<'_>,
     certificates: &[Certificate<'_>],
@@ -241,7 +300,7 @@ pub fn verify_path(
     })
 }
 
-/// The address of octets: four of IPv4, sixteen of IPv6.
+/// Returns the address that has these octets: 4 for IPv4, 16 for IPv6.
 fn address_of(octets: &[u8]) -> IpAddr {
     match <[u8; 4]>::try_from(octets) {
         Ok(v4) => IpAddr::V4(Ipv4Addr::from(v4)),
@@ -253,7 +312,24 @@ fn address_of(octets: &[u8]) -> IpAddr {
     }
 }
 
-/// The shortest list of prefixes that has exactly the addresses of a family that IP address blocks list, ascending.
+/// Returns the shortest list of prefixes that has exactly the addresses of one family of a set.
+///
+/// The prefixes ascend.
+///
+/// # Parameters
+///
+/// - `ip`: the IP address blocks of the set (RFC 3779, 2.2.3).
+/// - `encoding`: which encodings are accepted.
+/// - `family`: the family whose addresses are covered.
+///
+/// # Errors
+///
+/// The first of these, in this order:
+///
+/// - [`Reason::BadIp`] with [`Side::First`]: `ip` is invalid.
+/// - [`Reason::Inherited`] with [`Side::First`]: `ip` inherits the addresses of either family.
+///
+/// The call may return [`Reason::Memory`] instead of any other result.
 pub fn cover(ip: &[u8], encoding: Encoding, family: Family) -> Result<Vec<Prefix>, Refused> {
     let (encoding, number) = (encoding as u32, family as u32);
     let (status, octets) = with_one_room(|out| raw::cover(ip, encoding, number, out));
@@ -268,7 +344,7 @@ pub fn cover(ip: &[u8], encoding: Encoding, family: Family) -> Result<Vec<Prefix
     Ok(prefixes.collect())
 }
 
-/// The validity of an octet that is told.
+/// Returns the validity with this number.
 fn validity_of(octet: u8) -> Validity {
     match u32::from(octet) {
         raw::VALID => Validity::Valid,
@@ -277,7 +353,23 @@ fn validity_of(octet: u8) -> Validity {
     }
 }
 
-/// The validity of each route by the payloads.
+/// Validates routes against VRPs (RFC 6811, 2). Returns the validity of each route, in the order of `routes`.
+///
+/// Each call builds a table of the VRPs. Pass many routes at once, or keep a [`Table`].
+///
+/// # Parameters
+///
+/// - `payloads`: the VRPs, in any order.
+/// - `routes`: the routes to validate.
+///
+/// # Errors
+///
+/// [`RefusedOrigin`] has the index of the first malformed VRP, or else of the first malformed route:
+///
+/// - [`Reason::BadFamily`], [`Reason::BadPrefix`] with [`Side::First`], [`Reason::BadMaxLen`]: a VRP.
+/// - [`Reason::BadFamily`], [`Reason::BadPrefix`] with [`Side::Second`]: a route.
+///
+/// The call may return [`Reason::Memory`] instead of any other result.
 pub fn origins(payloads: &[Payload], routes: &[Route]) -> Result<Vec<Validity>, RefusedOrigin> {
     let mut octets = alloc::vec![0; routes.len()];
     let (status, _, place) = raw::origins(payloads, routes, &mut octets);
@@ -288,8 +380,15 @@ pub fn origins(payloads: &[Payload], routes: &[Route]) -> Result<Vec<Validity>, 
     Ok(octets.into_iter().map(validity_of).collect())
 }
 
-/// The answer of `respath` to a line, without the end of a line. Memory alone is a reason why there is none: what is
-/// wrong with a line is said by its answer.
+/// Returns the answer of the program `respath` to a line. Errors in the line are part of the answer.
+///
+/// # Parameters
+///
+/// - `line`: a line in UTF-8, without its line end. The answer has no line end either.
+///
+/// # Errors
+///
+/// [`Reason::Memory`] only.
 pub fn answer(line: &[u8]) -> Result<String, Reason> {
     let (status, octets) = with_one_room(|out| raw::answer(line, out));
     match String::from_utf8(octets) {
@@ -298,7 +397,23 @@ pub fn answer(line: &[u8]) -> Result<String, Reason> {
     }
 }
 
-/// What is made of two sets.
+/// Applies a set operation to two sets.
+///
+/// # Parameters
+///
+/// - `operation`: union, intersection or difference.
+/// - `a`, `b`: the first and the second set.
+/// - `encoding`: which encodings are accepted of both.
+///
+/// # Errors
+///
+/// The first of these, in this order, for `a` with [`Side::First`] and then for `b` with [`Side::Second`]:
+///
+/// - [`Reason::BadAs`]: the AS identifiers of the set are invalid.
+/// - [`Reason::BadIp`]: the IP address blocks of the set are invalid.
+/// - [`Reason::Inherited`]: the set inherits, and does not list its resources.
+///
+/// The call may return [`Reason::Memory`] instead of any other result.
 pub fn made(
     operation: Operation,
     a: Octets<'_>,
@@ -308,12 +423,20 @@ pub fn made(
     with_room(|asn, ip| raw::made(operation, a, b, encoding as u32, asn, ip))
 }
 
-/// What one or the other of two sets has.
+/// Returns the union of `a` and `b`.
+///
+/// # Errors
+///
+/// Those of [`made`].
 pub fn union(a: Octets<'_>, b: Octets<'_>, encoding: Encoding) -> Result<Resources, Refused> {
     made(Operation::Union, a, b, encoding)
 }
 
-/// What both of two sets have.
+/// Returns the intersection of `a` and `b`.
+///
+/// # Errors
+///
+/// Those of [`made`].
 pub fn intersection(
     a: Octets<'_>,
     b: Octets<'_>,
@@ -322,12 +445,20 @@ pub fn intersection(
     made(Operation::Intersection, a, b, encoding)
 }
 
-/// What the first set has and the second hasn't.
+/// Returns the difference of `a` and `b`: the resources of `a` that `b` does not have.
+///
+/// # Errors
+///
+/// Those of [`made`].
 pub fn difference(a: Octets<'_>, b: Octets<'_>, encoding: Encoding) -> Result<Resources, Refused> {
     made(Operation::Difference, a, b, encoding)
 }
 
-/// Whether what is asked of two sets is so.
+/// Evaluates a predicate on two sets.
+///
+/// # Errors
+///
+/// Those of [`made`].
 pub fn tested(
     test: Test,
     a: Octets<'_>,
@@ -341,12 +472,20 @@ pub fn tested(
     }
 }
 
-/// Whether the first set has each number and each address of the second.
+/// Returns whether `a` has each AS number and each address of `b`.
+///
+/// # Errors
+///
+/// Those of [`made`].
 pub fn contains(a: Octets<'_>, b: Octets<'_>, encoding: Encoding) -> Result<bool, Refused> {
     tested(Test::Contains, a, b, encoding)
 }
 
-/// Whether both are the same set.
+/// Returns whether `a` and `b` are the same set.
+///
+/// # Errors
+///
+/// Those of [`made`].
 pub fn equal(a: Octets<'_>, b: Octets<'_>, encoding: Encoding) -> Result<bool, Refused> {
     tested(Test::Equal, a, b, encoding)
 }

@@ -1,21 +1,21 @@
-//! Why nothing is told.
+//! Error types: the reasons why a call returns no result.
 use core::error::Error;
 use core::fmt::{Display, Formatter, Result};
 
 use crate::raw;
 use crate::Resources;
 
-/// Of which of two values a reason speaks.
+/// The operand that an error is about.
 #[derive(Clone, Copy, Debug, PartialEq, Eq, Hash)]
 pub enum Side {
-    /// The issuer, the anchor, the first set, a payload, or one that is announced.
+    /// The issuer, the trust anchor, the first set, a VRP, or an announced VRP.
     First,
-    /// The certificate, the second set, a route, or a payload that is withdrawn.
+    /// The certificate, the second set, a route, or a withdrawn VRP.
     Second,
 }
 
 impl Side {
-    /// What the status has besides.
+    /// Returns what this side adds to a status.
     fn status(self) -> u32 {
         match self {
             Side::First => 0,
@@ -24,42 +24,42 @@ impl Side {
     }
 }
 
-/// The first fault of octets, numbered as docs/ERRORS.md has them.
+/// The first error in the DER of an extension. `docs/ERRORS.md` has an example of each number.
 #[non_exhaustive]
 #[derive(Clone, Copy, Debug, PartialEq, Eq, Hash)]
 pub enum Fault {
-    /// Octets are missing.
+    /// Octets are missing, or a length is too great (X.690, 8.1).
     Truncated = 1,
-    /// Another tag belongs there.
+    /// A tag is not the one that belongs there (RFC 3779, 2.2.3 and 3.2.3).
     BadTag = 2,
-    /// The length isn't definite, or has too many octets.
+    /// A length is indefinite, is not as short as possible, or has more than eight octets (X.690, 8.1.3 and 10.1).
     BadLength = 3,
-    /// The INTEGER is none of an AS number.
+    /// An INTEGER is not from 0 to 4294967295, or is not as short as possible (X.690, 8.3; RFC 3779, 3.2.3.10).
     BadInteger = 4,
-    /// The BIT STRING has too many unused bits.
+    /// A BIT STRING has more than seven unused bits, or unused bits but no octet for them (X.690, 8.6.2).
     BadBitString = 5,
-    /// The NULL has content.
+    /// A NULL has content (X.690, 8.8.2).
     BadNull = 6,
-    /// Something stands behind the value.
+    /// Octets follow the end of a value.
     TrailingData = 7,
-    /// The prefix has too many bits.
+    /// A prefix has more bits than its family: 32 for IPv4, 128 for IPv6 (RFC 3779, 2.1.1).
     BadPrefix = 8,
-    /// The family is neither IPv4 nor IPv6.
+    /// The family is neither IPv4 nor IPv6 (RFC 3779, 2.2.3.3).
     BadFamily = 9,
-    /// The range ends before it begins.
+    /// A range ends before it begins (RFC 3779, 2.2.3.9 and 3.2.3.8).
     ReversedRange = 10,
-    /// There are no blocks.
+    /// A list of blocks is empty (RFC 3779, 2.2.3.6 and 3.2.3.4).
     EmptyBlocks = 11,
-    /// A family stands there twice.
+    /// A family occurs twice (RFC 3779, 2.2.3.3).
     DuplicateFamily = 12,
-    /// There is no family.
+    /// The IP address blocks have no family (RFC 3779, 2.2.3.2).
     NoFamily = 13,
-    /// The octets aren't the canonical ones.
+    /// The encoding is not canonical; only [`Encoding::Strict`](crate::Encoding) reports this.
     NotCanonical = 14,
 }
 
 impl Fault {
-    /// That of a number.
+    /// Returns the fault with this number, if there is one.
     fn of_number(number: u32) -> Option<Fault> {
         Some(match number {
             1 => Fault::Truncated,
@@ -100,44 +100,46 @@ impl Fault {
     }
 }
 
-/// Why nothing is told. Its text is that of `pg_status_text` in `pigyelund.h`.
+/// The reason why a call returns no result. `Display` writes the text of `pg_status_text` in `pigyelund.h`.
 #[non_exhaustive]
 #[derive(Clone, Copy, Debug, PartialEq, Eq, Hash)]
 pub enum Reason {
-    /// There was no memory; nothing is said of what went in.
+    /// Out of memory. This reason says nothing about the input.
     Memory,
-    /// Resources are inherited where a set is listed.
+    /// The operand inherits resources, and does not list a set.
     Inherited(Side),
-    /// More AS numbers are claimed than the issuer has.
+    /// The certificate claims AS numbers that its issuer does not have (RFC 6487, 7.2).
     OverclaimedAs,
-    /// More IPv4 addresses are claimed than the issuer has.
+    /// The certificate claims IPv4 addresses that its issuer does not have (RFC 6487, 7.2).
     OverclaimedV4,
-    /// More IPv6 addresses are claimed than the issuer has.
+    /// The certificate claims IPv6 addresses that its issuer does not have (RFC 6487, 7.2).
     OverclaimedV6,
-    /// The certificate has neither extension.
+    /// The certificate has neither extension (RFC 6487, 4.8.10 and 4.8.11).
     Absent,
-    /// Octets of AS identifiers are none: the first fault.
+    /// The AS identifiers are invalid; the field is the first error found.
     BadAs(Side, Fault),
-    /// Octets of IP address blocks are none: the first fault.
+    /// The IP address blocks are invalid; the field is the first error found.
     BadIp(Side, Fault),
-    /// The family of a payload or of a route is none.
+    /// The family of a VRP or of a route is neither IPv4 nor IPv6.
     BadFamily(Side),
-    /// The prefix of a payload or of a route is none.
+    /// The prefix length of a VRP or of a route is above the family's, or address bits after it are set.
     BadPrefix(Side),
-    /// The greatest length of a payload is none.
+    /// The maximum length of a VRP is below its prefix length, or above the family's.
     BadMaxLen,
-    /// The greatest length of a payload that is withdrawn is none.
+    /// The maximum length of a withdrawn VRP is below its prefix length, or above the family's.
     BadWithdrawnMaxLen,
-    /// A payload is withdrawn that the table hasn't, or twice (RFC 8210, 12: 6).
+    /// A withdrawn VRP is not in the table, or is withdrawn twice (RFC 8210, 12, code 6).
     UnknownWithdrawal,
-    /// A payload is announced that the table has, or twice (RFC 8210, 12: 7).
+    /// An announced VRP is in the table and is not withdrawn, or is announced twice (RFC 8210, 12, code 7).
     DuplicateAnnouncement,
-    /// Another status, which no call here but one of [`raw`] answers.
+    /// Any other status. Only the calls of [`raw`] return one.
     Other(u32),
 }
 
 impl Reason {
-    /// That of a status.
+    /// Returns the reason for a status of `pigyelund.h`.
+    ///
+    /// A status that has no variant of its own, as [`raw::OK`], becomes [`Reason::Other`].
     pub fn of_status(status: u32) -> Reason {
         let (side, first) = match status {
             raw::SECOND.. => (Side::Second, status - raw::SECOND),
@@ -164,7 +166,7 @@ impl Reason {
         }
     }
 
-    /// Its status, as `pigyelund.h` numbers it.
+    /// Returns the status of this reason, as `pigyelund.h` numbers it.
     pub fn status(self) -> u32 {
         match self {
             Reason::Memory => raw::MEMORY,
@@ -186,7 +188,7 @@ impl Reason {
     }
 }
 
-/// The text of a status that is no reason of a call here.
+/// Returns the text of a status that only the calls of [`raw`] return.
 fn other_text(status: u32) -> &'static str {
     match status {
         raw::OK => "done",
@@ -201,7 +203,7 @@ fn other_text(status: u32) -> &'static str {
     }
 }
 
-/// Writes the text of a fault of octets.
+/// Writes the text of an error in the DER of an extension, which `octets` names.
 fn write_fault(out: &mut Formatter<'_>, octets: &str, side: Side, fault: Fault) -> Result {
     let of = match side {
         Side::First => "",
@@ -241,17 +243,17 @@ impl Display for Reason {
 
 impl Error for Reason {}
 
-/// Why no set is told, and the excess where too much is claimed.
+/// The reason why a call returns no set, with the overclaimed resources if there are any.
 #[derive(Clone, Debug, PartialEq, Eq)]
 pub struct Refused {
     /// The reason.
     pub reason: Reason,
-    /// What is claimed and the issuer hasn't; nothing where another reason stands.
+    /// The overclaimed resources of the kind that `reason` names; empty for any other reason.
     pub excess: Resources,
 }
 
 impl Refused {
-    /// That of a status, with no excess.
+    /// Returns the error for a status, without overclaimed resources.
     pub(crate) fn of_status(status: u32) -> Refused {
         Refused {
             reason: Reason::of_status(status),
@@ -268,12 +270,14 @@ impl Display for Refused {
 
 impl Error for Refused {}
 
-/// Why a path isn't verified.
+/// The reason why a path is not verified, and the number of verified certificates.
 #[derive(Clone, Debug, PartialEq, Eq)]
 pub struct RefusedPath {
-    /// How many certificates are verified: the reason is that of the next one.
+    /// The number of verified certificates. This is also the index, from 0, of the certificate that is not verified.
+    ///
+    /// It is 0 if the anchor's octets are refused. It has no meaning if the reason is [`Reason::Memory`].
     pub verified: usize,
-    /// The reason, and the excess.
+    /// The reason, and the overclaimed resources if there are any.
     pub refused: Refused,
 }
 
@@ -289,14 +293,17 @@ impl Display for RefusedPath {
 
 impl Error for RefusedPath {}
 
-/// Why no route's validity, or no table, is told.
+/// The reason why a call on VRPs or routes returns no validities, or no table.
 #[derive(Clone, Copy, Debug, PartialEq, Eq)]
 pub struct RefusedOrigin {
     /// The reason.
     pub reason: Reason,
-    /// The place, counted from 0, of what is refused: with [`Side::Second`], [`Reason::BadWithdrawnMaxLen`] and
-    /// [`Reason::UnknownWithdrawal`] in the routes, or in what is withdrawn; else in the payloads, or in what is
-    /// announced; and 0 where none is refused.
+    /// The index, from 0, of the VRP or route that is refused.
+    ///
+    /// - With [`Side::Second`], [`Reason::BadWithdrawnMaxLen`] and [`Reason::UnknownWithdrawal`] it counts in the
+    ///   routes, or in the withdrawn VRPs.
+    /// - With the other reasons it counts in the VRPs, or in the announced VRPs.
+    /// - It is 0 if none of them is refused.
     pub place: usize,
 }
 

@@ -1,4 +1,4 @@
-//! A table of payloads that stays.
+//! A table of VRPs that is built once and queried many times.
 use alloc::vec;
 use alloc::vec::{IntoIter, Vec};
 use core::net::IpAddr;
@@ -6,9 +6,12 @@ use core::net::IpAddr;
 use crate::raw::{self, OK, OTHER_AS, TOO_LONG, TOO_SMALL};
 use crate::{address_of, validity_of, Payload, Prefix, Reason, RefusedOrigin, Route, Validity};
 
-/// A table of validated payloads, which is asked as often as one likes (RFC 6811, 2), and from which the next one is
-/// made by changes (RFC 8210, 5.6). It never changes. It is `Send` and `Sync`: any number of threads may ask it at
-/// once.
+/// A table of VRPs (validated ROA payloads) for route origin validation (RFC 6811, 2).
+///
+/// A table can be queried any number of times. It never changes: [`Table::changed`] makes the next table from withdrawn
+/// and announced VRPs (RFC 8210, 5.6). It is `Send` and `Sync`: any number of threads may query it at once.
+///
+/// # Example
 ///
 /// ```
 /// use pigyelund::{Payload, Route, Table, Validity};
@@ -27,7 +30,9 @@ use crate::{address_of, validity_of, Payload, Prefix, Reason, RefusedOrigin, Rou
 /// }
 /// ```
 ///
-/// A table has one owner, and its memory goes back when the owner drops it. It is not `Clone`:
+/// # Ownership
+///
+/// A table has one owner. Dropping the table frees its memory. It is not `Clone`:
 ///
 /// ```compile_fail,E0277
 /// fn copy<T: Clone>(_: T) {}
@@ -36,7 +41,7 @@ use crate::{address_of, validity_of, Payload, Prefix, Reason, RefusedOrigin, Rou
 #[derive(Debug)]
 pub struct Table(raw::Table);
 
-/// The table of a status, or the reason.
+/// Returns the table if the status is [`OK`], or else the reason.
 fn told((status, table, place): (u32, raw::Table, usize)) -> Result<Table, RefusedOrigin> {
     if status == OK {
         return Ok(Table(table));
@@ -45,7 +50,7 @@ fn told((status, table, place): (u32, raw::Table, usize)) -> Result<Table, Refus
     Err(RefusedOrigin { reason, place })
 }
 
-/// What a call tells, with a room that grows to what it wants.
+/// Runs a call that returns elements. The buffer grows to the length that the call reports.
 fn with_items<T: Copy + Default>(
     mut call: impl FnMut(&mut [T]) -> (u32, usize),
 ) -> Result<Vec<T>, Reason> {
@@ -62,14 +67,54 @@ fn with_items<T: Copy + Default>(
 }
 
 impl Table {
-    /// The table of payloads, in any order, each as often as it comes: one that comes twice is listed and told twice.
+    /// Builds a table of VRPs.
+    ///
+    /// The VRPs may come in any order. Duplicates are kept: a VRP that is passed twice is listed twice, and
+    /// [`Table::covering`] returns it twice.
+    ///
+    /// # Errors
+    ///
+    /// [`RefusedOrigin::place`] is the index, from 0, of the first malformed VRP. The first reason that applies to it
+    /// is reported:
+    ///
+    /// - [`Reason::BadFamily`] with [`Side::First`]: its family is neither IPv4 nor IPv6.
+    /// - [`Reason::BadPrefix`] with [`Side::First`]: its prefix is invalid.
+    /// - [`Reason::BadMaxLen`]: its maximum length is invalid.
+    ///
+    /// The call may return [`Reason::Memory`] instead of any other result.
+    ///
+    /// [`Side::First`]: crate::Side::First
     pub fn new(payloads: &[Payload]) -> Result<Table, RefusedOrigin> {
         told(raw::Table::new(payloads))
     }
 
-    /// The table that this one is after payloads are withdrawn and then others announced; this one stays as it is. Each
-    /// list names a payload once; a withdrawal takes all copies of it. One that is withdrawn has to be there; one that
-    /// is announced must not, but where it is withdrawn too.
+    /// Returns a new table: this one without `withdrawn`, and then with `announced` (RFC 8210, 5.6).
+    ///
+    /// This table stays as it is. VRPs are the same if prefix, maximum length and AS are the same. A VRP that is both
+    /// withdrawn and announced is in the new table once.
+    ///
+    /// # Parameters
+    ///
+    /// - `announced`: VRPs to add. Each must be listed once, and must not be in the table unless it is also withdrawn.
+    /// - `withdrawn`: VRPs to remove, with all their copies. Each must be listed once, and must be in the table.
+    ///
+    /// # Errors
+    ///
+    /// [`RefusedOrigin::place`] is the index, from 0, of the VRP in its list. The reasons come in this order:
+    ///
+    /// - [`Reason::BadFamily`], [`Reason::BadPrefix`] with [`Side::First`], [`Reason::BadMaxLen`]: the first malformed
+    ///   VRP of `announced`.
+    /// - [`Reason::BadFamily`], [`Reason::BadPrefix`] with [`Side::Second`], [`Reason::BadWithdrawnMaxLen`]: the first
+    ///   malformed VRP of `withdrawn`.
+    /// - [`Reason::UnknownWithdrawal`]: the first VRP of `withdrawn` that the table does not have, or that occurs
+    ///   earlier in the list.
+    /// - [`Reason::DuplicateAnnouncement`]: the first VRP of `announced` that the table has and that is not withdrawn,
+    ///   or that occurs earlier in the list.
+    ///
+    /// The call may return [`Reason::Memory`] instead of any other result.
+    ///
+    /// [`Side::First`]: crate::Side::First
+    /// [`Side::Second`]: crate::Side::Second
     pub fn changed(
         &self,
         announced: &[Payload],
@@ -78,7 +123,18 @@ impl Table {
         told(self.0.changed(announced, withdrawn))
     }
 
-    /// The validity of each route.
+    /// Validates routes (RFC 6811, 2). Returns the validity of each route, in the order of `routes`.
+    ///
+    /// # Errors
+    ///
+    /// [`RefusedOrigin::place`] is the index, from 0, of the first malformed route:
+    ///
+    /// - [`Reason::BadFamily`] with [`Side::Second`]: its family is neither IPv4 nor IPv6.
+    /// - [`Reason::BadPrefix`] with [`Side::Second`]: its prefix is invalid.
+    ///
+    /// The call may return [`Reason::Memory`] instead of any other result.
+    ///
+    /// [`Side::Second`]: crate::Side::Second
     pub fn origins(&self, routes: &[Route]) -> Result<Vec<Validity>, RefusedOrigin> {
         let mut octets = vec![0; routes.len()];
         let (status, _, place) = self.0.origins(routes, &mut octets);
@@ -89,7 +145,11 @@ impl Table {
         Ok(octets.into_iter().map(validity_of).collect())
     }
 
-    /// The validity of one route.
+    /// Validates one route (RFC 6811, 2).
+    ///
+    /// # Errors
+    ///
+    /// The reasons of [`Table::origins`], for this route.
     pub fn origin(&self, route: &Route) -> Result<Validity, Reason> {
         let mut octet = [0];
         match self.0.origins(core::slice::from_ref(route), &mut octet) {
@@ -98,8 +158,14 @@ impl Table {
         }
     }
 
-    /// The payloads that cover a route, which explain its validity: the longest prefix first, by one prefix the least
-    /// AS number, and by one AS the longest greatest length.
+    /// Returns the VRPs that cover a route. They explain its validity.
+    ///
+    /// The longest prefix comes first. VRPs of the same prefix come by ascending AS number. VRPs of the same prefix and
+    /// AS come by descending maximum length.
+    ///
+    /// # Errors
+    ///
+    /// The reasons of [`Table::origins`], for this route.
     pub fn covering(&self, route: &Route) -> Result<IntoIter<Covering>, Reason> {
         let found = with_items(|out: &mut [raw::Covering]| self.0.covering(route, out))?;
         Ok(found
@@ -109,32 +175,38 @@ impl Table {
             .into_iter())
     }
 
-    /// How many payloads it lists.
+    /// Returns the number of VRPs, duplicates included.
     pub fn len(&self) -> usize {
         self.0.count().1
     }
 
-    /// Whether it lists none.
+    /// Returns whether the table has no VRP.
     pub fn is_empty(&self) -> bool {
         self.len() == 0
     }
 
-    /// All payloads: IPv4 before IPv6, then by the address, the shorter prefix first, by one prefix the greatest AS
-    /// number, and by one AS the shortest greatest length.
+    /// Returns all VRPs, duplicates included.
+    ///
+    /// IPv4 comes before IPv6. Each family is in the order of the addresses, the shorter prefix first. VRPs of the same
+    /// prefix come by descending AS number. VRPs of the same prefix and AS come by ascending maximum length.
+    ///
+    /// # Errors
+    ///
+    /// [`Reason::Memory`] only.
     pub fn payloads(&self) -> Result<IntoIter<Payload>, Reason> {
         let found = with_items(|out| self.0.payloads(out))?;
         Ok(found.into_iter())
     }
 }
 
-/// A payload that covers a route, and why it doesn't match it.
+/// A VRP that covers a route, and why it does not match the route (RFC 6811, 2).
 #[derive(Clone, Copy, Debug, PartialEq, Eq, Hash)]
 pub struct Covering {
-    /// Its prefix.
+    /// The prefix of the VRP.
     pub prefix: Prefix,
-    /// The greatest length.
+    /// The maximum length (maxLength, RFC 9582, 4.3.2) in bits: at least `prefix.len`, at most 32 or 128.
     pub max_len: u8,
-    /// The AS that may originate it.
+    /// The AS that may originate the prefix.
     pub asn: u32,
     mismatch: u32,
 }
@@ -158,17 +230,17 @@ impl Covering {
         }
     }
 
-    /// Whether it matches the route.
+    /// Returns whether the VRP matches the route.
     pub fn is_match(&self) -> bool {
         self.mismatch == 0
     }
 
-    /// Whether its AS isn't the route's, or that is AS 0.
+    /// Returns whether the VRP's AS is not the route's, or the route's AS is AS 0.
     pub fn is_other_as(&self) -> bool {
         self.mismatch & OTHER_AS != 0
     }
 
-    /// Whether the route is longer than it allows.
+    /// Returns whether the route's prefix is longer than the maximum length.
     pub fn is_too_long(&self) -> bool {
         self.mismatch & TOO_LONG != 0
     }

@@ -1,87 +1,104 @@
-//! The calls as `pigyelund.h` has them, with slices for pointers and lengths: statuses, numbers, rooms, and
-//! certificates of a path as places in a run of octets. No call requires anything of the values, so nothing is tested
-//! here: a `&[u8]` is never null, and `&mut` rooms overlap nothing.
+//! The calls of `pigyelund.h`, with slices in place of pointers and lengths.
+//!
+//! This module is for callers that provide their own buffers, or that need the statuses of C. Each function is one call
+//! of the library: it takes the numbers of the header, and returns the status.
+//!
+//! # Outputs
+//!
+//! An output is written to the beginning of a buffer that the caller passes. The rest of the buffer stays as it is.
+//!
+//! | status | buffers | lengths |
+//! |---|---|---|
+//! | [`OK`] | the output | of the output |
+//! | [`OVERCLAIM_AS`], [`OVERCLAIM_V4`], [`OVERCLAIM_V6`] | the overclaimed resources, as a set | of this set |
+//! | [`TOO_SMALL`] | unchanged | those that are needed |
+//! | any other | unchanged | 0 |
+//!
+//! A second call with buffers of the needed lengths does not return [`TOO_SMALL`].
+//!
+//! # Safety
+//!
+//! No call has a precondition on the values of its arguments, so this module checks none. The rules for pointers hold:
+//! a `&[u8]` is never null, and a `&mut` buffer overlaps no other argument.
 use core::net::IpAddr;
 
 use crate::Family;
 
-/// It is done; of a test: yes.
+/// Success. From a test: yes.
 pub const OK: u32 = 0;
-/// There is no room for what is told: the lengths that are wanted are.
+/// A buffer is too small. Nothing is written, and the lengths are those that are needed.
 pub const TOO_SMALL: u32 = 1;
-/// malloc refused.
+/// Out of memory: `malloc` refused. Nothing is written, and the status says nothing about the input.
 pub const MEMORY: u32 = 2;
-/// A set inherits in place of listing.
+/// A set inherits resources, and does not list them.
 pub const INHERITED: u32 = 3;
-/// The number of the mode is none.
+/// The mode is neither [`REFUSE`] nor [`TRIM`].
 pub const BAD_MODE: u32 = 4;
-/// More AS numbers are claimed than the issuer has.
+/// The certificate claims AS numbers that the issuer does not have. The outputs are these AS numbers.
 pub const OVERCLAIM_AS: u32 = 5;
-/// More IPv4 addresses are.
+/// The certificate claims IPv4 addresses that the issuer does not have. The outputs are these addresses.
 pub const OVERCLAIM_V4: u32 = 6;
-/// More IPv6 addresses are.
+/// The certificate claims IPv6 addresses that the issuer does not have. The outputs are these addresses.
 pub const OVERCLAIM_V6: u32 = 7;
-/// Of a test: no.
+/// From a test: no.
 pub const NO: u32 = 8;
-/// The number of the encoding is none.
+/// The encoding is neither [`LENIENT`] nor [`STRICT`].
 pub const BAD_ENCODING: u32 = 9;
-/// The certificate has neither extension.
+/// The certificate has neither extension (RFC 6487, 4.8.10 and 4.8.11).
 pub const ABSENT: u32 = 10;
-/// A place of a certificate lies outside of the run.
+/// A certificate of a path has an extension that is not within the array `run`.
 pub const OUTSIDE: u32 = 11;
-/// The number of the extensions that are there is none.
+/// The number that says which extensions are present is greater than [`HAS_BOTH`].
 pub const BAD_PRESENT: u32 = 12;
-/// The number of the family is none.
+/// The family is neither [`IPV4`] nor [`IPV6`].
 pub const BAD_FAMILY: u32 = 13;
-/// An address and a length are no prefix.
+/// A prefix length is above the family's, or address bits after it are set.
 pub const BAD_PREFIX: u32 = 14;
-/// The greatest length is none of its prefix.
+/// A maximum length is below the prefix length, or above the family's.
 pub const BAD_MAX_LEN: u32 = 15;
 /// The handle of a table is null.
 pub const NO_TABLE: u32 = 16;
-/// A payload is withdrawn that the table hasn't, or twice.
+/// A withdrawn VRP is not in the table, or is withdrawn twice (RFC 8210, 12, code 6).
 pub const UNKNOWN_WITHDRAWAL: u32 = 17;
-/// A payload is announced that the table has, or twice.
+/// An announced VRP is in the table and is not withdrawn, or is announced twice (RFC 8210, 12, code 7).
 pub const DUPLICATE_ANNOUNCEMENT: u32 = 18;
-/// With the number of the first fault added: octets of AS identifiers are none.
+/// The AS identifiers are invalid. The number of the first error is added: 1 to 14, as in [`Fault`](crate::Fault).
 pub const BAD_AS: u32 = 0x100;
-/// With the number of the first fault added: octets of IP address blocks are none.
+/// The IP address blocks are invalid. The number of the first error is added: 1 to 14, as in [`Fault`](crate::Fault).
 pub const BAD_IP: u32 = 0x200;
-/// Added to another status: it is said of the certificate, of the second set, of a route, or of a payload that is
-/// withdrawn.
+/// Added to another status if this is about the certificate, the second set, a route, or a withdrawn VRP.
 pub const SECOND: u32 = 0x1000;
 
-/// Octets that the syntax allows, in any order.
+/// Encoding: any DER that the grammar allows, with blocks in any order.
 pub const LENIENT: u32 = 0;
-/// Canonical octets alone.
+/// Encoding: canonical DER only (RFC 3779, 2.2.3.6 and 3.2.3.4).
 pub const STRICT: u32 = 1;
-/// A claim of too much is refused.
+/// Mode: a certificate that overclaims is refused (RFC 6487, 7.2).
 pub const REFUSE: u32 = 0;
-/// A claim of too much counts for what the issuer has of it.
+/// Mode: a claim is reduced to what the issuer has of it (RFC 8360, 4).
 pub const TRIM: u32 = 1;
 /// The certificate has the extension of AS identifiers.
 pub const HAS_AS: u32 = 1;
 /// The certificate has the extension of IP address blocks.
 pub const HAS_IP: u32 = 2;
-/// It has both.
+/// The certificate has both extensions.
 pub const HAS_BOTH: u32 = 3;
-/// IPv4, as IP address blocks number it.
+/// Family: IPv4, as IP address blocks number it (RFC 3779, 2.2.3.3).
 pub const IPV4: u32 = 1;
-/// IPv6.
+/// Family: IPv6, as IP address blocks number it (RFC 3779, 2.2.3.3).
 pub const IPV6: u32 = 2;
-/// A payload matches the route.
+/// Validity: a VRP matches the route (RFC 6811, 2; the number is that of RFC 8097, 2).
 pub const VALID: u32 = 0;
-/// None covers it.
+/// Validity: no VRP covers the route.
 pub const NOT_FOUND: u32 = 1;
-/// One covers it, and none matches it.
+/// Validity: a VRP covers the route, and no VRP matches it.
 pub const INVALID: u32 = 2;
-/// The AS of a payload that covers a route isn't the route's, or that is AS 0.
+/// Mismatch: the AS of the covering VRP is not the route's, or the route's AS is AS 0.
 pub const OTHER_AS: u32 = 1;
-/// The route is longer than the payload allows.
+/// Mismatch: the route's prefix is longer than the maximum length of the covering VRP.
 pub const TOO_LONG: u32 = 2;
 
-/// A call that makes a set of two: pointers and lengths of both, the encoding, both rooms, and the lengths that are
-/// told.
+/// The C type of a set operation: both sets, the encoding, both buffers, and where the output lengths go.
 type Making = unsafe extern "C" fn(
     *const u8,
     usize,
@@ -100,7 +117,7 @@ type Making = unsafe extern "C" fn(
     *mut usize,
 ) -> u32;
 
-/// A call that tests two sets: pointers and lengths of both, and the encoding.
+/// The C type of a test of two sets: both sets, and the encoding.
 type Testing = unsafe extern "C" fn(
     *const u8,
     usize,
@@ -113,7 +130,7 @@ type Testing = unsafe extern "C" fn(
     u32,
 ) -> u32;
 
-/// Declares calls that make a set of two, in any number.
+/// Declares set operations of the library.
 macro_rules! making {
     ($($name:ident)*) => {
         extern "C" {
@@ -138,7 +155,7 @@ macro_rules! making {
     };
 }
 
-/// Declares calls that test two sets.
+/// Declares tests of two sets of the library.
 macro_rules! testing {
     ($($name:ident)*) => {
         extern "C" {
@@ -266,51 +283,63 @@ extern "C" {
     ) -> u32;
 }
 
-/// The values of both extensions that list a set, each empty where nothing is listed.
+/// A set of resources, as the borrowed DER of both extensions.
 #[derive(Clone, Copy, Debug, Default, PartialEq, Eq)]
 pub struct Octets<'a> {
-    /// Of AS identifiers (RFC 3779, 3.2.3).
+    /// The AS identifiers (RFC 3779, 3.2.3), or empty if the set has no AS numbers.
     pub asn: &'a [u8],
-    /// Of IP address blocks (RFC 3779, 2.2.3).
+    /// The IP address blocks (RFC 3779, 2.2.3), or empty if the set has no addresses.
     pub ip: &'a [u8],
 }
 
-/// Where in a run of octets the extensions of a certificate stand, and two numbers, as `pigyelund.h` has them.
+/// A certificate of a path, as `pg_certificate` of `pigyelund.h`.
+///
+/// The octets of all certificates are in one array, the `run` of [`verify_path`]. Both ranges must lie within it. For
+/// an absent extension use index 0 and length 0.
 #[repr(C)]
 #[derive(Clone, Copy, Debug, Default, PartialEq, Eq)]
 pub struct Certificate {
-    /// Where the octets of AS identifiers begin.
+    /// The index in `run` of the first octet of the AS identifiers.
     pub as_at: usize,
-    /// How many they are.
+    /// The length of the AS identifiers in octets.
     pub as_len: usize,
-    /// Where those of IP address blocks begin.
+    /// The index in `run` of the first octet of the IP address blocks.
     pub ip_at: usize,
-    /// How many they are.
+    /// The length of the IP address blocks in octets.
     pub ip_len: usize,
-    /// Which of the extensions are there.
+    /// The number that says which extensions are present: [`HAS_AS`], [`HAS_IP`], [`HAS_BOTH`], or 0.
     pub present: u32,
-    /// What becomes of an excess.
+    /// The policy for overclaimed resources: [`REFUSE`] or [`TRIM`].
     pub mode: u32,
 }
 
-/// A validated payload: a prefix, its greatest length, and the AS that may originate it, as `pigyelund.h` has them.
+/// A VRP (validated ROA payload, RFC 6811, 2), as `pg_payload` of `pigyelund.h`.
+///
+/// The fields are not checked until a call reads them. Comparisons and hashes read all 16 octets of the address.
 #[repr(C)]
 #[derive(Clone, Copy, Debug, Default, PartialEq, Eq, Hash)]
 pub struct Payload {
-    /// The octets of the address, of which an IPv4 address has the first four.
+    /// The address in network byte order. An IPv4 address is the first four octets; calls ignore the others.
     pub address: [u8; 16],
-    /// The AS that may originate it.
+    /// The AS that may originate the prefix.
     pub asn: u32,
-    /// The number of its family.
+    /// The family: [`IPV4`] or [`IPV6`].
     pub family: u8,
-    /// The length of the prefix.
+    /// The prefix length in bits: 0 to 32 for IPv4, 0 to 128 for IPv6.
     pub len: u8,
-    /// The greatest length.
+    /// The maximum length (maxLength, RFC 9582, 4.3.2) in bits: `len` to 32 or 128.
     pub max_len: u8,
 }
 
 impl Payload {
-    /// That of an address and numbers.
+    /// Returns a VRP. The values are not checked here.
+    ///
+    /// # Parameters
+    ///
+    /// - `address`: the first address of the prefix.
+    /// - `len`: the prefix length in bits, 0 to 32 for IPv4, 0 to 128 for IPv6.
+    /// - `max_len`: the maximum length in bits, `len` to 32 or 128.
+    /// - `asn`: the AS that may originate the prefix.
     pub fn new(address: IpAddr, len: u8, max_len: u8, asn: u32) -> Payload {
         let (address, family) = octets_and_family(address);
         Payload {
@@ -323,22 +352,30 @@ impl Payload {
     }
 }
 
-/// The prefix that a route leads to, and the AS that originates it, as `pigyelund.h` has them.
+/// A route: a prefix and the AS that originates it (RFC 6811, 2), as `pg_route` of `pigyelund.h`.
+///
+/// The fields are not checked until a call reads them. Comparisons and hashes read all 16 octets of the address.
 #[repr(C)]
 #[derive(Clone, Copy, Debug, PartialEq, Eq, Hash)]
 pub struct Route {
-    /// The octets of the address, of which an IPv4 address has the first four.
+    /// The address in network byte order. An IPv4 address is the first four octets; calls ignore the others.
     pub address: [u8; 16],
-    /// The AS that originates it: 0 where the path ends in an AS_SET, so that no payload matches it (RFC 6811, 2).
+    /// The AS that originates the route. It is 0 if the path ends in an AS_SET: then no VRP matches (RFC 6811, 2).
     pub asn: u32,
-    /// The number of its family.
+    /// The family: [`IPV4`] or [`IPV6`].
     pub family: u8,
-    /// The length of the prefix.
+    /// The prefix length in bits: 0 to 32 for IPv4, 0 to 128 for IPv6.
     pub len: u8,
 }
 
 impl Route {
-    /// That of an address and numbers.
+    /// Returns a route. The values are not checked here.
+    ///
+    /// # Parameters
+    ///
+    /// - `address`: the first address of the prefix.
+    /// - `len`: the prefix length in bits, 0 to 32 for IPv4, 0 to 128 for IPv6.
+    /// - `asn`: the AS that originates the route, or 0 if the path ends in an AS_SET.
     pub fn new(address: IpAddr, len: u8, asn: u32) -> Route {
         let (address, family) = octets_and_family(address);
         Route {
@@ -350,68 +387,75 @@ impl Route {
     }
 }
 
-/// A payload that covers a route, and why it doesn't match it, as `pigyelund.h` has them.
+/// A VRP that covers a route, and why it does not match the route, as `pg_covering` of `pigyelund.h`.
 #[repr(C)]
 #[derive(Clone, Copy, Debug, Default, PartialEq, Eq, Hash)]
 pub struct Covering {
-    /// The octets of the address, of which an IPv4 address has the first four; those behind are 0.
+    /// The address in network byte order. An IPv4 address is the first four octets; the others are 0.
     pub address: [u8; 16],
-    /// The AS that may originate it.
+    /// The AS that may originate the prefix.
     pub asn: u32,
-    /// The number of its family.
+    /// The family: [`IPV4`] or [`IPV6`].
     pub family: u8,
-    /// The length of the prefix.
+    /// The prefix length in bits.
     pub len: u8,
-    /// The greatest length.
+    /// The maximum length in bits.
     pub max_len: u8,
-    /// [`OTHER_AS`], [`TOO_LONG`], their sum, or 0 where it matches.
+    /// [`OTHER_AS`], [`TOO_LONG`], their sum, or 0 if the VRP matches the route.
     pub mismatch: u8,
 }
 
-/// What the handle of a table points to.
+/// The target of a table handle.
 #[repr(C)]
 struct Handle {
     inside: [u8; 0],
 }
 
-/// A table that the library hands out, which is given back where this is dropped; or null.
+/// A table handle of the library, or null. Dropping it frees the table.
 #[derive(Debug)]
 pub struct Table(*mut Handle);
 
-// SAFETY: no call writes to a table, and each takes what it needs from malloc; so any number may ask one at once, from
-// any thread. A table is freed by whoever owns it, once: when nothing borrows it any more. docs/FOREIGN.md says what of
-// this is proved.
+// SAFETY: no call writes to a table, and each call allocates what it needs by malloc. So any number of calls, from any
+// threads, may use one table at once. Its owner frees the table once, when nothing borrows it any more. docs/FOREIGN.md
+// says which part of this is proved.
 unsafe impl Send for Table {}
 unsafe impl Sync for Table {}
 
 impl Drop for Table {
     fn drop(&mut self) {
-        // SAFETY: the handle is null, or was told by `pg_table_new` or `pg_table_changed`, and is given back once.
+        // SAFETY: the handle is null, or `pg_table_new` or `pg_table_changed` returned it. It is freed once.
         unsafe { pg_table_free(self.0) }
     }
 }
 
 impl Table {
-    /// No table, as each call tells it where it refuses.
+    /// Returns the null handle. Calls that fail return it in place of a table.
     pub fn null() -> Table {
         Table(core::ptr::null_mut())
     }
 
-    /// Whether there is no table.
+    /// Returns whether the handle is null.
     pub fn is_null(&self) -> bool {
         self.0.is_null()
     }
 
-    /// One call for a table of payloads: the status, the table, and the place of what is none.
+    /// Calls `pg_table_new`: builds a table of VRPs.
+    ///
+    /// Returns the status, the table, and an index. The table is null unless the status is [`OK`]. The index, from 0,
+    /// is that of the first malformed VRP, or 0.
     pub fn new(payloads: &[Payload]) -> (u32, Table, usize) {
         let (mut table, mut place) = (Table::null(), 0);
-        // SAFETY: as in `origins`; what stood in the place of the handle was null.
+        // SAFETY: as in `origins`. The call overwrites a null handle, so no table is lost.
         let status =
             unsafe { pg_table_new(payloads.as_ptr(), payloads.len(), &mut table.0, &mut place) };
         (status, table, place)
     }
 
-    /// One call for the table after changes: the status, the table, and the place of what is none.
+    /// Calls `pg_table_changed`: makes a table without the withdrawn VRPs, and then with the announced ones.
+    ///
+    /// Returns the status, the new table, and an index. The table is null unless the status is [`OK`]. The index, from
+    /// 0, is that of the refused VRP, or 0 if none is refused. It counts in `withdrawn` if the status has [`SECOND`] or
+    /// is [`UNKNOWN_WITHDRAWAL`], else in `announced`.
     pub fn changed(&self, announced: &[Payload], withdrawn: &[Payload]) -> (u32, Table, usize) {
         let (mut next, mut place) = (Table::null(), 0);
         // SAFETY: as in `new`; this table is borrowed for the call.
@@ -429,11 +473,12 @@ impl Table {
         (status, next, place)
     }
 
-    /// One call for the validity of routes with a room of the caller's: the status, the length of what is told, and the
-    /// place of what is none.
+    /// Calls `pg_table_origins`: writes the validity of each route to `out`, one octet each.
+    ///
+    /// Returns the status, the output length, and the index, from 0, of the first malformed route, or 0.
     pub fn origins(&self, routes: &[Route], out: &mut [u8]) -> (u32, usize, usize) {
         let (mut len, mut place) = (0, 0);
-        // SAFETY: as in `changed`; `Route` is laid out as in C.
+        // SAFETY: as in `changed`; `Route` has the layout of C.
         let status = unsafe {
             pg_table_origins(
                 self.0,
@@ -448,16 +493,18 @@ impl Table {
         (status, len, place)
     }
 
-    /// One call for what covers a route with a room of the caller's: the status, and the length of what is told.
+    /// Calls `pg_table_covering`: writes the VRPs that cover a route to `out`.
+    ///
+    /// Returns the status, and the output length in VRPs.
     pub fn covering(&self, route: &Route, out: &mut [Covering]) -> (u32, usize) {
         let mut len = 0;
-        // SAFETY: as in `changed`; `Covering` is laid out as in C.
+        // SAFETY: as in `changed`; `Covering` has the layout of C.
         let status =
             unsafe { pg_table_covering(self.0, route, out.as_mut_ptr(), out.len(), &mut len) };
         (status, len)
     }
 
-    /// One call for the number of payloads: the status, and the number.
+    /// Calls `pg_table_len`. Returns the status, and the number of VRPs with duplicates.
     pub fn count(&self) -> (u32, usize) {
         let mut len = 0;
         // SAFETY: as in `changed`.
@@ -465,16 +512,18 @@ impl Table {
         (status, len)
     }
 
-    /// One call for all payloads with a room of the caller's: the status, and the length of what is told.
+    /// Calls `pg_table_payloads`: writes all VRPs of the table to `out`.
+    ///
+    /// Returns the status, and the output length in VRPs.
     pub fn payloads(&self, out: &mut [Payload]) -> (u32, usize) {
         let mut len = 0;
-        // SAFETY: as in `changed`; `Payload` is laid out as in C.
+        // SAFETY: as in `changed`; `Payload` has the layout of C.
         let status = unsafe { pg_table_payloads(self.0, out.as_mut_ptr(), out.len(), &mut len) };
         (status, len)
     }
 }
 
-/// The octets of an address, of which an IPv4 address has the first four, and its family.
+/// Returns the octets of an address, in network byte order, and its family. IPv4 has the first four octets.
 fn octets_and_family(address: IpAddr) -> ([u8; 16], Family) {
     match address {
         IpAddr::V4(v4) => {
@@ -486,14 +535,14 @@ fn octets_and_family(address: IpAddr) -> ([u8; 16], Family) {
     }
 }
 
-/// What is made of two sets.
+/// An operation that makes a set from two.
 #[derive(Clone, Copy, Debug, PartialEq, Eq)]
 pub enum Operation {
-    /// What one or the other has.
+    /// The resources of one set or the other.
     Union,
-    /// What both have.
+    /// The resources of both sets.
     Intersection,
-    /// What the first has and the second hasn't.
+    /// The resources of the first set that the second does not have.
     Difference,
 }
 
@@ -507,12 +556,12 @@ impl Operation {
     }
 }
 
-/// What is asked of two sets.
+/// A predicate on two sets.
 #[derive(Clone, Copy, Debug, PartialEq, Eq)]
 pub enum Test {
-    /// Whether the first has each number and each address of the second.
+    /// The first set has each AS number and each address of the second.
     Contains,
-    /// Whether both are the same set.
+    /// Both sets are the same.
     Equal,
 }
 
@@ -525,13 +574,24 @@ impl Test {
     }
 }
 
-/// The version of the calls.
+/// Calls `pg_version`. Returns the version of the library's calls, which grows when a call is added.
 pub fn version() -> u32 {
-    // SAFETY: it takes nothing.
+    // SAFETY: the call takes no argument.
     unsafe { pg_version() }
 }
 
-/// One call with rooms of the caller's: the status, and the lengths of what is told.
+/// Calls `pg_verify`: computes the resources of a certificate from its issuer's set.
+///
+/// Returns the status, and the output lengths of AS identifiers and of IP address blocks, in octets.
+///
+/// # Parameters
+///
+/// - `issuer`: the issuer's set.
+/// - `present`: which extensions the certificate has: [`HAS_AS`], [`HAS_IP`], [`HAS_BOTH`], or 0.
+/// - `certificate`: the certificate's extensions. The octets of an absent extension are ignored.
+/// - `encoding`: [`LENIENT`] or [`STRICT`].
+/// - `mode`: [`REFUSE`] or [`TRIM`].
+/// - `asn`, `ip`: the output buffers.
 pub fn verify(
     issuer: Octets<'_>,
     present: u32,
@@ -542,7 +602,7 @@ pub fn verify(
     ip: &mut [u8],
 ) -> (u32, usize, usize) {
     let (mut as_len, mut ip_len) = (0, 0);
-    // SAFETY: pointers and lengths are those of slices that are borrowed for the call, and rooms overlap nothing.
+    // SAFETY: pointers and lengths are those of slices that are borrowed for the call, and outputs overlap nothing.
     let status = unsafe {
         pg_verify(
             issuer.asn.as_ptr(),
@@ -567,8 +627,18 @@ pub fn verify(
     (status, as_len, ip_len)
 }
 
-/// One call on a path with rooms of the caller's: the status, the lengths of what is told, and how many certificates
-/// are verified.
+/// Calls `pg_verify_path`: computes the resources of the last certificate of a path.
+///
+/// Returns the status, the output lengths of AS identifiers and of IP address blocks in octets, and the number of
+/// verified certificates. This number has no meaning if the status is [`MEMORY`].
+///
+/// # Parameters
+///
+/// - `anchor`: the trust anchor's set.
+/// - `run`: the octets of all extensions.
+/// - `certificates`: the certificates in the order of the path, with the positions of their extensions in `run`.
+/// - `encoding`: [`LENIENT`] or [`STRICT`].
+/// - `asn`, `ip`: the output buffers.
 pub fn verify_path(
     anchor: Octets<'_>,
     run: &[u8],
@@ -578,7 +648,7 @@ pub fn verify_path(
     ip: &mut [u8],
 ) -> (u32, usize, usize, usize) {
     let (mut as_len, mut ip_len, mut verified) = (0, 0, 0);
-    // SAFETY: as in `verify`; `Certificate` is laid out as in C.
+    // SAFETY: as in `verify`; `Certificate` has the layout of C.
     let status = unsafe {
         pg_verify_path(
             anchor.asn.as_ptr(),
@@ -602,7 +672,16 @@ pub fn verify_path(
     (status, as_len, ip_len, verified)
 }
 
-/// One call for a cover with a room of the caller's: the status, and the length of what is told.
+/// Calls `pg_cover`: writes the shortest list of prefixes of a set to `out`.
+///
+/// Returns the status, and the output length in octets.
+///
+/// # Parameters
+///
+/// - `ip`: the IP address blocks of the set (RFC 3779, 2.2.3).
+/// - `encoding`: [`LENIENT`] or [`STRICT`].
+/// - `family`: [`IPV4`] or [`IPV6`].
+/// - `out`: the output buffer. A prefix is its address and an octet of length: 5 octets for IPv4, 17 for IPv6.
 pub fn cover(ip: &[u8], encoding: u32, family: u32, out: &mut [u8]) -> (u32, usize) {
     let mut len = 0;
     // SAFETY: as in `verify`.
@@ -620,11 +699,13 @@ pub fn cover(ip: &[u8], encoding: u32, family: u32, out: &mut [u8]) -> (u32, usi
     (status, len)
 }
 
-/// One call for the validity of routes with a room of the caller's: the status, the length of what is told, and the
-/// place of what is none.
+/// Calls `pg_origins`: writes the validity of each route by the VRPs to `out`, one octet each.
+///
+/// Returns the status, the output length, and an index. The index, from 0, is that of the first malformed VRP, or else
+/// of the first malformed route, or 0.
 pub fn origins(payloads: &[Payload], routes: &[Route], out: &mut [u8]) -> (u32, usize, usize) {
     let (mut len, mut place) = (0, 0);
-    // SAFETY: as in `verify`; `Payload` and `Route` are laid out as in C.
+    // SAFETY: as in `verify`; `Payload` and `Route` have the layout of C.
     let status = unsafe {
         pg_origins(
             payloads.as_ptr(),
@@ -640,7 +721,9 @@ pub fn origins(payloads: &[Payload], routes: &[Route], out: &mut [u8]) -> (u32, 
     (status, len, place)
 }
 
-/// One call for the answer to a line with a room of the caller's: the status, and the length of what is told.
+/// Calls `pg_answer`: writes the answer of the program `respath` to a line to `out`. Neither has a line end.
+///
+/// Returns the status, and the output length in octets.
 pub fn answer(line: &[u8], out: &mut [u8]) -> (u32, usize) {
     let mut len = 0;
     // SAFETY: as in `verify`.
@@ -656,7 +739,16 @@ pub fn answer(line: &[u8], out: &mut [u8]) -> (u32, usize) {
     (status, len)
 }
 
-/// One call of an operation with rooms of the caller's: the status, and the lengths of what is told.
+/// Calls `pg_union`, `pg_intersection` or `pg_difference`.
+///
+/// Returns the status, and the output lengths of AS identifiers and of IP address blocks, in octets.
+///
+/// # Parameters
+///
+/// - `operation`: which call.
+/// - `a`, `b`: the first and the second set.
+/// - `encoding`: [`LENIENT`] or [`STRICT`].
+/// - `asn`, `ip`: the output buffers.
 pub fn made(
     operation: Operation,
     a: Octets<'_>,
@@ -689,7 +781,7 @@ pub fn made(
     (status, as_len, ip_len)
 }
 
-/// One call of a test: the status.
+/// Calls `pg_contains` or `pg_equal`. Returns the status: [`OK`], [`NO`], or that of an error.
 pub fn tested(test: Test, a: Octets<'_>, b: Octets<'_>, encoding: u32) -> u32 {
     // SAFETY: pointers and lengths are those of slices that are borrowed for the call.
     unsafe {

@@ -1,21 +1,22 @@
-//! The memory of tables: it goes back where a `Table` is dropped, also if the call that should make the next one is
-//! refused. This file has one test, so that no other test takes memory meanwhile.
+//! Tests that dropping a `Table` frees its memory, also after the call that should make the next table failed.
+//!
+//! This file has one test, so that no other test allocates memory at the same time.
 use pigyelund::{Payload, Table};
 use std::fs::read_to_string;
 use std::net::{IpAddr, Ipv4Addr};
 
 const PAYLOADS: u32 = 20_000;
 const TABLES: usize = 200;
-/// A table takes 24 octets or more for each payload.
+/// The octets that leaked tables would keep: a table has at least 24 octets for each VRP.
 const LEAKED: usize = TABLES * PAYLOADS as usize * 24;
 
-/// Returns how many octets of memory the process has.
+/// Returns the resident memory of the process in octets, for pages of 4,096 octets.
 fn resident() -> usize {
     let pages = read_to_string("/proc/self/statm").unwrap();
     pages.split(' ').nth(1).unwrap().parse::<usize>().unwrap() * 4096
 }
 
-/// Makes a table and the next one, is refused another, and drops both.
+/// Makes a table and a changed one, makes a call that fails, and drops both tables.
 fn make_and_drop(payloads: &[Payload], fresh: Payload) {
     let table = Table::new(payloads).unwrap();
     let next = table.changed(&[fresh], &[]).unwrap();

@@ -1,4 +1,8 @@
-//! Asks each row of `rows.txt`, alone and on eight threads at once, and each name and text.
+//! Makes the golden tests of `foreign/rows.txt`, on one thread and on eight at once. Checks each named number and each
+//! status text.
+//!
+//! A golden test is a line with a call, its arguments, and the stored result. The tests in C and Python read the same
+//! file.
 use pigyelund::raw;
 use pigyelund::raw::{NO, OK, TOO_SMALL};
 use pigyelund::{
@@ -50,7 +54,7 @@ fn place(word: &str) -> raw::Certificate {
     }
 }
 
-/// The extensions that are there.
+/// Returns the extensions that `present` names.
 fn extensions_of(present: u32, octets: Octets<'_>) -> Extensions<'_> {
     Extensions {
         asn: (present & raw::HAS_AS != 0).then_some(octets.asn),
@@ -58,7 +62,7 @@ fn extensions_of(present: u32, octets: Octets<'_>) -> Extensions<'_> {
     }
 }
 
-/// The certificate at a place of a run, None where it lies outside or has numbers that are none.
+/// Returns the certificate at a position of `run`, or None if the position is outside or a number is unknown.
 fn certificate_at<'a>(run: &'a [u8], place: &raw::Certificate) -> Option<Certificate<'a>> {
     let asn = run.get(place.as_at..place.as_at.checked_add(place.as_len)?)?;
     let ip = run.get(place.ip_at..place.ip_at.checked_add(place.ip_len)?)?;
@@ -101,12 +105,12 @@ fn route(octets: &[u8]) -> Route {
     }
 }
 
-/// The octets that tell a payload.
+/// Returns the octets that `rows.txt` has for a VRP.
 fn told_octets(address: [u8; 16], asn: u32, rest: &[u8]) -> Vec<u8> {
     [&address[..], &asn.to_be_bytes()[..], rest].concat()
 }
 
-/// The octets that tell all payloads of a table.
+/// Returns the octets that `rows.txt` has for all VRPs of a table.
 fn payload_octets(table: &Table) -> Vec<u8> {
     let all = table.payloads().unwrap();
     assert_eq!(all.len(), table.len());
@@ -114,7 +118,7 @@ fn payload_octets(table: &Table) -> Vec<u8> {
         .collect()
 }
 
-/// A row: what goes in, and what is told.
+/// A golden test: the call, its arguments, and the result that is expected.
 struct Row<'a> {
     text: &'a str,
     call: &'a str,
@@ -170,7 +174,7 @@ impl Row<'_> {
         (self.told.asn.len(), self.told.ip.len())
     }
 
-    /// Rooms of each length up to what is wanted.
+    /// Makes the call with buffers of each length up to the needed one.
     fn ask_rooms(&self, call: impl Fn(&mut [u8], &mut [u8]) -> (u32, usize, usize)) {
         let (as_len, ip_len) = self.lengths();
         for room in 0..=as_len.max(ip_len) {
@@ -196,7 +200,7 @@ impl Row<'_> {
         assert_eq!((status, &set), (self.status, &self.told), "{}", self.text);
     }
 
-    /// A room of each length up to what is wanted, for a call that tells one run of octets.
+    /// Makes a call of one output with buffers of each length up to the needed one.
     fn ask_room(&self, call: impl Fn(&mut [u8]) -> (u32, usize)) {
         self.ask_rooms(|asn, _| {
             let (status, len) = call(asn);
@@ -289,13 +293,13 @@ impl Row<'_> {
         self.runs[at].chunks(23).map(payload).collect()
     }
 
-    /// A refusal has the row's status and place.
+    /// Compares the status and the index of an error with those of the golden test.
     fn expect_refused(&self, RefusedOrigin { reason, place }: RefusedOrigin) {
         let found = (reason.status(), Some(place));
         assert_eq!(found, (self.status, self.verified), "{}", self.text);
     }
 
-    /// A row of routes by a table: all at once, and each alone.
+    /// Validates the routes of a golden test by a table: all at once, and each alone.
     fn ask_table_origins(&self) {
         let routes: Vec<Route> = self.runs[2].chunks(22).map(route).collect();
         let table = match Table::new(&self.payloads(0)) {
@@ -342,7 +346,7 @@ impl Row<'_> {
         );
     }
 
-    /// A row of payloads, or of changes.
+    /// Compares all VRPs of a table, or of a changed table, with those of the golden test.
     fn ask_payloads(&self) {
         let table = match Table::new(&self.payloads(0)) {
             Ok(table) => table,
@@ -426,7 +430,7 @@ impl Row<'_> {
     }
 }
 
-/// A file of the tests that the languages share.
+/// Returns the text of a test file that all languages share.
 fn shared(name: &str) -> String {
     let path = format!("{}/../{name}", env!("CARGO_MANIFEST_DIR"));
     std::fs::read_to_string(path).unwrap()
@@ -439,7 +443,7 @@ fn rows_are_answered() {
     rows.lines().for_each(|text| Row::new(text).ask());
 }
 
-/// Each thread asks all rows, and begins at another one.
+/// Each thread makes all golden tests, and begins at a different one.
 #[test]
 fn rows_are_answered_on_threads() {
     let text = shared("rows.txt");
@@ -452,7 +456,7 @@ fn rows_are_answered_on_threads() {
     });
 }
 
-/// The numbers by their names: those of statuses as constants alone, those that choose by their types too.
+/// Returns the numbers with their names: statuses from the constants, options from the enums if they have one.
 fn named() -> Vec<(&'static str, u32)> {
     vec![
         ("OK", raw::OK),
@@ -519,7 +523,7 @@ fn statuses_have_their_texts() {
     }
 }
 
-/// `?` takes each error.
+/// Makes a call and passes its error on by `?`, which must accept each error type.
 fn reasons_of(issuer: Octets<'_>, claim: &[u8], at: usize) -> Result<(), Box<dyn Error>> {
     let extensions = |ip| Extensions {
         asn: None,
@@ -582,7 +586,7 @@ fn reasons_are_errors() {
     assert_eq!(found.reason, Reason::BadIp(Side::First, Fault::Truncated));
 }
 
-/// One table is asked on threads at once, while each makes the next from it.
+/// Threads query one table at once, while each makes a changed table from it.
 #[test]
 fn a_table_is_asked_on_threads() {
     let net = |at: usize| IpAddr::V4(Ipv4Addr::from((at as u32) << 12));
@@ -608,7 +612,7 @@ fn a_table_is_asked_on_threads() {
     assert_eq!(table.len(), payloads.len());
 }
 
-/// What one set has and another one hasn't makes of the table of the one that of the other.
+/// The set differences of two lists of VRPs, as changes, turn the table of one list into that of the other.
 #[test]
 fn changes_are_made_by_sets() {
     let ten = IpAddr::V4(Ipv4Addr::new(10, 0, 0, 0));
@@ -628,7 +632,7 @@ fn changes_are_made_by_sets() {
     assert!(covering[0] == covering[1] && covering[0] != covering[2]);
 }
 
-/// A payload that is handed over twice is told twice; a withdrawal takes both, and names it once.
+/// A VRP that is passed twice is returned twice. A single withdrawal removes both copies.
 #[test]
 fn a_table_has_copies() {
     let ten = IpAddr::V4(Ipv4Addr::new(10, 0, 0, 0));

@@ -1,4 +1,4 @@
-//! Where `build.rs` looks for the library, and in which order.
+//! Tests in which folders, and in which order, `build.rs` searches for the library.
 #[allow(dead_code)]
 #[path = "../build.rs"]
 mod build;
@@ -7,7 +7,7 @@ use build::{folder_of, USUAL};
 use std::fs;
 use std::path::PathBuf;
 
-/// Returns a new folder of that name, which has a library if `has` is set.
+/// Makes an empty folder and returns its path. The folder gets a file with the library's name if `has` is set.
 fn folder(name: &str, has: bool) -> String {
     let path = PathBuf::from(env!("CARGO_TARGET_TMPDIR")).join(name);
     let _ = fs::remove_dir_all(&path);
@@ -22,13 +22,13 @@ fn folder(name: &str, has: bool) -> String {
 fn order_of_folders() {
     let [one, two, none] =
         [("one", true), ("two", true), ("none", false)].map(|(name, has)| folder(name, has));
-    // The usual folders come in their order.
+    // The usual folders are searched in their order.
     assert_eq!(folder_of("", &[&one, &two]), Ok(one.clone()));
     assert_eq!(folder_of("", &[&two, &one]), Ok(two.clone()));
     assert_eq!(folder_of("", &[&none, &one]), Ok(one.clone()));
     let why = format!("libpigyelund.a isn't found in {none}: PIGYELUND_LIB names its folder");
     assert_eq!(folder_of("", &[&none]), Err(why));
-    // The folder that is named comes before them, and none comes in its place.
+    // The folder of PIGYELUND_LIB is searched first. If it has no library, no other folder is searched.
     assert_eq!(folder_of(&two, &[&one]), Ok(two));
     let why = format!("PIGYELUND_LIB names a folder without libpigyelund.a: {none}");
     assert_eq!(folder_of(&none, &[&one]), Err(why));
@@ -38,6 +38,6 @@ fn order_of_folders() {
 
 #[test]
 fn usual_folders() {
-    // What an administrator installs comes before what a package installs (FHS 3.0, 4.9).
+    // A library that an administrator installed comes before that of a package (FHS 3.0, 4.9).
     assert_eq!(USUAL, ["/usr/local/lib", "/usr/lib"]);
 }

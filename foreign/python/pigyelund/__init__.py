@@ -1,9 +1,22 @@
-"""What an issuer verifies of a certificate's resources (RFC 3779), or an anchor of a path of certificates, operations
-on sets, shortest covers, the validity of routes by payloads (RFC 6811), and the answers of the program respath, through
-ctypes.
+"""Bindings to Pigyelund, a formally verified library for RPKI resource sets.
 
-A set is the values of both extensions, of AS identifiers and of IP address blocks, each of no octets where nothing is
-listed. What is refused raises a `Refused`; what is as in C stands in `pigyelund.raw`.
+The package is for programs that check the resources of certificates (RFC 3779), operate on sets of resources, or
+validate route origins (RFC 6811). It calls the proved shared library through ctypes. The package itself is tested, not
+proved. `docs/FOREIGN.md` is the guide.
+
+    >>> from pigyelund import Family, Pigyelund, Resources
+    >>> library = Pigyelund()
+    >>> ten = Resources(ip=bytes.fromhex(library.answer("der v4 10.0.0.0/8")))
+    >>> both = Resources(ip=bytes.fromhex(library.answer("der v4 10.0.0.0/8, 12.0.0.0/8")))
+    >>> library.cover(library.difference(both, ten).ip, Family.V4)
+    [IPv4Network('12.0.0.0/8')]
+
+A set of resources is the DER of two certificate extensions: AS identifiers (RFC 3779, 3.2.3) and IP address blocks
+(RFC 3779, 2.2.3). The value of an extension is empty if the set lists nothing there. The calls return canonical DER.
+Two sets that calls returned are equal if and only if their octets are equal.
+
+A VRP (validated ROA payload) is a `Payload` here. A call that fails raises a subclass of `Refused`. `pigyelund.raw` has
+the same calls with the statuses and buffers of `pigyelund.h`.
 """
 
 import os
@@ -62,44 +75,71 @@ __all__ = [
 
 
 class Encoding(IntEnum):
-    """Which octets are read: all that the syntax allows, or the canonical ones alone."""
+    """The encodings that a call accepts. The choice applies to all octets that the call reads, the issuer's too.
+
+    Attributes:
+        LENIENT: Any DER that the grammar allows. Blocks may come in any order.
+        STRICT: Canonical DER only (RFC 3779, 2.2.3.6 and 3.2.3.4).
+    """
 
     LENIENT = 0
     STRICT = 1
 
 
 class Mode(IntEnum):
-    """What becomes of a claim that lists more than the issuer has: it is refused, or counts for what the issuer has."""
+    """The policy for overclaimed resources: those that are claimed and the issuer does not have.
+
+    Attributes:
+        REFUSE: The certificate is refused (RFC 6487, 7.2).
+        TRIM: The claim is reduced to what the issuer has of it (RFC 8360, 4).
+    """
 
     REFUSE = 0
     TRIM = 1
 
 
 class Extensions(NamedTuple):
-    """The octets of a certificate's extensions, None of one that is absent."""
+    """The two resource extensions of a certificate, as DER.
+
+    None means that the certificate does not have the extension. It then claims nothing there. An extension that is
+    present but empty is invalid. A certificate has at least one of them (RFC 6487, 4.8.10 and 4.8.11).
+
+    Attributes:
+        asn: The AS identifiers (RFC 3779, 3.2.3), or None.
+        ip: The IP address blocks (RFC 3779, 2.2.3), or None.
+    """
 
     asn: bytes | None = None
     ip: bytes | None = None
 
     def present(self) -> int:
-        """The number of the extensions that are there."""
+        """Returns the number that says which extensions are present: a `raw.Present`, or 0 for neither."""
         found = Present.HAS_AS if self.asn is not None else 0
         return found + Present.HAS_IP if self.ip is not None else found
 
     def octets(self) -> Resources:
-        """Their octets, none of one that is absent."""
+        """Returns the octets of both extensions. An absent extension has no octets."""
         return Resources(self.asn or b"", self.ip or b"")
 
 
 class Certificate(NamedTuple):
-    """A certificate of a path: its extensions, and what becomes of a claim of theirs that lists too much."""
+    """A certificate of a path.
+
+    Attributes:
+        extensions: The two resource extensions of the certificate.
+        mode: The policy for its overclaimed resources.
+    """
 
     extensions: Extensions
     mode: Mode = Mode.REFUSE
 
 
 def laid_out(certificates: Iterable[Certificate]) -> tuple[bytes, list[raw.Certificate]]:
-    """The octets of some certificates in one run, and where in it each has its own."""
+    """Writes the octets of all certificates into one array.
+
+    Returns:
+        The array, and the position of each certificate's octets in it.
+    """
     run, places = bytearray(), []
     for extensions, mode in certificates:
         asn, ip = extensions.octets()
@@ -110,15 +150,28 @@ def laid_out(certificates: Iterable[Certificate]) -> tuple[bytes, list[raw.Certi
 
 
 class Pigyelund:
-    """The calls of the shared library at a path. Without a path the library is looked for in the folder that
-    PIGYELUND_LIB names; else in the package's folder; else where the system's loader looks. `ImportError` names the
-    file and how to build it, if there is no such library, or if it has calls of an earlier version."""
+    """The calls of the shared library.
+
+    Without a path, the library is `libpigyelund.so` in the folder that PIGYELUND_LIB names. If this variable is not set
+    or is empty, it is that file in the package's folder. If the package has no such file, the system's loader searches
+    for it.
+
+    Every call except `version` may raise `NoMemory`, which says nothing about the input. A number in place of a member
+    of an enum raises `BadNumber` if no member has it, and `OverflowError` if it does not fit 32 bits.
+
+    Args:
+        path: The file of the shared library, or None.
+
+    Raises:
+        ImportError: The file is missing, is not the library, or has an earlier version of the calls. The text names the
+            file and says how to build it.
+    """
 
     def __init__(self, path: str | os.PathLike[str] | None = None) -> None:
         self.raw = raw.Library(path)
 
     def version(self) -> int:
-        """The version of the calls."""
+        """Returns the version of the library's calls, which grows when a call is added."""
         return self.raw.version()
 
     def verify(
@@ -128,7 +181,27 @@ class Pigyelund:
         encoding: Encoding = Encoding.LENIENT,
         mode: Mode = Mode.REFUSE,
     ) -> Resources:
-        """What the issuer's set leaves of the certificate's claims. `Refused` where there is a reason."""
+        """Computes the resources of a certificate from its issuer's set (RFC 3779, 2.3 and 3.3).
+
+        The result has nothing of an extension or of a family that the certificate does not have. It has all that the
+        issuer has where the certificate inherits. Otherwise it has what the certificate lists and the issuer has.
+
+        Args:
+            issuer: The issuer's set.
+            certificate: The extensions of the certificate.
+            encoding: The encodings that are accepted.
+            mode: The policy for overclaimed resources.
+
+        Returns:
+            The resources of the certificate.
+
+        Raises:
+            BadOctets: An extension of the issuer or of the certificate is invalid.
+            Inherited: The issuer's set inherits, and does not list its resources.
+            Absent: The certificate has neither extension.
+            Overclaimed: The certificate overclaims, and `mode` is `Mode.REFUSE`. The attribute `excess` has the
+                overclaimed resources.
+        """
         present, octets = certificate.present(), certificate.octets()
         return with_room(lambda rooms: self.raw.verify(issuer, present, octets, encoding, mode, rooms))
 
@@ -138,23 +211,65 @@ class Pigyelund:
         certificates: Iterable[Certificate],
         encoding: Encoding = Encoding.LENIENT,
     ) -> Resources:
-        """What certificates on a path leave of the anchor's set. `Refused` where one isn't verified, with how many
-        are."""
+        """Computes the resources of the last certificate of a path.
+
+        The first certificate is verified against the anchor's set, as by `verify`. Each other one is verified against
+        what the certificates before it leave.
+
+        Args:
+            anchor: The trust anchor's set.
+            certificates: The certificates, the one under the anchor first.
+            encoding: The encodings that are accepted.
+
+        Returns:
+            The resources of the last certificate, or the anchor's set if the path is empty.
+
+        Raises:
+            Refused: The anchor's set is refused, or a certificate is not verified. The subclasses are those that
+                `verify` raises. The attribute `verified` is the number of verified certificates. It has no meaning with
+                `NoMemory`.
+        """
         run, places = laid_out(certificates)
         return with_room(lambda rooms: self.raw.verify_path(anchor, run, places, encoding, rooms))
 
     def cover(
         self, ip: bytes, family: Family, encoding: Encoding = Encoding.LENIENT
     ) -> list[IPv4Network] | list[IPv6Network]:
-        """The shortest list of prefixes that has exactly the addresses of a family that IP address blocks list.
-        `Refused` where they list none."""
+        """Returns the shortest list of prefixes that has exactly the addresses of one family of a set.
+
+        Args:
+            ip: The IP address blocks of the set (RFC 3779, 2.2.3).
+            family: The family whose addresses are covered.
+            encoding: The encodings that are accepted.
+
+        Returns:
+            The prefixes, ascending.
+
+        Raises:
+            BadOctets: `ip` is invalid.
+            Inherited: `ip` inherits the addresses of either family.
+        """
         octets = with_room(lambda rooms: self.raw.cover(ip, encoding, family, rooms[0])).asn
         if family == Family.V4:
             return [IPv4Network((octets[at : at + 4], octets[at + 4])) for at in range(0, len(octets), 5)]
         return [IPv6Network((octets[at : at + 16], octets[at + 16])) for at in range(0, len(octets), 17)]
 
     def origins(self, payloads: Iterable[Payload], routes: Iterable[Route]) -> list[Validity]:
-        """The validity of each route by the payloads. `BadOrigin` where one is none."""
+        """Validates routes against VRPs (RFC 6811, 2).
+
+        Each call builds a table of the VRPs. Pass many routes at once, or keep a `table`.
+
+        Args:
+            payloads: The VRPs, in any order.
+            routes: The routes to validate.
+
+        Returns:
+            The validity of each route, in the order of `routes`.
+
+        Raises:
+            BadOrigin: A VRP is malformed, or else a route. The attribute `place` is the index of the first one.
+            TypeError: An item is of another type.
+        """
         asked = list(routes)
         told = self.raw.origins(list(payloads), asked, len(asked))
         if told.status != Status.OK:
@@ -162,51 +277,127 @@ class Pigyelund:
         return [Validity(octet) for octet in told.held[0]]
 
     def table(self, payloads: object) -> Table:
-        """A table of payloads, in any order, each as often as it comes, which stays until it is closed. `BadOrigin`
-        where one is none."""
+        """Builds a table of VRPs, which lives until it is closed.
+
+        Args:
+            payloads: The VRPs, in any order and in one of the forms that `Table` names. Duplicates are kept.
+
+        Returns:
+            The table.
+
+        Raises:
+            BadOrigin: A VRP is malformed. The attribute `place` is the index of the first one.
+            TypeError: `payloads`, or an item of it, is of another type.
+            ValueError: The octets of a buffer end within a VRP.
+        """
         return Table(self.raw, payloads)
 
     def answer(self, line: str) -> str:
-        """The answer of respath to a line. `NoMemory` where there is no memory for it."""
+        """Returns the answer of the program `respath` to a line. Errors in the line are part of the answer.
+
+        Args:
+            line: The line, without its line end. The answer has no line end either.
+
+        Raises:
+            NoMemory: Out of memory.
+            UnicodeEncodeError: The line has a surrogate, which UTF-8 cannot encode.
+        """
         octets = line.encode("utf-8")
         return with_room(lambda rooms: self.raw.answer(octets, rooms[0])).asn.decode("utf-8")
 
     def made(
         self, operation: Operation, a: Resources, b: Resources, encoding: Encoding = Encoding.LENIENT
     ) -> Resources:
-        """What is made of two sets. `Refused` where one is none."""
+        """Applies a set operation to two sets.
+
+        Args:
+            operation: Union, intersection or difference.
+            a: The first set.
+            b: The second set.
+            encoding: The encodings that are accepted.
+
+        Returns:
+            The set that the operation makes.
+
+        Raises:
+            BadOctets: An extension of `a`, or else of `b`, is invalid.
+            Inherited: A set inherits, and does not list its resources.
+        """
         return with_room(lambda rooms: self.raw.made(operation, a, b, encoding, rooms))
 
     def union(self, a: Resources, b: Resources, encoding: Encoding = Encoding.LENIENT) -> Resources:
-        """What one or the other has. `Refused` where one is no set."""
+        """Returns the union of `a` and `b`.
+
+        Raises:
+            Refused: A set is not valid, as in `made`.
+        """
         return self.made(Operation.UNION, a, b, encoding)
 
     def intersection(self, a: Resources, b: Resources, encoding: Encoding = Encoding.LENIENT) -> Resources:
-        """What both have. `Refused` where one is no set."""
+        """Returns the intersection of `a` and `b`.
+
+        Raises:
+            Refused: A set is not valid, as in `made`.
+        """
         return self.made(Operation.INTERSECTION, a, b, encoding)
 
     def difference(self, a: Resources, b: Resources, encoding: Encoding = Encoding.LENIENT) -> Resources:
-        """What the first has and the second hasn't. `Refused` where one is no set."""
+        """Returns the difference of `a` and `b`: the resources of `a` that `b` does not have.
+
+        Raises:
+            Refused: A set is not valid, as in `made`.
+        """
         return self.made(Operation.DIFFERENCE, a, b, encoding)
 
     def tested(self, test: Test, a: Resources, b: Resources, encoding: Encoding = Encoding.LENIENT) -> bool:
-        """Whether what is asked of two sets is so. `Refused` where one is none."""
+        """Evaluates a predicate on two sets.
+
+        Args:
+            test: The predicate.
+            a: The first set.
+            b: The second set.
+            encoding: The encodings that are accepted.
+
+        Returns:
+            Whether the predicate holds.
+
+        Raises:
+            Refused: A set is not valid, as in `made`.
+        """
         status = self.raw.tested(test, a, b, encoding)
         if status not in (Status.OK, Status.NO):
             raise refused(status)
         return status == Status.OK
 
     def contains(self, a: Resources, b: Resources, encoding: Encoding = Encoding.LENIENT) -> bool:
-        """Whether the first has each number and each address of the second. `Refused` where one is no set."""
+        """Returns whether `a` has each AS number and each address of `b`.
+
+        Raises:
+            Refused: A set is not valid, as in `made`.
+        """
         return self.tested(Test.CONTAINS, a, b, encoding)
 
     def equal(self, a: Resources, b: Resources, encoding: Encoding = Encoding.LENIENT) -> bool:
-        """Whether both are the same set. `Refused` where one is no set."""
+        """Returns whether `a` and `b` are the same set.
+
+        Raises:
+            Refused: A set is not valid, as in `made`.
+        """
         return self.tested(Test.EQUAL, a, b, encoding)
 
 
 def with_room(call: Callable[[Rooms], Told]) -> Resources:
-    """What a call tells, with rooms that suffice. `Refused` where the status isn't 0."""
+    """Makes a call with buffers of 256 octets, and again with larger ones if these are too small.
+
+    Args:
+        call: The call. It takes the lengths of both buffers.
+
+    Returns:
+        The octets of both outputs.
+
+    Raises:
+        Refused: The status is not `Status.OK`.
+    """
     told = call((256, 256))
     if told.status == Status.TOO_SMALL:
         told = call(told.lengths)

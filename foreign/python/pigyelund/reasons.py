@@ -1,4 +1,4 @@
-"""Why nothing is told: an exception for each kind of reason, each with the status and its text."""
+"""The exceptions of the package: one class for each kind of error, with the status of `pigyelund.h` and its text."""
 
 from typing import NamedTuple
 
@@ -6,7 +6,14 @@ from .raw import Status
 
 
 class Resources(NamedTuple):
-    """The octets of both extensions that list a set."""
+    """A set of resources, as the DER of both extensions.
+
+    A value is empty if the set lists nothing there.
+
+    Attributes:
+        asn: The AS identifiers (RFC 3779, 3.2.3).
+        ip: The IP address blocks (RFC 3779, 2.2.3).
+    """
 
     asn: bytes = b""
     ip: bytes = b""
@@ -56,7 +63,11 @@ FAULTS = (
 
 
 def status_text(status: int) -> str:
-    """What a status says, in words."""
+    """Returns the English text of a status, which is that of `pg_status_text` in `pigyelund.h`.
+
+    Args:
+        status: A status of a call. An unknown one has the text `unknown status`.
+    """
     fault, kind = status & 0xFF, status & ~0xFF
     octets = {Status.BAD_AS: "AS identifiers", Status.BAD_IP: "IP address blocks"}.get(kind & ~Status.SECOND)
     if octets is None or not 1 <= fault <= len(FAULTS):
@@ -66,9 +77,15 @@ def status_text(status: int) -> str:
 
 
 class Refused(Exception):
-    """Why nothing is told: the status, and the excess where too much is claimed. Of a path also how many certificates
-    are verified: the reason is that of the next one; of origins and of tables the place of the payload or of the route,
-    counted from 0."""
+    """The reason why a call returns no result. Catch the subclasses to distinguish the reasons.
+
+    `status` is the status of `pigyelund.h`, as in `Status`. `excess` has the overclaimed resources of the kind that the
+    status names; otherwise it has no resources.
+
+    `verified` is the number of verified certificates of a path, and None for other calls. The error is about the next
+    certificate, unless the anchor's set is refused. `place` is the index, from 0, of the VRP or route that is refused.
+    Calls without VRPs and routes leave it None, and so does an error of memory.
+    """
 
     def __init__(
         self, status: int, excess: Resources = Resources(), verified: int | None = None, place: int | None = None
@@ -87,40 +104,50 @@ class Refused(Exception):
 
 
 class NoMemory(Refused, MemoryError):
-    """There was no memory for an answer; nothing is said of what went in."""
+    """Out of memory. This error says nothing about the input."""
 
 
 class Inherited(Refused):
-    """The issuer, the anchor or one of two sets inherits, where a set is listed."""
+    """The issuer's set, the trust anchor's set or one of two sets inherits resources, and does not list them."""
 
 
 class Overclaimed(Refused):
-    """The certificate claims more than its issuer has: the excess."""
+    """The certificate claims resources that its issuer does not have (RFC 6487, 7.2). `excess` has these resources."""
 
 
 class Absent(Refused):
-    """The certificate has neither extension."""
+    """The certificate has neither extension (RFC 6487, 4.8.10 and 4.8.11)."""
 
 
 class BadOctets(Refused):
-    """Octets of an extension are none."""
+    """The value of an extension is not valid DER of resources (RFC 3779, 2.2.3 and 3.2.3)."""
 
     @property
     def fault(self) -> int:
-        """The number of the first fault, 1 to 14, as docs/ERRORS.md has them."""
+        """The number of the first error found, 1 to 14. `docs/ERRORS.md` has an example of each number."""
         return self.status & 0xFF
 
 
 class BadOrigin(Refused):
-    """A payload or a route is none: the place of the first one."""
+    """A VRP or a route is malformed: its family, its prefix, or its maximum length is invalid.
+
+    The attribute `place` is the index, from 0, of the first one. `BadChange` is a subclass: catch it first.
+    """
 
 
 class BadChange(BadOrigin):
-    """A payload is withdrawn that the table hasn't, or announced that it has, or twice: the place of the first one."""
+    """A change does not apply to the table (RFC 8210, 12, codes 6 and 7).
+
+    A withdrawn VRP is not in the table, or an announced VRP is in it and is not withdrawn, or a VRP is listed twice.
+    The attribute `place` is the index, from 0, of the first one.
+    """
 
 
 class BadNumber(Refused):
-    """A number that chooses is none: of an encoding, a mode, a family, of extensions, or the place of octets."""
+    """An option has an unknown number: an encoding, a mode, a family, or which extensions are present.
+
+    The class is also that of `Status.OUTSIDE`: an extension of a certificate lies outside the array.
+    """
 
 
 KINDS: dict[int, type[Refused]] = {
@@ -141,7 +168,7 @@ KINDS: dict[int, type[Refused]] = {
 def refused(
     status: int, excess: Resources = Resources(), verified: int | None = None, place: int | None = None
 ) -> Refused:
-    """The exception for a status."""
+    """Returns the exception for the status of a call that failed. A `NoMemory` has no `place`."""
     kind = KINDS.get(status & ~Status.SECOND, Refused)
     if status & ~Status.SECOND & 0xF00 in (Status.BAD_AS, Status.BAD_IP):
         kind = BadOctets

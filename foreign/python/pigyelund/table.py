@@ -1,4 +1,4 @@
-"""A table of payloads that stays."""
+"""A table of VRPs that is built once and queried many times."""
 
 from collections.abc import Callable, Iterator
 from enum import IntEnum
@@ -11,7 +11,13 @@ from .reasons import refused
 
 
 class Validity(IntEnum):
-    """What payloads say of a route (RFC 6811, 2)."""
+    """The validity of a route (RFC 6811, 2), numbered as in RFC 8097, 2.
+
+    Attributes:
+        VALID: A VRP matches the route.
+        NOT_FOUND: No VRP covers the route.
+        INVALID: A VRP covers the route, and no VRP matches it.
+    """
 
     VALID = 0
     NOT_FOUND = 1
@@ -19,7 +25,14 @@ class Validity(IntEnum):
 
 
 class Covering(NamedTuple):
-    """A payload that covers a route, and why it doesn't match it: nothing where it does."""
+    """A VRP that covers a route, and why it does not match the route (RFC 6811, 2).
+
+    Attributes:
+        prefix: The VRP's prefix.
+        max_len: The maximum length (maxLength) in bits.
+        asn: The AS that may originate the prefix.
+        mismatch: The reasons, or `Mismatch(0)` for a match.
+    """
 
     prefix: IPv4Network | IPv6Network
     max_len: int
@@ -44,16 +57,21 @@ class _Owner:
 
 
 class Table:
-    """A table of validated payloads, which is asked as often as one likes (RFC 6811, 2), and from which the next one is
-    made by changes (RFC 8210, 5.6). It never changes. Any number of threads may ask it at once.
+    """A table of VRPs (validated ROA payloads) for route origin validation (RFC 6811, 2).
 
-    `close`, the end of a `with`, or the end of the object frees its memory. A call that another thread has begun
-    before keeps the memory until the call returns. A table that is closed raises `ValueError`. A table can't be copied
+    A table can be queried any number of times. It never changes: `changed` makes the next table from withdrawn and
+    announced VRPs (RFC 8210, 5.6). Any number of threads may query it at once.
+
+    `close`, the end of a `with`, or the end of the object frees its memory. A call that another thread began before
+    keeps the memory until the call returns. Other calls on a closed table raise `ValueError`. A table cannot be copied
     or pickled.
 
-    Payloads and routes are sequences of `Payload` and `Route`, or objects with the buffer protocol (`bytes`, a
-    `memoryview`, an `array`) whose octets are such side by side as C lays them out: 24 each, in the order of the
-    fields, with numbers as the processor has them."""
+    VRPs and routes are iterables of `Payload` and `Route`. They may also be an object with the buffer protocol
+    (`bytes`, a `memoryview`, an `array`) that has the C structs side by side. Each struct has 24 octets: the fields in
+    their order, with integers in the byte order of the processor.
+
+    Calls that return validities, VRPs or a table may raise `NoMemory`, which says nothing about the input.
+    """
 
     _owner: _Owner | None = None
 
@@ -63,13 +81,23 @@ class Table:
 
     @classmethod
     def _of(cls, library: raw.Library, owner: _Owner) -> "Table":
-        """Returns the table of an owner."""
+        """Returns a table object for an owner."""
         made = cls.__new__(cls)
         made._library, made._owner = library, owner
         return made
 
     def _ask(self, call: Callable[[int], Answer]) -> Answer:
-        """Returns what a call with the handle returns. The table isn't freed before. `ValueError` if it is closed."""
+        """Makes a call with the handle. The table is not freed before the call returns.
+
+        Args:
+            call: The call. It takes the handle.
+
+        Returns:
+            The result of the call.
+
+        Raises:
+            ValueError: The table is closed.
+        """
         owner = self._owner
         if owner is None:
             raise ValueError("the table is closed")
@@ -79,8 +107,11 @@ class Table:
             del owner  # else the traceback of an error keeps the table
 
     def close(self) -> None:
-        """Closes the table. Its memory is freed at once, or when the calls on it that other threads have begun have
-        returned. A second call does nothing."""
+        """Closes the table. A second call does nothing.
+
+        The memory of the table is freed at once. If other threads began calls on the table before, it is freed when
+        these calls have returned.
+        """
         self._owner = None
 
     def __enter__(self) -> "Table":
@@ -97,21 +128,60 @@ class Table:
     __copy__ = __deepcopy__ = __reduce__ = __reduce_ex__ = _refuse_copy
 
     def changed(self, announced: object = (), withdrawn: object = ()) -> "Table":
-        """The table that this one is after payloads are withdrawn and then others announced; this one stays as it is.
-        Each of both names a payload once; a withdrawal takes all copies of it. `BadChange` where one is withdrawn that
-        isn't there, or announced that is and isn't withdrawn, or where one is named twice; `BadOrigin` where one is
-        none. Its `place` counts in what is withdrawn where the status is UNKNOWN_WITHDRAWAL or has SECOND, else in what
-        is announced."""
+        """Returns a new table: this one without `withdrawn`, and then with `announced` (RFC 8210, 5.6).
+
+        This table stays as it is. VRPs are the same if prefix, maximum length and AS are the same. A VRP that is both
+        withdrawn and announced is in the new table once.
+
+        Args:
+            announced: VRPs to add. Each must be listed once, and must not be in the table unless it is also withdrawn.
+            withdrawn: VRPs to remove, with all their copies. Each must be listed once, and must be in the table.
+
+        Returns:
+            The new table.
+
+        Raises:
+            BadOrigin: A VRP of `announced`, or else of `withdrawn`, is malformed.
+            BadChange: A VRP of `withdrawn`, or else of `announced`, breaks the rule above. This is a subclass of
+                `BadOrigin`. The attribute `place` counts in `withdrawn` if the status is UNKNOWN_WITHDRAWAL or has
+                SECOND, else in `announced`.
+            TypeError: An item is of another type.
+            ValueError: The table is closed, or the octets of a buffer end within a VRP.
+        """
         arrays = (*raw.array_of(Payload, announced), *raw.array_of(Payload, withdrawn))
         told = self._ask(lambda handle: self._library.table_changed(handle, *arrays))
         return self._of(self._library, _told(self._library, told))
 
     def origins(self, routes: object) -> list[Validity]:
-        """The validity of each route. `BadOrigin` where one is none."""
+        """Validates routes (RFC 6811, 2).
+
+        Args:
+            routes: The routes, in one of the forms that the class names.
+
+        Returns:
+            The validity of each route, in the order of `routes`.
+
+        Raises:
+            BadOrigin: A route is malformed. The attribute `place` is the index of the first one.
+            TypeError: An item is of another type.
+            ValueError: The table is closed, or the octets of a buffer end within a route.
+        """
         return [_VALIDITIES[octet] for octet in self.origin_octets(routes)]
 
     def origin_octets(self, routes: object) -> bytes:
-        """The same as octets, whose numbers are those of `Validity`."""
+        """Validates routes like `origins`, but returns one octet for each route.
+
+        Args:
+            routes: The routes, in one of the forms that the class names.
+
+        Returns:
+            The numbers of `Validity`, one octet each.
+
+        Raises:
+            BadOrigin: A route is malformed, as in `origins`.
+            TypeError: An item is of another type.
+            ValueError: The table is closed, or the octets of a buffer end within a route.
+        """
         asked, count = raw.array_of(Route, routes)
         told = self._ask(lambda handle: self._library.table_origins(handle, asked, count, count))
         if told.status != Status.OK:
@@ -119,12 +189,36 @@ class Table:
         return told.held[0]
 
     def origin(self, route: Route) -> Validity:
-        """The validity of one route. `BadOrigin` where it is none."""
+        """Validates one route (RFC 6811, 2).
+
+        Args:
+            route: The route.
+
+        Returns:
+            The validity of the route.
+
+        Raises:
+            BadOrigin: The route is malformed.
+            TypeError: `route` is of another type.
+            ValueError: The table is closed.
+        """
         return self.origins([route])[0]
 
     def covering(self, route: Route) -> list[Covering]:
-        """The payloads that cover a route, which explain its validity: the longest prefix first, by one prefix the
-        least AS number, and by one AS the longest greatest length. `BadOrigin` where it is none."""
+        """Returns the VRPs that cover a route. They explain its validity.
+
+        Args:
+            route: The route.
+
+        Returns:
+            The VRPs, the longest prefix first. VRPs of the same prefix come by ascending AS number. VRPs of the same
+            prefix and AS come by descending maximum length.
+
+        Raises:
+            BadOrigin: The route is malformed.
+            TypeError: `route` is of another type; for some types this is a `ctypes.ArgumentError`.
+            ValueError: The table is closed.
+        """
         status, held, length = self._ask(lambda handle: self._library.table_covering(handle, route, 8))
         if status == Status.TOO_SMALL:
             room = length
@@ -134,12 +228,18 @@ class Table:
         return [Covering(it.prefix, it.max_len, it.asn, Mismatch(it.mismatch)) for it in held[:length]]
 
     def __len__(self) -> int:
-        """How many payloads it lists."""
+        """Returns the number of VRPs, duplicates included. Raises `ValueError` if the table is closed."""
         return self._ask(self._library.table_len)[1]
 
     def __iter__(self) -> Iterator[Payload]:
-        """All payloads: IPv4 before IPv6, then by the address, the shorter prefix first, by one prefix the greatest AS
-        number, and by one AS the shortest greatest length."""
+        """Returns an iterator over all VRPs, duplicates included.
+
+        IPv4 comes before IPv6. Each family is in the order of the addresses, the shorter prefix first. VRPs of the same
+        prefix come by descending AS number. VRPs of the same prefix and AS come by ascending maximum length.
+
+        Raises:
+            ValueError: The table is closed.
+        """
         room = len(self)
         status, held, length = self._ask(lambda handle: self._library.table_payloads(handle, room))
         if status != Status.OK:
@@ -151,7 +251,7 @@ _VALIDITIES = list(Validity)
 
 
 def _told(library: raw.Library, found: raw.TableTold) -> _Owner:
-    """Returns the owner of a table that a call made. Raises a refusal if it made none."""
+    """Returns the owner of a table that a call made. Raises a `Refused` if the call made none."""
     if found.status != Status.OK or found.table is None:
         raise refused(found.status, place=found.place)
     return _Owner(library, found.table)

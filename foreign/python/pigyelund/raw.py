@@ -1,5 +1,14 @@
-"""The calls as `pigyelund.h` has them, through ctypes: statuses, numbers, rooms, and certificates of a path as places
-in a run of octets. Nothing is refused here but a number that its parameter has no room for."""
+"""The calls of `pigyelund.h`, through ctypes.
+
+This module is for callers that need the statuses and the buffers of C. Each method of `Library` is one call of the
+shared library. It takes the numbers of the header, and the lengths of the output buffers.
+
+With `Status.OK` the buffers begin with the output. With an OVERCLAIM status they begin with the overclaimed resources.
+With any other status they are not written. The lengths are those of the output; with `Status.TOO_SMALL` they are those
+that are needed, and with other errors 0.
+
+The module checks only that each integer fits its parameter; otherwise it raises `OverflowError`.
+"""
 
 import ctypes
 import os
@@ -17,7 +26,12 @@ HOW = (
 
 
 class Status(IntEnum):
-    """What a call answers; BAD_AS and BAD_IP with the number of a fault, and SECOND with another status, added."""
+    """The status that a call returns.
+
+    BAD_AS and BAD_IP come with the number of an error added: 1 to 14, as in `docs/ERRORS.md`. SECOND is added to
+    another status if this is about the certificate, the second set, a route, or a withdrawn VRP. `docs/FOREIGN.md` has
+    the meaning of each status.
+    """
 
     OK = 0
     TOO_SMALL = 1
@@ -44,15 +58,25 @@ class Status(IntEnum):
 
 
 class Mismatch(IntFlag):
-    """Why a payload that covers a route doesn't match it: its AS isn't the route's, or that is AS 0; the route is
-    longer than it allows. None of these where it matches."""
+    """The reasons why a VRP that covers a route does not match it. The value is 0 for a match.
+
+    Attributes:
+        OTHER_AS: The AS of the VRP is not the route's, or the route's AS is AS 0.
+        TOO_LONG: The route's prefix is longer than the maximum length of the VRP.
+    """
 
     OTHER_AS = 1
     TOO_LONG = 2
 
 
 class Present(IntEnum):
-    """Which extensions a certificate has."""
+    """The number that says which extensions a certificate has. It is 0 if the certificate has neither.
+
+    Attributes:
+        HAS_AS: The certificate has the extension of AS identifiers.
+        HAS_IP: The certificate has the extension of IP address blocks.
+        HAS_BOTH: The certificate has both extensions.
+    """
 
     HAS_AS = 1
     HAS_IP = 2
@@ -60,14 +84,25 @@ class Present(IntEnum):
 
 
 class Family(IntEnum):
-    """A family of addresses, as IP address blocks number it."""
+    """An address family, as IP address blocks number it (RFC 3779, 2.2.3.3).
+
+    Attributes:
+        V4: IPv4.
+        V6: IPv6.
+    """
 
     V4 = 1
     V6 = 2
 
 
 class Operation(Enum):
-    """What is made of two sets, by the name of the call."""
+    """An operation that makes a set from two. The value is the name of the C function.
+
+    Attributes:
+        UNION: The resources of one set or the other.
+        INTERSECTION: The resources of both sets.
+        DIFFERENCE: The resources of the first set that the second does not have.
+    """
 
     UNION = "pg_union"
     INTERSECTION = "pg_intersection"
@@ -75,18 +110,27 @@ class Operation(Enum):
 
 
 class Test(Enum):
-    """What is asked of two sets, by the name of the call."""
+    """A predicate on two sets. The value is the name of the C function.
+
+    Attributes:
+        CONTAINS: The first set has each AS number and each address of the second.
+        EQUAL: Both sets are the same.
+    """
 
     CONTAINS = "pg_contains"
     EQUAL = "pg_equal"
 
 
 class Fields(ctypes.Structure):
-    """Numbers side by side. ctypes drops the bits of a number that its field has no room for; here that is an error.
-    Two are equal where all their fields are. No field of one that is in a set, or a key, may be set."""
+    """A C struct of integers and arrays of integers.
 
-    _ends_: dict[str, int]  # of each number the first one that its field has no room for
-    _count_: int  # of the octets of all fields: what C leaves free stands behind them alone
+    ctypes drops the high bits of an integer that does not fit its field. This class raises `OverflowError` instead. Two
+    structs are equal if their types and all their fields are equal; padding is ignored. Do not set a field of a struct
+    that is in a set or is the key of a dict.
+    """
+
+    _ends_: dict[str, int]  # for each integer field the least value that does not fit
+    _count_: int  # the number of octets of all fields; the padding of C comes only after them
 
     def __init_subclass__(cls) -> None:
         super().__init_subclass__()
@@ -113,12 +157,17 @@ class Fields(ctypes.Structure):
         return spelled(type(self).__name__, texts)
 
     def _octets(self) -> bytes:
-        """Those of all fields."""
+        """Returns the octets of all fields, without padding."""
         return bytes(self)[: self._count_]
 
 
 class Certificate(Fields):
-    """Where in a run of octets the extensions of a certificate stand, and two numbers."""
+    """A certificate of a path, as `pg_certificate`: the positions of its extensions in an array, and two numbers.
+
+    The array has the octets of all certificates. Both ranges must lie within it. For an absent extension use index 0
+    and length 0. The fields `as_at` and `ip_at` are indices from 0. The fields `as_len` and `ip_len` are lengths in
+    octets. The field `present` is a `Present` or 0, and `mode` is a `Mode`.
+    """
 
     _fields_ = [
         ("as_at", ctypes.c_size_t),
@@ -131,7 +180,13 @@ class Certificate(Fields):
 
 
 class Payload(Fields):
-    """A validated payload: a prefix, its greatest length, and the AS that may originate it."""
+    """A VRP (validated ROA payload, RFC 6811, 2), as `pg_payload`.
+
+    The field `address` has 16 octets in network byte order. An IPv4 address is the first four; calls ignore the others.
+    The field `asn` is the AS that may originate the prefix. The field `family` is a `Family`. The prefix length `len`
+    is 0 to 32 bits, or 0 to 128 for IPv6. The maximum length `max_len` (maxLength, RFC 9582, 4.3.2) is `len` to 32 or
+    128. A call that reads the VRP checks these ranges.
+    """
 
     _fields_ = [
         ("address", ctypes.c_uint8 * 16),
@@ -143,13 +198,26 @@ class Payload(Fields):
 
     @classmethod
     def of(cls, prefix: IPv4Network | IPv6Network, asn: int, max_len: int | None = None) -> "Payload":
-        """That of a prefix, whose own length is the greatest where none is given."""
+        """Returns the VRP of a prefix.
+
+        Args:
+            prefix: The prefix.
+            asn: The AS that may originate it.
+            max_len: The maximum length in bits; None is the prefix length.
+
+        Raises:
+            OverflowError: `asn` is not from 0 to 4294967295, or `max_len` is not from 0 to 255.
+        """
         length = prefix.prefixlen if max_len is None else max_len
         return cls(address_of(prefix), asn, family_of(prefix), prefix.prefixlen, length)
 
     @property
     def prefix(self) -> IPv4Network | IPv6Network:
-        """The prefix. `ValueError` where it is none."""
+        """The prefix. A family other than `Family.V4` is read as IPv6.
+
+        Raises:
+            ValueError: The length is above the family's, or address bits after it are set.
+        """
         octets = bytes(self.address)[: 4 if self.family == Family.V4 else 16]
         return ip_network((octets, self.len))
 
@@ -158,21 +226,34 @@ class Payload(Fields):
 
 
 class Covering(Fields):
-    """A payload that covers a route, and why it doesn't match it."""
+    """A VRP that covers a route, and why it does not match the route, as `pg_covering`.
+
+    The octets after an IPv4 address are 0. The field `mismatch` is a `Mismatch`.
+    """
 
     _fields_ = [*Payload._fields_, ("mismatch", ctypes.c_uint8)]
     prefix = Payload.prefix
 
 
 class Route(Fields):
-    """The prefix that a route leads to, and the AS that originates it: 0 where the path ends in an AS_SET, so that no
-    payload matches it (RFC 6811, 2)."""
+    """A route: a prefix and the AS that originates it (RFC 6811, 2), as `pg_route`.
+
+    The field `asn` is 0 if the path ends in an AS_SET: then no VRP matches. The other fields are those of `Payload`.
+    """
 
     _fields_ = Payload._fields_[:-1]
 
     @classmethod
     def of(cls, prefix: IPv4Network | IPv6Network, asn: int) -> "Route":
-        """That to a prefix."""
+        """Returns the route to a prefix.
+
+        Args:
+            prefix: The prefix.
+            asn: The AS that originates the route, or 0 if the path ends in an AS_SET.
+
+        Raises:
+            OverflowError: `asn` is not from 0 to 4294967295.
+        """
         return cls(address_of(prefix), asn, family_of(prefix), prefix.prefixlen)
 
     prefix = Payload.prefix
@@ -182,12 +263,12 @@ class Route(Fields):
 
 
 def spelled(call: str, texts: dict[str, str]) -> str:
-    """A call with named values, as it is written."""
+    """Returns the text of a call with keyword arguments."""
     return f"{call}({', '.join(f'{name}={text}' for name, text in texts.items())})"
 
 
 def made_by_of(item: Payload | Route, **numbers: int) -> str:
-    """How `of` makes an item of its prefix and numbers; else its fields, as where it has no prefix."""
+    """Returns the text of the call of `of` that makes an item, or the text of its fields if no such call makes it."""
     kind = type(item)
     try:
         prefix = item.prefix
@@ -200,12 +281,12 @@ def made_by_of(item: Payload | Route, **numbers: int) -> str:
 
 
 def address_of(prefix: IPv4Network | IPv6Network) -> ctypes.Array[ctypes.c_uint8]:
-    """The octets of a prefix's address, behind which there may be others."""
+    """Returns the address of a prefix as an array of 16 octets. The octets after an IPv4 address are 0."""
     return (ctypes.c_uint8 * 16)(*prefix.network_address.packed)
 
 
 def family_of(prefix: IPv4Network | IPv6Network) -> Family:
-    """The family of a prefix."""
+    """Returns the family of a prefix."""
     return Family.V4 if prefix.version == 4 else Family.V6
 
 
@@ -214,7 +295,11 @@ Rooms = tuple[int, int]
 
 
 class Told(NamedTuple):
-    """The status, the lengths that are told, what the rooms hold, and a path's or origins' number."""
+    """The result of a call.
+
+    `lengths` are those that the call reports, in octets. `held` is the content of both buffers. `number` is the number
+    of verified certificates of a path, or the index, from 0, of a refused VRP or route. Other calls leave it None.
+    """
 
     status: int
     lengths: Rooms
@@ -223,7 +308,11 @@ class Told(NamedTuple):
 
 
 class TableTold(NamedTuple):
-    """The status, the handle of a table, None where there is none, and the place of what is none."""
+    """The result of a call that makes a table.
+
+    `table` is the handle, or None if the status is not `Status.OK`. `place` is the index, from 0, of the VRP that is
+    refused, or 0 if none is.
+    """
 
     status: int
     table: int | None
@@ -231,9 +320,19 @@ class TableTold(NamedTuple):
 
 
 def array_of(kind: type[Fields], given: object) -> tuple[ctypes.Array[Fields], int]:
-    """Returns a new array of the elements that are given, and their count: of a sequence of such, or of an object with
-    the buffer protocol whose octets are such side by side as C lays them out. `TypeError` if the elements are of
-    another kind, `ValueError` if the octets end within an element."""
+    """Copies structs into a new array.
+
+    Args:
+        kind: The type of the structs.
+        given: An iterable of structs, or an object with the buffer protocol that has the C structs side by side.
+
+    Returns:
+        The array, and the number of structs. The array has at least one element, also if this number is 0.
+
+    Raises:
+        TypeError: The elements are of another type.
+        ValueError: The octets end within a struct.
+    """
     try:
         view = memoryview(given)  # type: ignore[arg-type]
     except TypeError:
@@ -251,18 +350,22 @@ def array_of(kind: type[Fields], given: object) -> tuple[ctypes.Array[Fields], i
 
 
 def is_kind(element: type[ctypes.Structure], kind: type[Fields]) -> bool:
-    """Returns whether elements are of a kind, and laid out as it is."""
+    """Returns whether a type is `kind`, or a subclass of it with the same size."""
     return issubclass(element, kind) and ctypes.sizeof(element) == ctypes.sizeof(kind)
 
 
 def words_of(*sets: Pair) -> list[object]:
-    """Each run of octets of some sets, and its length."""
+    """Returns the arguments of C for some sets: the octets of each extension, and their length."""
     return [word for part in sets for octets in part for word in (octets, len(octets))]
 
 
 def found_library() -> str:
-    """Returns the file of the shared library: in the folder that PIGYELUND_LIB names; else in this package's folder, if
-    it is there; else the name alone, which the system's loader looks for."""
+    """Returns the file of the shared library.
+
+    The file is in the folder that PIGYELUND_LIB names. If this variable is not set or is empty, it is that in the
+    folder of this package. If the package has no such file, the result is the name alone, for which the system's
+    loader searches.
+    """
     folder = os.environ.get("PIGYELUND_LIB")
     if folder:
         return os.path.join(os.path.abspath(folder), NAME)
@@ -271,8 +374,15 @@ def found_library() -> str:
 
 
 def opened(file: str) -> ctypes.CDLL:
-    """Loads the shared library. `ImportError` with the file, and how to build it, if it isn't there, or is no such
-    library, or has calls of an earlier version."""
+    """Loads the shared library.
+
+    Args:
+        file: The path of the library, or its name alone.
+
+    Raises:
+        ImportError: The file is missing, is not the library, or has an earlier version of the calls. The text names the
+            file and says how to build it.
+    """
 
     def refusal(why: str) -> ImportError:
         return ImportError(f"{file}: {why}; {HOW}", name="pigyelund", path=file)
@@ -291,8 +401,17 @@ def opened(file: str) -> ctypes.CDLL:
 
 
 class Library:
-    """The calls of the shared library at a path, or of the one that `found_library` names. `ImportError` as of
-    `opened`."""
+    """The calls of the shared library.
+
+    In the calls below `rooms` are the lengths of both output buffers in octets, and `room` is that of the only one.
+    Every call except `table_free` raises `OverflowError` if an integer does not fit its C parameter.
+
+    Args:
+        path: The file of the library, or None for the one that `found_library` returns.
+
+    Raises:
+        ImportError: The library cannot be loaded, as in `opened`.
+    """
 
     def __init__(self, path: str | os.PathLike[str] | None = None) -> None:
         self._library = opened(found_library() if path is None else os.fspath(path))
@@ -328,7 +447,15 @@ class Library:
         self._library.pg_table_free.restype, self._library.pg_table_free.argtypes = None, [table]
 
     def _call(self, name: str, words: list[object]) -> int:
-        """One call: the status. `OverflowError` where a number has more bits than its parameter."""
+        """Makes a call and returns its status.
+
+        Args:
+            name: The name of the C function.
+            words: The arguments.
+
+        Raises:
+            OverflowError: An integer does not fit its parameter.
+        """
         call = getattr(self._library, name)
         for kind, word in zip(call.argtypes, words, strict=True):
             if isinstance(word, int) and not 0 <= word < 1 << 8 * ctypes.sizeof(kind):
@@ -336,7 +463,14 @@ class Library:
         return call(*words)
 
     def _told(self, name: str, words: list[object], rooms: Rooms, number: ctypes.c_size_t | None = None) -> Told:
-        """One call with rooms of these lengths."""
+        """Makes a call with two output buffers.
+
+        Args:
+            name: The name of the C function.
+            words: The arguments before the buffers.
+            rooms: The lengths of the buffers.
+            number: The last output, or None.
+        """
         asn, ip = (ctypes.create_string_buffer(max(room, 1)) for room in rooms)
         lengths = ctypes.c_size_t(), ctypes.c_size_t()
         places = [ctypes.byref(length) for length in lengths]
@@ -346,91 +480,205 @@ class Library:
         return Told(status, (lengths[0].value, lengths[1].value), held, None if number is None else number.value)
 
     def _told_once(self, name: str, words: list[object], room: int, number: ctypes.c_size_t | None = None) -> Told:
-        """One call with one room: what it tells stands for that of AS numbers."""
+        """Makes a call with one output buffer. Its output is in the place of the AS identifiers.
+
+        Args:
+            name: The name of the C function.
+            words: The arguments before the buffer.
+            room: The length of the buffer.
+            number: The last output, or None.
+        """
         held, length = ctypes.create_string_buffer(max(room, 1)), ctypes.c_size_t()
         behind = [] if number is None else [ctypes.byref(number)]
         status = self._call(name, [*words, held, room, ctypes.byref(length), *behind])
         return Told(status, (length.value, 0), (held.raw[:room], b""), None if number is None else number.value)
 
     def version(self) -> int:
-        """The version of the calls."""
+        """Calls `pg_version`. Returns the version of the library's calls."""
         return int(self._library.pg_version())
 
     def verify(self, issuer: Pair, present: int, certificate: Pair, encoding: int, mode: int, rooms: Rooms) -> Told:
-        """`pg_verify` with rooms of these lengths."""
+        """Calls `pg_verify`: computes the resources of a certificate from its issuer's set.
+
+        Args:
+            issuer: The issuer's set.
+            present: A `Present`, or 0 for no extension.
+            certificate: The certificate's extensions.
+            encoding: An `Encoding`.
+            mode: A `Mode`.
+            rooms: The lengths of the buffers.
+        """
         words = [*words_of(issuer), present, *words_of(certificate), encoding, mode]
         return self._told("pg_verify", words, rooms)
 
     def verify_path(
         self, anchor: Pair, run: bytes, certificates: list[Certificate], encoding: int, rooms: Rooms
     ) -> Told:
-        """`pg_verify_path` with rooms of these lengths, and how many certificates are verified."""
+        """Calls `pg_verify_path`: computes the resources of the last certificate of a path.
+
+        Args:
+            anchor: The trust anchor's set.
+            run: The octets of all extensions.
+            certificates: The certificates in order.
+            encoding: An `Encoding`.
+            rooms: The lengths of the buffers.
+
+        Returns:
+            The result. Its `number` is that of the verified certificates.
+        """
         count = len(certificates)
         array = (Certificate * max(count, 1))(*certificates)
         words = [*words_of(anchor), run, len(run), array, count, encoding]
         return self._told("pg_verify_path", words, rooms, ctypes.c_size_t())
 
     def cover(self, ip: bytes, encoding: int, family: int, room: int) -> Told:
-        """`pg_cover` with a room of this length."""
+        """Calls `pg_cover`: writes the shortest list of prefixes of one family of a set.
+
+        A prefix is its address and an octet of length: 5 octets for IPv4, 17 for IPv6.
+
+        Args:
+            ip: The IP address blocks of the set.
+            encoding: An `Encoding`.
+            family: A `Family`.
+            room: The length of the buffer.
+        """
         return self._told_once("pg_cover", [ip, len(ip), encoding, family], room)
 
     def origins(self, payloads: list[Payload], routes: list[Route], room: int) -> Told:
-        """`pg_origins` with a room of this length, and the place that it tells."""
+        """Calls `pg_origins`: writes the validity of each route by the VRPs, one octet each.
+
+        Args:
+            payloads: The VRPs, in any order.
+            routes: The routes.
+            room: The length of the buffer.
+
+        Returns:
+            The result. Its `number` is the index of the refused VRP or route.
+        """
         listed = (Payload * max(len(payloads), 1))(*payloads)
         asked = (Route * max(len(routes), 1))(*routes)
         words = [listed, len(payloads), asked, len(routes)]
         return self._told_once("pg_origins", words, room, ctypes.c_size_t())
 
     def table_new(self, payloads: object, count: int) -> TableTold:
-        """`pg_table_new` of an array of payloads."""
+        """Calls `pg_table_new`: builds a table of VRPs.
+
+        Args:
+            payloads: An array of VRPs, as `array_of` returns it.
+            count: The number of VRPs.
+        """
         return self._table_told("pg_table_new", [payloads, count])
 
     def table_changed(
         self, table: int | None, announced: object, announced_count: int, withdrawn: object, withdrawn_count: int
     ) -> TableTold:
-        """`pg_table_changed` of two arrays of payloads."""
+        """Calls `pg_table_changed`: makes a table without the withdrawn VRPs, and then with the announced ones.
+
+        Args:
+            table: The handle, or None for null.
+            announced: An array of VRPs.
+            announced_count: Their number.
+            withdrawn: An array of VRPs.
+            withdrawn_count: Their number.
+        """
         words = [table, announced, announced_count, withdrawn, withdrawn_count]
         return self._table_told("pg_table_changed", words)
 
     def _table_told(self, name: str, words: list[object]) -> TableTold:
-        """One call that hands out a table."""
+        """Makes a call that returns a table.
+
+        Args:
+            name: The name of the C function.
+            words: The arguments before the outputs.
+        """
         table, place = ctypes.c_void_p(), ctypes.c_size_t()
         status = self._call(name, [*words, ctypes.byref(table), ctypes.byref(place)])
         return TableTold(status, table.value, place.value)
 
     def table_origins(self, table: int | None, routes: object, count: int, room: int) -> Told:
-        """`pg_table_origins` of an array of routes with a room of this length, and the place that it tells."""
+        """Calls `pg_table_origins`: writes the validity of each route by a table, one octet each.
+
+        Args:
+            table: The handle, or None for null.
+            routes: An array of routes.
+            count: Their number.
+            room: The length of the buffer.
+
+        Returns:
+            The result. Its `number` is the index of the refused route.
+        """
         return self._told_once("pg_table_origins", [table, routes, count], room, ctypes.c_size_t())
 
     def table_covering(self, table: int | None, route: Route, room: int) -> tuple[int, list[Covering], int]:
-        """`pg_table_covering` with a room for so many: the status, what the room holds, and the length."""
+        """Calls `pg_table_covering`: writes the VRPs of a table that cover a route.
+
+        Args:
+            table: The handle, or None for null.
+            route: The route.
+            room: The length of the buffer in VRPs.
+
+        Returns:
+            The status, the content of the buffer, and the length in VRPs that the call reports.
+        """
         held, length = (Covering * max(room, 1))(), ctypes.c_size_t()
         status = self._call("pg_table_covering", [table, ctypes.byref(route), held, room, ctypes.byref(length)])
         return status, held[:room], length.value
 
     def table_len(self, table: int | None) -> tuple[int, int]:
-        """`pg_table_len`: the status, and the length."""
+        """Calls `pg_table_len`. Returns the status, and the number of VRPs with duplicates."""
         length = ctypes.c_size_t()
         return self._call("pg_table_len", [table, ctypes.byref(length)]), length.value
 
     def table_payloads(self, table: int | None, room: int) -> tuple[int, list[Payload], int]:
-        """`pg_table_payloads` with a room for so many: the status, what the room holds, and the length."""
+        """Calls `pg_table_payloads`: writes all VRPs of a table.
+
+        Args:
+            table: The handle, or None for null.
+            room: The length of the buffer in VRPs.
+
+        Returns:
+            The status, the content of the buffer, and the length in VRPs that the call reports.
+        """
         held, length = (Payload * max(room, 1))(), ctypes.c_size_t()
         status = self._call("pg_table_payloads", [table, held, room, ctypes.byref(length)])
         return status, held[:room], length.value
 
     def table_free(self, table: int | None) -> None:
-        """`pg_table_free`."""
+        """Calls `pg_table_free`. Frees a table; None does nothing.
+
+        Args:
+            table: The handle. No other call may use it any more.
+        """
         self._library.pg_table_free(table)
 
     def answer(self, line: bytes, room: int) -> Told:
-        """`pg_answer` with a room of this length."""
+        """Calls `pg_answer`: writes the answer of the program `respath` to a line. Neither has a line end.
+
+        Args:
+            line: The line in UTF-8.
+            room: The length of the buffer.
+        """
         return self._told_once("pg_answer", [line, len(line)], room)
 
     def made(self, operation: Operation, a: Pair, b: Pair, encoding: int, rooms: Rooms) -> Told:
-        """An operation with rooms of these lengths."""
+        """Calls `pg_union`, `pg_intersection` or `pg_difference`.
+
+        Args:
+            operation: The operation.
+            a: The first set.
+            b: The second set.
+            encoding: An `Encoding`.
+            rooms: The lengths of the buffers.
+        """
         return self._told(operation.value, [*words_of(a, b), encoding], rooms)
 
     def tested(self, test: Test, a: Pair, b: Pair, encoding: int) -> int:
-        """A test: the status."""
+        """Calls `pg_contains` or `pg_equal`. Returns the status: `Status.OK`, `Status.NO`, or that of an error.
+
+        Args:
+            test: The predicate.
+            a: The first set.
+            b: The second set.
+            encoding: An `Encoding`.
+        """
         return self._call(test.value, [*words_of(a, b), encoding])

@@ -1,5 +1,8 @@
-/* peer PORT SECONDS: the payloads that rtrlib has of a cache at that port of 127.0.0.1, a line for each, as router.c
- * prints them, in no order. Status 0 where it got them in time. */
+/* peer PORT SECONDS: prints the VRPs that rtrlib receives from a cache (RFC 8210). It is a reference for router.c.
+ *
+ * The program connects to the cache at PORT of 127.0.0.1. It prints a line for each VRP, as router.c does, in no order.
+ * The status is 0 if it received all VRPs within SECONDS, 1 if it did not, and 2 if the arguments are wrong or rtrlib
+ * cannot start. */
 #include <arpa/inet.h>
 #include <rtrlib/rtrlib.h>
 #include <stdio.h>

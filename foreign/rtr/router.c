@@ -1,10 +1,13 @@
-/* router PORT TABLES SECONDS: the router side of the RPKI to Router protocol, version 1 (RFC 8210), over tables of
- * pigyelund.
+/* router PORT TABLES SECONDS: the router side of the RPKI to Router protocol, version 1 (RFC 8210), with the tables of
+ * pigyelund.h. It is an example for programmers of routers and monitors. docs/FOREIGN.md says how to build it.
  *
  * The program connects to a cache at PORT of 127.0.0.1 and asks for all VRPs. It asks for the changes when the cache
  * sends a Serial Notify, and for all VRPs after a Cache Reset. It prints each table: a line with its number, a line for
- * each VRP, and the line "end". It stops after TABLES tables or after SECONDS. The status is 0 if it printed all
- * tables. It accepts at most MOST VRPs in one response. */
+ * each VRP, and the line "end". It stops after TABLES tables or after SECONDS. In one response it accepts at most MOST
+ * announced and MOST withdrawn VRPs.
+ *
+ * The status is 0 if it printed all tables, and 1 if it did not. It is 2 if the arguments are wrong. It is also 2 if
+ * memory runs out before the first connection or while a table is printed. */
 #include "../pigyelund.h"
 #include <arpa/inet.h>
 #include <poll.h>
@@ -14,20 +17,23 @@
 #include <time.h>
 #include <unistd.h>
 
+/* PDU types (RFC 8210, 5) */
 enum { NOTIFY = 0, SERIAL_QUERY, RESET_QUERY, RESPONSE, V4 = 4, V6 = 6, END_OF_DATA, RESET, KEY, ERROR };
 enum { VERSION = 1, HEADER = 8, LONGEST = 1 << 16, QUOTED = 32, MOST = 10000000, ANNOUNCED = 1 };
 /* error codes (RFC 8210, 12) */
 enum { CORRUPT = 0, INTERNAL, BAD_VERSION = 4, BAD_TYPE, UNKNOWN_RECORD, DUPLICATE, OTHER_VERSION };
 
-/* an array of VRPs that grows */
+/* An array of VRPs that grows. The first count elements are in use; room is its capacity. */
 typedef struct {
   pg_payload *all;
   size_t count, room;
 } list;
 
-/* The state of a router. The table belongs to session and serial if has_session is set. A query is open while is_asked
- * is set. Its response has begun if is_answered is set: then answering is the session of the Cache Response, and the
- * lists hold its VRPs. The response lists all VRPs if is_full is set. */
+/* The state of a router. The table belongs to session and serial if has_session is set. The flag has_version is set
+ * after the first PDU of this version. A query is open while is_asked is set. Its response lists all VRPs if is_full is
+ * set. The response has begun if is_answered is set: then answering is the session of the Cache Response, and the lists
+ * hold its VRPs. If has_notice is set, the cache notified the serial notice while the query was open. The number of
+ * printed tables is in tables. */
 typedef struct {
   int to_cache, has_version, has_session, is_asked, is_answered, is_full, has_notice;
   uint16_t session, answering;
@@ -39,7 +45,7 @@ typedef struct {
   uint32_t length;
 } router;
 
-static time_t deadline;
+static time_t deadline; /* the time at which the program stops */
 
 static uint32_t u32(const uint8_t *at) {
   return (uint32_t)at[0] << 24 | (uint32_t)at[1] << 16 | (uint32_t)at[2] << 8 | at[3];
@@ -58,7 +64,7 @@ static int is_readable(int from) {
   return left > 0 && poll(&one, 1, (int)left * 1000) == 1;
 }
 
-/* Reads all octets. Returns 0 if the cache is gone or at the deadline. */
+/* Reads exactly count octets. Returns 0 if the connection ends or the deadline passes before. */
 static int read_all(int from, uint8_t *to, size_t count) {
   while (count) {
     ssize_t got = is_readable(from) ? read(from, to, count) : 0;
@@ -69,7 +75,7 @@ static int read_all(int from, uint8_t *to, size_t count) {
   return 1;
 }
 
-/* Sends a PDU with a body of at most 56 octets. Returns 0 if the cache is gone. */
+/* Sends a PDU. The body has at most 56 octets. Returns 0 if not all of it is sent. */
 static int send_pdu(const router *r, uint8_t type, uint16_t field, const uint8_t *body, uint32_t length) {
   uint8_t pdu[64] = {VERSION, type, (uint8_t)(field >> 8), (uint8_t)field};
   put32(pdu + 4, HEADER + length);
@@ -77,7 +83,8 @@ static int send_pdu(const router *r, uint8_t type, uint16_t field, const uint8_t
   return write(r->to_cache, pdu, HEADER + length) == (ssize_t)(HEADER + length);
 }
 
-/* Asks for the changes since the last serial, or for all VRPs if the router has no session. */
+/* Asks for the changes since the last serial, or for all VRPs if the router has no session (RFC 8210, 5.3 and 5.4).
+ * Returns 0 if the query is not sent. */
 static int ask(router *r) {
   uint8_t serial[4];
   put32(serial, r->serial);
@@ -87,8 +94,9 @@ static int ask(router *r) {
   return r->is_full ? send_pdu(r, RESET_QUERY, 0, serial, 0) : send_pdu(r, SERIAL_QUERY, r->session, serial, 4);
 }
 
-/* Sends an Error Report with the PDU that is wrong, and no text. Returns 0, since the session is over. Sends nothing if
- * the PDU is an Error Report (RFC 8210, 5.11). */
+/* Sends an Error Report with the wrong PDU and without text (RFC 8210, 5.11). Sends nothing if the PDU that is being
+ * read is an Error Report. The report has at most QUOTED octets of the wrong PDU. Returns 0, since the session is
+ * over. */
 static int refuse_pdu(router *r, uint16_t code, const uint8_t *pdu, uint32_t length) {
   uint8_t body[4 + QUOTED + 4] = {0};
   if (length > QUOTED) length = QUOTED;
@@ -112,6 +120,8 @@ static int refuse_session(router *r) {
   return refuse(r, CORRUPT);
 }
 
+/* Appends a VRP. The capacity doubles, to at most 8,388,608 elements, since the next one is above MOST. Returns 0 if
+ * the array is full, or memory runs out. */
 static int add(list *to, const pg_payload *payload) {
   if (to->count == to->room) {
     size_t room = to->room ? 2 * to->room : 1024;
@@ -124,7 +134,7 @@ static int add(list *to, const pg_payload *payload) {
   return 1;
 }
 
-/* Reads the VRP of a Prefix PDU (RFC 8210, 5.6 and 5.7). */
+/* Reads the VRP of a Prefix PDU (RFC 8210, 5.6 and 5.7). Returns 0 if the session is over. */
 static int take_prefix(router *r, const uint8_t *body, uint32_t length, uint8_t family) {
   size_t width = family == PG_IPV4 ? 4 : 16;
   pg_payload payload = {{0}, 0, family, 0, 0};
@@ -136,7 +146,7 @@ static int take_prefix(router *r, const uint8_t *body, uint32_t length, uint8_t 
   return add(body[0] & ANNOUNCED ? &r->announced : &r->withdrawn, &payload) ? 1 : refuse(r, INTERNAL);
 }
 
-/* Refuses a VRP by a report with its Prefix PDU. */
+/* Refuses a VRP: makes its Prefix PDU again, and sends it in an Error Report. Returns 0. */
 static int refuse_payload(router *r, uint16_t code, const pg_payload *payload, uint8_t flags) {
   uint32_t width = payload->family == PG_IPV4 ? 4 : 16, length = HEADER + 8 + width;
   uint8_t pdu[QUOTED] = {VERSION, payload->family == PG_IPV4 ? V4 : V6};
@@ -149,6 +159,7 @@ static int refuse_payload(router *r, uint16_t code, const pg_payload *payload, u
   return refuse_pdu(r, code, pdu, length);
 }
 
+/* Prints the number of the table and its VRPs. Ends the program if memory runs out. */
 static void print_table(const router *r) {
   size_t len = 0;
   pg_payload *all;
@@ -166,8 +177,8 @@ static void print_table(const router *r) {
   free(all);
 }
 
-/* Makes the next table of the VRPs that were read. A full response changes an empty table, so that a VRP that comes
- * twice is a duplicate. */
+/* Makes the next table from the VRPs that were read. A full response changes an empty table, so that a VRP that comes
+ * twice is a duplicate. Returns 0 if the session is over: a VRP is refused, or memory ran out. */
 static int change(router *r, pg_table **next) {
   pg_table *empty = 0;
   size_t place = 0;
@@ -185,8 +196,8 @@ static int change(router *r, pg_table **next) {
                             : refuse_payload(r, CORRUPT, r->withdrawn.all + place, 0);
 }
 
-/* Ends a response (RFC 8210, 5.8): its session has to be that of the Cache Response. Asks again if the cache notified
- * a later serial meanwhile. */
+/* Ends a response (RFC 8210, 5.8). The session has to be that of the Cache Response. Asks again if the cache notified a
+ * later serial while the query was open. Returns 0 if the session is over. */
 static int end_of_data(router *r, uint16_t session, const uint8_t *body, uint32_t length) {
   pg_table *next = 0;
   if (!r->is_answered || length != 16) return refuse(r, CORRUPT);
@@ -205,7 +216,8 @@ static int end_of_data(router *r, uint16_t session, const uint8_t *body, uint32_
   return (int32_t)(r->notice - r->serial) > 0 ? ask(r) : 1;
 }
 
-/* Asks for the changes that the cache notifies (RFC 8210, 5.2), or remembers the notice while a query is open. */
+/* Asks for the changes that the cache notifies (RFC 8210, 5.2), or stores the notice while a query is open. Returns 0
+ * if the session is over. */
 static int take_notice(router *r, uint16_t session, uint32_t serial) {
   if (!r->is_answered && !r->has_session) return 1;
   if (session != (r->is_answered ? r->answering : r->session)) return refuse_session(r);
@@ -214,7 +226,8 @@ static int take_notice(router *r, uint16_t session, uint32_t serial) {
   return r->is_asked || serial == r->serial ? 1 : ask(r);
 }
 
-/* Begins a response (RFC 8210, 5.5): after a Serial Query its session has to be that of the table. */
+/* Begins a response (RFC 8210, 5.5). After a Serial Query the session has to be that of the table. Returns 0 if the
+ * session is over. */
 static int take_response(router *r, uint16_t session, uint32_t length) {
   if (!r->is_asked || r->is_answered || length) return refuse(r, CORRUPT);
   if (!r->is_full && session != r->session) return refuse_session(r);
@@ -247,7 +260,7 @@ static int take(router *r) {
     case V4: return take_prefix(r, body, length, PG_IPV4);
     case V6: return take_prefix(r, body, length, PG_IPV6);
     case END_OF_DATA: return end_of_data(r, field, body, length);
-    case RESET: /* the cache has no changes since the serial; the table stays until the next one is there */
+    case RESET: /* the cache has no changes since the serial (5.9); the router keeps its table until the next one */
       fprintf(stderr, "cache reset\n");
       r->has_session = 0;
       return ask(r);
@@ -260,7 +273,7 @@ static int take(router *r) {
   }
 }
 
-/* Runs a session from the connection to its end, or to the last table that is wanted. */
+/* Connects to the cache, and runs the session until it is over or all tables are printed. */
 static void meet(router *r, uint16_t port, unsigned wanted) {
   struct sockaddr_in cache;
   memset(&cache, 0, sizeof cache);
@@ -282,7 +295,7 @@ int main(int count, char **words) {
   memset(&r, 0, sizeof r);
   wanted = (unsigned)atoi(words[2]);
   deadline = time(0) + atoi(words[3]);
-  /* Each array has room for at least one VRP, since no pointer may be null. */
+  /* Each array gets memory for at least one VRP, since no pointer to VRPs may be null. */
   if (!add(&r.announced, &(pg_payload){{0}, 0, 0, 0, 0}) || !add(&r.withdrawn, r.announced.all)) return 2;
   while (r.tables < wanted && time(0) < deadline) {
     meet(&r, (uint16_t)atoi(words[1]), wanted);

@@ -53,7 +53,7 @@ use raw::{HAS_AS, HAS_IP, NO, OK, TOO_SMALL};
 
 /// The two resource extensions of a certificate, as DER.
 ///
-/// `None` means that the certificate does not have the extension; it then claims nothing there. An extension that is
+/// `None` means that the certificate does not have the extension. It then claims nothing there. An extension that is
 /// present but empty is invalid. A certificate has at least one of them (RFC 6487, 4.8.10 and 4.8.11).
 #[derive(Clone, Copy, Debug, Default, PartialEq, Eq)]
 pub struct Extensions<'a> {

@@ -28,9 +28,30 @@ HOW = (
 class Status(IntEnum):
     """The status that a call returns.
 
-    BAD_AS and BAD_IP come with the number of an error added: 1 to 14, as in `docs/ERRORS.md`. SECOND is added to
-    another status if this is about the certificate, the second set, a route, or a withdrawn VRP. `docs/FOREIGN.md` has
-    the meaning of each status.
+    Attributes:
+        OK: Success. From a test: yes.
+        TOO_SMALL: A buffer is too small. Nothing is written, and the lengths are those that are needed.
+        MEMORY: Out of memory: `malloc` refused. Nothing is written, and the status says nothing about the input.
+        INHERITED: A set inherits resources, and does not list them.
+        BAD_MODE: The mode is unknown.
+        OVERCLAIM_AS: The certificate claims AS numbers that the issuer does not have. The outputs are these AS numbers.
+        OVERCLAIM_V4: The same for IPv4 addresses.
+        OVERCLAIM_V6: The same for IPv6 addresses.
+        NO: From a test: no.
+        BAD_ENCODING: The encoding is unknown.
+        ABSENT: The certificate has neither extension (RFC 6487, 4.8.10 and 4.8.11).
+        OUTSIDE: A certificate of a path has an extension that is not within the array.
+        BAD_PRESENT: The number that says which extensions are present is greater than `Present.HAS_BOTH`.
+        BAD_FAMILY: The family is unknown.
+        BAD_PREFIX: A prefix length is above the family's, or address bits after it are set.
+        BAD_MAX_LEN: A maximum length is below the prefix length, or above the family's.
+        NO_TABLE: The handle of the table is null.
+        UNKNOWN_WITHDRAWAL: A withdrawn VRP is not in the table, or is withdrawn twice (RFC 8210, 12, code 6).
+        DUPLICATE_ANNOUNCEMENT: An announced VRP is in the table and is not withdrawn, or is announced twice (RFC 8210,
+            12, code 7).
+        BAD_AS: The AS identifiers are invalid. The number of the first error is added: 1 to 14, as in `docs/ERRORS.md`.
+        BAD_IP: The IP address blocks are invalid. The number of the first error is added, as to BAD_AS.
+        SECOND: Added to another status if this is about the certificate, the second set, a route, or a withdrawn VRP.
     """
 
     OK = 0
@@ -125,8 +146,8 @@ class Fields(ctypes.Structure):
     """A C struct of integers and arrays of integers.
 
     ctypes drops the high bits of an integer that does not fit its field. This class raises `OverflowError` instead. Two
-    structs are equal if their types and all their fields are equal; padding is ignored. Do not set a field of a struct
-    that is in a set or is the key of a dict.
+    structs are equal if and only if their types and all their fields are equal. Padding is ignored. Do not set a field
+    of a struct that is in a set or is the key of a dict.
     """
 
     _ends_: dict[str, int]  # for each integer field the least value that does not fit

@@ -16,7 +16,7 @@
 //!
 //! A second call with buffers of the needed lengths does not return [`TOO_SMALL`].
 //!
-//! # Safety
+//! # Preconditions
 //!
 //! No call has a precondition on the values of its arguments, so this module checks none. The rules for pointers hold:
 //! a `&[u8]` is never null, and a `&mut` buffer overlaps no other argument.

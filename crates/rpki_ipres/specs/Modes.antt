@@ -1,5 +1,5 @@
--- Reading sets and resources of addresses by the mode: strictly each block begins more than one above the greatest
--- address of the one before, and IPv4 stands before IPv6.
+-- Reading sets and resources of addresses in strict or lenient mode. In strict mode each block begins more than one
+-- above the greatest address of the block before it, and IPv4 is before IPv6.
 use Rattle.std.specs.Prelude.{ℕ, Bool, List, Option, Some, None, Result}
 use Rattle.rpki_der.specs.SequenceReading.{sequence_from, values_from}
 use Rattle.rpki_chain.specs.ChoiceDer.{choice_at}

@@ -9,24 +9,24 @@ use Rattle.rpki_der.specs.declared.family.AddressFamily.{AddressFamily}
 use Rattle.rpki_der.specs.declared.family.AddressFamily.TheVariants.{Ipv4, Ipv6}
 use Rattle.rpki_ipres.specs.SetText.{IsFamilySet, IsIpSet}
 
--- what is listed is a set of addresses
+-- the listed set is a set of addresses
 abbrev pub IsIpClaim : Claim → Type 0
 IsIpClaim = IsClaim IsIpSet
 
--- what is listed is a set of the family: any of IPv6, and in IPv4 one of whole addresses
+-- the listed set is a set of the family: any set in IPv6, and a set of whole addresses in IPv4
 abbrev pub IsFamilyClaim : AddressFamily → Claim → Type 0
 IsFamilyClaim family = IsClaim (IsFamilySet family)
 
--- what is listed consists of whole IPv4 addresses
+-- the listed set consists of whole IPv4 addresses
 abbrev pub IsWholeClaim : Claim → Type 0
 IsWholeClaim Missing = ⊤
 IsWholeClaim Inherit = ⊤
 IsWholeClaim (Blocks set) = IsWhole (Holds set)
 
--- a claim of the family that has octets
+-- a claim of the family that has an encoding
 abbrev pub IsPresentFamilyClaim : AddressFamily → Claim → Type 0
 IsPresentFamilyClaim family claim = IsFamilyClaim family claim × (claim ≢ Missing)
 
--- claims that have octets, each of its family, where there are some; one at least
+-- claims that have an encoding, each of its family if it is present; at least one is present
 abbrev pub ArePresentClaims : ByFamily Claim → Type 0
 ArePresentClaims fs = IfSome fs.0 (IsPresentFamilyClaim Ipv4) × IfSome fs.1 (IsPresentFamilyClaim Ipv6) × (fs.0 ≡ None → fs.1 ≢ None)

@@ -17,17 +17,17 @@ use Rattle.rpki_ip_block.specs.Blocks.{ip_bounds}
 use Rattle.rpki_ip_block.specs.declared.block.IpBlock.{IpBlock}
 use Rattle.rpki_ipres.specs.SetDer.{ip_set_der}
 
--- a NULL for inherited resources, else a SEQUENCE of blocks, one at least, which stands for the set
--- of their addresses (2.2.3.4 to 2.2.3.6); limit is the greatest length of a prefix
+-- a NULL for inherited resources, else a SEQUENCE of at least one block, which denotes the set of their addresses
+-- (2.2.3.4 to 2.2.3.6); limit is the maximum length of a prefix
 abbrev pub IsIpResources : ℕ → List ℕ → Claim → Type 0
 IsIpResources limit = IsResourcesOf (IsSequenceOf (IsIpBlockDer limit)) (IsRunsOfBlocks ip_bounds)
 
--- a SEQUENCE of families, each with its resources: in any order, each at most once, one at least
--- (2.2.3.1 to 2.2.3.3; RFC 6487, 4.8.10)
+-- a SEQUENCE of at least one family with its resources, in any order, each at most once (2.2.3.1 to 2.2.3.3; RFC 6487,
+-- 4.8.10)
 abbrev pub IsIpFamilies : List ℕ → ByFamily Claim → Type 0
 IsIpFamilies = IsFamilies (λ family. IsIpResources (bits_of family))
 
--- ---- what is read, from left to right
+-- ---- reading, from left to right
 
 abbrev pub ip_resources_at : ℕ → List ℕ → Result (ResourcesChoice (List IpBlock) × List ℕ) DerError
 ip_resources_at limit = choice_at (values_of (ip_block_at limit))
@@ -35,20 +35,20 @@ ip_resources_at limit = choice_at (values_of (ip_block_at limit))
 abbrev pub ip_families_at : List ℕ → Result (ByFamily (ResourcesChoice (List IpBlock)) × List ℕ) DerError
 ip_families_at = families_at (λ family. ip_resources_at (bits_of family))
 
--- the blocks that were read stand for the claim
+-- the blocks that were read denote the claim
 abbrev pub SaysClaimOf : ResourcesChoice (List IpBlock) → Claim → Type 0
 SaysClaimOf = ListsBy (IsRunsOfBlocks ip_bounds)
 
 abbrev pub SaysClaims : ByFamily (ResourcesChoice (List IpBlock)) → ByFamily Claim → Type 0
 SaysClaims = SaysByFamily SaysClaimOf
 
--- ---- what is written
+-- ---- encodings
 
--- a NULL, or the runs of the set in one SEQUENCE; nothing for missing resources
+-- a NULL, or the runs of the set in one SEQUENCE; no octets for missing resources
 abbrev pub ip_resources_der : Claim → List ℕ
 ip_resources_der = choice_octets ip_set_der
 
--- the family and its resources in one SEQUENCE (2.2.3.2); nothing for missing resources
+-- the family and its resources in one SEQUENCE (2.2.3.2); no octets for missing resources
 abbrev pub ip_member_der : AddressFamily → Claim → List ℕ
 ip_member_der family claim = option_der ip_resources_der family (if_present claim)
 

@@ -1,5 +1,5 @@
--- The reading finds the resources of the grammar, whatever follows them, and no others: what the
--- reader of families is told of it.
+-- The reading finds exactly the resources of the grammar, with any octets after them. The reader of families requires
+-- these lemmas.
 use Rattle.std.proofs.Common.{ℕ, List, Option, None, subst}
 use Rattle.rpki_der.specs.Der.{Each, EachFrom}
 use Rattle.rpki_der.specs.Reading.{IsModal, IsReading}
@@ -17,13 +17,13 @@ use Rattle.rpki_ip_block.specs.declared.block.IpBlock.{IpBlock}
 use Rattle.rpki_ipres.specs.Modes.{greatest_of_ip_block, ip_resources_by}
 use Rattle.rpki_ipres.specs.ResourcesDer.{ip_resources_at}
 
--- a NULL, or a SEQUENCE of blocks, one at least
+-- a NULL, or a SEQUENCE of at least one block
 pub resources_reading : (limit : ℕ) → IsReading (IsChoiceOf (IsSequenceOf (IsIpBlockDer limit))) (ip_resources_at limit)
 resources_reading limit =
     choice_reading (Each (IsIpBlockDer limit)) (values_of (ip_block_at limit))
     (values_check (λ (state : Unit {0}) (x : IpBlock). state) (λ state. IsIpBlockDer limit) (λ state. ip_block_at limit) (λ state. ip_block_reading limit) (λ state. ip_block_has_octets limit) tt)
 
--- by the mode
+-- the same in strict and lenient mode
 pub resources_modal_of : (limit : ℕ) (S : Option ℕ → List ℕ → IpBlock → Type 0)
     → ((before : Option ℕ) → IsModal (S before) (ip_block_at limit) (λ strict. next_ip_block_by strict limit before))
     → IsModal (IsChoiceOf (IsSequenceFrom greatest_of_ip_block S None)) (ip_resources_at limit)

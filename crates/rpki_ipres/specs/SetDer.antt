@@ -10,18 +10,18 @@ use Rattle.rpki_der.specs.FamilyDer.{IsFamilyDer, family_der}
 use Rattle.rpki_ip_block.specs.BlockDer.{IsIpBlockDer, ip_block_der}
 use Rattle.rpki_ip_block.specs.Blocks.{ip_bounds, new_ip_block}
 
--- a SEQUENCE of blocks, in any order, overlapping or not, and nothing else; it stands for the set of their addresses
+-- a SEQUENCE of blocks and nothing else, in any order, overlapping or not; it denotes the set of their addresses
 -- (2.2.3.6)
 abbrev pub IsIpBlockSequence : ℕ → List ℕ → Runs → Type 0
 IsIpBlockSequence limit = Refines (IsSequenceOf (IsIpBlockDer limit)) (IsRunsOfBlocks ip_bounds)
 
--- a family and a SEQUENCE of its blocks, which stands for a set, in one SEQUENCE (2.2.3.2)
+-- a family and a SEQUENCE of its blocks, which denotes a set, in one SEQUENCE (2.2.3.2)
 abbrev pub IsIpFamily : List ℕ → AddressFamily × Runs → Type 0
 IsIpFamily bytes f = (content : List ℕ) × IsSequence bytes content × Both IsFamilyDer (IsIpBlockSequence (bits_of f.0)) content f.0 f.1
 
--- ---- what is written
+-- ---- encodings
 
--- a run: a prefix where its addresses are those of one, else a range (2.2.3.7)
+-- a run: a prefix if its addresses are those of a prefix, else a range (2.2.3.7)
 abbrev pub ip_run_der : ℕ × ℕ → List ℕ
 ip_run_der run = ip_block_der (new_ip_block run)
 
@@ -29,7 +29,7 @@ ip_run_der run = ip_block_der (new_ip_block run)
 abbrev pub ip_set_der : Runs → List ℕ
 ip_set_der set = sequence_octets ip_run_der set
 
--- the family and the runs of a set in one SEQUENCE (2.2.3.2); nothing for the empty set
+-- the family and the runs of a set in one SEQUENCE (2.2.3.2); no octets for the empty set
 abbrev pub ip_family_der : AddressFamily → Runs → List ℕ
 ip_family_der family [] = []
 ip_family_der family (run ∷ runs) = sequence_value (family_der family ++ ip_set_der (run ∷ runs))

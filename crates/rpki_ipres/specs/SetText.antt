@@ -9,24 +9,24 @@ use Rattle.rpki_ip_block.specs.Blocks.{ip_bounds, new_ip_block}
 use Rattle.rpki_ip_block.specs.PrintedBlocks.{block_list_text}
 use Rattle.rpki_ip_block.specs.declared.block.IpBlock.{IpBlock}
 
--- the set is that of the addresses in some block of a list that Has holds of
+-- the set has the addresses that are in at least one block of a list for which the predicate holds
 abbrev pub IsSetOf : (List IpBlock → Type 0) → Runs → Type 0
 IsSetOf = IsSetOfBlocks ip_bounds
 
--- what is printed of a set as one of the family: the blocks of its runs, each in new form
+-- the printed text of a set as a set of the family: the blocks of its runs, each as `new_ip_block` makes it
 abbrev pub set_text : AddressFamily → Runs → List ℕ
 set_text family set = block_list_text family (map new_ip_block set)
 
--- what is printed of addresses which are claimed and which the issuer doesn't have
+-- the printed text of addresses that are claimed and that the issuer doesn't have
 abbrev pub overclaimed_ip_text : AddressFamily → Runs → List ℕ
 overclaimed_ip_text Ipv4 excess = codes "overclaimed IPv4 resources: " ++ set_text Ipv4 excess
 overclaimed_ip_text Ipv6 excess = codes "overclaimed IPv6 resources: " ++ set_text Ipv6 excess
 
--- the runs of a set of addresses, which are below 2 ^ 128
+-- the runs of a set of addresses, all below 2 ^ 128
 abbrev pub IsIpSet : Runs → Type 0
 IsIpSet set = IsBlockSet 0 340282366920938463463374607431768211455 set
 
--- the set is one of the family: any of IPv6, and in IPv4 one of whole addresses
+-- the set is a set of the family: any set in IPv6, and a set of whole addresses in IPv4
 abbrev pub IsFamilySet : AddressFamily → Runs → Type 0
 IsFamilySet Ipv4 set = IsIpSet set × IsWhole (Holds set)
 IsFamilySet Ipv6 set = IsIpSet set

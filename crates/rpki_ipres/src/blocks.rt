@@ -28,8 +28,10 @@ use std::fmt;
 use std::marker::Model;
 use std::slice::Iter;
 
-/// A set of addresses. An IPv4 address stands in it as the numbers that begin with its 32 bits. Sets of the same
-/// addresses are equal and print alike. Its memory may have several owners, and the empty set has none.
+/// A set of addresses.
+///
+/// An IPv4 address is stored as the numbers that begin with its 32 bits. Sets of the same addresses are equal and print
+/// alike. Several sets can share one memory. The empty set has no memory.
 ///
 /// Contracts see the set as the ascending list of its runs, each as its least and its greatest address.
 #[derive(Drop)]
@@ -46,7 +48,7 @@ impl<A: Allocator> Model for IpBlocks<A> {
 }
 
 impl<A: Allocator> IpBlocks<A> {
-    /// The set of no addresses.
+    /// Returns the set of no addresses.
     pub fn empty() -> IpBlocks<A>
         ensures { result ≡ [] }
     {
@@ -55,7 +57,11 @@ impl<A: Allocator> IpBlocks<A> {
         }
     }
 
-    /// The set of all addresses, of IPv4 as of IPv6. `AllocError` where there is no memory for it.
+    /// Returns the set of all addresses, of IPv4 as of IPv6.
+    ///
+    /// # Errors
+    ///
+    /// [`AllocError`] if an allocation fails.
     pub fn all(alloc: A) -> Result<IpBlocks<A>, AllocError>
     where
         A: Copy,
@@ -65,8 +71,11 @@ impl<A: Allocator> IpBlocks<A> {
         Ok(IpBlocks::from_set(set))
     }
 
-    /// The set of the addresses that some block has. The blocks may come in any order and may overlap. `AllocError`
-    /// where there is no memory for it.
+    /// Returns the set of the addresses that are in at least one block. The blocks may be in any order and may overlap.
+    ///
+    /// # Errors
+    ///
+    /// [`AllocError`] if an allocation fails.
     pub fn from_blocks(alloc: A, blocks: &[IpBlock]) -> Result<IpBlocks<A>, AllocError>
     where
         A: Copy,
@@ -76,8 +85,13 @@ impl<A: Allocator> IpBlocks<A> {
         Ok(IpBlocks::from_set(set))
     }
 
-    /// The set of the addresses that some block has, made in the memory of the blocks, which may come in any order and
-    /// may overlap. `AllocError` where there is no memory for what its owners share.
+    /// Returns the set of the addresses that are in at least one block. The set uses the memory of `blocks`.
+    ///
+    /// The blocks may be in any order and may overlap.
+    ///
+    /// # Errors
+    ///
+    /// [`AllocError`] if the allocation for what the owners of the set share fails.
     pub fn from_vec(alloc: A, blocks: Vec<IpBlock, A>) -> Result<IpBlocks<A>, AllocError>
         ensures { IfOk result (IsRunsOfBlocks ip_bounds blocks.items) }
     {
@@ -85,8 +99,8 @@ impl<A: Allocator> IpBlocks<A> {
         Ok(IpBlocks::from_set(set))
     }
 
-    /// The set of blocks that are its runs as they stand, each in the form that sets have. `AllocError` where there is
-    /// no memory for what its owners share.
+    /// Makes a set of blocks that are already its runs, each in the form that sets have. Returns [`AllocError`] if
+    /// the allocation for what the owners of the set share fails.
     pub(crate) fn from_vec_unchecked(
         alloc: A,
         blocks: Vec<IpBlock, A>,
@@ -98,21 +112,25 @@ impl<A: Allocator> IpBlocks<A> {
         Ok(IpBlocks::from_set(set))
     }
 
-    /// A set of addresses as one of these.
+    /// Wraps a set of blocks.
     pub(crate) fn from_set(set: BlockSet<IpBlock, A>) -> IpBlocks<A>
         ensures { result ≡ set }
     {
         IpBlocks { set }
     }
 
-    /// The set as one of blocks.
+    /// Borrows the set of blocks.
     pub(crate) fn as_set(&self) -> &BlockSet<IpBlock, A>
         ensures { result.now ≡ self.now }
     {
         &self.set
     }
 
-    /// The same set, whose memory has one owner more. `AllocError` where std refuses that owner.
+    /// Returns the same set, which shares the memory of `self` (reference count + 1).
+    ///
+    /// # Errors
+    ///
+    /// [`AllocError`] if std refuses the additional reference.
     pub fn clone(&self) -> Result<IpBlocks<A>, AllocError>
         ensures same { IfOk result (λ set. set ≡ self.now) }
         ensures set { IsIpSet self.now }
@@ -121,7 +139,7 @@ impl<A: Allocator> IpBlocks<A> {
         Ok(IpBlocks { set })
     }
 
-    /// Whether the set has no addresses.
+    /// Returns whether the set has no addresses.
     pub fn is_empty(&self) -> bool
         ensures { IsTrue result ↔ (self.now ≡ []) }
     {
@@ -138,7 +156,7 @@ impl<A: Allocator> IpBlocks<A> {
         self.set.is_lawful();
     }
 
-    /// The blocks of the set one by one, ascending: its runs, each a Prefix where it is one, and else a Range.
+    /// Iterates over the blocks of the set, ascending: its runs, each as a Prefix if possible, else as a Range.
     pub fn iter(&self) -> Iter<'_, IpBlock>
         ensures blocks { map ip_bounds (iter_rest result) ≡ self.now }
         ensures made { iter_rest result ≡ map new_ip_block self.now }
@@ -147,7 +165,7 @@ impl<A: Allocator> IpBlocks<A> {
         self.set.iter()
     }
 
-    /// The blocks of the set, ascending: its runs, each a Prefix where it is one, and else a Range.
+    /// Returns the blocks of the set, ascending: its runs, each as a Prefix if possible, else as a Range.
     pub(crate) fn as_slice(&self) -> &[IpBlock]
         ensures blocks { map ip_bounds result.now ≡ self.now }
         ensures made { result.now ≡ map new_ip_block self.now }
@@ -156,30 +174,37 @@ impl<A: Allocator> IpBlocks<A> {
         self.set.as_slice()
     }
 
-    /// The set, to be displayed as one of IPv4: its blocks, ascending, joined by a comma and a space.
+    /// Returns the set for display as an IPv4 set: its blocks, ascending, joined by a comma and a space.
     pub fn as_v4(&self) -> IpBlocksForFamily<'_, A>
         ensures { result ≡ (Ipv4, self.now) }
     {
         IpBlocksForFamily::v4(self)
     }
 
-    /// The set, to be displayed as one of IPv6: its blocks, ascending, joined by a comma and a space.
+    /// Returns the set for display as an IPv6 set: its blocks, ascending, joined by a comma and a space.
     pub fn as_v6(&self) -> IpBlocksForFamily<'_, A>
         ensures { result ≡ (Ipv6, self.now) }
     {
         IpBlocksForFamily::v6(self)
     }
 
-    /// The set, to be displayed as one of the family, as [`IpBlocks::as_v4`] or [`IpBlocks::as_v6`] answers it.
+    /// Returns the set for display as a set of `family`, as [`IpBlocks::as_v4`] or [`IpBlocks::as_v6`] does.
     pub fn as_family(&self, family: AddressFamily) -> IpBlocksForFamily<'_, A>
         ensures { result ≡ (family, self.now) }
     {
         IpBlocksForFamily::of(family, self)
     }
 
-    /// The set that a list of blocks of the family writes. The text is cut as by [`IpBlocks::from_str`]. `Refused` with
-    /// [`FromStrError::FamilyMismatch`] where an element is a text of the other family, and else with its own fault;
-    /// `Memory` where there is no memory for the set.
+    /// Parses a list of blocks of `family` and returns the set of their addresses.
+    ///
+    /// The call splits the text as [`IpBlocks::from_str`] does.
+    ///
+    /// # Errors
+    ///
+    /// - [`OrMemory::Refused`]: the fault of the first element that is no block of the family. The fault is
+    ///   [`FromStrError::FamilyMismatch`] if the element has a colon in a list of IPv4, or a dot and no colon in a list
+    ///   of IPv6. Else it is the element's own fault.
+    /// - [`OrMemory::Memory`]: an allocation failed.
     pub fn from_family_str(
         alloc: A,
         family: AddressFamily,
@@ -189,7 +214,7 @@ impl<A: Allocator> IpBlocks<A> {
         A: Copy,
         ensures exact { AnswersOrMemory (λ set. set) (IsSetOf (HasBlocks family text.now))
             (HasBlocksFault family text.now) result }
-        // What is printed of a set of the family is read as that set.
+        // The printed text of a set of the family parses back to that set.
         ensures reads_back { (set : Runs) → IsFamilySet family set → text.now ≡ set_text family set
             → MatchResult result (λ read. read ≡ set) IsMemory }
         ensures whole { IfOk result (λ set. family ≡ Ipv4 → IsWhole (Holds set)) }
@@ -199,17 +224,22 @@ impl<A: Allocator> IpBlocks<A> {
         Ok(set)
     }
 
-    /// The set that a list of blocks writes: of IPv6 if a colon stands anywhere in it, and else of IPv4. The text is
-    /// cut at commas, white space round an element is dropped, and so is an element that is empty then. `Refused` with
-    /// [`FromStrError::FamilyMismatch`] where an element is no block of the family; `Memory` where there is no memory
-    /// for the set.
+    /// Parses a list of blocks and returns the set of their addresses.
+    ///
+    /// The blocks are of IPv6 if the text has a colon anywhere, else of IPv4. The call splits the text at commas and
+    /// trims white space from each element. It ignores elements that are then empty.
+    ///
+    /// # Errors
+    ///
+    /// - [`OrMemory::Refused`] with [`FromStrError::FamilyMismatch`]: an element is no block of the family.
+    /// - [`OrMemory::Memory`]: an allocation failed.
     pub fn from_str(alloc: A, text: &str) -> Result<IpBlocks<A>, OrMemory<FromStrError>>
     where
         A: Copy,
         ensures exact { AnswersOrMemory (λ set. set) (IsSetOf (HasIpBlocks text.now))
             (HasIpBlocksFault text.now) result }
         ensures whole { IfOk result (λ set. IsFamilyOf text.now Ipv4 → IsWhole (Holds set)) }
-        // What is printed of a set is read as that set: in IPv4 where it consists of whole IPv4 addresses, in IPv6
+        // The printed text of a set parses back to that set: in IPv4 if it consists of whole IPv4 addresses, in IPv6
         // always.
         ensures reads_back { (family : _) (set : Runs) → IsFamilySet family set
             → text.now ≡ set_text family set
@@ -220,35 +250,38 @@ impl<A: Allocator> IpBlocks<A> {
         Ok(set)
     }
 
-    /// Whether the set has each address of another.
+    /// Returns whether the set has every address of `other`.
     pub fn contains(&self, other: &IpBlocks<A>) -> bool
         ensures { IsTrue result ↔ ((n : ℕ) → Holds other.now n → Holds self.now n) }
     {
         self.set.contains(&other.set)
     }
 
-    /// Whether the set has each address of a range, as those that an entry of a route origin authorization names.
+    /// Returns whether the set has every address of a range, for example of an entry of a ROA (route origin
+    /// authorization).
     pub fn contains_roa(&self, addr: AddressRange) -> bool
         ensures { IsTrue result ↔ ((n : ℕ) → IsWithin (range_bounds addr) n → Holds self.now n) }
     {
         self.contains_block(IpBlock::from(addr))
     }
 
-    /// Whether the set has each address of a block.
+    /// Returns whether the set has every address of a block.
     pub fn contains_block(&self, block: IpBlock) -> bool
         ensures { IsTrue result ↔ ((n : ℕ) → IsWithin (ip_bounds block) n → Holds self.now n) }
     {
         self.set.contains_block(&block)
     }
 
-    /// Whether the set has an address of a block.
+    /// Returns whether the set has at least one address of a block.
     pub fn intersects_block(&self, block: IpBlock) -> bool
         ensures { IsTrue result ↔ ((n : ℕ) × IsWithin (ip_bounds block) n × Holds self.now n) }
     {
         self.set.intersects_block(&block)
     }
 
-    /// Whether the set consists of whole IPv4 addresses: with a number it has each number with the same first 32 bits.
+    /// Returns whether the set consists of whole IPv4 addresses.
+    ///
+    /// It does if the set has, with each of its numbers, every number with the same first 32 bits.
     pub fn is_whole_v4(&self) -> bool
         ensures { IsTrue result ↔ IsWhole (Holds self.now) }
     {
@@ -261,7 +294,11 @@ impl<A: Allocator> IpBlocks<A> {
         true
     }
 
-    /// The set of the addresses that both have. `AllocError` where there is no memory for it.
+    /// Returns the intersection of `self` and `other`: the addresses that are in both.
+    ///
+    /// # Errors
+    ///
+    /// [`AllocError`] if an allocation fails.
     pub fn intersection(&self, alloc: A, other: &IpBlocks<A>) -> Result<IpBlocks<A>, AllocError>
     where
         A: Copy,
@@ -271,8 +308,11 @@ impl<A: Allocator> IpBlocks<A> {
         Ok(IpBlocks { set })
     }
 
-    /// Keeps the addresses that the other has too. `AllocError` where there is no memory for it; then the set stays as
-    /// it was.
+    /// Replaces the set by its intersection with `other`.
+    ///
+    /// # Errors
+    ///
+    /// [`AllocError`] if an allocation fails. The set is unchanged then.
     pub fn intersection_assign(&mut self, alloc: A, other: &IpBlocks<A>) -> Result<(), AllocError>
     where
         A: Copy,
@@ -282,7 +322,11 @@ impl<A: Allocator> IpBlocks<A> {
         self.set.intersection_assign(alloc, &other.set)
     }
 
-    /// The set of the addresses that the other doesn't have. `AllocError` where there is no memory for it.
+    /// Returns the difference: the addresses of `self` that aren't in `other`.
+    ///
+    /// # Errors
+    ///
+    /// [`AllocError`] if an allocation fails.
     pub fn difference(&self, alloc: A, other: &IpBlocks<A>) -> Result<IpBlocks<A>, AllocError>
     where
         A: Copy,
@@ -292,7 +336,11 @@ impl<A: Allocator> IpBlocks<A> {
         Ok(IpBlocks { set })
     }
 
-    /// The set of the addresses that one or the other has. `AllocError` where there is no memory for it.
+    /// Returns the union of `self` and `other`: the addresses that are in at least one of them.
+    ///
+    /// # Errors
+    ///
+    /// [`AllocError`] if an allocation fails.
     pub fn union(&self, alloc: A, other: &IpBlocks<A>) -> Result<IpBlocks<A>, AllocError>
     where
         A: Copy,
@@ -308,7 +356,7 @@ impl<'a, A: Allocator> IntoIterator for &'a IpBlocks<A> {
 
     type IntoIter = Iter<'a, IpBlock>;
 
-    // what `iter` says
+    // The postconditions of `iter`.
     ghost into_iter_gives = { λ set blocks. (map ip_bounds (iter_rest blocks) ≡ set.now)
         × (iter_rest blocks ≡ map new_ip_block set.now)
         × IsIpSet set.now };
@@ -324,7 +372,7 @@ impl<A: Allocator> fmt::Debug for IpBlocks<A> {
     }
 }
 
-/// The set of no addresses.
+/// The default is the set of no addresses.
 impl<A: Allocator> Default for IpBlocks<A> {
     ghost is_default = { λ set. set ≡ [] };
 
@@ -333,7 +381,7 @@ impl<A: Allocator> Default for IpBlocks<A> {
     }
 }
 
-/// Sets are equal exactly where they have the same addresses.
+/// Sets are equal if and only if they have the same addresses.
 impl<A: Allocator> PartialEq for IpBlocks<A> {
     ghost eq = { λ a b. same_runs a b };
 

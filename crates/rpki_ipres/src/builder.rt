@@ -1,4 +1,4 @@
-//! Sets of addresses, built block by block.
+//! Builders of sets of addresses.
 ghost use Rattle.std.specs.Prelude.{◌≡◌, ◌++◌, [], ◌∷◌, IfOk, OnOk, OnErr, map};
 ghost use Rattle.rpki_chain.specs.Runs.{Holds, IsRunsOf};
 ghost use Rattle.rpki_ip_block.specs.Blocks.{ip_bounds};
@@ -12,9 +12,9 @@ use std::alloc::{AllocError, Allocator, Global};
 use std::fmt;
 use std::marker::Model;
 
-/// Collects blocks of addresses, in any order, for a set of them. It keeps the allocator that it is given.
+/// Collects blocks of addresses, in any order, and builds their set. It stores the allocator that `new` gets.
 ///
-/// Contracts see it as the list of the blocks' least and greatest addresses, in the order in which they came.
+/// Contracts see it as the list of the blocks' least and greatest addresses, in the order in which they were added.
 #[derive(Drop)]
 pub struct IpBlocksBuilder<A: Allocator = Global> {
     blocks: BlockSetBuilder<IpBlock, A>,
@@ -29,7 +29,7 @@ impl<A: Allocator> Model for IpBlocksBuilder<A> {
 }
 
 impl<A: Allocator> IpBlocksBuilder<A> {
-    /// A builder that has no blocks yet.
+    /// Returns a builder without blocks.
     pub fn new(alloc: A) -> IpBlocksBuilder<A>
         ensures { result ≡ [] }
     {
@@ -38,7 +38,11 @@ impl<A: Allocator> IpBlocksBuilder<A> {
         }
     }
 
-    /// Adds a block. `AllocError` where there is no memory for it; then the builder has the blocks that it had.
+    /// Adds a block.
+    ///
+    /// # Errors
+    ///
+    /// [`AllocError`] if an allocation fails. The builder's blocks are unchanged then.
     pub fn push(&mut self, block: IpBlock) -> Result<(), AllocError>
         ensures ok { OnOk result (self.new ≡ self.old ++ ip_bounds block ∷ []) }
         ensures err { OnErr result (self.new ≡ self.old) }
@@ -46,8 +50,11 @@ impl<A: Allocator> IpBlocksBuilder<A> {
         self.blocks.push(block)
     }
 
-    /// Adds several blocks. `AllocError` where there is no memory for them; then the builder has the blocks that it
-    /// had.
+    /// Adds several blocks.
+    ///
+    /// # Errors
+    ///
+    /// [`AllocError`] if an allocation fails. The builder's blocks are unchanged then.
     pub fn extend_from(&mut self, blocks: &[IpBlock]) -> Result<(), AllocError>
         ensures ok { OnOk result (self.new ≡ self.old ++ map ip_bounds blocks.now) }
         ensures err { OnErr result (self.new ≡ self.old) }
@@ -55,7 +62,11 @@ impl<A: Allocator> IpBlocksBuilder<A> {
         self.blocks.extend_from(blocks)
     }
 
-    /// The set of the addresses that some of the blocks has. `AllocError` where there is no memory for it.
+    /// Returns the set of the addresses that are in at least one of the blocks.
+    ///
+    /// # Errors
+    ///
+    /// [`AllocError`] if an allocation fails.
     pub fn finalize(self) -> Result<IpBlocks<A>, AllocError>
     where
         A: Copy,
@@ -66,10 +77,10 @@ impl<A: Allocator> IpBlocksBuilder<A> {
     }
 }
 
-/// Builds resources of addresses: inherited ones, or a list of blocks, which is empty at first.
+/// Builds resources of addresses: inherited resources, or a list of blocks, which is empty at first.
 ///
-/// Contracts see it as the list of the blocks' least and greatest addresses, in the order in which they came, and as
-/// None where the resources are inherited.
+/// Contracts see it as the list of the blocks' least and greatest addresses, in the order in which they were added. For
+/// inherited resources they see None.
 pub type IpResourcesBuilder<A = Global> = ResourcesBuilder<IpBlocksBuilder<A>>;
 
 impl<A: Allocator + Copy> CollectBlocks for IpBlocksBuilder<A> {

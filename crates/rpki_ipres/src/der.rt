@@ -1,4 +1,4 @@
-//! Sets and resources of addresses in DER (RFC 3779, section 2.2.3).
+//! Sets and resources of addresses in DER (RFC 3779, 2.2.3).
 mod blocks;
 pub mod laws;
 mod resources;

@@ -1,4 +1,4 @@
-//! Sets of addresses, to be displayed as those of a family.
+//! Sets of addresses for display as sets of a family.
 ghost use Rattle.std.specs.Prelude.{◌≡◌, Some};
 ghost use Rattle.rpki_der.specs.declared.family.AddressFamily.TheVariants.{Ipv4, Ipv6};
 ghost use Rattle.rpki_ipres.specs.SetText.{set_text};
@@ -10,7 +10,7 @@ use std::alloc::{Allocator, Global};
 use std::fmt;
 use std::marker::Model;
 
-/// A set of addresses that is displayed as one of a family.
+/// A set of addresses that is displayed as a set of a family.
 ///
 /// Contracts see it as the family and the runs of the set.
 #[derive(Drop)]
@@ -29,21 +29,21 @@ impl<'a, A: Allocator> Model for IpBlocksForFamily<'a, A> {
 }
 
 impl<'a, A: Allocator> IpBlocksForFamily<'a, A> {
-    /// The set, to be displayed as one of the family.
+    /// Returns the set for display as a set of `family`.
     pub(crate) fn of(family: AddressFamily, blocks: &'a IpBlocks<A>) -> IpBlocksForFamily<'a, A>
         ensures { result ≡ (family, blocks.now) }
     {
         IpBlocksForFamily { family, blocks }
     }
 
-    /// The set, to be displayed as one of IPv4.
+    /// Returns the set for display as an IPv4 set.
     pub fn v4(blocks: &'a IpBlocks<A>) -> IpBlocksForFamily<'a, A>
         ensures { result ≡ (Ipv4, blocks.now) }
     {
         IpBlocksForFamily::of(AddressFamily::Ipv4, blocks)
     }
 
-    /// The set, to be displayed as one of IPv6.
+    /// Returns the set for display as an IPv6 set.
     pub fn v6(blocks: &'a IpBlocks<A>) -> IpBlocksForFamily<'a, A>
         ensures { result ≡ (Ipv6, blocks.now) }
     {
@@ -60,8 +60,10 @@ impl<'a, A: Allocator> fmt::Debug for IpBlocksForFamily<'a, A> {
     }
 }
 
-/// Prints the blocks of the set, ascending, joined by a comma and a space; nothing, where the set is empty. Each is
-/// printed as [`IpBlock::fmt_v4`](crate::block::IpBlock::fmt_v4) or `fmt_v6` writes it.
+/// Prints the blocks of the set, ascending, joined by a comma and a space.
+///
+/// Each block is printed as by [`IpBlock::fmt_v4`](crate::block::IpBlock::fmt_v4) or `fmt_v6`. The empty set prints
+/// nothing.
 impl<'a, A: Allocator> fmt::Display for IpBlocksForFamily<'a, A> {
     ghost output = { λ d. Some (set_text d.0 d.1) };
 

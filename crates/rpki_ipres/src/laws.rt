@@ -1,5 +1,5 @@
-//! Laws of what the calls on sets answer, and of what is printed of sets. Each holds of any answers that meet the
-//! calls' contracts.
+//! Lemmas about the results of the calls on sets, and about the printed text of sets. Each lemma holds for all results
+//! that meet the calls' contracts.
 ghost use Rattle.std.specs.Prelude.{◌≡◌, ℕ, List, ◌↔◌, All};
 ghost use Rattle.rpki_chain.specs.Claims.{Claim};
 ghost use Rattle.rpki_chain.specs.Operations.{IsUnion, IsIntersection, IsDifference};
@@ -24,8 +24,10 @@ pub fn laws_of_whole_sets()
         IsWhole (Holds a) → IsWhole (Holds b) → IsDifference a b set → IsWhole (Holds set) }
 {}
 
-/// Where a set and the claims on it consist of whole IPv4 addresses, so does what a claim or a path of claims leaves,
-/// and so does the excess of what is refused.
+/// Claims and paths keep whole IPv4 addresses whole.
+///
+/// The lemma is for a set and claims that consist of whole IPv4 addresses. What a claim or a path of claims leaves then
+/// consists of whole IPv4 addresses, and so do the overclaimed addresses of a refusal.
 pub fn laws_of_whole_claims()
     ensures issued { (set issued : Runs) (claim : Claim) (mode : Overclaim) → IsWhole (Holds set)
         → IsWholeClaim claim →
@@ -47,17 +49,20 @@ pub fn laws_of_whole_claims()
         IsWhole (Holds refusal.fault) }
 {}
 
-/// Resources of addresses are resources of IPv6, and of IPv4 exactly where what they list consists of whole IPv4
-/// addresses.
+/// States which claims of addresses are claims of a family.
+///
+/// All resources of addresses are resources of IPv6. They are resources of IPv4 if and only if what they list consists
+/// of whole IPv4 addresses.
 pub fn claims_of_families()
     ensures v4 { (claim : Claim) → IsIpClaim claim → IsWholeClaim claim → IsFamilyClaim Ipv4 claim }
     ensures whole { (claim : Claim) → IsFamilyClaim Ipv4 claim → IsWholeClaim claim }
     ensures v6 { (claim : Claim) → IsIpClaim claim → IsFamilyClaim Ipv6 claim }
 {}
 
-/// What is printed of a set of a family is a list of that family that writes the set, and a list that tells no family
-/// which does. A list writes one set at most, so two sets of a family print alike exactly where they have the same
-/// addresses.
+/// The printed text of a set of a family parses back to that set, and a text parses to at most one set.
+///
+/// The text parses as a list of that family, and also as a list without a given family. So two sets of a family print
+/// alike if and only if they have the same addresses.
 pub fn printed_sets()
     ensures written { (family : _) (set : Runs) →
         IsFamilySet family set → IsSetOf (HasBlocks family (set_text family set)) set }

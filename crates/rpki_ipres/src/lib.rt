@@ -1,6 +1,6 @@
 //! Sets of IP addresses and resources (RFC 3779, 2), with their texts and their DER.
 //!
-//! Resources of both families are written, as in the program `example_holdings`:
+//! This code of the program `example_holdings` encodes the resources of both families:
 //!
 //! ```rust
 //! let mut octets = Vec::new(alloc);
@@ -32,5 +32,5 @@ pub use resources::{InheritedIpResources, IpResources};
 pub use text::{DisplayV4Block, DisplayV6Block};
 pub use verify::IpStep;
 
-/// Blocks of addresses, which stand in a crate of their own below this one.
+/// Blocks of addresses, from the crate below this one.
 pub use rpki_ip_block::{block, list, text};

@@ -1,4 +1,4 @@
-//! Faults of claims of addresses, with what is claimed too much.
+//! Faults of claims of addresses, with the overclaimed addresses.
 ghost use Rattle.std.specs.Prelude.{◌≡◌, ◌↔◌, IsTrue, IfOk, Some};
 ghost use Rattle.rpki_chains.specs.Equality.{same_runs};
 ghost use Rattle.rpki_chains.specs.EqualityLaws.{runs_per, runs_equiv};
@@ -16,7 +16,9 @@ use std::error::Error;
 use std::fmt;
 use std::marker::{Model, PhantomData};
 
-/// Addresses are claimed that the issuer doesn't have. The fault is printed as one of a family.
+/// Reports that addresses are claimed that the issuer doesn't have.
+///
+/// The fault is printed as a fault of a family, by [`OverclaimedIpResources::v4`] or [`OverclaimedIpResources::v6`].
 ///
 /// Contracts see the runs of these addresses.
 #[derive(Drop)]
@@ -33,14 +35,15 @@ impl<A: Allocator> Model for OverclaimedIpResources<A> {
 }
 
 impl<A: Allocator> OverclaimedIpResources<A> {
-    /// The addresses that are claimed and that the issuer doesn't have.
+    /// Returns the addresses that are claimed and that the issuer doesn't have.
     pub fn excess(&self) -> &IpBlocks<A>
         ensures { result.now ≡ self.now }
     {
         &self.excess
     }
 
-    /// Returns the fault to be printed as one of a family, without the precondition of [`OverclaimedIpResources::v4`].
+    /// Returns the fault for display as a fault of `family`, without the precondition of
+    /// [`OverclaimedIpResources::v4`].
     ///
     /// The family is a value, and the fault is borrowed. [`OverclaimedIpResources::of_family`] takes the fault, and the
     /// family is a type. Internal API of the crates above: a caller prints the fault that `v4` or `v6` returns.
@@ -53,7 +56,11 @@ impl<A: Allocator> OverclaimedIpResources<A> {
         }
     }
 
-    /// The same fault; its addresses have one owner more. `AllocError` where std refuses that owner.
+    /// Returns the same fault, which shares the memory of its addresses with `self` (reference count + 1).
+    ///
+    /// # Errors
+    ///
+    /// [`AllocError`] if std refuses the additional reference.
     pub fn clone(&self) -> Result<OverclaimedIpResources<A>, AllocError>
         ensures { IfOk result (λ fault. fault ≡ self.now) }
     {
@@ -61,7 +68,7 @@ impl<A: Allocator> OverclaimedIpResources<A> {
         Ok(OverclaimedIpResources { excess })
     }
 
-    /// The fault of an excess.
+    /// Returns the fault of overclaimed addresses.
     pub(crate) fn of(excess: BlockSet<IpBlock, A>) -> OverclaimedIpResources<A>
         ensures { result ≡ excess }
     {
@@ -70,11 +77,15 @@ impl<A: Allocator> OverclaimedIpResources<A> {
         }
     }
 
-    /// The fault as one of a family. In IPv4 the excess must consist of whole addresses, as
-    /// [`IpBlocks::is_whole_v4`] tests; it does where the set and all claims did.
+    /// Returns the fault as a fault of the family `F`.
     ///
     /// The family is a type, and the fault is taken. [`OverclaimedIpResources::as_family`] borrows the fault, and the
     /// family is a value.
+    ///
+    /// # Preconditions
+    ///
+    /// In IPv4 the overclaimed addresses are whole IPv4 addresses, as [`IpBlocks::is_whole_v4`] tests. They are if the
+    /// set and all claims consist of whole IPv4 addresses.
     pub fn of_family<F: Family>(self) -> OverclaimedFamilyResources<F, A>
         requires { IsWholeIn F.FAMILY self }
         ensures { result ≡ self }
@@ -85,8 +96,12 @@ impl<A: Allocator> OverclaimedIpResources<A> {
         }
     }
 
-    /// The fault as one of IPv4. The excess must consist of whole IPv4 addresses, as
-    /// [`IpBlocks::is_whole_v4`] tests; it does where the set and all claims did.
+    /// Returns the fault as a fault of IPv4.
+    ///
+    /// # Preconditions
+    ///
+    /// The overclaimed addresses are whole IPv4 addresses, as [`IpBlocks::is_whole_v4`] tests. They are if the set and
+    /// all claims consist of whole IPv4 addresses.
     pub fn v4(self) -> OverclaimedIpv4Resources<A>
         requires { IsWhole (Holds self) }
         ensures { result ≡ self }
@@ -94,7 +109,7 @@ impl<A: Allocator> OverclaimedIpResources<A> {
         self.of_family()
     }
 
-    /// The fault as one of IPv6.
+    /// Returns the fault as a fault of IPv6.
     pub fn v6(self) -> OverclaimedIpv6Resources<A>
         ensures { result ≡ self }
     {
@@ -108,7 +123,7 @@ impl<A: Allocator> fmt::Debug for OverclaimedIpResources<A> {
     }
 }
 
-/// Faults are equal where their excess is.
+/// Faults are equal if and only if their overclaimed addresses are equal.
 impl<A: Allocator> PartialEq for OverclaimedIpResources<A> {
     ghost eq = { λ a b. same_runs a b };
 
@@ -126,9 +141,9 @@ impl<A: Allocator> Eq for OverclaimedIpResources<A> {
     ghost laws = { runs_equiv };
 }
 
-/// A fault of claims of addresses that is displayed as one of a family.
+/// A fault of claims of addresses that is displayed as a fault of a family.
 ///
-/// Contracts see it as the family and the runs of what is claimed too much.
+/// Contracts see it as the family and the runs of the overclaimed addresses.
 #[derive(Drop)]
 pub struct OverclaimedForFamily<'a, A: Allocator = Global> {
     family: AddressFamily,
@@ -153,8 +168,10 @@ impl<'a, A: Allocator> fmt::Debug for OverclaimedForFamily<'a, A> {
     }
 }
 
-/// Prints the blocks of the excess as those of the family, ascending, joined by a comma and a space, after a text of
-/// what it is.
+/// Prints `overclaimed IPv4 resources: ` or `overclaimed IPv6 resources: `, and then the blocks of the overclaimed
+/// addresses.
+///
+/// The blocks are printed as blocks of the family, ascending, joined by a comma and a space.
 impl<'a, A: Allocator> fmt::Display for OverclaimedForFamily<'a, A> {
     ghost output = { λ d. Some (overclaimed_ip_text d.0 d.1) };
 
@@ -195,7 +212,7 @@ impl<F: Family, A: Allocator> Model for OverclaimedFamilyResources<F, A> {
 }
 
 impl<F: Family, A: Allocator> OverclaimedFamilyResources<F, A> {
-    /// The addresses that are claimed and that the issuer doesn't have.
+    /// Returns the addresses that are claimed and that the issuer doesn't have.
     pub fn excess(&self) -> &IpBlocks<A>
         ensures value { result.now ≡ self.now }
         ensures whole { IsWholeIn F.FAMILY self.now }
@@ -203,7 +220,11 @@ impl<F: Family, A: Allocator> OverclaimedFamilyResources<F, A> {
         &self.excess
     }
 
-    /// The same fault; its addresses have one owner more. `AllocError` where std refuses that owner.
+    /// Returns the same fault, which shares the memory of its addresses with `self` (reference count + 1).
+    ///
+    /// # Errors
+    ///
+    /// [`AllocError`] if std refuses the additional reference.
     pub fn clone(&self) -> Result<OverclaimedFamilyResources<F, A>, AllocError>
         ensures { IfOk result (λ fault. fault ≡ self.now) }
     {
@@ -221,7 +242,7 @@ impl<F: Family, A: Allocator> fmt::Debug for OverclaimedFamilyResources<F, A> {
     }
 }
 
-/// Faults are equal where their excess is.
+/// Faults are equal if and only if their overclaimed addresses are equal.
 impl<F: Family, A: Allocator> PartialEq for OverclaimedFamilyResources<F, A> {
     ghost eq = { λ a b. same_runs a b };
 
@@ -239,7 +260,7 @@ impl<F: Family, A: Allocator> Eq for OverclaimedFamilyResources<F, A> {
     ghost laws = { runs_equiv };
 }
 
-/// Prints the excess as [`OverclaimedForFamily`] does.
+/// Prints the overclaimed addresses as [`OverclaimedForFamily`] does.
 impl<F: Family, A: Allocator> fmt::Display for OverclaimedFamilyResources<F, A> {
     ghost output = { λ excess. Some (overclaimed_ip_text F.FAMILY excess) };
 

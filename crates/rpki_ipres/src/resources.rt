@@ -30,10 +30,11 @@ use std::error::Error;
 use std::fmt;
 use std::marker::Model;
 
-/// The resources of one family of addresses: missing, inherited from the issuer, or a set of addresses that isn't empty
-/// (RFC 3779, 2.2.3.4 to 2.2.3.6).
+/// The resources of one family of addresses (RFC 3779, 2.2.3.4 to 2.2.3.6).
 ///
-/// Contracts see them as Missing, as Inherit, or as Blocks of the runs of the set, of which there is one at least.
+/// They are missing, inherited from the issuer, or a set of addresses that isn't empty.
+///
+/// Contracts see them as Missing, as Inherit, or as Blocks with the runs of the set, which has at least one run.
 #[derive(Drop)]
 pub struct IpResources<A: Allocator = Global> {
     choice: ResourcesChoice<IpBlocks<A>>,
@@ -50,7 +51,7 @@ impl<A: Allocator> Model for IpResources<A> {
 }
 
 impl<A: Allocator> IpResources<A> {
-    /// No resources.
+    /// Returns missing resources.
     pub fn missing() -> IpResources<A>
         ensures { result ≡ Missing }
     {
@@ -59,7 +60,7 @@ impl<A: Allocator> IpResources<A> {
         }
     }
 
-    /// The resources of the issuer.
+    /// Returns the resources of the issuer.
     pub fn inherit() -> IpResources<A>
         ensures { result ≡ Inherit }
     {
@@ -68,7 +69,7 @@ impl<A: Allocator> IpResources<A> {
         }
     }
 
-    /// The addresses of a set, and missing resources where it has none.
+    /// Returns resources that list `blocks`. They are missing if the set is empty.
     pub fn blocks(blocks: IpBlocks<A>) -> IpResources<A>
         ensures { result ≡ claim_of blocks }
     {
@@ -80,33 +81,34 @@ impl<A: Allocator> IpResources<A> {
         }
     }
 
-    /// Whether there are no resources.
+    /// Returns whether the resources are missing.
     pub fn is_missing(&self) -> bool
         ensures { IsTrue result ↔ (self.now ≡ Missing) }
     {
         matches!(self.choice, ResourcesChoice::Missing)
     }
 
-    /// Whether the resources are those of the issuer.
+    /// Returns whether the resources are those of the issuer.
     pub fn is_inherited(&self) -> bool
         ensures { IsTrue result ↔ (self.now ≡ Inherit) }
     {
         self.choice.is_inherited()
     }
 
-    /// Whether the resources are inherited or listed.
+    /// Returns whether the resources are inherited or listed.
     pub fn is_present(&self) -> bool
         ensures present { IsTrue result ↔ (self.now ≢ Missing) }
         ensures some { ListsSome self.now }
         ensures claim { IsIpClaim self.now }
     {
-        // what is listed is canonical: the set in the choice tells it
+        // `as_choice` states that a listed set is canonical, which `claim` needs.
         let _listed = self.as_choice();
         self.choice.is_present()
     }
 
-    /// Whether what is listed consists of whole IPv4 addresses, as by [`IpBlocks::is_whole_v4`]. Nothing is listed of
-    /// missing and of inherited resources.
+    /// Returns whether the listed set consists of whole IPv4 addresses, as [`IpBlocks::is_whole_v4`] does.
+    ///
+    /// The call returns true for missing and inherited resources, which list nothing.
     pub fn is_whole_v4(&self) -> bool
         ensures { IsTrue result ↔ IsWholeClaim self.now }
     {
@@ -116,8 +118,12 @@ impl<A: Allocator> IpResources<A> {
         }
     }
 
-    /// The set that is listed, and the set of no addresses where the resources are missing. `Refused` where they are
-    /// inherited, `Memory` where there is no memory for the set.
+    /// Returns the listed set, or the empty set if the resources are missing.
+    ///
+    /// # Errors
+    ///
+    /// - [`OrMemory::Refused`]: the resources are inherited.
+    /// - [`OrMemory::Memory`]: out of memory.
     pub fn to_blocks(&self) -> Result<IpBlocks<A>, OrMemory<InheritedIpResources>>
         ensures { MatchChoice self.now (result ≡ Ok []) (IsRefused result)
             (λ listed. MatchResult result (λ set. set ≡ listed) IsMemory) }
@@ -129,7 +135,11 @@ impl<A: Allocator> IpResources<A> {
         }
     }
 
-    /// The same resources; a set that they list has one owner more. `AllocError` where std refuses that owner.
+    /// Returns the same resources. A listed set shares its memory with that of `self` (reference count + 1).
+    ///
+    /// # Errors
+    ///
+    /// [`AllocError`] if std refuses the additional reference.
     pub fn clone(&self) -> Result<IpResources<A>, AllocError>
         ensures { IfOk result (λ resources. resources ≡ self.now) }
     {
@@ -138,10 +148,10 @@ impl<A: Allocator> IpResources<A> {
     }
 }
 
-// What the reader and the writer see.
+// Internal steps of the DER reader and writer.
 impl<A: Allocator> IpResources<A> {
-    /// Resources as they were read, with the set that [`make_set`] makes of the blocks in their place. `AllocError`
-    /// where it answers it.
+    /// Makes a set of the blocks that were read, if the resources list any, by [`make_set`]. Returns the [`AllocError`]
+    /// of that call.
     pub(crate) fn from_listed(
         alloc: A,
         listed: ResourcesChoice<Vec<IpBlock, A>>,
@@ -164,7 +174,7 @@ impl<A: Allocator> IpResources<A> {
         Ok(IpResources { choice })
     }
 
-    /// The blocks that are listed, ascending.
+    /// Returns the listed blocks, ascending.
     #[tactic(auto, using(crate::proofs::SetWritten::written_as_runs))]
     pub(crate) fn as_choice(&self) -> ResourcesChoice<&[IpBlock]>
         ensures octets { choice_octets (λ blocks. sequence_octets ip_block_der blocks.now) result
@@ -186,8 +196,11 @@ impl<A: Allocator> IpBlocks<A> {
     ghost use Rattle.std.specs.Prelude.{◌≡◌, [], IsErr, Ok};
     ghost use Rattle.rpki_chain.specs.Choices.{MatchChoice};
 
-    /// The set that resources list, and the set of no addresses where they are missing. Inherited resources are
-    /// refused.
+    /// Returns the set that the resources list, or the empty set if they are missing.
+    ///
+    /// # Errors
+    ///
+    /// [`InheritedIpResources`] if the resources are inherited.
     pub fn from_resources(resources: IpResources<A>) -> Result<IpBlocks<A>, InheritedIpResources>
         ensures { MatchChoice resources (result ≡ Ok []) (IsErr result)
             (λ listed. result ≡ Ok listed) }
@@ -230,7 +243,7 @@ impl<A: Allocator> fmt::Debug for IpResources<A> {
     }
 }
 
-/// Resources are equal where both are missing, both are inherited, or both list the same addresses.
+/// Resources are equal if both are missing, both are inherited, or both list the same addresses. Else they are unequal.
 impl<A: Allocator> PartialEq for IpResources<A> {
     ghost eq = { choice_eq same_runs };
 
@@ -248,7 +261,7 @@ impl<A: Allocator> Eq for IpResources<A> {
     ghost laws = { choice_equiv same_runs runs_equiv };
 }
 
-/// Resources are inherited, and so are no set of addresses by themselves.
+/// The resources are inherited, so they are no set of addresses by themselves.
 #[derive(Clone, Copy, Debug, PartialEq, Eq)]
 pub struct InheritedIpResources;
 

@@ -1,4 +1,4 @@
-//! What claims of addresses leave of a set (RFC 3779, 2.3; RFC 6487, 7.2; RFC 8360, 4).
+//! Checks of claims of addresses against an issuer's set (RFC 3779, 2.3; RFC 6487, 7.2; RFC 8360, 4).
 ghost use Rattle.std.specs.Prelude.{◌↔◌, IsOk, IfErr};
 ghost use Rattle.rpki_text.specs.Memory.{IfRefused};
 ghost use Rattle.rpki_text.specs.Reading.{AnswersOrMemory};
@@ -12,13 +12,21 @@ use rpki_chain::path::{Claims, Overclaim, PathRefusal, Step};
 use rpki_text::memory::OrMemory;
 use std::alloc::{Allocator, Global};
 
-/// A step of a path: the addresses that are claimed, and what becomes of a claim that lists too many.
+/// A step of a path: the addresses that are claimed, and what happens to a claim that lists too many.
 pub type IpStep<A = Global> = Step<IpResources<A>>;
 
 impl<A: Allocator> IpBlocks<A> {
-    /// What a claim leaves of the set: nothing where it is missing, all where it is inherited, and what both have where
-    /// it lists a set. `Refused` with the excess where the mode is [`Overclaim::Refuse`] and the claim lists more than
-    /// the set has; `Memory` where there is no memory for the answer.
+    /// Returns what a claim leaves of the set.
+    ///
+    /// - Missing resources leave nothing.
+    /// - Inherited resources leave the whole set.
+    /// - Listed resources leave the intersection of the set and the list.
+    ///
+    /// # Errors
+    ///
+    /// - [`OrMemory::Refused`] with the overclaimed addresses: the claim lists more than the set has, and `mode` is
+    ///   [`Overclaim::Refuse`].
+    /// - [`OrMemory::Memory`]: out of memory.
     pub fn verify_issued(
         &self,
         alloc: A,
@@ -39,9 +47,15 @@ impl<A: Allocator> IpBlocks<A> {
         }
     }
 
-    /// Whether the claim of an issuer has the whole set: a missing one the empty set alone, an inherited one each set,
-    /// and one that lists a set what lies in it; this takes no memory. `Refused` with what the issuer doesn't have,
-    /// `Memory` where there is no memory for that.
+    /// Returns Ok if the claim of an issuer covers the whole set.
+    ///
+    /// Missing resources cover the empty set only. Inherited resources cover every set. Listed resources cover the sets
+    /// within the list. A call for a covered set always returns Ok and allocates nothing.
+    ///
+    /// # Errors
+    ///
+    /// - [`OrMemory::Refused`] with the addresses of the set that the claim doesn't cover. There is at least one.
+    /// - [`OrMemory::Memory`]: out of memory for these addresses.
     pub fn verify_covered(
         &self,
         alloc: A,
@@ -58,9 +72,14 @@ impl<A: Allocator> IpBlocks<A> {
         }
     }
 
-    /// What a path of claims leaves of the set, each made on what the steps before it leave: all of the set where there
-    /// is no step. `Refused` with the first step that is refused, counted from 0, and its excess; `Memory` where there
-    /// is no memory for a set on the way.
+    /// Returns what a path of claims leaves of the set. Each claim is made on what the steps before it leave.
+    ///
+    /// A path without steps leaves the whole set.
+    ///
+    /// # Errors
+    ///
+    /// - [`OrMemory::Refused`] with the index (from 0) of the first refused step, and its overclaimed addresses.
+    /// - [`OrMemory::Memory`]: out of memory.
     pub fn verify_path(
         &self,
         alloc: A,

@@ -36,13 +36,19 @@ impl<A: Allocator> IpBlocks<A> {
     ghost use Rattle.rpki_ipres.specs.SetDer.{IsIpBlockSequence, ip_family_der, ip_set_der};
     ghost use Rattle.rpki_ipres.specs.SetText.{IsFamilySet, IsIpSet};
 
-    /// Takes a SEQUENCE of blocks, which may be none, and answers the set of their addresses. The blocks may come in
-    /// any order and may overlap, and their prefixes have lengths up to 128.
+    /// Reads a SEQUENCE of blocks and returns the set of their addresses.
     ///
-    /// `Refused` with the first fault: that of the SEQUENCE as in [`Cursor::take_sequence`], or that of a block as in
-    /// [`IpBlock::take_opt_from`]. From a strict cursor also `NotCanonical` where a block doesn't begin more than one
-    /// above the greatest address of the one before it (RFC 3779, 2.2.3.6). `Memory` where there is no memory for the
-    /// blocks. The cursor then stays.
+    /// The SEQUENCE may be empty. The blocks may be in any order and may overlap. Their prefixes have lengths up to
+    /// 128.
+    ///
+    /// # Errors
+    ///
+    /// The cursor is unchanged then.
+    ///
+    /// - [`OrMemory::Refused`] with the first fault. It is a fault of the SEQUENCE as in [`Cursor::take_sequence`], or
+    ///   of a block as in [`IpBlock::take_opt_from`]. From a strict cursor it is also `NotCanonical`, if a block
+    ///   doesn't begin more than one above the greatest address of the block before it (RFC 3779, 2.2.3.6).
+    /// - [`OrMemory::Memory`]: an allocation failed.
     pub fn take_from(alloc: A, cursor: &mut Cursor<'_>) -> Result<IpBlocks<A>, OrMemory<DerError>>
     where
         A: Copy,
@@ -51,15 +57,15 @@ impl<A: Allocator> IpBlocks<A> {
         ensures exact { Lenient cursor.old
             (TakesSaidOrMemory (IsRunsOfBlocks ip_bounds) cursor.old cursor.new result
             (ip_blocks_at 128)) }
-        // What is written of a set is read as that set, whatever follows it.
+        // The encoding of a set is read back as that set, with any octets after it.
         ensures reads_back { (set : Runs) (rest : List ℕ) → IsIpSet set
             → left cursor.old ≡ ip_set_der set ++ rest
             → MatchResult result (λ read. (read ≡ set) × (left cursor.new ≡ rest)) IsMemory }
-        // A strict cursor takes what is written of a set.
+        // A strict cursor accepts exactly the encodings of sets.
         ensures strict { Strict cursor.old
             (ReadsOrMemory (Spells IsIpSet ip_set_der) (λ set. set) cursor.old cursor.new result) }
         ensures refused { NotCanonicalOrMemory (IsIpBlockSequence 128) cursor.old result }
-        // In either mode.
+        // This clause is for both modes.
         ensures by_mode { TakesSaidOrMemory (IsRunsOfBlocks ip_bounds) cursor.old cursor.new result
             (ip_blocks_by (is_strict cursor.old) 128) }
         ensures mode { is_strict cursor.new ≡ is_strict cursor.old }
@@ -67,8 +73,12 @@ impl<A: Allocator> IpBlocks<A> {
         Self::next_set(alloc, cursor, AddressFamily::Ipv6)
     }
 
-    /// Takes a SEQUENCE of blocks of the family as `take_from` does. `BadPrefix` also for a prefix that is longer than
-    /// the family's addresses.
+    /// Reads a SEQUENCE of blocks of `family` as `take_from` does.
+    ///
+    /// # Errors
+    ///
+    /// The errors are those of `take_from`. `BadPrefix` is also returned for a prefix that is longer than the family's
+    /// addresses. The cursor is unchanged then.
     pub fn take_from_with_family(
         alloc: A,
         cursor: &mut Cursor<'_>,
@@ -83,17 +93,17 @@ impl<A: Allocator> IpBlocks<A> {
             (TakesSaidOrMemory (IsRunsOfBlocks ip_bounds) cursor.old cursor.new result
             (ip_blocks_at (bits_of family))) }
         ensures whole { IfOk result (λ set. family ≡ Ipv4 → IsWhole (Holds set)) }
-        // What is written of a set of the family is read as that set, whatever follows it.
+        // The encoding of a set of the family is read back as that set, with any octets after it.
         ensures reads_back { (set : Runs) (rest : List ℕ) → IsFamilySet family set
             → left cursor.old ≡ ip_set_der set ++ rest
             → MatchResult result (λ read. (read ≡ set) × (left cursor.new ≡ rest)) IsMemory }
-        // A strict cursor takes what is written of a set of the family.
+        // A strict cursor accepts exactly the encodings of sets of the family.
         ensures strict { Strict cursor.old
             (ReadsOrMemory (Spells (IsFamilySet family) ip_set_der) (λ set. set) cursor.old
             cursor.new result) }
         ensures refused { NotCanonicalOrMemory (IsIpBlockSequence (bits_of family)) cursor.old
             result }
-        // In either mode.
+        // This clause is for both modes.
         ensures by_mode { TakesSaidOrMemory (IsRunsOfBlocks ip_bounds) cursor.old cursor.new result
             (ip_blocks_by (is_strict cursor.old) (bits_of family)) }
         ensures mode { is_strict cursor.new ≡ is_strict cursor.old }
@@ -101,9 +111,13 @@ impl<A: Allocator> IpBlocks<A> {
         Self::next_set(alloc, cursor, family)
     }
 
-    /// Appends the SEQUENCE of the set's runs, ascending: each as a prefix where its addresses are those of one, and
-    /// else as the SEQUENCE of its bounds. `AllocError` where there is no memory for all of it; then the octets stay as
-    /// they were.
+    /// Appends the SEQUENCE of the set's runs to `out`, ascending.
+    ///
+    /// A run is encoded as a prefix if its addresses are those of a prefix, else as the SEQUENCE of its bounds.
+    ///
+    /// # Errors
+    ///
+    /// [`AllocError`] if an allocation fails. The octets of `out` are unchanged then.
     #[tactic(auto, using(crate::proofs::SetWritten::written_as_runs))]
     pub fn encode<B: Allocator>(&self, out: &mut Vec<u8, B>) -> Result<(), AllocError>
         ensures ok { OnOk result (out.new.items ≡ out.old.items ++ ip_set_der self.now) }
@@ -116,12 +130,15 @@ impl<A: Allocator> IpBlocks<A> {
         encode_sequence(self.iter().as_slice(), out)
     }
 
-    /// Appends the SEQUENCE of the family and of what `encode` appends (RFC 3779, 2.2.3.2), and nothing for the empty
-    /// set.
+    /// Appends the SEQUENCE of the family and of what `encode` appends (RFC 3779, 2.2.3.2). The empty set appends
+    /// nothing.
     ///
-    /// A set that is one of the family is read back, from IPv4 if it consists of whole IPv4 addresses. Off those, what
-    /// is written for IPv4 has prefixes and bounds of more than 32 bits, which readers of IPv4 refuse. `AllocError`
-    /// where there is no memory for all of it; then the octets stay as they were.
+    /// A set of the family can be read back. An IPv4 set must consist of whole IPv4 addresses for that. For other sets
+    /// the IPv4 encoding has prefixes and bounds of more than 32 bits, which readers of IPv4 refuse.
+    ///
+    /// # Errors
+    ///
+    /// [`AllocError`] if an allocation fails. The octets of `out` are unchanged then.
     #[tactic(auto, using(crate::proofs::SetWritten::family_written))]
     pub fn encode_family<B: Allocator>(
         &self,
@@ -142,7 +159,7 @@ impl<A: Allocator> IpBlocks<A> {
         put_family(out, family, &ResourcesChoice::Blocks(blocks))
     }
 
-    // The reading behind the takes.
+    // Reads for both `take_from` and `take_from_with_family`.
     fn next_set(
         alloc: A,
         cursor: &mut Cursor<'_>,
@@ -166,7 +183,7 @@ impl<A: Allocator> IpBlocks<A> {
     }
 }
 
-/// Appends the SEQUENCE of a family and of its resources, and nothing for missing ones.
+/// Appends the SEQUENCE of a family and of its resources. Missing resources append nothing.
 pub(crate) fn put_family<B: Allocator>(
     out: &mut Vec<u8, B>,
     family: AddressFamily,
@@ -190,10 +207,9 @@ pub(crate) fn put_family<B: Allocator>(
     Ok(())
 }
 
-/// A family and its resources, and how many octets they have: those of the blocks alone, and all that stand in their
-/// SEQUENCE.
+/// A family, its resources, and two lengths in octets: of the blocks alone, and of the whole content of their SEQUENCE.
 ///
-/// Contracts see what is written of them, as `put_family` appends it.
+/// Contracts see the encoding, as `put_family` appends it.
 #[derive(Drop)]
 pub(crate) struct Member<'a> {
     family: AddressFamily,
@@ -224,7 +240,7 @@ impl<'a> Model for Member<'a> {
 }
 
 impl<'a> Member<'a> {
-    /// The resources of a family; None where no vector can hold them.
+    /// Returns the resources of a family, or None if no vector can hold their encoding.
     pub(crate) fn new(
         family: AddressFamily,
         resources: &'a ResourcesChoice<&'a [IpBlock]>,
@@ -246,7 +262,7 @@ impl<'a> Member<'a> {
         })
     }
 
-    /// How many octets `append` appends.
+    /// Returns how many octets `append` appends.
     pub(crate) fn len(&self) -> usize
         ensures { result ≡ length self.now }
     {
@@ -256,7 +272,7 @@ impl<'a> Member<'a> {
         header_len(tag::SEQUENCE, self.content_len) + self.content_len
     }
 
-    /// Appends what `put_family` does, where there is room for it.
+    /// Appends what `put_family` appends, if `out` has the capacity for it.
     pub(crate) fn append<B: Allocator>(&self, out: &mut Vec<u8, B>)
         requires room { vec_len out.old + length self.now ≤ vec_capacity out.old }
         ensures items { out.new.items ≡ out.old.items ++ self.now }

@@ -1,4 +1,4 @@
-//! What holds of the octets of sets and resources, each law as the contract of a function that does nothing.
+//! Lemmas about the encodings of sets and resources, each as the contract of a function that does nothing.
 ghost use Rattle.std.specs.Prelude.{◌≡◌, ◌≢◌, ℕ, List, [], ◌<◌, ◌^◌, ◌↔◌, ◌++◌, Err, length};
 ghost use Rattle.rpki_der.specs.SequenceFaults.{BeginsEmpty, BeginsWithValue};
 ghost use Rattle.rpki_chain.specs.Claims.{Claim, claim_of};
@@ -16,12 +16,15 @@ ghost use Rattle.rpki_chain.specs.Choices.{if_present};
 ghost use Rattle.rpki_ipres.specs.ResourcesDer.{IsIpFamilies, IsIpResources, ip_families_at, ip_families_der, ip_member_der, ip_resources_at, ip_resources_der};
 ghost use Rattle.rpki_ipres.specs.SetText.{IsFamilySet, IsIpSet};
 
-/// The law of single blocks, which stands in the crate of blocks.
+/// The lemma about single blocks, from the crate of blocks.
 pub use rpki_ip_block::der::laws::one_block;
 
-/// Octets begin with at most one SEQUENCE of blocks, which stands for one set, and with at most one SEQUENCE of a
-/// family and of the SEQUENCE of its blocks, which stands for one family and one set. They begin with the resources of
-/// at most one claim, and with at most one SEQUENCE of families, which have one claim each.
+/// Octets begin with at most one value of each grammar, and this value has one meaning.
+///
+/// - A SEQUENCE of blocks denotes one set.
+/// - A SEQUENCE of a family and of the SEQUENCE of its blocks denotes one family and one set.
+/// - Resources denote one claim.
+/// - A SEQUENCE of families denotes one claim for each family.
 pub fn one_value()
     ensures set { (limit : ℕ) → OneFront (IsIpBlockSequence limit) }
     ensures family { OneFront IsIpFamily }
@@ -29,8 +32,10 @@ pub fn one_value()
     ensures families { OneFront IsIpFamilies }
 {}
 
-/// What is written of a set of a family, of fewer than 2^64 octets, is a SEQUENCE of the family's blocks that stands
-/// for the set. What is written of a set that isn't empty and of its family stands for both.
+/// Encodings of sets of a family conform to the grammar, if they have fewer than 2^64 octets.
+///
+/// The encoding of the set is a SEQUENCE of the family's blocks, which denotes the set. The encoding of a family and of
+/// a set that isn't empty denotes both.
 #[tactic(auto, using(crate::proofs::FamilyWritten::family_says, crate::proofs::FamilyWritten::sequence_says))]
 pub fn written_sets()
     ensures sequence { (family : _) (set : Runs) → IsFamilySet family set →
@@ -40,8 +45,8 @@ pub fn written_sets()
         → IsIpFamily (ip_family_der family set) (family, set) }
 {}
 
-/// Two sets are written alike exactly where they have the same addresses, and so are two sets of one family behind that
-/// family.
+/// Two sets have the same encoding if and only if they have the same addresses. For two sets of one family this also
+/// holds for the encodings with that family.
 pub fn canonical()
     ensures set { (a b : Runs) → IsIpSet a → IsIpSet b →
         (ip_set_der a ≡ ip_set_der b) ↔ ((n : ℕ) → Holds a n ↔ Holds b n) }
@@ -49,8 +54,10 @@ pub fn canonical()
         (ip_family_der family a ≡ ip_family_der family b) ↔ ((n : ℕ) → Holds a n ↔ Holds b n) }
 {}
 
-/// What is written of resources of a family that aren't missing, of fewer than 2^64 octets, is the resources. What is
-/// written of families, of which one at least isn't missing, is the families that aren't.
+/// Encodings of resources that aren't missing conform to the grammar, if they have fewer than 2^64 octets.
+///
+/// The encoding of resources of a family denotes these resources. If at least one family isn't missing, the encoding of
+/// families denotes the families that aren't missing.
 #[tactic(auto, using(crate::proofs::ResourcesWritten::claims_written, crate::proofs::ResourcesWritten::resources_written))]
 pub fn written_resources()
     ensures resources { (family : _) (claim : Claim) → IsFamilyClaim family claim
@@ -63,10 +70,12 @@ pub fn written_resources()
         → IsIpFamilies (ip_families_der v4 v6) (if_present v4, if_present v6) }
 {}
 
-/// What is written of families is one SEQUENCE of what is written of each behind its family. A set behind its family is
-/// written as the resources that list it. So each is read back by
-/// [`IpResources::take_families_from`](crate::resources::IpResources::take_families_from). A caller that appends the
-/// members one by one needs a proof file: that its octets are those of the law is a sum of lists which only it knows.
+/// The encoding of families is one SEQUENCE of the encodings of its members, each with its family.
+///
+/// The encoding of a set with its family is the encoding of the resources that list the set. So
+/// [`IpResources::take_families_from`](crate::resources::IpResources::take_families_from) reads each of them back. A
+/// caller that appends the members one by one needs a proof file. Only the caller knows that its octets are those of
+/// this lemma, as a sum of lists.
 #[tactic(auto, using(crate::proofs::ResourcesWritten::set_as_member))]
 pub fn members()
     ensures families { (v4 v6 : Claim) →
@@ -75,8 +84,10 @@ pub fn members()
         ip_family_der family set ≡ ip_member_der family (claim_of set) }
 {}
 
-/// Resources are written alike exactly where they are one claim, alone and behind one family. Families, of which one at
-/// least isn't missing, are written alike in fewer than 2^64 octets exactly where both have the same claim.
+/// Resources have the same encoding if and only if they are the same claim, alone and with one family.
+///
+/// If at least one family isn't missing, families have the same encoding if and only if their claims are the same. This
+/// holds for fewer than 2^64 octets.
 #[tactic(auto, using(crate::proofs::ResourcesWritten::families_as_claims, crate::proofs::ResourcesWritten::members_as_claims, crate::proofs::ResourcesWritten::resources_as_claims))]
 pub fn canonical_resources()
     ensures resources { (a b : Claim) → IsIpClaim a → IsIpClaim b
@@ -90,10 +101,12 @@ pub fn canonical_resources()
         (ip_families_der v4 v6 ≡ ip_families_der w4 w6) ↔ ((v4 ≡ w4) × (v6 ≡ w6)) }
 {}
 
-/// Which fault octets have, whatever stands behind it. Resources are refused for a list of no blocks exactly where the
-/// SEQUENCE of blocks is empty, and families for none exactly where theirs is. They are refused for a family that
-/// stands there twice exactly where members that are read are followed by a SEQUENCE that begins with the family of one
-/// of them.
+/// States when octets have one of three faults, with any octets after them.
+///
+/// - `EmptyBlocks`: resources have this fault if and only if their SEQUENCE of blocks is empty.
+/// - `NoFamily`: families have this fault if and only if their SEQUENCE is empty.
+/// - `DuplicateFamily`: families have this fault if and only if members without a fault are followed by a SEQUENCE that
+///   begins with the family of one of them.
 #[tactic(auto, using(crate::proofs::DerFaults::empty_blocks, crate::proofs::DerFaults::families_empty, crate::proofs::DerFaults::families_repeat))]
 pub fn faults()
     ensures empty_blocks { (limit : ℕ) (bytes : List ℕ) →
@@ -104,7 +117,7 @@ pub fn faults()
         ↔ BeginsWithValue 48 (BeginsWithRepeat (λ family. ip_resources_at (bits_of family))) bytes }
 {}
 
-/// Octets are refused as not canonical by a strict cursor alone.
+/// Only a strict cursor refuses octets by `NotCanonical`.
 #[tactic(auto, using(crate::proofs::DerFaults::all_names, crate::proofs::DerFaults::resources_names, crate::proofs::DerFaults::sequence_names))]
 pub fn not_canonical()
     ensures set { (limit : ℕ) (bytes : List ℕ) → ip_blocks_at limit bytes ≢ Err NotCanonical }

@@ -26,14 +26,23 @@ impl<A: Allocator> IpResources<A> {
     ghost use Rattle.rpki_chain.specs.Choices.{if_present};
     ghost use Rattle.rpki_ipres.specs.ResourcesDer.{IsIpFamilies, IsIpResources, SaysClaimOf, SaysClaims, ip_families_at, ip_families_der, ip_member_der, ip_resources_at, ip_resources_der};
 
-    /// Takes the resources of a family: a NULL where they are inherited, and else a SEQUENCE of blocks of the family,
-    /// one at least, in any order, overlapping or not.
+    /// Reads the resources of a family: a NULL for inherited resources, else a SEQUENCE of blocks of the family.
     ///
-    /// `Refused` with the first fault: one of [`Cursor::take_value`]; `BadTag` where neither stands there; `BadNull`
-    /// for a NULL with content; that of a block as in [`IpBlock::take_opt_from_with_family`]; `EmptyBlocks` for a
-    /// SEQUENCE of none. From a strict cursor also `NotCanonical` as in
-    /// [`IpBlocks::take_from_with_family`](crate::blocks::IpBlocks::take_from_with_family). `Memory` where there is no
-    /// memory for the blocks. The cursor then stays.
+    /// The SEQUENCE has at least one block. The blocks may be in any order and may overlap.
+    ///
+    /// # Errors
+    ///
+    /// The cursor is unchanged then.
+    ///
+    /// - [`OrMemory::Refused`] with the first fault:
+    ///   - a fault of [`Cursor::take_value`];
+    ///   - `BadTag`: the value is neither a NULL nor a SEQUENCE;
+    ///   - `BadNull`: the NULL has content;
+    ///   - a fault of a block as in [`IpBlock::take_opt_from_with_family`];
+    ///   - `EmptyBlocks`: the SEQUENCE is empty;
+    ///   - `NotCanonical`, from a strict cursor, also as in
+    ///     [`IpBlocks::take_from_with_family`](crate::blocks::IpBlocks::take_from_with_family).
+    /// - [`OrMemory::Memory`]: an allocation failed.
     ///
     /// [`IpBlock::take_opt_from_with_family`]: crate::block::IpBlock::take_opt_from_with_family
     pub fn take_from(
@@ -50,17 +59,17 @@ impl<A: Allocator> IpResources<A> {
             (TakesSaidOrMemory SaysClaimOf cursor.old cursor.new result
             (ip_resources_at (bits_of family))) }
         ensures whole { IfOk result (λ claim. family ≡ Ipv4 → IsWholeClaim claim) }
-        // What is written of resources of the family that aren't missing is read as them, whatever follows.
+        // The encoding of resources of the family that aren't missing is read back as them, with any octets after it.
         ensures reads_back { (claim : Claim) (rest : List ℕ) → IsFamilyClaim family claim
             → claim ≢ Missing
             → left cursor.old ≡ ip_resources_der claim ++ rest
             → MatchResult result (λ read. (read ≡ claim) × (left cursor.new ≡ rest)) IsMemory }
-        // A strict cursor takes what is written of resources of the family.
+        // A strict cursor accepts exactly the encodings of resources of the family that aren't missing.
         ensures strict { Strict cursor.old
             (ReadsOrMemory (Spells (IsPresentFamilyClaim family) ip_resources_der) (λ claim. claim)
             cursor.old cursor.new result) }
         ensures refused { NotCanonicalOrMemory (IsIpResources (bits_of family)) cursor.old result }
-        // In either mode.
+        // This clause is for both modes.
         ensures by_mode { TakesSaidOrMemory SaysClaimOf cursor.old cursor.new result
             (ip_resources_by (is_strict cursor.old) (bits_of family)) }
         ensures mode { is_strict cursor.new ≡ is_strict cursor.old }
@@ -68,9 +77,17 @@ impl<A: Allocator> IpResources<A> {
         Self::next(alloc, cursor, family)
     }
 
-    /// Appends a NULL for inherited resources, and else the SEQUENCE of the set's runs, ascending: each as a prefix
-    /// where its addresses are those of one, and else as the SEQUENCE of its bounds. Missing resources have no octets.
-    /// `AllocError` where there is no memory for all of it; then the octets stay as they were.
+    /// Appends a NULL for inherited resources, else the SEQUENCE of the set's runs, ascending.
+    ///
+    /// A run is encoded as a prefix if its addresses are those of a prefix, else as the SEQUENCE of its bounds.
+    ///
+    /// # Preconditions
+    ///
+    /// The resources aren't missing: missing resources have no encoding.
+    ///
+    /// # Errors
+    ///
+    /// [`AllocError`] if an allocation fails. The octets of `out` are unchanged then.
     pub fn encode<B: Allocator>(&self, out: &mut Vec<u8, B>) -> Result<(), AllocError>
         requires { self.now ≢ Missing }
         ensures ok { OnOk result (out.new.items ≡ out.old.items ++ ip_resources_der self.now) }
@@ -83,11 +100,14 @@ impl<A: Allocator> IpResources<A> {
         encode_choice(&self.as_choice(), out)
     }
 
-    /// Appends the SEQUENCE of the family and of what `encode` appends (RFC 3779, 2.2.3.2), and nothing for missing
-    /// resources.
+    /// Appends the SEQUENCE of the family and of what `encode` appends (RFC 3779, 2.2.3.2). Missing resources append
+    /// nothing.
     ///
-    /// Resources of the family are read back, from IPv4 if what they list consists of whole IPv4 addresses.
-    /// `AllocError` where there is no memory for all of it; then the octets stay as they were.
+    /// Resources of the family can be read back. IPv4 resources must list whole IPv4 addresses for that.
+    ///
+    /// # Errors
+    ///
+    /// [`AllocError`] if an allocation fails. The octets of `out` are unchanged then.
     pub fn encode_family<B: Allocator>(
         &self,
         family: AddressFamily,
@@ -103,13 +123,24 @@ impl<A: Allocator> IpResources<A> {
         put_family(out, family, &self.as_choice())
     }
 
-    /// Takes a SEQUENCE of families and answers the resources of IPv4 and of IPv6, None where a family isn't there. The
-    /// families come in any order, each at most once, one at least (RFC 3779, 2.2.3.1 to 2.2.3.3; RFC 6487, 4.8.10).
+    /// Reads a SEQUENCE of families and returns the resources of IPv4 and of IPv6. An unlisted family gives None.
     ///
-    /// `Refused` with the first fault: that of a SEQUENCE or of a family; `DuplicateFamily` for a family that was there
-    /// before, ahead of its resources; that of its resources as in `take_from`; `TrailingData` for octets that are left
-    /// behind them; `NoFamily` where the SEQUENCE is empty. From a strict cursor also `NotCanonical` for IPv4 behind
-    /// IPv6, ahead of its resources. `Memory` where there is no memory for the blocks. The cursor then stays.
+    /// The SEQUENCE has at least one family, in any order, each at most once (RFC 3779, 2.2.3.1 to 2.2.3.3; RFC 6487,
+    /// 4.8.10).
+    ///
+    /// # Errors
+    ///
+    /// The cursor is unchanged then.
+    ///
+    /// - [`OrMemory::Refused`] with the first fault:
+    ///   - a fault of a SEQUENCE or of a family;
+    ///   - `DuplicateFamily`: a family was listed before. This is checked before its resources are read;
+    ///   - a fault of the resources of a family as in `take_from`;
+    ///   - `TrailingData`: octets are left after the resources of a family;
+    ///   - `NoFamily`: the SEQUENCE is empty;
+    ///   - `NotCanonical`, from a strict cursor, also for IPv4 after IPv6. This is checked before the resources are
+    ///     read.
+    /// - [`OrMemory::Memory`]: an allocation failed.
     pub fn take_families_from(
         alloc: A,
         cursor: &mut Cursor<'_>,
@@ -121,18 +152,18 @@ impl<A: Allocator> IpResources<A> {
         ensures exact { Lenient cursor.old
             (TakesSaidOrMemory SaysClaims cursor.old cursor.new result ip_families_at) }
         ensures whole { IfOk result (λ found. IfSome found.0 IsWholeClaim) }
-        // What is written of families is read as them, whatever follows; one that was missing is None.
+        // The encoding of families is read back as them, with any octets after it. A missing family is read as None.
         ensures reads_back { (v4 v6 : Claim) (rest : List ℕ) → IsFamilyClaim Ipv4 v4
             → IsFamilyClaim Ipv6 v6 → (v4 ≡ Missing → v6 ≢ Missing)
             → left cursor.old ≡ ip_families_der v4 v6 ++ rest
             → MatchResult result (λ read. (read ≡ (if_present v4, if_present v6))
             × (left cursor.new ≡ rest)) IsMemory }
-        // A strict cursor takes what is written of families, of which one at least is there.
+        // A strict cursor accepts exactly the encodings of families of which at least one isn't missing.
         ensures strict { Strict cursor.old
             (ReadsOrMemory (Spells ArePresentClaims (families_der ip_resources_der))
             (λ found. found) cursor.old cursor.new result) }
         ensures refused { NotCanonicalOrMemory IsIpFamilies cursor.old result }
-        // In either mode.
+        // This clause is for both modes.
         ensures by_mode { TakesSaidOrMemory SaysClaims cursor.old cursor.new result
             (ip_families_by (is_strict cursor.old)) }
         ensures mode { is_strict cursor.new ≡ is_strict cursor.old }
@@ -140,9 +171,15 @@ impl<A: Allocator> IpResources<A> {
         Self::next_families(alloc, cursor)
     }
 
-    /// Appends the SEQUENCE of the families that have resources, IPv4 first, each as `encode_family` appends it. One of
-    /// them at least isn't missing. `AllocError` where there is no memory for all of it; then the octets stay as they
-    /// were.
+    /// Appends the SEQUENCE of the families that have resources, IPv4 first, each as `encode_family` appends it.
+    ///
+    /// # Preconditions
+    ///
+    /// At least one of `v4` and `v6` isn't missing.
+    ///
+    /// # Errors
+    ///
+    /// [`AllocError`] if an allocation fails. The octets of `out` are unchanged then.
     pub fn encode_families<B: Allocator>(
         v4: &IpResources<A>,
         v6: &IpResources<A>,
@@ -176,7 +213,7 @@ impl<A: Allocator> IpResources<A> {
         Ok(())
     }
 
-    // The readings behind the takes.
+    // Read for `take_from` and `take_families_from`.
     fn next(
         alloc: A,
         cursor: &mut Cursor<'_>,
@@ -205,7 +242,7 @@ impl<A: Allocator> IpResources<A> {
             (ReadsOrMemory IsIpFamilies (λ found. found) cursor.old cursor.new result) }
         ensures exact { Lenient cursor.old
             (TakesSaidOrMemory SaysClaims cursor.old cursor.new result ip_families_at) }
-        // In either mode.
+        // This clause is for both modes.
         ensures by_mode { TakesSaidOrMemory SaysClaims cursor.old cursor.new result
             (ip_families_by (is_strict cursor.old)) }
         ensures mode { is_strict cursor.new ≡ is_strict cursor.old }

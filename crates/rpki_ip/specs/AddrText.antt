@@ -1,5 +1,5 @@
--- Addresses of either family: the family, the numbers of 128 bits that an address stands for, and its texts (RFC 4291,
--- 2.2), read as such numbers.
+-- Addresses of either family: the family, the numbers of 128 bits that belong to an address, and its texts (RFC 4291,
+-- 2.2), parsed as such numbers.
 use Rattle.std.specs.Prelude.{◌≡◌, ℕ, ◌+◌, ◌-◌, ◌*◌, ◌^◌, List, Result}
 use Rattle.rpki_addr.specs.AddressText.{IsIpv4Text, IsIpv6Text, IsIpText}
 use Rattle.rpki_text.specs.Reading.{Answers}
@@ -15,31 +15,31 @@ abbrev pub family_of : IpAddr → AddressFamily
 family_of (V4 n) = Family.Ipv4
 family_of (V6 n) = Family.Ipv6
 
--- the least number that an address stands for: the 32 bits of an IPv4 address are followed by 96 zeros
+-- the least number of an address: the 32 bits of an IPv4 address are followed by 96 zeros
 abbrev pub first_of : IpAddr → ℕ
 first_of (V4 n) = n * 2 ^ 96
 first_of (V6 n) = n
 
--- and the greatest: its 32 bits are followed by 96 ones
+-- the greatest number: the 32 bits are followed by 96 ones
 abbrev pub greatest_of : IpAddr → ℕ
 greatest_of (V4 n) = n * 2 ^ 96 + (2 ^ 96 - 1)
 greatest_of (V6 n) = n
 
--- a is the least number of something that the text writes
+-- a is the least number of a value that the text denotes
 abbrev pub IsFirstOf : {X : Type 0} → (X → ℕ) → (X → Type 0) → ℕ → Type 0
 IsFirstOf {X} first Writes a = (x : X) × Writes x × (a ≡ first x)
 
--- the text writes nothing of the kind, and this is its fault
+-- the text denotes no value of the kind, and this is its fault
 abbrev pub IsNoText : {X : Type 0} → (X → Type 0) → AddrParseError → AddrParseError → Type 0
 IsNoText {X} Writes fault e = (e ≡ fault) × ((x : X) → ¬ Writes x)
 
--- The text is read as a number exactly where it writes an address of the family, else it is refused.
+-- The text is parsed as a number if and only if it denotes an address of the family, else it is refused.
 abbrev pub ReadsIpv4Addr : List ℕ → Result ℕ AddrParseError → Type 0
 ReadsIpv4Addr text r = Answers (IsFirstOf (λ n. n * 2 ^ 96) (IsIpv4Text text)) (IsNoText (IsIpv4Text text) Ipv4) r
 
 abbrev pub ReadsIpv6Addr : List ℕ → Result ℕ AddrParseError → Type 0
 ReadsIpv6Addr text r = Answers (IsFirstOf (λ n. n) (IsIpv6Text text)) (IsNoText (IsIpv6Text text) Ipv6) r
 
--- and of either family
+-- the same for either family
 abbrev pub ReadsAddr : List ℕ → Result ℕ AddrParseError → Type 0
 ReadsAddr text r = Answers (IsFirstOf first_of (IsIpText text)) (IsNoText (IsIpText text) Ip) r

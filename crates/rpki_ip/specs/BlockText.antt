@@ -1,5 +1,5 @@
--- Texts of prefixes and ranges of addresses, as the Rust crate `rpki` 0.20.1 reads them. The family that is wanted may
--- be one, or, with None, either.
+-- Texts of prefixes and ranges of addresses, as the Rust crate `rpki` 0.20.1 parses them. The wanted family is one
+-- family, or with None either.
 use Rattle.std.specs.Prelude.{◌≡◌, ℕ, ◌-◌, ◌^◌, ◌≤◌, ◌<◌, ◌⊎◌, List, Option, None, Some}
 use Rattle.rpki_addr.specs.AddressText.{IsIpText}
 use Rattle.rpki_text.specs.Cuts.{HasNo, Around, slash, dash}
@@ -20,46 +20,46 @@ use Rattle.rpki_ip.specs.declared.error.FromStrError.TheVariants as Fault
 use Rattle.rpki_der.specs.declared.family.AddressFamily.{AddressFamily}
 use Rattle.rpki_der.specs.declared.family.AddressFamily.TheVariants.{Ipv4, Ipv6}
 
--- the address is of a family that is wanted
+-- the address is of a wanted family
 abbrev pub IsWanted : Option AddressFamily → IpAddr → Type 0
 IsWanted None a = Unit {0}
 IsWanted (Some family) a = family_of a ≡ family
 
--- the text writes such an address
+-- the text denotes such an address
 abbrev pub IsAddressText : Option AddressFamily → List ℕ → IpAddr → Type 0
 IsAddressText wanted text a = IsWanted wanted a × IsIpText text a
 
--- the fault of a text that writes none
+-- the fault of a text that denotes no such address
 abbrev pub address_fault : Option AddressFamily → AddrParseError
 address_fault None = Address.Ip
 address_fault (Some Ipv4) = Address.Ipv4
 address_fault (Some Ipv6) = Address.Ipv6
 
--- the text writes no such address, for which this is its fault
+-- the text denotes no such address, and this is its fault
 abbrev pub HasAddressFault : Option AddressFamily → List ℕ → FromStrError → Type 0
 HasAddressFault wanted text e = ((a : IpAddr) → ¬ IsAddressText wanted text a) × (e ≡ Fault.Addr (address_fault wanted))
 
--- the text writes such an address, of which P holds
+-- the text denotes such an address, and P holds for it
 abbrev pub WithAddress : Option AddressFamily → List ℕ → (IpAddr → Type 0) → Type 0
 WithAddress wanted text P = (a : IpAddr) × IsAddressText wanted text a × P a
 
--- the text writes a length that the address's family has, and p is the prefix of that length at the address
+-- the text denotes a length up to the number of the address's bits, and p is the prefix of that length at the address
 pub record IsPrefixAt (a : IpAddr) (text : List ℕ) (p : PrefixValue) : Type 0 where
   pub length_text : IsNumberText (2 ^ 8 - 1) text p.len
   pub within : p.len ≤ width a
   pub first : p.first ≡ cleared 128 (first_of a) p.len
 
--- the text is no number of a `u8` for the reason f, or one that is more than the address has bits
+-- the text isn't a number of a `u8` for the reason f, or the number is above the number of the address's bits
 abbrev pub HasLengthFault : IpAddr → List ℕ → ParseIntError → Type 0
 HasLengthFault a text f =
     HasNumberFault (2 ^ 8 - 1) text f
     ⊎ ((n : ℕ) × IsNumberText (2 ^ 8 - 1) text n × (width a < n) × (f ≡ PosOverflow))
 
--- an address and a length write the prefix
+-- an address and a length denote the prefix
 abbrev pub IsPrefixBetween : Option AddressFamily → List ℕ → List ℕ → PrefixValue → Type 0
 IsPrefixBetween wanted left right p = WithAddress wanted left (λ a. IsPrefixAt a right p)
 
--- what is wrong with an address and a length: first the address, then the length
+-- the fault of an address and a length: first of the address, then of the length
 abbrev pub HasPrefixFault : Option AddressFamily → List ℕ → List ℕ → FromStrError → Type 0
 HasPrefixFault wanted left right e =
     HasAddressFault wanted left e
@@ -72,35 +72,35 @@ pub record IsRangeFrom (a b : IpAddr) (r : RangeValue) : Type 0 where
   pub max : r.max ≡ greatest_of b
   pub ordered : r.min ≤ r.max
 
--- what is wrong with two addresses: first their families, then their order
+-- the fault of two addresses: first of their families, then of their order
 abbrev pub HasPairFault : IpAddr → IpAddr → FromStrError → Type 0
 HasPairFault a b e =
     ((¬ (family_of a ≡ family_of b)) × (e ≡ Fault.FamilyMismatch))
     ⊎ ((family_of a ≡ family_of b) × (greatest_of b < first_of a) × (e ≡ Fault.BadRange))
 
--- two addresses write the range
+-- two addresses denote the range
 abbrev pub IsIpRangeBetween : Option AddressFamily → List ℕ → List ℕ → RangeValue → Type 0
 IsIpRangeBetween wanted left right r = WithAddress wanted left (λ a. WithAddress wanted right (λ b. IsRangeFrom a b r))
 
--- what is wrong with two texts: first the first address, then the second, then both
+-- the fault of two texts: first of the first address, then of the second, then of both
 abbrev pub HasRangeFault : Option AddressFamily → List ℕ → List ℕ → FromStrError → Type 0
 HasRangeFault wanted left right e =
     HasAddressFault wanted left e
     ⊎ WithAddress wanted left (λ a. HasAddressFault wanted right e ⊎ WithAddress wanted right (λ b. HasPairFault a b e))
 
--- an address alone writes the range of its numbers
+-- an address alone denotes the range of its numbers
 abbrev pub IsSingleText : Option AddressFamily → List ℕ → RangeValue → Type 0
 IsSingleText wanted text r = WithAddress wanted text (λ a. IsRangeFrom a a r)
 
--- The text is a prefix round its first slash.
+-- The first slash of the text separates the parts of the prefix.
 abbrev pub IsIpPrefixText : Option AddressFamily → List ℕ → PrefixValue → Type 0
 IsIpPrefixText wanted text p = Around slash text (λ left right. IsPrefixBetween wanted left right p)
 
--- The text is a range round its first dash.
+-- The first dash of the text separates the parts of the range.
 abbrev pub IsRangeText : Option AddressFamily → List ℕ → RangeValue → Type 0
 IsRangeText wanted text r = Around dash text (λ left right. IsIpRangeBetween wanted left right r)
 
--- the byte that separates the two parts is missing, or this is wrong with the parts round its first
+-- the separator of the two parts is missing, or the parts before and after the first separator have this fault
 abbrev pub HasFaultAround : ℕ → List ℕ → (List ℕ → List ℕ → FromStrError → Type 0) → FromStrError → Type 0
 HasFaultAround b text Fails e = (HasNo b text × (e ≡ Fault.MissingSeparator)) ⊎ Around b text (λ left right. Fails left right e)
 

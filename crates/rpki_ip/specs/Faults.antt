@@ -1,4 +1,4 @@
--- What is printed of the faults of texts of prefixes, ranges and blocks, as by the Rust crate `rpki` 0.20.1.
+-- The printed texts of the faults of prefixes, ranges and blocks, as the Rust crate `rpki` 0.20.1 prints them.
 use Rattle.std.specs.Prelude.{ℕ, List, ◌++◌, codes}
 use Rattle.rpki_text.specs.Numbers.{number_fault_text}
 use Rattle.rpki_addr.specs.ReadsAddress.{address_fault_text}

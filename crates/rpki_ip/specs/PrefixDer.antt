@@ -7,28 +7,28 @@ use Rattle.rpki_der.specs.declared.error.DerError.TheVariants.{BadPrefix}
 use Rattle.rpki_der.specs.Der.{Bits, IsBitContent, IsBitString, IsPadded, Refines, Where, big_endian, bit_count, bit_string_value}
 use Rattle.rpki_der.specs.Reading.{◌>>=◌, bits, is_padded, passing, refined, tagged_at}
 
--- a bit string of at most 16 octets says the prefix of its used bits, which zeros follow up to 128 bits; the unused
--- bits count as zero whatever they are, and limit is the greatest length
+-- a bit string of at most 16 octets denotes the prefix of its used bits, followed by zeros up to 128 bits; the unused
+-- bits have any values and count as zero, and limit is the maximum length
 pub record SaysPrefix (limit : ℕ) (b : Bits) (p : PrefixValue) : Type 0 where
   pub few : length b.octets ≤ 16
   pub len : p.len + b.unused ≡ 8 * length b.octets
   pub short : p.len ≤ limit
   pub first : p.first ≡ big_endian b.octets / 2 ^ b.unused * 2 ^ (128 - p.len)
 
--- the content of a BIT STRING says it
+-- the content of a BIT STRING denotes it
 abbrev pub IsPrefixContent : ℕ → List ℕ → PrefixValue → Type 0
 IsPrefixContent limit = Refines IsBitContent (SaysPrefix limit)
 
 abbrev pub IsPrefixDer : ℕ → List ℕ → PrefixValue → Type 0
 IsPrefixDer limit = Refines IsBitString (SaysPrefix limit)
 
--- ---- what is written
+-- ---- encodings
 
--- how many octets the first len bits of an address need
+-- the number of octets for the first len bits of an address
 abbrev pub octet_count : ℕ → ℕ
 octet_count len = (len + 7) / 8
 
--- the bits of a prefix, in the fewest octets; those that aren't used are zero, as they are in its first address
+-- the bits of a prefix, in the fewest octets; the unused bits are zero, as they are in its first address
 abbrev pub prefix_bits : PrefixValue → Bits
 prefix_bits p = record { unused = 8 * octet_count p.len - p.len; octets = take (octet_count p.len) (to_be_bytes w128 p.first) }
 
@@ -48,21 +48,21 @@ prefix_in limit content = bits content >>= prefix_of limit
 abbrev pub prefix_at : ℕ → List ℕ → Result (PrefixValue × List ℕ) DerError
 prefix_at limit = refined (tagged_at 3) (prefix_in limit)
 
--- ---- by the mode
+-- ---- strict and lenient mode
 
--- a prefix of limit bits at most
+-- a prefix of at most limit bits
 abbrev pub IsPrefixWithin : ℕ → PrefixValue → Type 0
 IsPrefixWithin limit p = IsPrefix 128 p × (p.len ≤ limit)
 
--- a content that says the prefix with no unused bit set (X.690, 11.2.1)
+-- a content that denotes the prefix, with all unused bits zero (X.690, 11.2.1)
 abbrev pub IsStrictContent : ℕ → List ℕ → PrefixValue → Type 0
 IsStrictContent limit = Refines (Where IsBitContent IsPadded) (SaysPrefix limit)
 
--- what strict cursors take
+-- the octets that strict cursors accept
 abbrev pub IsStrictPrefix : ℕ → List ℕ → PrefixValue → Type 0
 IsStrictPrefix limit = Refines (Where IsBitString IsPadded) (SaysPrefix limit)
 
--- strictly, the unused bits are zero, which is looked at behind the length
+-- in strict mode the unused bits are zero, which is checked after the length
 unfoldable pub prefix_of_by : Bool → ℕ → Bits → Result PrefixValue DerError
 prefix_of_by strict limit b = prefix_of limit b >>= passing strict (λ p. is_padded b)
 

@@ -9,21 +9,21 @@ use Rattle.rpki_der.specs.Der.{IsSequence, Refines, sequence_value}
 use Rattle.rpki_ip.specs.PrefixDer.{IsPrefixDer, prefix_at, prefix_der}
 use Rattle.rpki_ip.specs.Ranges.{RangeValue, IsRange}
 
--- the bits of the least address come first, without zeros at their end, and those of the greatest second, without
--- ones: so the least address is the first of a prefix, and the greatest the last of another
+-- the bits of the least address come first, without zeros at their end, and those of the greatest second, without ones:
+-- so the least address is the first of a prefix, and the greatest is the last of another
 pub record IsSpan (p q : PrefixValue) (r : RangeValue) : Type 0 where
   pub begins : r.min ≡ p.first
   pub ends : r.max ≡ last_of 128 q
   pub ordered : r.min ≤ r.max
 
--- two prefixes, and nothing else; limit is the greatest length of each
+-- two prefixes and nothing else; limit is the maximum length of each
 abbrev pub SaysRange : ℕ → List ℕ → RangeValue → Type 0
 SaysRange limit = SaysPair (IsPrefixDer limit) IsSpan
 
 abbrev pub IsRangeDer : ℕ → List ℕ → RangeValue → Type 0
 IsRangeDer limit = Refines IsSequence (SaysRange limit)
 
--- ---- what is written
+-- ---- encodings
 
 -- an address without all the zero bits at its end
 abbrev pub without_end_zeros : ℕ → PrefixValue
@@ -39,27 +39,27 @@ range_content r = prefix_der (without_end_zeros r.min) ++ prefix_der (without_en
 abbrev pub range_der : RangeValue → List ℕ
 range_der r = sequence_value (range_content r)
 
--- whether prefixes from the least address and to the greatest are those that are written
+-- whether prefixes from the least address and to the greatest are those of the encoding
 abbrev pub is_written_as : RangeValue → PrefixValue → PrefixValue → Bool
 is_written_as r p q = (p.len == (without_end_zeros r.min).len) && (q.len == (without_end_ones r.max).len)
 
 -- ---- the same by the shortest prefixes
 
--- of the prefixes whose first address is a, the shortest
+-- the shortest prefix whose first address is a
 pub record IsShortestFrom (a : ℕ) (p : PrefixValue) : Type 0 where
   pub is_prefix : IsPrefix 128 p
   pub begins : p.first ≡ a
   pub shortest : (q : PrefixValue) → IsPrefix 128 q → q.first ≡ a → p.len ≤ q.len
 
--- of the prefixes whose last address is a, the shortest
+-- the shortest prefix whose last address is a
 pub record IsShortestTo (a : ℕ) (p : PrefixValue) : Type 0 where
   pub is_prefix : IsPrefix 128 p
   pub ends : last_of 128 p ≡ a
   pub shortest : (q : PrefixValue) → IsPrefix 128 q → last_of 128 q ≡ a → p.len ≤ q.len
 
--- ---- which ranges a family has
+-- ---- the ranges of a family
 
--- the least address is limit bits and zeros behind them, the greatest limit bits and ones
+-- the least address is limit bits followed by zeros, and the greatest is limit bits followed by ones
 pub record IsRangeWithin (limit : ℕ) (r : RangeValue) : Type 0 where
   pub is_range : IsRange r
   pub zeros : r.min % 2 ^ (128 - limit) ≡ 0

@@ -13,8 +13,8 @@ use std::str::FromStr;
 
 /// An address of either family, as a number of 128 bits.
 ///
-/// An IPv6 address is its number. An IPv4 address is its 32 bits followed by 96 others: zeros where it is the least
-/// address of a prefix or range, and ones where it is the greatest. So an address by itself has no family.
+/// An IPv6 address is its number. An IPv4 address is its 32 bits followed by 96 other bits. These are zeros in the
+/// least address of a prefix or range, and ones in the greatest. So an address by itself has no family.
 #[derive(Clone, Copy, Debug, PartialEq, Eq, PartialOrd, Ord, Hash)]
 pub struct Addr(u128);
 
@@ -31,39 +31,43 @@ impl Model for Addr {
 }
 
 impl Addr {
-    /// The address of a number.
+    /// Returns the address with this number.
     pub fn from_bits(bits: u128) -> Addr
         ensures { result ≡ bits }
     {
         Addr(bits)
     }
 
-    /// The least address that an IPv4 address stands for: its 32 bits, and then zeros.
+    /// Returns the least address of an IPv4 address: its 32 bits, followed by zeros.
     pub fn from_v4(addr: Ipv4Addr) -> Addr
         ensures { result ≡ addr * 2 ^ 96 }
     {
         Addr(u128::from(addr.to_bits()) << 96)
     }
 
-    /// The address that an IPv6 address stands for.
+    /// Returns the address of an IPv6 address.
     pub fn from_v6(addr: Ipv6Addr) -> Addr
         ensures { result ≡ addr }
     {
         Addr(addr.to_bits())
     }
 
-    /// Reads an IPv4 address, and returns the least address that it stands for.
+    /// Parses an IPv4 address and returns its least address.
     ///
-    /// Error: [`AddrParseError::Ipv4`] if the text is no IPv4 address.
+    /// # Errors
+    ///
+    /// [`AddrParseError::Ipv4`] if the text isn't an IPv4 address.
     pub fn from_v4_str(text: &str) -> Result<Addr, AddrParseError>
         ensures { ReadsIpv4Addr text.now result }
     {
         Ok(Addr::from_v4(Ipv4Addr::from_str(text)?))
     }
 
-    /// Reads an IPv6 address.
+    /// Parses an IPv6 address.
     ///
-    /// Error: [`AddrParseError::Ipv6`] if the text is no IPv6 address.
+    /// # Errors
+    ///
+    /// [`AddrParseError::Ipv6`] if the text isn't an IPv6 address.
     pub fn from_v6_str(text: &str) -> Result<Addr, AddrParseError>
         ensures { ReadsIpv6Addr text.now result }
     {
@@ -80,35 +84,37 @@ impl Addr {
         let _number = self.0;
     }
 
-    /// The number of the address.
+    /// Returns the number of the address.
     pub fn to_bits(self) -> u128
         ensures { result ≡ self }
     {
         self.0
     }
 
-    /// The IPv4 address that the first 32 bits are.
+    /// Returns the first 32 bits as an IPv4 address.
     pub fn to_v4(self) -> Ipv4Addr
         ensures { result ≡ self / 2 ^ 96 }
     {
         Ipv4Addr::from_bits((self.0 >> 96) as u32)
     }
 
-    /// The IPv6 address that the bits are.
+    /// Returns the bits as an IPv6 address.
     pub fn to_v6(self) -> Ipv6Addr
         ensures { result ≡ self }
     {
         Ipv6Addr::from_bits(self.0)
     }
 
-    /// The sixteen octets of the address, the highest first.
+    /// Returns the sixteen octets of the address, the most significant first.
     pub fn to_bytes(self) -> [u8; 16]
         ensures { result ≡ to_be_bytes w128 self }
     {
         self.0.to_be_bytes()
     }
 
-    /// The least address with the same first `len` bits: the others are cleared. From 128 on it is the address itself.
+    /// Returns the least address with the same first `len` bits: the other bits are cleared.
+    ///
+    /// For `len` from 128 on, the result is the address itself.
     #[tactic(auto, using(crate::proofs::Masks::least_by))]
     pub fn to_min(self, len: u8) -> Addr
         ensures { result ≡ cleared 128 self len }
@@ -120,7 +126,9 @@ impl Addr {
         }
     }
 
-    /// The greatest address with the same first `len` bits: the others are set. From 128 on it is the address itself.
+    /// Returns the greatest address with the same first `len` bits: the other bits are set.
+    ///
+    /// For `len` from 128 on, the result is the address itself.
     #[tactic(auto, using(crate::proofs::Masks::greatest_by, crate::proofs::Masks::greatest_fits))]
     pub fn to_max(self, len: u8) -> Addr
         ensures { result + 1 ≡ cleared 128 self len + 2 ^ (128 - len) }
@@ -132,7 +140,7 @@ impl Addr {
         }
     }
 
-    /// Writes the first 32 bits as an IPv4 address.
+    /// Prints the first 32 bits as an IPv4 address.
     pub fn fmt_v4<W: fmt::Write>(self, f: &mut fmt::Formatter<W>) -> fmt::Result
         ensures { WritesOnOk W.write_str_gives f.old result (ipv4_text (self / 2 ^ 96)) f.new }
     {
@@ -140,7 +148,7 @@ impl Addr {
         write!(f, "{addr}")
     }
 
-    /// Writes the address as an IPv6 address.
+    /// Prints the address as an IPv6 address.
     pub fn fmt_v6<W: fmt::Write>(self, f: &mut fmt::Formatter<W>) -> fmt::Result
         ensures { WritesOnOk W.write_str_gives f.old result (ipv6_text self) f.new }
     {
@@ -181,7 +189,7 @@ impl From<Ipv6Addr> for Addr {
     }
 }
 
-/// The least address that the address stands for, in its family.
+/// Returns the least address of an address of either family.
 impl From<IpAddr> for Addr {
     ghost from_gives = { λ ip addr. addr ≡ first_of ip };
 
@@ -209,8 +217,9 @@ impl From<Addr> for Ipv6Addr {
     }
 }
 
-/// Reads the text of an address of either family, as the least address that it stands for. Any other text is refused by
-/// [`AddrParseError::Ip`].
+/// Parses an address of either family and returns its least address.
+///
+/// The fault of any other text is [`AddrParseError::Ip`].
 impl FromStr for Addr {
     type Err = AddrParseError;
 

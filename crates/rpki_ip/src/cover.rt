@@ -12,7 +12,9 @@ use crate::range::AddressRange;
 use rpki_cover::cover::Cover;
 use std::marker::Model;
 
-/// The prefixes of a range's shortest cover that are left, ascending. Contracts see it as their list.
+/// Iterates over the prefixes of a range's shortest cover, ascending.
+///
+/// Contracts see it as the list of the prefixes that are left.
 #[derive(Debug, Drop)]
 pub struct V6Prefixes {
     cover: Cover,
@@ -29,7 +31,7 @@ impl Model for V6Prefixes {
     ghost invariant = { λ p. All (IsPrefix 128) p.cover };
 }
 
-/// No prefixes.
+/// The default has no prefixes.
 impl Default for V6Prefixes {
     ghost is_default = { λ prefixes. prefixes ≡ [] };
 
@@ -53,8 +55,9 @@ impl Iterator for V6Prefixes {
     }
 }
 
-/// The prefixes of the shortest cover of IPv4 addresses that are left, ascending. Contracts see it as their list, as
-/// prefixes of addresses of either family.
+/// Iterates over the prefixes of the shortest cover of IPv4 addresses, ascending.
+///
+/// Contracts see it as the list of the prefixes that are left, as prefixes of addresses of either family.
 #[derive(Debug, Drop)]
 pub struct V4Prefixes {
     cover: Cover,
@@ -72,7 +75,7 @@ impl Model for V4Prefixes {
     ghost invariant = { λ p. All (IsPrefix 32) p.cover };
 }
 
-/// No prefixes.
+/// The default has no prefixes.
 impl Default for V4Prefixes {
     ghost is_default = { λ prefixes. prefixes ≡ [] };
 
@@ -97,8 +100,10 @@ impl Iterator for V4Prefixes {
 }
 
 impl AddressRange {
-    /// The shortest list of prefixes that covers the range, ascending: all prefixes inside it that have length 0 or
-    /// whose parent, which is one bit shorter, isn't inside. They are at most 254.
+    /// Returns the shortest list of prefixes that covers the range, ascending.
+    ///
+    /// The list has all prefixes inside the range that have length 0 or whose parent (one bit shorter) isn't inside. It
+    /// has at most 254 prefixes.
     pub fn to_v6_prefixes(self) -> V6Prefixes
         ensures cover { IsShortestCover 128 (IsWithin (range_bounds self)) result }
         ensures few { length result ≤ 254 }
@@ -109,9 +114,11 @@ impl AddressRange {
         }
     }
 
-    /// The same for the IPv4 addresses that the first 32 bits of the range's bounds are, with lengths up to 32. They
-    /// are at most 62 prefixes. Of a range of whole IPv4 addresses, which [`AddressRange::is_whole_v4`] tells, it is
-    /// the list that [`AddressRange::to_v6_prefixes`] gives.
+    /// Returns the shortest list of prefixes for the IPv4 addresses from the range's first to its last, ascending.
+    ///
+    /// These addresses are the first 32 bits of the bounds. The lengths are at most 32, and the list has at most 62
+    /// prefixes. If the range consists of whole IPv4 addresses ([`AddressRange::is_whole_v4`]), the list is that of
+    /// [`AddressRange::to_v6_prefixes`].
     pub fn to_v4_prefixes(self) -> V4Prefixes
         ensures cover { IsV4CoverList (IsWithin (self.min / 2 ^ 96, self.max / 2 ^ 96)) result }
         ensures whole { HasWholeBounds (range_bounds self)

@@ -1,4 +1,4 @@
-//! Families, prefixes and ranges of addresses in DER (RFC 3779, section 2.2.3).
+//! Families, prefixes and ranges of addresses in DER (RFC 3779, 2.2.3).
 mod error;
 pub mod laws;
 mod prefix;

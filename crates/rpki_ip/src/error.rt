@@ -1,4 +1,4 @@
-//! What is wrong with a text of prefixes, ranges or blocks of addresses.
+//! Faults of texts of prefixes, ranges or blocks of addresses.
 ghost use Rattle.std.specs.Prelude.{◌≡◌, Some};
 ghost use Rattle.rpki_ip.specs.Faults.{ip_from_str_error_text};
 ghost use Rattle.rpki_ip.specs.declared.error.FromStrError.TheVariants.{Addr, PrefixLen};
@@ -11,15 +11,15 @@ use std::fmt;
 /// Why a text isn't a prefix, a range or a block of addresses, or a list of such blocks.
 #[derive(Clone, Copy, Debug, PartialEq, Eq)]
 pub enum FromStrError {
-    /// An address isn't one of the kind that is wanted.
+    /// The text of an address isn't an address of the required kind.
     Addr(AddrParseError),
-    /// What follows the slash is no number of a `u8`, or it is more than the address has bits.
+    /// The text after the slash isn't a number of a `u8`, or the number is above the number of bits of the address.
     PrefixLen(ParseIntError),
-    /// The sign that stands between the two parts is missing: `/` in a prefix, `-` in a range.
+    /// The separator of the two parts is missing: `/` in a prefix, `-` in a range.
     MissingSeparator,
-    /// An address or a block of the other family stands there.
+    /// An address or a block is of the other family.
     FamilyMismatch,
-    /// Blocks that can't be read. No call answers it.
+    /// Blocks can't be parsed. No call returns this error.
     BadBlocks,
     /// The first address of a range is above the second.
     BadRange,

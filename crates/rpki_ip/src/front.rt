@@ -1,6 +1,6 @@
-//! Addresses and what follows them at the front of a text, for lists that are read in one pass.
+//! Addresses, and what follows them, at the front of a text, for lists that are read in one pass.
 //!
-//! A call answers None of other texts, some of which the readers of whole texts take.
+//! A call returns None for other texts. The readers of whole texts accept some of these.
 ghost use Rattle.std.specs.Prelude.{◌≡◌, Some, IfSome};
 ghost use Rattle.std.specs.Str.Parse.{AllDigits};
 ghost use Rattle.rpki_addr.specs.AddressFronts.{IsAtFront};
@@ -13,7 +13,7 @@ use rpki_addr::addr::front::{ipv4_front, ipv6_front};
 use rpki_addr::addr::{Ipv4Addr, Ipv6Addr};
 use rpki_text::number::digits_from;
 
-/// An address whose type tells its family, so that what reads many of a family asks for the family once.
+/// An address with the family as its type, so that a reader of many addresses checks the family once.
 pub trait FamilyAddr: Copy {
     ghost use Rattle.std.specs.Prelude.{ℕ};
     ghost use Rattle.rpki_addr.specs.Widths.{width};
@@ -24,31 +24,31 @@ pub trait FamilyAddr: Copy {
     // The family.
     ghost family: { AddressFamily };
 
-    // The address, as one of either family.
+    // The address, as an address of either family.
     ghost ip: { Self → IpAddr };
 
     ghost BITS: { ℕ };
 
-    /// How many bits the addresses of the family have.
+    /// The number of bits of the family's addresses.
     const BITS: u8;
 
-    /// The address whose text stands at the front, and what stands behind that.
+    /// Returns the address whose text is at the front, and the rest of the text.
     fn at_front(text: &[u8]) -> Option<(Self, &[u8])>
         ensures { IfSome result
             (λ found. IsAtFront (IsAddressText (Some family)) text.now (ip found.0) found.1.now) };
 
-    /// The least number that the address stands for.
+    /// Returns the least number of the address.
     fn least(self) -> Addr
         ensures { result ≡ first_of (ip self) };
 
-    /// The greatest number that the address stands for.
+    /// Returns the greatest number of the address.
     fn greatest(self) -> Addr
         ensures { result ≡ greatest_of (ip self) };
 
-    // Each address is one of the family.
+    // Each address is of the family.
     ghost has_family: { (a : Self) → family_of (ip a) ≡ family };
 
-    // It has that many bits.
+    // Each address has this number of bits.
     ghost has_width: { (a : Self) → width (ip a) ≡ BITS };
 }
 
@@ -118,7 +118,7 @@ impl FamilyAddr for Ipv6Addr {
     }
 }
 
-/// The range from an address to one of its family whose text stands at the front, and what stands behind that.
+/// Returns the range from `first` to the address of its family whose text is at the front, and the rest of the text.
 #[inline(always)]
 pub fn range_to_front<A: FamilyAddr>(first: A, text: &[u8]) -> Option<(AddressRange, &[u8])>
     ensures { IfSome result (λ found. IsAtFront
@@ -135,8 +135,9 @@ pub fn range_to_front<A: FamilyAddr>(first: A, text: &[u8]) -> Option<(AddressRa
     Some((AddressRange::new(min, max), rest))
 }
 
-/// The prefix at an address whose length in digits stands at the front, and what stands behind that. The bits behind
-/// the length are cleared.
+/// Returns the prefix at `first` whose length in digits is at the front, and the rest of the text.
+///
+/// The bits after the length are cleared.
 #[inline(always)]
 pub fn prefix_to_front<A: FamilyAddr>(first: A, text: &[u8]) -> Option<(Prefix, &[u8])>
     ensures { IfSome result
@@ -150,7 +151,7 @@ pub fn prefix_to_front<A: FamilyAddr>(first: A, text: &[u8]) -> Option<(Prefix, 
     Some((Prefix::new(first.least(), len as u8), &text[end..]))
 }
 
-/// The range of the numbers of one address.
+/// Returns the range of the numbers of one address.
 #[inline(always)]
 pub fn range_of<A: FamilyAddr>(addr: A) -> AddressRange
     ensures { IsRangeFrom (A.ip addr) (A.ip addr) result }

@@ -1,4 +1,4 @@
-//! What callers may rely on and no single call says.
+//! Facts that callers can use and that no single call states.
 ghost use Rattle.std.specs.Prelude.{◌≡◌, ◌↔◌, ℕ, IsTrue};
 ghost use Rattle.std.specs.Ordering.{nat_cmp};
 ghost use Rattle.rpki_cover.specs.Prefixes.{PrefixValue};
@@ -8,8 +8,11 @@ use crate::addr::Addr;
 use crate::prefix::Prefix;
 use crate::range::AddressRange;
 
-/// Addresses are in order as their numbers. Addresses, prefixes and ranges are equal exactly where they are the same:
-/// by their numbers, by the first address and the length, by the bounds.
+/// States the order of addresses, and the equality of addresses, prefixes and ranges.
+///
+/// Addresses have the order of their numbers. Two addresses are equal if and only if their numbers are the same. Two
+/// prefixes are equal if and only if their first addresses and lengths are the same. Two ranges are equal if and only
+/// if their bounds are the same.
 pub fn orders_and_equality()
     ensures order { (a b : ℕ) → ⟦<Addr as Ord>⟧.cmp a b ≡ nat_cmp a b }
     ensures addr { (a b : ℕ) → IsTrue (⟦<Addr as PartialEq>⟧.eq a b) ↔ (a ≡ b) }

@@ -1,6 +1,6 @@
-//! Addresses of both families as numbers, prefixes and ranges of them (RFC 3779, section 2), and their texts.
+//! Addresses of both families as numbers, prefixes and ranges of addresses (RFC 3779, 2), and their texts.
 //!
-//! A range is read, and becomes the fewest prefixes, as in the program `rows_values`:
+//! This code of the program `rows_values` parses a range and makes the fewest prefixes of it:
 //!
 //! ```rust
 //! match AddressRange::from_v6_str(text) {
@@ -27,6 +27,6 @@ pub use error::FromStrError;
 pub use prefix::Prefix;
 pub use range::AddressRange;
 
-/// Families, in which claims are listed too, stand in a crate below this one.
+/// Address families, from a crate below this one, because claims are also listed by family.
 pub use rpki_der::family;
 pub use rpki_der::family::AddressFamily;

@@ -9,7 +9,7 @@ use std::marker::Model;
 
 /// The addresses that begin with the same bits (RFC 3779, 2.2.3.8).
 ///
-/// The length is 0 to 128. The bits after it are clear in the prefix's address.
+/// The length is 0 to 128. In the prefix's address the bits after the length are clear.
 #[derive(Clone, Copy, Debug, PartialEq, Eq, Hash)]
 pub struct Prefix {
     addr: Addr,
@@ -29,7 +29,11 @@ impl Model for Prefix {
 }
 
 impl Prefix {
-    /// The prefix of the first `len` bits of an address. The length is at most 128.
+    /// Returns the prefix of the first `len` bits of an address.
+    ///
+    /// # Preconditions
+    ///
+    /// `len` is at most 128.
     pub fn new(addr: Addr, len: u8) -> Prefix
         requires { len ≤ 128 }
         ensures value { result ≡ record { first = cleared 128 addr len; len = len } }
@@ -41,7 +45,7 @@ impl Prefix {
         }
     }
 
-    /// The prefix of an address and a length, which are one as they stand.
+    /// Returns the prefix of an address and a length that already form a prefix.
     pub(crate) fn from_parts_unchecked(addr: Addr, len: u8) -> Prefix
         requires { IsPrefix 128 (record { first = addr; len = len }) }
         ensures value { result ≡ record { first = addr; len = len } }
@@ -50,14 +54,14 @@ impl Prefix {
         Prefix { addr, len }
     }
 
-    /// All addresses: the prefix of length 0.
+    /// Returns the prefix of all addresses, with length 0.
     pub fn all() -> Prefix
         ensures { result ≡ record { first = 0; len = 0 } }
     {
         Prefix::new(Addr::from_bits(0), 0)
     }
 
-    /// The prefix's address, which is its least one.
+    /// Returns the prefix's address, which is its least address.
     pub fn addr(self) -> Addr
         ensures value { result ≡ self.first }
         ensures prefix { IsPrefix 128 self }
@@ -65,7 +69,7 @@ impl Prefix {
         self.addr
     }
 
-    /// How many bits the addresses have in common.
+    /// Returns the prefix length: the number of bits that the addresses have in common.
     pub fn addr_len(self) -> u8
         ensures value { result ≡ self.len }
         ensures prefix { IsPrefix 128 self }
@@ -73,21 +77,21 @@ impl Prefix {
         self.len
     }
 
-    /// The prefix's address as an IPv4 address: its first 32 bits.
+    /// Returns the first 32 bits of the prefix's address as an IPv4 address.
     pub fn to_v4(self) -> Ipv4Addr
         ensures { result ≡ self.first / 2 ^ 96 }
     {
         self.addr.to_v4()
     }
 
-    /// The prefix's address as an IPv6 address.
+    /// Returns the prefix's address as an IPv6 address.
     pub fn to_v6(self) -> Ipv6Addr
         ensures { result ≡ self.first }
     {
         self.addr.to_v6()
     }
 
-    /// The least and the greatest address.
+    /// Returns the least and the greatest address.
     pub fn range(self) -> (Addr, Addr)
         ensures min { result.0 ≡ self.first }
         ensures max { result.1 ≡ last_of 128 self }
@@ -96,7 +100,7 @@ impl Prefix {
         (self.min(), self.max())
     }
 
-    /// The least address.
+    /// Returns the least address.
     pub fn min(self) -> Addr
         ensures value { result ≡ self.first }
         ensures prefix { IsPrefix 128 self }
@@ -104,7 +108,7 @@ impl Prefix {
         self.addr
     }
 
-    /// The greatest address.
+    /// Returns the greatest address.
     pub fn max(self) -> Addr
         ensures value { result ≡ last_of 128 self }
         ensures prefix { IsPrefix 128 self }

@@ -10,7 +10,7 @@ use crate::prefix::Prefix;
 use rpki_block::block::Block;
 use std::marker::Model;
 
-/// The addresses from a least one to a greatest one, which may be the same (RFC 3779, 2.2.3.9).
+/// The addresses from a least to a greatest address, which may be the same (RFC 3779, 2.2.3.9).
 #[derive(Clone, Copy, Debug, PartialEq, Eq, Hash)]
 pub struct AddressRange {
     min: Addr,
@@ -30,7 +30,11 @@ impl Model for AddressRange {
 }
 
 impl AddressRange {
-    /// The range from the least address to the greatest, which isn't below it.
+    /// Returns the range from `min` to `max`.
+    ///
+    /// # Preconditions
+    ///
+    /// `min` isn't above `max`.
     pub fn new(min: Addr, max: Addr) -> AddressRange
         requires { min ≤ max }
         ensures { result ≡ record { min = min; max = max } }
@@ -38,7 +42,11 @@ impl AddressRange {
         AddressRange { min, max }
     }
 
-    /// The range of a least address and a greatest, which isn't below it.
+    /// Returns the range from the first address of the pair to the second.
+    ///
+    /// # Preconditions
+    ///
+    /// The first address isn't above the second.
     pub fn from_pair(pair: (Addr, Addr)) -> AddressRange
         requires { pair.0 ≤ pair.1 }
         ensures { result ≡ record { min = pair.0; max = pair.1 } }
@@ -46,7 +54,7 @@ impl AddressRange {
         AddressRange::new(pair.0, pair.1)
     }
 
-    /// The least address.
+    /// Returns the least address.
     pub fn min(&self) -> Addr
         ensures value { result ≡ self.now.min }
         ensures ordered { self.now.min ≤ self.now.max }
@@ -54,7 +62,7 @@ impl AddressRange {
         self.min
     }
 
-    /// The greatest address.
+    /// Returns the greatest address.
     pub fn max(&self) -> Addr
         ensures value { result ≡ self.now.max }
         ensures ordered { self.now.min ≤ self.now.max }
@@ -62,7 +70,11 @@ impl AddressRange {
         self.max
     }
 
-    /// Makes another address the least one. It is at most the greatest.
+    /// Replaces the least address.
+    ///
+    /// # Preconditions
+    ///
+    /// `min` isn't above the greatest address.
     pub fn set_min(&mut self, min: Addr)
         requires { min ≤ self.old.max }
         ensures { self.new ≡ record { min = min; max = self.old.max } }
@@ -70,7 +82,11 @@ impl AddressRange {
         self.min = min;
     }
 
-    /// Makes another address the greatest one. It is at least the least.
+    /// Replaces the greatest address.
+    ///
+    /// # Preconditions
+    ///
+    /// `max` isn't below the least address.
     pub fn set_max(&mut self, max: Addr)
         requires { self.old.min ≤ max }
         ensures { self.new ≡ record { min = self.old.min; max = max } }
@@ -78,8 +94,10 @@ impl AddressRange {
         self.max = max;
     }
 
-    /// Whether the range consists of whole IPv4 addresses: its least address ends with 96 zeros and its greatest with
-    /// 96 ones, as the range between two IPv4 addresses does.
+    /// Returns whether the range consists of whole IPv4 addresses.
+    ///
+    /// Its least address then ends with 96 zeros and its greatest with 96 ones, as in the range between two IPv4
+    /// addresses.
     pub fn is_whole_v4(&self) -> bool
         ensures bounds { IsTrue result ↔ HasWholeBounds (range_bounds self.now) }
         ensures set { IsTrue result ↔ IsWhole (IsWithin (range_bounds self.now)) }
@@ -87,7 +105,11 @@ impl AddressRange {
         self.min.to_min(32) == self.min && self.max.to_max(32) == self.max
     }
 
-    /// The prefix of exactly the range's addresses, or the range where there is none.
+    /// Returns the prefix with exactly the range's addresses.
+    ///
+    /// # Errors
+    ///
+    /// The range itself, if no prefix has exactly these addresses.
     pub fn into_prefix(self) -> Result<Prefix, AddressRange>
         ensures prefix { IfOk result (λ p. IsPrefix 128 p × IsRangeOf p self) }
         ensures found { (p : PrefixValue) → IsPrefix 128 p → IsRangeOf p self → result ≡ Ok p }
@@ -100,9 +122,10 @@ impl AddressRange {
         }
     }
 
-    /// The length of the prefix of exactly the range's addresses, `None` where there is none. The bits behind those
-    /// that a prefix's addresses begin with are clear in its least address and set in its greatest: so their difference
-    /// is all of them.
+    /// Returns the length of the prefix with exactly the range's addresses, or `None` if there is no such prefix.
+    ///
+    /// In a prefix's least address the bits after the length are clear, and in its greatest address they are set. So
+    /// the difference of the two addresses has exactly these bits.
     #[tactic(auto, using(crate::proofs::RangeLemmas::bits_of_prefix))]
     fn prefix_len(&self) -> Option<u8>
         ensures some { IfSome result (λ len. IsPrefix 128
@@ -121,7 +144,7 @@ impl AddressRange {
     }
 }
 
-/// The range of the prefix's addresses.
+/// Returns the range of the prefix's addresses.
 impl From<Prefix> for AddressRange {
     ghost from_gives = { λ p r. IsRangeOf p r };
 

@@ -1,7 +1,7 @@
-//! Texts of prefixes and ranges, read and printed.
+//! Texts of prefixes and ranges: parsing and printing.
 //!
-//! A text is read as one of IPv4, as one of IPv6, or as one of either family. It is printed as one of IPv4, by the
-//! first 32 bits of each address, or as one of IPv6.
+//! A text is parsed as IPv4, as IPv6, or as either family. It is printed as IPv4, by the first 32 bits of each address,
+//! or as IPv6.
 ghost use Rattle.std.specs.Prelude.{◌≡◌, ◌+◌, ◌≤◌, ◌↔◌, ◌++◌, IsTrue, None, Some, MatchResult, length, take};
 ghost use Rattle.std.specs.Fmt.{WritesOnOk};
 ghost use Rattle.rpki_text.specs.Reading.{Answers};
@@ -25,7 +25,7 @@ use rpki_text::number::{ParseIntError, parse_u8};
 use std::fmt;
 use std::str::FromStr;
 
-/// The greatest number that an address stands for.
+/// Returns the greatest number of an address.
 fn greatest(addr: &IpAddr) -> Addr
     ensures { result ≡ greatest_of addr.now }
 {
@@ -35,7 +35,7 @@ fn greatest(addr: &IpAddr) -> Addr
     }
 }
 
-/// The address that a text writes, in the family that is wanted or in either.
+/// Parses an address of the family `wanted`, or of either family if `wanted` is None.
 fn read_address(wanted: Option<AddressFamily>, text: &str) -> Result<IpAddr, AddrParseError>
     ensures { MatchResult result (IsAddressText wanted text.now)
         (λ e. (e ≡ address_fault wanted) × ((a : _) → ¬ IsAddressText wanted text.now a)) }
@@ -47,8 +47,14 @@ fn read_address(wanted: Option<AddressFamily>, text: &str) -> Result<IpAddr, Add
     }
 }
 
-/// The prefix that an address and a length write, in the family that is wanted or in either. The bits behind the length
-/// are cleared. The fault is [`FromStrError::Addr`], and then [`FromStrError::PrefixLen`].
+/// Parses the two parts of a prefix: its address and its length.
+///
+/// `wanted` is the family of the address, None for either. The bits after the length are cleared.
+///
+/// # Errors
+///
+/// - [`FromStrError::Addr`]: `left` isn't an address of the family.
+/// - [`FromStrError::PrefixLen`]: `left` is an address, but `right` isn't a number from 0 to the number of its bits.
 #[tactic(auto, using(crate::proofs::TextLemmas::too_long))]
 pub fn prefix_between(
     wanted: Option<AddressFamily>,
@@ -66,11 +72,17 @@ pub fn prefix_between(
     Ok(Prefix::new(Addr::from(addr), len))
 }
 
-/// The range from one address to another, in the family that is wanted or in either.
+/// Parses the two addresses of a range.
 ///
-/// The fault is the first of these: [`FromStrError::Addr`] of the first address and of the second,
-/// [`FromStrError::FamilyMismatch`] where they are of two families, and [`FromStrError::BadRange`] where the first is
-/// above the second.
+/// `wanted` is the family of the addresses, None for either.
+///
+/// # Errors
+///
+/// The first of these faults is returned:
+///
+/// - [`FromStrError::Addr`]: `left` isn't an address of the family, or then `right` isn't.
+/// - [`FromStrError::FamilyMismatch`]: the addresses are of two families.
+/// - [`FromStrError::BadRange`]: the first address is above the second.
 pub fn range_between(
     wanted: Option<AddressFamily>,
     left: &str,
@@ -84,8 +96,7 @@ pub fn range_between(
     range_from(first, last)
 }
 
-/// The range from one address to another of its family. Where there is none, it is first their families that differ,
-/// and then their order.
+/// Returns the range from one address to another. Different families are reported before a wrong order.
 fn range_from(first: IpAddr, last: IpAddr) -> Result<AddressRange, FromStrError>
     ensures { MatchResult result (IsRangeFrom first last) (HasPairFault first last) }
 {
@@ -100,11 +111,18 @@ fn range_from(first: IpAddr, last: IpAddr) -> Result<AddressRange, FromStrError>
     Ok(AddressRange::new(min, max))
 }
 
-/// Reads an address and a length round the first slash, in the family that is wanted or in either. The bits behind the
-/// length are cleared.
+/// Parses a prefix: an address and a length, separated by the first slash.
 ///
-/// The fault is the first of these: [`FromStrError::MissingSeparator`] where there is no slash, [`FromStrError::Addr`],
-/// and [`FromStrError::PrefixLen`], also of a length above 32 in IPv4 and above 128 in IPv6.
+/// `wanted` is the family of the address, None for either. The bits after the length are cleared.
+///
+/// # Errors
+///
+/// The first of these faults is returned:
+///
+/// - [`FromStrError::MissingSeparator`]: the text has no slash.
+/// - [`FromStrError::Addr`]: the text before the first slash isn't an address of the family.
+/// - [`FromStrError::PrefixLen`]: the text after that slash isn't a length, or it is above 32 in IPv4 or above 128 in
+///   IPv6.
 pub fn read_prefix(wanted: Option<AddressFamily>, text: &str) -> Result<Prefix, FromStrError>
     ensures { Answers (IsIpPrefixText wanted text.now) (HasIpPrefixTextFault wanted text.now)
         result }
@@ -115,11 +133,18 @@ pub fn read_prefix(wanted: Option<AddressFamily>, text: &str) -> Result<Prefix, 
     }
 }
 
-/// Reads two addresses round the first dash, in the family that is wanted or in either.
+/// Parses a range: two addresses, separated by the first dash.
 ///
-/// The fault is the first of these: [`FromStrError::MissingSeparator`] where there is no dash, [`FromStrError::Addr`]
-/// of the first address and of the second, [`FromStrError::FamilyMismatch`] where they are of two families, and
-/// [`FromStrError::BadRange`] where the first is above the second.
+/// `wanted` is the family of the addresses, None for either.
+///
+/// # Errors
+///
+/// The first of these faults is returned:
+///
+/// - [`FromStrError::MissingSeparator`]: the text has no dash.
+/// - [`FromStrError::Addr`]: the text before the first dash isn't an address of the family, or then the text after it.
+/// - [`FromStrError::FamilyMismatch`]: the addresses are of two families.
+/// - [`FromStrError::BadRange`]: the first address is above the second.
 pub fn read_range(wanted: Option<AddressFamily>, text: &str) -> Result<AddressRange, FromStrError>
     ensures { Answers (IsRangeText wanted text.now) (HasRangeTextFault wanted text.now) result }
 {
@@ -129,8 +154,13 @@ pub fn read_range(wanted: Option<AddressFamily>, text: &str) -> Result<AddressRa
     }
 }
 
-/// Reads one address, in the family that is wanted or in either, as the range of its numbers. Any other text is
-/// refused by [`FromStrError::Addr`].
+/// Parses one address and returns the range of its numbers.
+///
+/// `wanted` is the family of the address, None for either.
+///
+/// # Errors
+///
+/// [`FromStrError::Addr`] if the text isn't an address of the family.
 pub fn read_single(wanted: Option<AddressFamily>, text: &str) -> Result<AddressRange, FromStrError>
     ensures { Answers (IsSingleText wanted text.now) (HasAddressFault wanted text.now) result }
 {
@@ -138,7 +168,7 @@ pub fn read_single(wanted: Option<AddressFamily>, text: &str) -> Result<AddressR
     Ok(AddressRange::new(Addr::from(addr), greatest(&addr)))
 }
 
-/// The address as one of the family: in IPv4 its first 32 bits.
+/// Returns the address as an address of the family. In IPv4 it is the first 32 bits.
 pub fn shown_addr(family: AddressFamily, addr: Addr) -> IpAddr
     ensures { result ≡ as_ip family (shown_bits family addr) }
 {
@@ -148,7 +178,7 @@ pub fn shown_addr(family: AddressFamily, addr: Addr) -> IpAddr
     }
 }
 
-/// Whether both addresses are printed alike as those of the family.
+/// Returns whether the printed texts of both addresses, as addresses of the family, are the same.
 fn look_alike(family: AddressFamily, a: Addr, b: Addr) -> bool
     ensures { IsTrue result ↔ (shown_bits family a ≡ shown_bits family b) }
 {
@@ -158,10 +188,11 @@ fn look_alike(family: AddressFamily, a: Addr, b: Addr) -> bool
     }
 }
 
-/// The most bytes of a range: two addresses and a dash.
+/// The maximum number of bytes of a range's text: two addresses and a dash.
 const RANGE_ROOM: usize = 2 * IP_ROOM + 1;
 
-/// Puts an address, as one of the family, and answers where it ends, and how many bits the family's addresses have.
+/// Writes an address of the family into `out` at index `at`. Returns the end index and the number of bits of the
+/// family's addresses.
 #[inline(always)]
 fn put_addr(out: &mut [u8], at: usize, family: AddressFamily, addr: Addr) -> (usize, u8)
     requires { at + 40 ≤ length out.old }
@@ -175,7 +206,7 @@ fn put_addr(out: &mut [u8], at: usize, family: AddressFamily, addr: Addr) -> (us
     }
 }
 
-/// Puts a prefix, as one of the family, in front of a buffer, and answers where it ends.
+/// Writes a prefix of the family at the front of a buffer and returns the end index.
 fn put_prefix(out: &mut [u8], family: AddressFamily, prefix: Prefix) -> usize
     requires { 44 ≤ length out.old }
     ensures text { take result out.new ≡ ip_prefix_text family prefix }
@@ -189,7 +220,7 @@ fn put_prefix(out: &mut [u8], family: AddressFamily, prefix: Prefix) -> usize
     put_length(out, end, len)
 }
 
-/// Puts a range, as one of the family, in front of a buffer, and answers where it ends.
+/// Writes a range of the family at the front of a buffer and returns the end index.
 fn put_range(out: &mut [u8], family: AddressFamily, range: AddressRange) -> usize
     requires { 81 ≤ length out.old }
     ensures text { take result out.new ≡ ip_range_text family range }
@@ -205,11 +236,15 @@ fn put_range(out: &mut [u8], family: AddressFamily, range: AddressRange) -> usiz
 }
 
 impl Prefix {
-    /// Reads an IPv4 prefix: an address, a slash and a length. The bits behind the length are cleared.
+    /// Parses an IPv4 prefix: an address, a slash and a length. The bits after the length are cleared.
     ///
-    /// Errors, of which the first is returned: [`FromStrError::MissingSeparator`] if there is no slash;
-    /// [`FromStrError::Addr`] if the text before the first slash is no IPv4 address; [`FromStrError::PrefixLen`] if the
-    /// text behind that slash is no number from 0 to 32.
+    /// # Errors
+    ///
+    /// The first of these faults is returned:
+    ///
+    /// - [`FromStrError::MissingSeparator`]: the text has no slash.
+    /// - [`FromStrError::Addr`]: the text before the first slash isn't an IPv4 address.
+    /// - [`FromStrError::PrefixLen`]: the text after that slash isn't a number from 0 to 32.
     pub fn from_v4_str(text: &str) -> Result<Prefix, FromStrError>
         ensures { Answers (IsIpPrefixText (Some Ipv4) text.now)
             (HasIpPrefixTextFault (Some Ipv4) text.now) result }
@@ -217,11 +252,15 @@ impl Prefix {
         read_prefix(Some(AddressFamily::Ipv4), text)
     }
 
-    /// Reads an IPv6 prefix: an address, a slash and a length. The bits behind the length are cleared.
+    /// Parses an IPv6 prefix: an address, a slash and a length. The bits after the length are cleared.
     ///
-    /// Errors, of which the first is returned: [`FromStrError::MissingSeparator`] if there is no slash;
-    /// [`FromStrError::Addr`] if the text before the first slash is no IPv6 address; [`FromStrError::PrefixLen`] if the
-    /// text behind that slash is no number from 0 to 128.
+    /// # Errors
+    ///
+    /// The first of these faults is returned:
+    ///
+    /// - [`FromStrError::MissingSeparator`]: the text has no slash.
+    /// - [`FromStrError::Addr`]: the text before the first slash isn't an IPv6 address.
+    /// - [`FromStrError::PrefixLen`]: the text after that slash isn't a number from 0 to 128.
     pub fn from_v6_str(text: &str) -> Result<Prefix, FromStrError>
         ensures { Answers (IsIpPrefixText (Some Ipv6) text.now)
             (HasIpPrefixTextFault (Some Ipv6) text.now) result }
@@ -229,8 +268,10 @@ impl Prefix {
         read_prefix(Some(AddressFamily::Ipv6), text)
     }
 
-    /// Writes the prefix as one of the family: its address, in IPv4 the first 32 bits of it, a slash and the length, of
-    /// which the last two are left out where the length is that of an address.
+    /// Prints the prefix as a prefix of the family: its address, a slash and the length.
+    ///
+    /// An IPv4 address is the first 32 bits. The slash and the length are left out if the length is the number of bits
+    /// of the family's addresses.
     pub fn fmt_as<W: fmt::Write>(
         &self,
         family: AddressFamily,
@@ -243,14 +284,14 @@ impl Prefix {
         write_front(&out, end, f)
     }
 
-    /// Writes the prefix as one of IPv4, as [`Prefix::fmt_as`] does.
+    /// Prints the prefix as an IPv4 prefix, as [`Prefix::fmt_as`] does.
     pub fn fmt_v4<W: fmt::Write>(&self, f: &mut fmt::Formatter<W>) -> fmt::Result
         ensures { WritesOnOk W.write_str_gives f.old result (ip_prefix_text Ipv4 self.now) f.new }
     {
         self.fmt_as(AddressFamily::Ipv4, f)
     }
 
-    /// Writes the prefix as one of IPv6, as [`Prefix::fmt_as`] does.
+    /// Prints the prefix as an IPv6 prefix, as [`Prefix::fmt_as`] does.
     pub fn fmt_v6<W: fmt::Write>(&self, f: &mut fmt::Formatter<W>) -> fmt::Result
         ensures { WritesOnOk W.write_str_gives f.old result (ip_prefix_text Ipv6 self.now) f.new }
     {
@@ -258,7 +299,7 @@ impl Prefix {
     }
 }
 
-/// Reads an address of either family and a length round the first slash, as [`read_prefix`] does.
+/// Parses a prefix of either family, as [`read_prefix`] does: an address and a length, separated by the first slash.
 impl FromStr for Prefix {
     type Err = FromStrError;
 
@@ -271,11 +312,15 @@ impl FromStr for Prefix {
 }
 
 impl AddressRange {
-    /// Reads an IPv4 range: its first address, a dash and its last address.
+    /// Parses an IPv4 range: its first address, a dash and its last address.
     ///
-    /// Errors, of which the first is returned: [`FromStrError::MissingSeparator`] if there is no dash;
-    /// [`FromStrError::Addr`] if the text before or behind the first dash is no IPv4 address;
-    /// [`FromStrError::BadRange`] if the first address is above the last.
+    /// # Errors
+    ///
+    /// The first of these faults is returned:
+    ///
+    /// - [`FromStrError::MissingSeparator`]: the text has no dash.
+    /// - [`FromStrError::Addr`]: the text before or after the first dash isn't an IPv4 address.
+    /// - [`FromStrError::BadRange`]: the first address is above the last.
     pub fn from_v4_str(text: &str) -> Result<AddressRange, FromStrError>
         ensures { Answers (IsRangeText (Some Ipv4) text.now)
             (HasRangeTextFault (Some Ipv4) text.now) result }
@@ -283,11 +328,15 @@ impl AddressRange {
         read_range(Some(AddressFamily::Ipv4), text)
     }
 
-    /// Reads an IPv6 range: its first address, a dash and its last address.
+    /// Parses an IPv6 range: its first address, a dash and its last address.
     ///
-    /// Errors, of which the first is returned: [`FromStrError::MissingSeparator`] if there is no dash;
-    /// [`FromStrError::Addr`] if the text before or behind the first dash is no IPv6 address;
-    /// [`FromStrError::BadRange`] if the first address is above the last.
+    /// # Errors
+    ///
+    /// The first of these faults is returned:
+    ///
+    /// - [`FromStrError::MissingSeparator`]: the text has no dash.
+    /// - [`FromStrError::Addr`]: the text before or after the first dash isn't an IPv6 address.
+    /// - [`FromStrError::BadRange`]: the first address is above the last.
     pub fn from_v6_str(text: &str) -> Result<AddressRange, FromStrError>
         ensures { Answers (IsRangeText (Some Ipv6) text.now)
             (HasRangeTextFault (Some Ipv6) text.now) result }
@@ -295,8 +344,9 @@ impl AddressRange {
         read_range(Some(AddressFamily::Ipv6), text)
     }
 
-    /// Writes the range as one of the family: the least and the greatest address, in IPv4 the first 32 bits of each,
-    /// with a dash between them, or only one where they are alike.
+    /// Prints the range as a range of the family: the least address, a dash and the greatest address.
+    ///
+    /// An IPv4 address is the first 32 bits. If the two addresses are printed alike, only one is printed.
     pub fn fmt_as<W: fmt::Write>(
         &self,
         family: AddressFamily,
@@ -309,14 +359,14 @@ impl AddressRange {
         write_front(&out, end, f)
     }
 
-    /// Writes the range as one of IPv4, as [`AddressRange::fmt_as`] does.
+    /// Prints the range as an IPv4 range, as [`AddressRange::fmt_as`] does.
     pub fn fmt_v4<W: fmt::Write>(&self, f: &mut fmt::Formatter<W>) -> fmt::Result
         ensures { WritesOnOk W.write_str_gives f.old result (ip_range_text Ipv4 self.now) f.new }
     {
         self.fmt_as(AddressFamily::Ipv4, f)
     }
 
-    /// Writes the range as one of IPv6, as [`AddressRange::fmt_as`] does.
+    /// Prints the range as an IPv6 range, as [`AddressRange::fmt_as`] does.
     pub fn fmt_v6<W: fmt::Write>(&self, f: &mut fmt::Formatter<W>) -> fmt::Result
         ensures { WritesOnOk W.write_str_gives f.old result (ip_range_text Ipv6 self.now) f.new }
     {
@@ -324,7 +374,7 @@ impl AddressRange {
     }
 }
 
-/// Reads two addresses of one family, which may be either, round the first dash, as [`read_range`] does.
+/// Parses a range between two addresses of one family, which may be either, as [`read_range`] does.
 impl FromStr for AddressRange {
     type Err = FromStrError;
 

@@ -1,4 +1,4 @@
-//! Refusals of octets that were taken from their value.
+//! Faults of the content of a DER value that was already read.
 ghost use Rattle.std.specs.Prelude.{Some, codes};
 
 use std::error::Error;

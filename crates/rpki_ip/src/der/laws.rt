@@ -1,4 +1,4 @@
-//! What holds of the octets of families, prefixes and ranges, each law as the contract of a function that does nothing.
+//! Lemmas about the encodings of families, prefixes and ranges, each as the contract of a function that does nothing.
 ghost use Rattle.std.specs.Prelude.{◌≡◌, ◌≢◌, ◌↔◌, ℕ, ◌<◌, ◌≤◌, ◌^◌, List, Err, true, IsOk};
 ghost use Rattle.rpki_der.specs.SequenceFaults.{BeginsWithTwo};
 ghost use Rattle.rpki_cover.specs.Prefixes.{IsPrefix, PrefixValue, last_of};
@@ -17,8 +17,10 @@ pub fn one_value()
     ensures range { (limit : ℕ) → OneFront (IsRangeDer limit) }
 {}
 
-/// The octets that `encode` appends are values: of a family; of a prefix that isn't longer than the limit; of a range
-/// whose bounds need no more bits than the limit.
+/// The octets that `encode` appends conform to the grammar.
+///
+/// This holds for a family, for a prefix that isn't longer than the limit, and for a range whose bounds need no more
+/// bits than the limit.
 pub fn written()
     ensures family { (family : AddressFamily) → IsFamilyDer (family_der family) family }
     ensures prefix { (limit : ℕ) (p : PrefixValue) → IsPrefix 128 p → p.len ≤ limit
@@ -27,31 +29,37 @@ pub fn written()
         → IsRangeDer limit (range_der r) r }
 {}
 
-/// What bits say is a prefix.
+/// A value that a bit string denotes, by `SaysPrefix`, is a prefix.
 #[tactic(auto, using(crate::proofs::PrefixBits::said_prefix))]
 pub fn is_prefix()
     ensures { (limit : ℕ) (b : Bits) (p : PrefixValue) → limit ≤ 128 → IsBytes b.octets
         → SaysPrefix limit b p → IsPrefix 128 p }
 {}
 
-/// An address without the zeros at its end is the shortest prefix that begins with it, and without the ones at its end
-/// the shortest that ends with it.
+/// States that the prefixes in the encoding of a range are the shortest possible.
+///
+/// An address without the zeros at its end is the shortest prefix that begins with this address. An address without the
+/// ones at its end is the shortest prefix that ends with it.
 #[tactic(auto, using(crate::proofs::Shortest::shortest_from_is, crate::proofs::Shortest::shortest_to_is))]
 pub fn shortest()
     ensures zeros { (a : ℕ) → a < 2 ^ 128 → IsShortestFrom a (without_end_zeros a) }
     ensures ones { (a : ℕ) → a < 2 ^ 128 → IsShortestTo a (without_end_ones a) }
 {}
 
-/// A range is reversed exactly where its content begins with two prefixes of which the second ends before the first
-/// begins, whatever stands behind them.
+/// States when a range is reversed.
+///
+/// It is if and only if its content begins with two prefixes of which the second ends before the first begins. Any
+/// octets may follow the two prefixes.
 #[tactic(auto, using(crate::proofs::DerFaults::range_fails))]
 pub fn reversed()
     ensures { (limit : ℕ) (content : List ℕ) → (range_in limit content ≡ Err ReversedRange)
         ↔ BeginsWithTwo (prefix_at limit) (λ p q. last_of 128 q < p.first) content }
 {}
 
-/// Octets are refused as not canonical by a strict cursor alone; as a prefix only where a lenient one finds a prefix:
-/// each other fault of it, as `BadPrefix` for too many bits, comes first.
+/// Only a strict cursor refuses octets by `NotCanonical`.
+///
+/// It refuses a prefix by `NotCanonical` only if a lenient cursor accepts the prefix. Each other fault is reported
+/// first, such as `BadPrefix` for too many bits.
 #[tactic(auto, using(crate::proofs::DerFaults::prefix_names, crate::proofs::DerFaults::range_names, crate::proofs::DerFaults::prefix_last))]
 pub fn not_canonical()
     ensures prefix { (limit : ℕ) (bytes : List ℕ) → prefix_at limit bytes ≢ Err NotCanonical }

@@ -22,8 +22,13 @@ impl Prefix {
     ghost use Rattle.rpki_der.specs.Families.{bits_of};
     ghost use Rattle.rpki_ip.specs.PrefixDer.{IsPrefixContent, IsPrefixDer, IsPrefixWithin, IsStrictContent, SaysPrefix, prefix_at, prefix_by, prefix_der, prefix_in, prefix_in_by};
 
-    /// The prefix whose addresses begin with the bits of a bit string (RFC 3779, 2.2.3.8), which has at most sixteen
-    /// octets, and else is refused by [`DecodePrefixError`]. Its unused bits may be set, and count as zero.
+    /// Returns the prefix whose addresses begin with the bits of a bit string (RFC 3779, 2.2.3.8).
+    ///
+    /// The unused bits may be set, and count as zero.
+    ///
+    /// # Errors
+    ///
+    /// [`DecodePrefixError`] if the bit string has more than sixteen octets.
     #[tactic(auto, using(crate::proofs::PrefixBits::used_bits))]
     pub fn from_bit_string(bits: &BitString<'_>) -> Result<Prefix, DecodePrefixError>
         ensures { MatchResult result (SaysPrefix 128 (bit_string_of bits.now))
@@ -36,24 +41,30 @@ impl Prefix {
         Ok(Prefix::new(beginning_with(bits.octets()), len))
     }
 
-    /// Takes the BIT STRING of a prefix (RFC 3779, 2.2.3.8). Its unused bits may be set, and count as zero.
+    /// Reads the BIT STRING of a prefix (RFC 3779, 2.2.3.8). In lenient mode its unused bits may be set, and count as
+    /// zero.
     ///
-    /// The faults are those of [`Cursor::take_bit_string`], and `BadPrefix` for more than sixteen octets, which from a
-    /// strict cursor comes before `NotCanonical` for an unused bit that is set.
+    /// # Errors
+    ///
+    /// The cursor is unchanged then.
+    ///
+    /// - A fault of [`Cursor::take_bit_string`].
+    /// - `BadPrefix`: the BIT STRING has more than sixteen octets. A strict cursor reports this before `NotCanonical`
+    ///   for an unused bit that is set.
     #[tactic(auto, using(crate::proofs::DerModes::taken_exact, crate::proofs::DerModes::taken_reads, crate::proofs::DerModes::taken_strict, crate::proofs::DerModes::taken_refused))]
     pub fn take_from(cursor: &mut Cursor<'_>) -> Result<Prefix, DerError>
         ensures reads { Lenient cursor.old
             (ReadsValue (IsPrefixDer 128) (λ p. p) cursor.old cursor.new result) }
         ensures exact { Lenient cursor.old
             (Takes (λ p. p) cursor.old cursor.new result (prefix_at 128)) }
-        // What is written of a prefix is read as that prefix, whatever follows it, strictly too.
+        // The encoding of a prefix is read back as that prefix in both modes, with any octets after it.
         ensures reads_back { (p : PrefixValue) (rest : List ℕ) → IsPrefix 128 p
             → left cursor.old ≡ prefix_der p ++ rest
             → (result ≡ Ok p) × (left cursor.new ≡ rest) }
         ensures strict { Strict cursor.old
             (ReadsValue (Spells (IsPrefixWithin 128) prefix_der) (λ p. p) cursor.old cursor.new result) }
         ensures refused { NotCanonicalOr (IsPrefixDer 128) cursor.old result }
-        // In either mode.
+        // This clause is for both modes.
         ensures by_mode { Takes (λ p. p) cursor.old cursor.new result
             (prefix_by (is_strict cursor.old) 128) }
         ensures mode { is_strict cursor.new ≡ is_strict cursor.old }
@@ -61,8 +72,12 @@ impl Prefix {
         Self::next(cursor, AddressFamily::Ipv6)
     }
 
-    /// Takes the BIT STRING of a prefix of the family as `take_from` does. `BadPrefix` also for a prefix that is longer
-    /// than the family's addresses.
+    /// Reads the BIT STRING of a prefix of `family` as `take_from` does.
+    ///
+    /// # Errors
+    ///
+    /// The errors are those of `take_from`. `BadPrefix` is also returned for a prefix that is longer than the family's
+    /// addresses. The cursor is unchanged then.
     #[tactic(auto, using(crate::proofs::DerModes::taken_exact, crate::proofs::DerModes::taken_reads, crate::proofs::DerModes::taken_strict, crate::proofs::DerModes::taken_refused, crate::proofs::DerModes::bits_few_enough))]
     pub fn take_from_with_family(
         cursor: &mut Cursor<'_>,
@@ -72,7 +87,7 @@ impl Prefix {
             (ReadsValue (IsPrefixDer (bits_of family)) (λ p. p) cursor.old cursor.new result) }
         ensures exact { Lenient cursor.old
             (Takes (λ p. p) cursor.old cursor.new result (prefix_at (bits_of family))) }
-        // What is written of a prefix of the family is read as that prefix, whatever follows it, strictly too.
+        // The encoding of a prefix of the family is read back as that prefix in both modes, with any octets after it.
         ensures reads_back { (p : PrefixValue) (rest : List ℕ) → IsPrefixWithin (bits_of family) p
             → left cursor.old ≡ prefix_der p ++ rest
             → (result ≡ Ok p) × (left cursor.new ≡ rest) }
@@ -80,7 +95,7 @@ impl Prefix {
             (ReadsValue (Spells (IsPrefixWithin (bits_of family)) prefix_der) (λ p. p) cursor.old
             cursor.new result) }
         ensures refused { NotCanonicalOr (IsPrefixDer (bits_of family)) cursor.old result }
-        // In either mode.
+        // This clause is for both modes.
         ensures by_mode { Takes (λ p. p) cursor.old cursor.new result
             (prefix_by (is_strict cursor.old) (bits_of family)) }
         ensures mode { is_strict cursor.new ≡ is_strict cursor.old }
@@ -88,10 +103,15 @@ impl Prefix {
         Self::next(cursor, family)
     }
 
-    /// The content as the BIT STRING of a prefix, whatever the tag is.
+    /// Parses the content as the BIT STRING of a prefix, with any tag.
     ///
-    /// `BadBitString` for any other content, `BadPrefix` for more than sixteen octets; of a strict cursor's content
-    /// also `NotCanonical` where an unused bit is set.
+    /// # Errors
+    ///
+    /// The first of these faults is returned:
+    ///
+    /// - `BadBitString`: the content isn't that of a BIT STRING.
+    /// - `BadPrefix`: the BIT STRING has more than sixteen octets.
+    /// - `NotCanonical`: an unused bit is set. Only the content from a strict cursor has this fault.
     #[tactic(auto, using(crate::proofs::DerModes::said_exact, crate::proofs::DerModes::said_reads, crate::proofs::DerModes::said_strict, crate::proofs::DerModes::said_refused))]
     pub fn parse_content(content: &Content<'_>) -> Result<Prefix, DerError>
         ensures reads { LenientIn content.now
@@ -101,17 +121,22 @@ impl Prefix {
         ensures strict { StrictIn content.now
             (Parses (IsStrictContent 128) (λ p. p) (content_octets content.now) result) }
         ensures refused { NotCanonicalInOr (IsPrefixContent 128) content.now result }
-        // In either mode.
+        // This clause is for both modes.
         ensures by_mode { Gives (λ p. p) result
             (prefix_in_by (is_strict_in content.now) 128 (content_octets content.now)) }
     {
         Self::of_content(content, AddressFamily::Ipv6)
     }
 
-    /// The content as the BIT STRING of a prefix of the family, whatever the tag is.
+    /// Parses the content as the BIT STRING of a prefix of `family`, with any tag.
     ///
-    /// `BadBitString` for any other content, `BadPrefix` for more than sixteen octets and for a prefix that is longer
-    /// than the family's addresses; `NotCanonical` as in `parse_content`.
+    /// # Errors
+    ///
+    /// The first of these faults is returned:
+    ///
+    /// - `BadBitString`: the content isn't that of a BIT STRING.
+    /// - `BadPrefix`: the BIT STRING has more than sixteen octets, or the prefix is longer than the family's addresses.
+    /// - `NotCanonical`: as in `parse_content`.
     #[tactic(auto, using(crate::proofs::DerModes::said_exact, crate::proofs::DerModes::said_reads, crate::proofs::DerModes::said_strict, crate::proofs::DerModes::said_refused))]
     pub fn parse_content_with_family(
         content: &Content<'_>,
@@ -126,7 +151,7 @@ impl Prefix {
             (Parses (IsStrictContent (bits_of family)) (λ p. p) (content_octets content.now)
             result) }
         ensures refused { NotCanonicalInOr (IsPrefixContent (bits_of family)) content.now result }
-        // In either mode.
+        // This clause is for both modes.
         ensures by_mode { Gives (λ p. p) result
             (prefix_in_by (is_strict_in content.now) (bits_of family)
             (content_octets content.now)) }
@@ -134,7 +159,7 @@ impl Prefix {
         Self::of_content(content, family)
     }
 
-    /// How many octets `encode` appends.
+    /// Returns how many octets `encode` appends.
     #[tactic(auto, using(crate::proofs::DerWritten::length_prefix))]
     pub fn encoded_len(&self) -> usize
         ensures len { result ≡ length (prefix_der self.now) }
@@ -144,8 +169,11 @@ impl Prefix {
         bit_string_len(unused, &octets[..count])
     }
 
-    /// Appends the BIT STRING of the prefix, whose unused bits are zero (RFC 3779, 2.2.3.8; X.690, 11.2). `AllocError`
-    /// where there is no memory for it; then the octets stay as they were.
+    /// Appends the BIT STRING of the prefix, with zeros as unused bits (RFC 3779, 2.2.3.8; X.690, 11.2).
+    ///
+    /// # Errors
+    ///
+    /// [`AllocError`] if an allocation fails. The octets of `out` are unchanged then.
     pub fn encode<A: Allocator>(&self, out: &mut Vec<u8, A>) -> Result<(), AllocError>
         ensures prefix { IsPrefix 128 self.now }
         ensures ok { OnOk result (out.new.items ≡ out.old.items ++ prefix_der self.now) }
@@ -153,7 +181,7 @@ impl Prefix {
         ensures succeeds { vec_len out.old + length (prefix_der self.now) ≤ vec_capacity out.old
             → IsOk result }
         ensures capacity { vec_capacity out.old ≤ vec_capacity out.new }
-        // It is read back, whatever follows it, where its length isn't above the limit.
+        // The encoding is read back, with any octets after it, if the prefix length isn't above the limit.
         ensures read_back { (limit : ℕ) (rest : List ℕ) → self.now.len ≤ limit
             → prefix_at limit (prefix_der self.now ++ rest) ≡ Ok (self.now, rest) }
     {
@@ -161,7 +189,11 @@ impl Prefix {
         put_bit_string(out, unused, &octets[..count])
     }
 
-    /// Appends what `encode` does, where there is room for it.
+    /// Appends what `encode` appends.
+    ///
+    /// # Preconditions
+    ///
+    /// The free capacity of `out` suffices for the encoding.
     pub fn append<A: Allocator>(&self, out: &mut Vec<u8, A>)
         requires room { vec_len out.old + length (prefix_der self.now) ≤ vec_capacity out.old }
         ensures items { out.new.items ≡ out.old.items ++ prefix_der self.now }
@@ -178,7 +210,8 @@ impl Prefix {
     ghost use Rattle.rpki_der.specs.Der.{bits_with};
     ghost use Rattle.rpki_ip.specs.PrefixDer.{prefix_bits};
 
-    // How many bits of the last octet aren't used, the octets of the address, and how many of them the prefix needs.
+    // Returns how many bits of the last octet are unused, the octets of the address, and how many of them the prefix
+    // needs.
     fn parts(&self) -> (u8, [u8; 16], usize)
         ensures bits { bits_with result.0 (take result.2 result.1) ≡ prefix_bits self.now }
         ensures few { result.2 ≤ 16 }
@@ -190,7 +223,7 @@ impl Prefix {
     }
 }
 
-// The readings behind the calls.
+// Internal steps of the calls above.
 impl Prefix {
     ghost use Rattle.std.specs.Prelude.{◌≡◌};
     ghost use Rattle.rpki_der.specs.Families.{bits_of};
@@ -198,7 +231,7 @@ impl Prefix {
     ghost use Rattle.rpki_der.specs.Views.{Takes, content_octets, is_strict, is_strict_in};
     ghost use Rattle.rpki_ip.specs.PrefixDer.{prefix_by, prefix_in_by};
 
-    // The length is looked at before the unused bits are.
+    // The length is checked before the unused bits are.
     #[tactic(auto, using(crate::proofs::DerModes::length_first, crate::proofs::DerModes::few_enough, crate::proofs::PrefixBits::used_bits), unfolding(crate::specs::PrefixDer::prefix_of))]
     fn of_content(content: &Content<'_>, family: AddressFamily) -> Result<Prefix, DerError>
         ensures by_mode { Gives (λ p. p) result
@@ -230,7 +263,7 @@ impl Prefix {
     }
 }
 
-// The address that begins with the octets, with zeros behind them.
+// Returns the address that begins with the octets, followed by zeros.
 fn beginning_with(octets: &[u8]) -> Addr
     requires { length octets.now ≤ 16 }
     ensures { result ≡ big_endian octets.now * 2 ^ (128 - 8 * length octets.now) }

@@ -14,7 +14,7 @@ impl AddressRange {
     ghost use Rattle.rpki_ip.specs.Ranges.{IsRange};
     ghost use Rattle.rpki_ip.specs.RangeDer.{is_written_as, range_content, range_der};
 
-    /// How many octets `encode` appends.
+    /// Returns how many octets `encode` appends.
     pub fn encoded_len(&self) -> usize
         ensures len { result ≡ length (range_der self.now) }
         ensures short { result < 64 }
@@ -23,9 +23,14 @@ impl AddressRange {
         header_len(tag::SEQUENCE, content_len) + content_len
     }
 
-    /// Appends the SEQUENCE of the range (RFC 3779, 2.2.3.9): the least address without all the zero bits at its end,
-    /// and the greatest without all the one bits at its end. `AllocError` where there is no memory for it; then the
-    /// octets stay as they were.
+    /// Appends the SEQUENCE of the range (RFC 3779, 2.2.3.9).
+    ///
+    /// It has the least address without all the zero bits at its end, and the greatest without all the one bits at its
+    /// end.
+    ///
+    /// # Errors
+    ///
+    /// [`AllocError`] if an allocation fails. The octets of `out` are unchanged then.
     pub fn encode<A: Allocator>(&self, out: &mut Vec<u8, A>) -> Result<(), AllocError>
         ensures range { IsRange self.now }
         ensures ok { OnOk result (out.new.items ≡ out.old.items ++ range_der self.now) }
@@ -40,7 +45,11 @@ impl AddressRange {
         Ok(())
     }
 
-    /// Appends what `encode` does, where there is room for it.
+    /// Appends what `encode` appends.
+    ///
+    /// # Preconditions
+    ///
+    /// The free capacity of `out` suffices for the encoding.
     pub fn append<A: Allocator>(&self, out: &mut Vec<u8, A>)
         requires room { vec_len out.old + length (range_der self.now) ≤ vec_capacity out.old }
         ensures items { out.new.items ≡ out.old.items ++ range_der self.now }
@@ -57,7 +66,9 @@ impl AddressRange {
         second.append(out);
     }
 
-    /// Whether prefixes from the least address and to the greatest are those that `append` writes.
+    /// Returns whether `first` and `second` have the lengths of the prefixes that `append` writes.
+    ///
+    /// If `first` begins with the least address and `second` ends with the greatest, they are then these prefixes.
     pub fn is_written_as(&self, first: &Prefix, second: &Prefix) -> bool
         ensures { result ≡ is_written_as self.now first.now second.now }
     {
@@ -65,7 +76,7 @@ impl AddressRange {
             && second.addr_len() == shortest_to(self.max()).addr_len()
     }
 
-    // How many octets the content of the SEQUENCE has.
+    // Returns how many octets the content of the SEQUENCE has.
     fn content_len(&self) -> usize
         ensures len { result ≡ length (range_content self.now) }
         ensures short { result ≤ 40 }
@@ -75,7 +86,7 @@ impl AddressRange {
     }
 }
 
-// The shortest prefix that begins with an address.
+// Returns the shortest prefix that begins with an address.
 #[tactic(auto, using(crate::proofs::Shortest::cleared_from, crate::proofs::Shortest::shortest_from_is))]
 fn shortest_from(min: Addr) -> Prefix
     ensures value { result ≡ without_end_zeros min }
@@ -84,7 +95,7 @@ fn shortest_from(min: Addr) -> Prefix
     Prefix::new(min, 128 - min.to_bits().trailing_zeros() as u8)
 }
 
-// The shortest prefix that ends with an address.
+// Returns the shortest prefix that ends with an address.
 #[tactic(auto, using(crate::proofs::Shortest::cleared_to, crate::proofs::Shortest::shortest_to_is))]
 fn shortest_to(max: Addr) -> Prefix
     ensures value { result ≡ without_end_ones max }

@@ -8,19 +8,19 @@ use Rattle.rpki_ip_block.specs.Blocks.{ip_bounds, new_ip_block}
 use Rattle.rpki_ip_block.specs.declared.block.IpBlock.{IpBlock}
 use Rattle.rpki_ip_block.specs.declared.block.IpBlock.TheVariants.{Prefix, Range}
 
--- a prefix or a range (2.2.3.7); limit is the greatest length of a prefix
+-- a prefix or a range (2.2.3.7); limit is the maximum length of a prefix
 abbrev pub IsIpBlockDer : ℕ → List ℕ → IpBlock → Type 0
 IsIpBlockDer limit bytes (Prefix p) = IsPrefixDer limit bytes p
 IsIpBlockDer limit bytes (Range r) = IsRangeDer limit bytes r
 
--- ---- what is written
+-- ---- encodings
 
 -- a block in its own form
 abbrev pub ip_block_der : IpBlock → List ℕ
 ip_block_der (Prefix p) = prefix_der p
 ip_block_der (Range r) = range_der r
 
--- ---- what a limit allows
+-- ---- blocks within a limit
 
 -- the bounds of the block need no more bits than the limit
 abbrev pub IsBlockWithin : ℕ → IpBlock → Type 0

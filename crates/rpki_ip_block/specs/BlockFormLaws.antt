@@ -4,7 +4,7 @@ use Rattle.std.specs.Prelude.{◌%◌, ◌==◌, if◌then◌else◌}
 use Rattle.std.proofs.lemmas.Bool.{eqb-true}
 use Rattle.rpki_ip_block.specs.Blocks.{prefix_bounds, ip_bounds, has_length, length_upto, length_of, block_from, new_ip_block}
 
--- both parts of a test that is passed
+-- both parts of a test that succeeds
 pub both_pass : (a b : Bool) → (a && b) ≡ true → (a ≡ true) × (b ≡ true)
 both_pass true b h = (refl, h)
 both_pass false b h = absurd (let z : false ≡ true = h in cc)
@@ -18,7 +18,7 @@ bounds_of_length b len has =
     let last : b.0 + 2 ^ (128 - len) - 1 ≡ b.1 = omega (arith, count) in
     λ i. (b.0, last i)
 
--- a length that is found is had
+-- bounds have a length that is found for them
 pub found_length : (n : ℕ) (b : ℕ × ℕ) (len : ℕ) → length_upto n b ≡ Some len → (len ≤ n) × (has_length b len ≡ true)
 unfolding length_upto
 found_length zero b len found = by_test (has_length b zero) refl
@@ -44,7 +44,7 @@ found_length (suc n) b len found = by_test (has_length b (suc n)) refl (found_le
         let (small, has) = before (ap (λ (t : Bool). if t then Some (suc n) else length_upto n b) (sym here) ∙ found) in
         (omega (arith, small), has)
 
--- so the block has them
+-- therefore the block has these bounds
 pub new_ip_block_bounds : (b : ℕ × ℕ) → ip_bounds (new_ip_block b) ≡ b
 unfolding length_of
 new_ip_block_bounds b = by_length (length_of b) refl

@@ -11,8 +11,8 @@ use Rattle.rpki_ip_block.specs.ListText.{IsElementText}
 use Rattle.rpki_ip_block.specs.declared.block.IpBlock.{IpBlock}
 use Rattle.rpki_ip_block.specs.declared.block.IpBlock.TheVariants.{Prefix, Range}
 
--- The text begins with an element that writes the block, with bytes from `-` on alone, so with neither a comma nor
--- white space, and rest stands behind that.
+-- The text begins with an element that denotes the block. The element has only bytes from `-` on, so it has neither a
+-- comma nor white space. The rest is after it.
 pub record IsBlockAtFront (family : AddressFamily) (text : List ℕ) (b : IpBlock) (rest : List ℕ) : Type 0 where
   pub front : List ℕ
   pub split : text ≡ front ++ rest
@@ -20,17 +20,17 @@ pub record IsBlockAtFront (family : AddressFamily) (text : List ℕ) (b : IpBloc
   pub block : IsElementText family front b
   pub shown : AllByRecursion (IsInRange 45 126) front
 
--- the block is the range from an address to one of the family at the front of the text, and rest stands behind that
+-- the block is the range from an address to an address of the family at the front of the text, and rest is after it
 abbrev pub IsRangeBehind : AddressFamily → IpAddr → List ℕ → IpBlock → List ℕ → Type 0
 IsRangeBehind family first text (Range r) rest = IsAtFront (λ t r. WithAddress (Some family) t (λ last. IsRangeFrom first last r)) text r rest
 IsRangeBehind family first text (Prefix p) rest = ⊥
 
--- it is the prefix at an address whose length in digits stands there
+-- the block is the prefix at an address whose length in digits is at the front, and rest is after it
 abbrev pub IsPrefixBehind : IpAddr → List ℕ → IpBlock → List ℕ → Type 0
 IsPrefixBehind first text (Prefix p) rest = IsAtFront (λ t p. AllDigits 10 t × IsPrefixAt first t p) text p rest
 IsPrefixBehind first text (Range r) rest = ⊥
 
--- rest stands behind a space (32) at the front of the text, or is the whole text
+-- rest is after a space (32) at the front of the text, or is the whole text
 abbrev pub IsBehindSpace : List ℕ → List ℕ → Type 0
 IsBehindSpace text rest = (rest ≡ text) ⊎ (text ≡ 32 ∷ rest)
 

@@ -1,4 +1,4 @@
--- What the readings of blocks of addresses find in either mode. Readers of lists rest on it.
+-- Facts about the readings of blocks of addresses in either mode. Readers of lists depend on them.
 use Rattle.std.proofs.Common.{◌≡◌, ℕ, Bool, true, List, Option, Ok, refl, sym, subst, arith, inl, inr}
 use Rattle.rpki_der.specs.SequenceReading.{SaysByTag}
 use Rattle.rpki_der.proofs.SequenceModes.{by_tag_tightens, tested_pair_check, tested_pair_tightens}
@@ -67,7 +67,7 @@ ip_block_modal limit = record {
       bytes;
 }
 
--- a block behind others
+-- a block after others
 pub next_ip_block_modal : (limit : ℕ) (before : Option ℕ)
     → IsModal (IsNextIpBlock limit before) (ip_block_at limit) (λ strict. next_ip_block_by strict limit before)
 next_ip_block_modal limit before =

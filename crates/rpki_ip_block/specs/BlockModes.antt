@@ -1,4 +1,4 @@
--- What strict cursors take of blocks of addresses.
+-- The octets of blocks of addresses that strict cursors accept.
 use Rattle.std.specs.Prelude.{◌≡◌, ℕ, true, List, Option}
 use Rattle.rpki_der.specs.SequenceReading.{SaysPair}
 use Rattle.rpki_block.specs.Beyond.{IsBeyond}
@@ -11,11 +11,11 @@ use Rattle.rpki_ip_block.specs.Blocks.{ip_bounds}
 use Rattle.rpki_ip_block.specs.declared.block.IpBlock.{IpBlock}
 use Rattle.rpki_ip_block.specs.declared.block.IpBlock.TheVariants.{Prefix, Range}
 
--- the content of a range that strict cursors take
+-- the content of a range that strict cursors accept
 abbrev pub SaysStrictRange : ℕ → List ℕ → RangeValue → Type 0
 SaysStrictRange limit = SaysPair (IsStrictPrefix limit) (λ p q r. IsSpan p q r × (is_set_range p q ≡ true))
 
--- what strict cursors take
+-- the octets that strict cursors accept
 abbrev pub IsStrictIpBlock : ℕ → List ℕ → IpBlock → Type 0
 IsStrictIpBlock limit bytes (Prefix p) = IsStrictPrefix limit bytes p
 IsStrictIpBlock limit bytes (Range r) = Refines IsSequence (SaysStrictRange limit) bytes r

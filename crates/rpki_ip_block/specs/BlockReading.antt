@@ -1,4 +1,4 @@
--- Reading blocks of addresses from left to right, with the first fault that is met.
+-- Reading blocks of addresses from left to right, with the first fault.
 use Rattle.std.specs.Prelude.{ℕ, Bool, true, false, ◌&&◌, List, Option, Result, Ok}
 use Rattle.rpki_der.specs.SequenceReading.{by_tag, pair_by, sequence_of}
 use Rattle.rpki_cover.specs.Prefixes.{PrefixValue, last_of}
@@ -29,17 +29,17 @@ ip_block_at limit = refined value_at (ip_block_of limit)
 abbrev pub ip_blocks_at : ℕ → List ℕ → Result (List IpBlock × List ℕ) DerError
 ip_blocks_at limit = sequence_of (ip_block_at limit)
 
--- ---- by the mode
+-- ---- strict and lenient mode
 
 abbrev pub is_range : IpBlock → Bool
 is_range (Prefix p) = false
 is_range (Range r) = true
 
--- the range from the one prefix to the other
+-- the range from the first prefix to the second
 abbrev pub span : PrefixValue → PrefixValue → RangeValue
 span p q = record { min = p.first; max = last_of 128 q }
 
--- whether the prefixes are those that are written of their range, which is no prefix
+-- whether the prefixes are those of the encoding of their range, and no prefix has exactly its addresses
 abbrev pub is_set_range : PrefixValue → PrefixValue → Bool
 is_set_range p q = is_written_as (span p q) p q && is_range (new_ip_block (range_bounds (span p q)))
 
@@ -58,6 +58,6 @@ ip_block_of_by strict limit = by_tag 3 (prefix_block_in_by strict limit) (range_
 abbrev pub ip_block_by : Bool → ℕ → List ℕ → Result (IpBlock × List ℕ) DerError
 ip_block_by strict limit = refined value_at (ip_block_of_by strict limit)
 
--- strictly, a block also begins more than one above the greatest address before
+-- in strict mode a block also begins more than one above the greatest address of the block before
 abbrev pub next_ip_block_by : Bool → ℕ → Option ℕ → List ℕ → Result (IpBlock × List ℕ) DerError
 next_ip_block_by strict limit before = refined (ip_block_by strict limit) (passing strict (λ block. is_beyond before (ip_bounds block).0))

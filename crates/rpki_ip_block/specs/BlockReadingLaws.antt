@@ -1,5 +1,5 @@
--- The reading finds the blocks of the grammar, whatever follows them, and no others: what readers of lists are told of
--- it.
+-- The reading finds exactly the blocks of the grammar, with any octets after them. Readers of lists require these
+-- lemmas.
 use Rattle.std.proofs.Common.{◌≡◌, ℕ, ◌<◌, List, length, refl, sym, subst, arith, inl, inr}
 use Rattle.rpki_der.specs.Der.{IsBytes, IsTlv, IsValue, Refines, Tlv, bit_content}
 use Rattle.rpki_der.specs.Reading.{IsReading}
@@ -18,7 +18,7 @@ use Rattle.rpki_ip_block.specs.declared.block.IpBlock.TheVariants.{Prefix, Range
 
 -- ---- contents
 
--- a content says f of what it says by C
+-- a content denotes f of the value that it denotes by C
 abbrev Named : {X Y : Type 0} → (List ℕ → X → Type 0) → (X → Y) → List ℕ → Y → Type 0
 Named {X} C f content y = (x : X) × C content x × (y ≡ f x)
 
@@ -32,11 +32,11 @@ range_says limit = mapped_check IsBytes (SaysRange limit) (range_in limit) Range
 
 -- ---- blocks
 
--- what a block says by its tag
+-- the value of a block, by its tag
 Says : ℕ → Tlv → IpBlock → Type 0
 Says limit = SaysByTag 3 (Named (IsPrefixContent limit) Prefix) (Named (SaysRange limit) Range)
 
--- that is a block of the grammar
+-- this is a block of the grammar
 block_to : (limit : ℕ) (bytes : List ℕ) (block : IpBlock) → Refines IsTlv (Says limit) bytes block
     → IsIpBlockDer limit bytes block
 unfolding Says
@@ -46,7 +46,7 @@ block_to limit bytes block (v, is, inl (tag, (p, (b, says, prefix), same))) =
 block_to limit bytes block (v, is, inr (tag, (r, says, same))) =
     subst (IsIpBlockDer limit bytes) (sym same) (v.content, subst (λ (k : ℕ). IsValue bytes k v.content) tag is, says)
 
--- and the other way round
+-- the converse
 block_from : (limit : ℕ) (bytes : List ℕ) (block : IpBlock) → IsIpBlockDer limit bytes block
     → Refines IsTlv (Says limit) bytes block
 unfolding Says
@@ -61,7 +61,7 @@ ip_block_reading limit =
     same_reading (Refines IsTlv (Says limit)) (IsIpBlockDer limit) (ip_block_at limit) (λ bytes block fits is. block_to limit bytes block is) (block_from limit)
     (by_tag_reading 3 (Named (IsPrefixContent limit) Prefix) (Named (SaysRange limit) Range) (prefix_block_in limit) (range_block_in limit) (λ e. omega (arith, e)) (prefix_says limit) (range_says limit))
 
--- a block has an octet at least
+-- a block has at least one octet
 pub ip_block_has_octets : (limit : ℕ) (front : List ℕ) (block : IpBlock) → IsIpBlockDer limit front block
     → 0 < length front
 ip_block_has_octets limit front (Prefix p) is = value_has_octets front 3 (bit_content is.0) is.1.1

@@ -1,4 +1,4 @@
--- Texts of lists of blocks of addresses, as the Rust crate `rpki` 0.20.1 reads them.
+-- Texts of lists of blocks of addresses, as the Rust crate `rpki` 0.20.1 parses them.
 use Rattle.std.specs.Prelude.{◌≡◌, ℕ, ◌⊎◌, List, Some, Contains}
 use Rattle.rpki_text.specs.Lists.{elements, HaveValues, HasFirstFault}
 use Rattle.rpki_ip.specs.declared.error.FromStrError.{FromStrError}
@@ -16,7 +16,8 @@ dot = 46
 abbrev pub colon : ℕ
 colon = 58
 
--- the element is taken for one of the other family: in a list of IPv4 by a colon, in one of IPv6 by a dot and no colon
+-- the element is rejected as an element of the other family: in a list of IPv4 for a colon, in a list of IPv6 for a dot
+-- and no colon
 abbrev pub IsForeign : AddressFamily → List ℕ → Type 0
 IsForeign Ipv4 text = Contains text colon
 IsForeign Ipv6 text = Contains text dot × ¬ Contains text colon
@@ -25,28 +26,28 @@ IsForeign Ipv6 text = Contains text dot × ¬ Contains text colon
 abbrev pub IsElementText : AddressFamily → List ℕ → IpBlock → Type 0
 IsElementText family text block = (¬ IsForeign family text) × IsIpBlockText (Some family) text block
 
--- and its fault
+-- the fault of such an element
 abbrev pub HasElementFault : AddressFamily → List ℕ → FromStrError → Type 0
 HasElementFault family text e =
     (IsForeign family text × (e ≡ FamilyMismatch))
     ⊎ ((¬ IsForeign family text) × HasIpBlockFault (Some family) text e)
 
--- The blocks that a list of the family writes, in its order, and its first fault.
+-- The blocks that a list of the family denotes, in its order, and its first fault.
 abbrev pub HasBlocks : AddressFamily → List ℕ → List IpBlock → Type 0
 HasBlocks family text blocks = HaveValues (IsElementText family) (elements text) blocks
 
 abbrev pub HasBlocksFault : AddressFamily → List ℕ → FromStrError → Type 0
 HasBlocksFault family text e = HasFirstFault (IsElementText family) (HasElementFault family) (elements text) e
 
--- the family of a list that tells none: IPv6 if a colon stands anywhere in it, and else IPv4
+-- the family of a list without a given family: IPv6 if the list has a colon anywhere, else IPv4
 abbrev pub IsFamilyOf : List ℕ → AddressFamily → Type 0
 IsFamilyOf text family = (Contains text colon × (family ≡ Ipv6)) ⊎ ((¬ Contains text colon) × (family ≡ Ipv4))
 
--- in such a list, each element that writes no block of the family is taken for one of the other
+-- in such a list, each element that denotes no block of the family is rejected as an element of the other family
 abbrev pub HasMismatch : AddressFamily → List ℕ → FromStrError → Type 0
 HasMismatch family text e = ((block : IpBlock) → ¬ IsIpBlockText (Some family) text block) × (e ≡ FamilyMismatch)
 
--- The blocks that a list of a family that isn't told writes, and its first fault.
+-- The blocks that a list without a given family denotes, and its first fault.
 abbrev pub HasIpBlocks : List ℕ → List IpBlock → Type 0
 HasIpBlocks text blocks = (family : AddressFamily) × IsFamilyOf text family × HaveValues (IsIpBlockText (Some family)) (elements text) blocks
 

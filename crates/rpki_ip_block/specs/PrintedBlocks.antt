@@ -1,4 +1,4 @@
--- What is printed of blocks of addresses, as those of a family, as by the Rust crate `rpki` 0.20.1.
+-- The printed texts of blocks of addresses, as blocks of a family, as the Rust crate `rpki` 0.20.1 prints them.
 use Rattle.std.specs.Prelude.{◌≡◌, ℕ, List, map, None, Result, MatchResult}
 use Rattle.rpki_text.specs.Lists.{joined}
 use Rattle.rpki_cover.specs.Prefixes.{IsPrefix}
@@ -14,12 +14,12 @@ use Rattle.rpki_ip_block.specs.Blocks.{ip_bounds}
 use Rattle.rpki_ip_block.specs.declared.block.IpBlock.{IpBlock}
 use Rattle.rpki_ip_block.specs.declared.block.IpBlock.TheVariants.{Prefix, Range}
 
--- what is printed of a block, in its own form
+-- the printed text of a block, in its own form
 abbrev pub ip_block_text : AddressFamily → IpBlock → List ℕ
 ip_block_text family (Prefix p) = ip_prefix_text family p
 ip_block_text family (Range r) = ip_range_text family r
 
--- what is printed of a list of blocks
+-- the printed text of a list of blocks
 abbrev pub block_list_text : AddressFamily → List IpBlock → List ℕ
 block_list_text family blocks = joined (map (ip_block_text family) blocks)
 
@@ -28,13 +28,13 @@ abbrev pub IsBlock : IpBlock → Type 0
 IsBlock (Prefix p) = IsPrefix 128 p
 IsBlock (Range r) = IsRange r
 
--- the block is one of the family: any of IPv6, and in IPv4 one of whole addresses
+-- the block is a block of the family: any block in IPv6, and a block of whole addresses in IPv4
 abbrev pub IsBlockOf : AddressFamily → IpBlock → Type 0
 IsBlockOf Ipv4 b = IsBlock b × HasWholeBounds (ip_bounds b)
 IsBlockOf Ipv6 b = IsBlock b
 
--- The text is read as the block of either family that it writes, or as the fault that it has. What is printed of a
--- block of a family is read as a block with its bounds.
+-- The text is parsed as the block of either family that it denotes, or its fault is returned. The printed text of a
+-- block of a family parses back to a block with the same bounds.
 pub record ReadsIpBlock (text : List ℕ) (r : Result IpBlock FromStrError) : Type 0 where
   pub exact : Answers (IsIpBlockText None text) (HasIpBlockFault None text) r
   pub reads_back : (family : AddressFamily) (block : IpBlock) → IsBlockOf family block

@@ -21,15 +21,20 @@ impl IpBlock {
     ghost use Rattle.rpki_ip_block.specs.Blocks.{prefix_bounds, ip_bounds, new_ip_block};
     ghost use Rattle.rpki_ip_block.specs.PrintedBlocks.{IsBlock};
 
-    /// All addresses: the prefix of length 0.
+    /// Returns the block of all addresses: the prefix of length 0.
     pub fn all() -> IpBlock
         ensures { result ≡ IpBlock.Prefix (record { first = 0; len = 0 }) }
     {
         IpBlock::Prefix(Prefix::all())
     }
 
-    /// The block from the first address of a pair to the second, which isn't below it. It is a Prefix where a prefix
-    /// has exactly these addresses, and else a Range.
+    /// Returns the block from the first address of the pair to the second.
+    ///
+    /// The block is a Prefix if a prefix has exactly these addresses, else a Range.
+    ///
+    /// # Preconditions
+    ///
+    /// The first address isn't above the second.
     pub fn from_pair(pair: (Addr, Addr)) -> IpBlock
         requires { pair.0 ≤ pair.1 }
         ensures bounds { ip_bounds result ≡ pair }
@@ -43,7 +48,7 @@ impl IpBlock {
         }
     }
 
-    /// Whether the block is the Prefix of length 0. A Range of all addresses isn't.
+    /// Returns whether the block is the Prefix of length 0. For a Range of all addresses the result is false.
     pub fn is_slash_zero(&self) -> bool
         ensures { IsTrue result ↔ (self.now ≡ IpBlock.Prefix (record { first = 0; len = 0 })) }
     {
@@ -53,7 +58,7 @@ impl IpBlock {
         }
     }
 
-    /// The least address.
+    /// Returns the least address.
     pub fn min(&self) -> Addr
         ensures value { result ≡ (ip_bounds self.now).0 }
         ensures in_order { (ip_bounds self.now).0 ≤ (ip_bounds self.now).1 }
@@ -64,7 +69,7 @@ impl IpBlock {
         }
     }
 
-    /// The greatest address.
+    /// Returns the greatest address.
     pub fn max(&self) -> Addr
         ensures value { result ≡ (ip_bounds self.now).1 }
         ensures in_order { (ip_bounds self.now).0 ≤ (ip_bounds self.now).1 }
@@ -76,7 +81,7 @@ impl IpBlock {
         }
     }
 
-    /// Whether the block consists of whole IPv4 addresses.
+    /// Returns whether the block consists of whole IPv4 addresses.
     pub fn is_whole_v4(&self) -> bool
         ensures { IsTrue result ↔ HasWholeBounds (ip_bounds self.now) }
     {
@@ -84,7 +89,7 @@ impl IpBlock {
     }
 }
 
-/// As a block, it is a Prefix where its addresses are those of a prefix, and else a Range.
+/// A block that `Block::new` makes is a Prefix if its addresses are those of a prefix, else a Range.
 impl Block for IpBlock {
     ghost use Rattle.std.specs.Prelude.{refl};
     ghost use Rattle.rpki_ip_block.specs.Blocks.{ip_bounds, new_ip_block};
@@ -140,7 +145,7 @@ impl Block for IpBlock {
     }
 }
 
-/// Blocks are equal where their bounds are, whatever their forms.
+/// Blocks are equal if and only if their bounds are equal. The form makes no difference.
 impl PartialEq for IpBlock {
     ghost use Rattle.std.specs.Prelude.{◌≡◌, ◌↔◌, IsTrue};
     ghost use Rattle.rpki_ip_block.specs.Blocks.{ip_bounds};
@@ -177,7 +182,7 @@ impl From<Prefix> for IpBlock {
     }
 }
 
-/// The addresses of the prefix: those of an IPv4 prefix with any 96 bits behind.
+/// Returns the block of the prefix's addresses. The addresses of an IPv4 prefix are followed by any 96 bits.
 impl From<FamilyPrefix> for IpBlock {
     ghost use Rattle.std.specs.Prelude.{◌≡◌};
     ghost use Rattle.rpki_ip.specs.AddrText.{first_of};

@@ -1,4 +1,4 @@
-//! Blocks of addresses in DER: a prefix, or a SEQUENCE of two (RFC 3779, 2.2.3.7).
+//! Blocks of addresses in DER: a prefix, or a SEQUENCE of two prefixes (RFC 3779, 2.2.3.7).
 ghost use Rattle.std.specs.Prelude.{◌≡◌, IfOk};
 ghost use Rattle.rpki_der.specs.Reading.{Gives};
 ghost use Rattle.rpki_der.specs.Views.{is_strict, left};
@@ -30,30 +30,37 @@ impl IpBlock {
     ghost use Rattle.rpki_ip_block.specs.Blocks.{ip_bounds, new_ip_block};
     ghost use Rattle.rpki_ip_block.specs.PrintedBlocks.{IsBlock, IsBlockOf};
 
-    /// Takes a block: a BIT STRING is a Prefix, and a SEQUENCE of two a Range, in that form. None at the end, and there
-    /// alone.
+    /// Reads a block, or returns None at the end, and only there.
     ///
-    /// The faults are those of [`Cursor::take_opt_value`]; `BadTag` also where another value stands there. A prefix has
-    /// those of [`Prefix::take_from`]. The content of a SEQUENCE has those of its two prefixes, `ReversedRange` where
-    /// the least address is above the greatest, and then `TrailingData` for octets that are left in it. From a strict
-    /// cursor also `NotCanonical` where the octets aren't those that are written of a block that sets have.
+    /// A BIT STRING becomes a Prefix, and a SEQUENCE of two prefixes becomes a Range.
+    ///
+    /// # Errors
+    ///
+    /// The cursor is unchanged then. The errors are the faults of [`Cursor::take_opt_value`] and these:
+    ///
+    /// - `BadTag`: the value is neither a BIT STRING nor a SEQUENCE.
+    /// - In a BIT STRING: the faults of [`Prefix::take_from`].
+    /// - In a SEQUENCE: the faults of its two prefixes. Then `ReversedRange` if the least address is above the
+    ///   greatest, and then `TrailingData` if octets are left.
+    /// - `NotCanonical`, from a strict cursor: the octets aren't the encoding of a block that sets have.
     #[tactic(auto, using(crate::proofs::BlockWritten::taken_exact, crate::proofs::BlockWritten::taken_reads, crate::proofs::BlockWritten::taken_strict, crate::proofs::BlockWritten::taken_refused))]
     pub fn take_opt_from(cursor: &mut Cursor<'_>) -> Result<Option<IpBlock>, DerError>
         ensures reads { Lenient cursor.old
             (ReadsOptional (IsIpBlockDer 128) (λ block. block) cursor.old cursor.new result) }
         ensures exact { Lenient cursor.old
             (Takes (λ block. block) cursor.old cursor.new result (optional (ip_block_at 128))) }
-        // What is written of a block is read as that block, whatever follows it; strictly, of one in new form.
+        // The encoding of a block is read back as that block, with any octets after it. In strict mode this holds for
+        // blocks in new form.
         ensures reads_back { (block : IpBlock) (rest : List ℕ) → IsBlock block
             → (is_strict cursor.old ≡ true → IsNew ip_bounds new_ip_block block)
             → left cursor.old ≡ ip_block_der block ++ rest
             → (result ≡ Ok (Some block)) × (left cursor.new ≡ rest) }
-        // A strict cursor takes what is written of a block that sets have.
+        // A strict cursor accepts exactly the encodings of blocks that sets have.
         ensures strict { Strict cursor.old
             (ReadsOptional (Spells (IsSetIpBlock 128) ip_block_der) (λ block. block) cursor.old
             cursor.new result) }
         ensures refused { NotCanonicalOr (IsIpBlockDer 128) cursor.old result }
-        // In either mode.
+        // This clause is for both modes.
         ensures by_mode { Takes (λ block. block) cursor.old cursor.new result
             (optional (ip_block_by (is_strict cursor.old) 128)) }
         ensures mode { is_strict cursor.new ≡ is_strict cursor.old }
@@ -61,8 +68,12 @@ impl IpBlock {
         Self::next_opt(cursor, AddressFamily::Ipv6)
     }
 
-    /// Takes a block of the family as `take_opt_from` does. `BadPrefix` also for a prefix that is longer than the
-    /// family's addresses, by itself and in a SEQUENCE.
+    /// Reads a block of `family` as `take_opt_from` does.
+    ///
+    /// # Errors
+    ///
+    /// The errors are those of `take_opt_from`. `BadPrefix` is also returned for a prefix that is longer than the
+    /// family's addresses, alone and in a SEQUENCE. The cursor is unchanged then.
     #[tactic(auto, using(crate::proofs::BlockWritten::taken_exact, crate::proofs::BlockWritten::taken_reads, crate::proofs::BlockWritten::taken_strict, crate::proofs::BlockWritten::taken_refused, rpki_ip::proofs::DerModes::bits_few_enough))]
     pub fn take_opt_from_with_family(
         cursor: &mut Cursor<'_>,
@@ -74,17 +85,18 @@ impl IpBlock {
         ensures exact { Lenient cursor.old
             (Takes (λ block. block) cursor.old cursor.new result
             (optional (ip_block_at (bits_of family)))) }
-        // What is written of a block is read as that block, whatever follows it; strictly, of one in new form.
+        // The encoding of a block is read back as that block, with any octets after it. In strict mode this holds for
+        // blocks in new form.
         ensures reads_back { (block : IpBlock) (rest : List ℕ) → IsBlockOf family block
             → (is_strict cursor.old ≡ true → IsNew ip_bounds new_ip_block block)
             → left cursor.old ≡ ip_block_der block ++ rest
             → (result ≡ Ok (Some block)) × (left cursor.new ≡ rest) }
-        // A strict cursor takes what is written of a block that sets of the family have.
+        // A strict cursor accepts exactly the encodings of blocks that sets of the family have.
         ensures strict { Strict cursor.old
             (ReadsOptional (Spells (IsSetIpBlock (bits_of family)) ip_block_der) (λ block. block)
             cursor.old cursor.new result) }
         ensures refused { NotCanonicalOr (IsIpBlockDer (bits_of family)) cursor.old result }
-        // In either mode.
+        // This clause is for both modes.
         ensures by_mode { Takes (λ block. block) cursor.old cursor.new result
             (optional (ip_block_by (is_strict cursor.old) (bits_of family))) }
         ensures mode { is_strict cursor.new ≡ is_strict cursor.old }
@@ -92,7 +104,7 @@ impl IpBlock {
         Self::next_opt(cursor, family)
     }
 
-    /// How many octets `encode` appends: fewer than 64.
+    /// Returns how many octets `encode` appends: fewer than 64.
     pub fn encoded_len(&self) -> usize
         ensures len { result ≡ length (ip_block_der self.now) }
         ensures short { result < 64 }
@@ -103,9 +115,14 @@ impl IpBlock {
         }
     }
 
-    /// Appends the block in its own form: a Prefix as a BIT STRING, a Range as the SEQUENCE of its least address
-    /// without all the zero bits at its end and its greatest without all the one bits at its end. `AllocError` where
-    /// there is no memory for it; then the octets stay as they were.
+    /// Appends the block in its own form: a Prefix as a BIT STRING, a Range as a SEQUENCE.
+    ///
+    /// The SEQUENCE has the least address without all the zero bits at its end, and the greatest without all the one
+    /// bits at its end.
+    ///
+    /// # Errors
+    ///
+    /// [`AllocError`] if an allocation fails. The octets of `out` are unchanged then.
     #[tactic(auto, using(crate::proofs::BlockWritten::block_back))]
     pub fn encode<A: Allocator>(&self, out: &mut Vec<u8, A>) -> Result<(), AllocError>
         ensures ok { OnOk result (out.new.items ≡ out.old.items ++ ip_block_der self.now) }
@@ -115,7 +132,7 @@ impl IpBlock {
         ensures capacity { vec_capacity out.old ≤ vec_capacity out.new }
         ensures within { IsBlockWithin 128 self.now }
         ensures block { IsBlock self.now }
-        // It is read back, whatever follows it, where its bounds need no more bits than the limit.
+        // The encoding is read back, with any octets after it, if the bounds need no more bits than the limit.
         ensures read_back { (limit : ℕ) (rest : List ℕ) → limit ≤ 128 → IsBlockWithin limit self.now
             → ip_block_at limit (ip_block_der self.now ++ rest) ≡ Ok (self.now, rest) }
     {
@@ -143,7 +160,7 @@ impl Encode for IpBlock {
     }
 }
 
-// The readings behind the calls.
+// Internal steps of the calls above.
 impl IpBlock {
     ghost use Rattle.rpki_block.specs.Beyond.{is_beyond};
     ghost use Rattle.rpki_der.specs.Reading.{optional};
@@ -192,7 +209,7 @@ impl IpBlock {
         Ok(Some(block))
     }
 
-    // Whether the block begins more than one above the address.
+    // Returns whether the block begins more than one above the address.
     fn is_beyond(&self, before: Option<Addr>) -> bool
         ensures { result ≡ is_beyond before (ip_bounds self.now).0 }
     {
@@ -207,7 +224,7 @@ impl IpBlock {
     }
 }
 
-/// The range in the content of a SEQUENCE.
+/// Reads the range in the content of a SEQUENCE.
 #[tactic(auto, unfolding(rpki_der::specs::SequenceReading::pair_by, rpki_der::specs::Reading::passing))]
 fn range_within(content: Cursor<'_>, family: AddressFamily) -> Result<AddressRange, DerError>
     ensures by_mode { Gives (λ range. range) result
@@ -224,7 +241,7 @@ fn range_within(content: Cursor<'_>, family: AddressFamily) -> Result<AddressRan
     Ok(range)
 }
 
-/// The range from the one prefix to the other.
+/// Returns the range from the first prefix to the second.
 #[tactic(auto, unfolding(rpki_ip::specs::RangeDer::span_of))]
 fn range_of(first: &Prefix, second: &Prefix) -> Result<AddressRange, DerError>
     ensures exact { Gives (λ range. range) result (span_of first.now second.now) }
@@ -236,7 +253,11 @@ fn range_of(first: &Prefix, second: &Prefix) -> Result<AddressRange, DerError>
     Ok(AddressRange::new(first.min(), second.max()))
 }
 
-/// Whether the range, from the one prefix to the other, is written by them, and is no prefix.
+/// Returns whether the prefixes are those of the encoding of `range`, and no prefix has exactly its addresses.
+///
+/// # Preconditions
+///
+/// `range` is the range from the first prefix to the second.
 fn is_set_range(range: &AddressRange, first: &Prefix, second: &Prefix) -> bool
     requires { range.now ≡ span first.now second.now }
     ensures { result ≡ is_set_range first.now second.now }
@@ -248,8 +269,9 @@ fn is_set_range(range: &AddressRange, first: &Prefix, second: &Prefix) -> bool
         )
 }
 
-/// Reads blocks of a family one after another. From a strict cursor each begins more than one above the greatest
-/// address of the one before it.
+/// Reads blocks of a family one after another.
+///
+/// From a strict cursor each block begins more than one above the greatest address of the block before it.
 #[derive(Clone, Copy, Debug)]
 pub struct IpBlockReader {
     pub family: AddressFamily,

@@ -9,7 +9,7 @@ use rpki_ip::family::AddressFamily;
 use rpki_ip::front::{FamilyAddr, prefix_to_front, range_of, range_to_front};
 use std::alloc::{AllocError, Allocator};
 
-/// What stands behind this byte at the front.
+/// Returns the text after this byte, if the byte is at the front.
 #[inline(always)]
 fn behind(byte: u8, text: &[u8]) -> Option<&[u8]>
     ensures { IfSome result (λ rest. text.now ≡ byte ∷ rest.now) }
@@ -18,7 +18,7 @@ fn behind(byte: u8, text: &[u8]) -> Option<&[u8]>
     if *first == byte { Some(rest) } else { None }
 }
 
-/// The range from an address to the one at the front, as a block, and what stands behind that.
+/// Returns the range from `first` to the address at the front, as a block, and the rest of the text.
 #[inline(always)]
 fn range_behind<F: FamilyAddr>(first: F, text: &[u8]) -> Option<(IpBlock, &[u8])>
     ensures { IfSome result
@@ -30,7 +30,7 @@ fn range_behind<F: FamilyAddr>(first: F, text: &[u8]) -> Option<(IpBlock, &[u8])
     }
 }
 
-/// The prefix at an address by the length at the front, as a block, and what stands behind that.
+/// Returns the prefix at `first` with the length at the front, as a block, and the rest of the text.
 #[inline(always)]
 fn prefix_behind<F: FamilyAddr>(first: F, text: &[u8]) -> Option<(IpBlock, &[u8])>
     ensures { IfSome result (λ found. IsPrefixBehind (F.ip first) text.now found.0 found.1.now) }
@@ -41,8 +41,10 @@ fn prefix_behind<F: FamilyAddr>(first: F, text: &[u8]) -> Option<(IpBlock, &[u8]
     }
 }
 
-/// The block that one address writes, or two round a dash, or one and a length behind a slash, and what stands behind
-/// it. Other texts of blocks may be nothing to this call.
+/// Returns the block at the front of the text, and the rest of the text.
+///
+/// The block is one address, two addresses with a dash between them, or an address, a slash and a length. The call can
+/// return None for other texts of blocks.
 #[inline(always)]
 #[tactic(auto, using(crate::proofs::FrontLemmas::prefix_found, crate::proofs::FrontLemmas::range_found, crate::proofs::FrontLemmas::single_front))]
 fn block_front<F: FamilyAddr>(text: &[u8]) -> Option<(IpBlock, &[u8])>
@@ -60,7 +62,7 @@ fn block_front<F: FamilyAddr>(text: &[u8]) -> Option<(IpBlock, &[u8])>
     Some((IpBlock::Range(range_of(first)), rest))
 }
 
-/// What stands behind a space, if one stands at the front, and else the whole text.
+/// Returns the text after a space at the front, or the whole text if it doesn't begin with a space.
 #[inline(always)]
 fn behind_space(text: &[u8]) -> &[u8]
     ensures { IsBehindSpace text.now result.now }
@@ -71,7 +73,7 @@ fn behind_space(text: &[u8]) -> &[u8]
     }
 }
 
-/// Whether a list ends here, behind one space or none.
+/// Returns whether the list ends here, after at most one space.
 #[inline(always)]
 fn is_end(text: &[u8]) -> bool
     ensures { IsTrue result → IsSpaceOrNothing text.now }
@@ -79,8 +81,10 @@ fn is_end(text: &[u8]) -> bool
     matches!(text, [] | [b' '])
 }
 
-/// The blocks of a list whose elements all are of the usual form, each with one space before it or none, and the last
-/// with one behind it or none. None where an element is of another form, or is none.
+/// Returns the blocks of a list whose elements all have the usual form.
+///
+/// Each element has at most one space before it, and the last has at most one after it. The result is None if an
+/// element has another form or is no block.
 fn usual_blocks_of<F: FamilyAddr, A: Allocator>(
     alloc: A,
     text: &[u8],
@@ -105,7 +109,7 @@ fn usual_blocks_of<F: FamilyAddr, A: Allocator>(
     }
 }
 
-/// The blocks of a list of the family, as [`usual_blocks_of`] reads them.
+/// Returns the blocks of a list of the family, as [`usual_blocks_of`] reads them.
 pub(crate) fn usual_blocks<A: Allocator>(
     alloc: A,
     family: AddressFamily,

@@ -1,6 +1,6 @@
-//! Blocks of IP addresses (RFC 3779, 2.2.3.7) and lists of them, with their texts and their DER.
+//! Blocks of IP addresses (RFC 3779, 2.2.3.7) and lists of blocks, with their texts and their DER.
 //!
-//! Made of bounds, a block is a prefix where it can be one, as in `test_values::ip_blocks`:
+//! A block made from bounds is a prefix if it can be one, as in `test_values::ip_blocks`:
 //!
 //! ```rust
 //! let prefix = IpBlock::from_pair((Addr::from_bits(4), Addr::from_bits(7)));

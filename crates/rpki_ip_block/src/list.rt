@@ -1,4 +1,4 @@
-//! Texts of lists of blocks, read and printed.
+//! Texts of lists of blocks: parsing and printing.
 ghost use Rattle.std.specs.Prelude.{◌≡◌, ◌↔◌, IsTrue, IfOk, All, List, Some, map, MatchResult};
 ghost use Rattle.std.specs.Fmt.{WritesOnOk};
 ghost use Rattle.rpki_text.specs.Memory.{IsMemory, IfRefused};
@@ -21,18 +21,18 @@ use rpki_text::memory::OrMemory;
 use std::alloc::Allocator;
 use std::fmt;
 
-/// Whether an element of a list of the family is taken for one of the other.
+/// Returns whether an element of a list of the family is rejected as an element of the other family.
 fn is_foreign(family: AddressFamily, text: &str) -> bool
     ensures { IsTrue result ↔ IsForeign family text.now }
 {
     match family {
         AddressFamily::Ipv4 => has_byte(b':', text),
-        // An IPv6 address has a colon near its head, so the search for it mostly ends there.
+        // An IPv6 address has a colon near its start, so the search for a colon mostly ends there.
         AddressFamily::Ipv6 => !has_byte(b':', text) && has_byte(b'.', text),
     }
 }
 
-/// Reads the elements of a list of a family.
+/// Reads the elements of a list of a given family.
 #[derive(Clone, Copy)]
 struct InFamily {
     family: AddressFamily,
@@ -55,7 +55,7 @@ impl ReadElement for InFamily {
     }
 }
 
-/// Reads the elements of a list whose family a colon tells.
+/// Reads the elements of a list whose family a colon decides.
 #[derive(Clone, Copy)]
 struct ByColon {
     family: AddressFamily,
@@ -78,8 +78,8 @@ impl ReadElement for ByColon {
     }
 }
 
-/// The blocks that the elements of a list write, as [`read_blocks`] answers. A list of the usual form is read at once,
-/// with no search for its commas.
+/// Parses a list of blocks as [`read_blocks`] does. A list of the usual form is read in one pass, without a search for
+/// its commas.
 fn blocks_of<A: Allocator + Copy>(
     alloc: A,
     family: AddressFamily,
@@ -95,11 +95,16 @@ fn blocks_of<A: Allocator + Copy>(
     read_elements(alloc, &reader, text)
 }
 
-/// The blocks that the elements of a list of blocks of a family write, in its order.
+/// Parses a list of blocks of `family` and returns the blocks in the order of the list.
 ///
-/// The text is cut at its commas, each part is trimmed of white space, and a part that is then empty is left out. The
-/// first element that writes no block is refused: by [`FromStrError::FamilyMismatch`] where it has a colon in a list of
-/// IPv4, or a dot and no colon in one of IPv6, and else by the fault of [`IpBlock::from_v4_str`] or `from_v6_str`.
+/// The call splits the text at its commas and trims white space from each part. It ignores parts that are then empty.
+///
+/// # Errors
+///
+/// - [`OrMemory::Refused`]: the fault of the first element that is no block of the family. The fault is
+///   [`FromStrError::FamilyMismatch`] if the element has a colon in a list of IPv4, or a dot and no colon in a list of
+///   IPv6. Else it is the fault of [`IpBlock::from_v4_str`] or `from_v6_str`.
+/// - [`OrMemory::Memory`]: an allocation failed.
 pub fn read_blocks<A: Allocator + Copy>(
     alloc: A,
     family: AddressFamily,
@@ -107,7 +112,7 @@ pub fn read_blocks<A: Allocator + Copy>(
 ) -> Result<Vec<IpBlock, A>, OrMemory<FromStrError>>
     ensures exact { AnswersOrMemory (λ v. v.items) (HasBlocks family text.now)
         (HasBlocksFault family text.now) result }
-    // What is printed of blocks of the family is read as blocks of their bounds.
+    // The printed text of blocks of the family parses back to blocks with the same bounds.
     ensures reads_back { (blocks : List IpBlock) → All (IsBlockOf family) blocks
         → text.now ≡ block_list_text family blocks
         → MatchResult result (λ v. map ip_bounds v.items ≡ map ip_bounds blocks) IsMemory }
@@ -118,7 +123,7 @@ pub fn read_blocks<A: Allocator + Copy>(
     blocks_of(alloc, family, text)
 }
 
-/// The family of a list that tells none.
+/// Returns the family of a list without a given family.
 fn family_of_text(text: &str) -> AddressFamily
     ensures { IsFamilyOf text.now result }
 {
@@ -129,17 +134,23 @@ fn family_of_text(text: &str) -> AddressFamily
     }
 }
 
-/// The blocks that the elements of a list write, in its order: IPv6 blocks if a colon stands anywhere in the list, and
-/// else IPv4 blocks. It is cut as by [`read_blocks`].
+/// Parses a list of blocks without a given family and returns the blocks in the order of the list.
 ///
-/// The first element that writes no block of the family is refused by [`FromStrError::FamilyMismatch`].
+/// The blocks are of IPv6 if the list has a colon anywhere, else of IPv4. The call splits the list as [`read_blocks`]
+/// does.
+///
+/// # Errors
+///
+/// - [`OrMemory::Refused`] with [`FromStrError::FamilyMismatch`]: an element is no block of the family.
+/// - [`OrMemory::Memory`]: an allocation failed.
 pub fn read_ip_blocks<A: Allocator>(
     alloc: A,
     text: &str,
 ) -> Result<Vec<IpBlock, A>, OrMemory<FromStrError>>
     ensures exact { AnswersOrMemory (λ v. v.items) (HasIpBlocks text.now)
         (HasIpBlocksFault text.now) result }
-    // What is printed of blocks of whole addresses as IPv4, or of blocks as IPv6, is read as blocks of their bounds.
+    // The printed text of blocks parses back to blocks with the same bounds. In IPv4 this holds for blocks of whole
+    // addresses.
     ensures reads_back { (family : _) (blocks : List IpBlock) → All (IsBlockOf family) blocks
         → text.now ≡ block_list_text family blocks
         → MatchResult result (λ v. map ip_bounds v.items ≡ map ip_bounds blocks) IsMemory }
@@ -150,7 +161,7 @@ pub fn read_ip_blocks<A: Allocator>(
     read_elements(alloc, &reader, text)
 }
 
-/// Prints blocks as those of a family.
+/// Prints blocks as blocks of a family.
 #[derive(Clone, Copy)]
 struct AsFamily {
     family: AddressFamily,
@@ -170,7 +181,7 @@ impl FmtElement for AsFamily {
     }
 }
 
-/// Prints blocks, each as one of the family, joined by a comma and a space; nothing where there are none.
+/// Prints the blocks as blocks of the family, joined by a comma and a space. An empty list prints nothing.
 pub fn fmt_blocks<W: fmt::Write>(
     family: AddressFamily,
     blocks: &[IpBlock],

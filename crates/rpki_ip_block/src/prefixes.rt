@@ -10,11 +10,13 @@ use rpki_ip::range::AddressRange;
 use std::marker::Model;
 use std::slice::Iter;
 
-/// The prefixes that are left of the shortest covers of blocks, one block after the other. Of a set's blocks they are
-/// the set's shortest cover, ascending. Contracts see it as their list.
+/// Iterates over the prefixes of the shortest covers of blocks, one block after the other.
+///
+/// For the blocks of a set these prefixes are the set's shortest cover, ascending. Contracts see it as the list of the
+/// prefixes that are left.
 #[derive(Debug, Drop)]
 pub struct SetPrefixes<'a> {
-    current: V6Prefixes, // of whole IPv4 addresses they are those that their first 32 bits have
+    current: V6Prefixes, // for whole IPv4 addresses, the prefixes of their first 32 bits
     later: Iter<'a, IpBlock>,
 }
 
@@ -30,7 +32,7 @@ impl<'a> Model for SetPrefixes<'a> {
 }
 
 impl<'a> SetPrefixes<'a> {
-    /// The prefixes of the shortest cover of each block, one block after the other.
+    /// Returns the prefixes of the shortest cover of each block, one block after the other.
     pub fn over(blocks: &'a [IpBlock]) -> SetPrefixes<'a>
         ensures { result ≡ blocks_cover blocks.now }
     {

@@ -1,7 +1,7 @@
-//! Texts of blocks, read and printed.
+//! Texts of blocks: parsing and printing.
 //!
-//! A text is read as one of IPv4, as one of IPv6, or as one of either family. A block is printed as one of IPv4, by the
-//! first 32 bits of its bounds, or as one of IPv6.
+//! A text is parsed as IPv4, as IPv6, or as either family. A block is printed as IPv4, by the first 32 bits of its
+//! bounds, or as IPv6.
 ghost use Rattle.std.specs.Prelude.{◌≡◌, ◌↔◌, IsTrue, Some, Contains, MatchResult};
 ghost use Rattle.std.specs.Fmt.{WritesOnOk};
 ghost use Rattle.rpki_text.specs.Reading.{Answers};
@@ -18,15 +18,17 @@ use std::fmt;
 use std::marker::Model;
 use std::str::FromStr;
 
-/// Whether the ASCII character stands in the text.
+/// Returns whether the text contains the ASCII character.
 pub(crate) fn has_byte(byte: u8, text: &str) -> bool
     ensures { IsTrue result ↔ Contains text.now byte }
 {
     text.as_bytes().contains(&byte)
 }
 
-/// The block that a text writes, in the family that is wanted or in either: a prefix round its first slash, else a
-/// range round its first dash, else one address.
+/// Parses a block of the family `wanted`, or of either family for None.
+///
+/// A text with a slash is a prefix, separated by the first slash. Else a text with a dash is a range, separated by the
+/// first dash. Any other text is one address.
 pub(crate) fn read_block(wanted: Option<AddressFamily>, text: &str) -> Result<IpBlock, FromStrError>
     ensures { Answers (IsIpBlockText wanted text.now) (HasIpBlockFault wanted text.now) result }
 {
@@ -40,15 +42,23 @@ pub(crate) fn read_block(wanted: Option<AddressFamily>, text: &str) -> Result<Ip
 }
 
 impl IpBlock {
-    /// Reads an IPv4 prefix round the first slash of a text; where there is none, a range round its first dash; and
-    /// with neither, one address as a Range. The bits behind a prefix's length are cleared.
+    /// Parses a block of IPv4 addresses: a prefix, a range, or one address.
     ///
-    /// The fault is the first that is met: [`FromStrError::Addr`] of an address; [`FromStrError::PrefixLen`] of a
-    /// length, also of one above 32; [`FromStrError::BadRange`] where the first address of a range is above the second.
+    /// - A text with a slash is a prefix, separated by the first slash. The bits after its length are cleared.
+    /// - Else a text with a dash is a range, separated by the first dash.
+    /// - Any other text is one address, which is returned as a Range.
+    ///
+    /// # Errors
+    ///
+    /// The first of these faults is returned:
+    ///
+    /// - [`FromStrError::Addr`]: the text of an address isn't an IPv4 address.
+    /// - [`FromStrError::PrefixLen`]: the text after the first slash isn't a length, or the length is above 32.
+    /// - [`FromStrError::BadRange`]: the first address of a range is above the second.
     pub fn from_v4_str(text: &str) -> Result<IpBlock, FromStrError>
         ensures exact { Answers (IsIpBlockText (Some Ipv4) text.now)
             (HasIpBlockFault (Some Ipv4) text.now) result }
-        // What is printed of a block of whole addresses as one of IPv4 is read as a block with its bounds.
+        // The IPv4 text of a block of whole addresses parses back to a block with the same bounds.
         ensures reads_back { (block : IpBlock) → IsBlockOf Ipv4 block
             → text.now ≡ ip_block_text Ipv4 block
             → MatchResult result (λ read. ip_bounds read ≡ ip_bounds block) (λ _. ⊥) }
@@ -56,11 +66,15 @@ impl IpBlock {
         read_block(Some(AddressFamily::Ipv4), text)
     }
 
-    /// Reads a block of IPv6 addresses, as [`IpBlock::from_v4_str`] reads one of IPv4. A prefix has a length up to 128.
+    /// Parses a block of IPv6 addresses, as [`IpBlock::from_v4_str`] does for IPv4. A prefix has a length up to 128.
+    ///
+    /// # Errors
+    ///
+    /// The errors are those of [`IpBlock::from_v4_str`], for IPv6 addresses and for lengths above 128.
     pub fn from_v6_str(text: &str) -> Result<IpBlock, FromStrError>
         ensures exact { Answers (IsIpBlockText (Some Ipv6) text.now)
             (HasIpBlockFault (Some Ipv6) text.now) result }
-        // What is printed of a block as one of IPv6 is read as a block with its bounds.
+        // The IPv6 text of a block parses back to a block with the same bounds.
         ensures reads_back { (block : IpBlock) → IsBlockOf Ipv6 block
             → text.now ≡ ip_block_text Ipv6 block
             → MatchResult result (λ read. ip_bounds read ≡ ip_bounds block) (λ _. ⊥) }
@@ -68,7 +82,7 @@ impl IpBlock {
         read_block(Some(AddressFamily::Ipv6), text)
     }
 
-    /// Writes the block as one of the family, as [`Prefix::fmt_as`] and [`AddressRange::fmt_as`] do.
+    /// Prints the block as a block of the family, as [`Prefix::fmt_as`] and [`AddressRange::fmt_as`] do.
     pub fn fmt_as<W: fmt::Write>(
         &self,
         family: AddressFamily,
@@ -82,30 +96,36 @@ impl IpBlock {
         }
     }
 
-    /// Writes the block as one of IPv4: a prefix as the first 32 bits of its address and, where it isn't 32, its length
-    /// behind a slash; a range as the first 32 bits of its bounds, with a dash between them where they aren't alike.
+    /// Prints the block as an IPv4 block, by the first 32 bits of its addresses.
+    ///
+    /// - A Prefix is printed as its address, a slash and its length. The slash and the length are left out if the
+    ///   length is 32.
+    /// - A Range is printed as its bounds with a dash between them, or as one address if the bounds are printed alike.
     pub fn fmt_v4<W: fmt::Write>(&self, f: &mut fmt::Formatter<W>) -> fmt::Result
         ensures { WritesOnOk W.write_str_gives f.old result (ip_block_text Ipv4 self.now) f.new }
     {
         self.fmt_as(AddressFamily::Ipv4, f)
     }
 
-    /// Writes the block as one of IPv6: a prefix as its address and, where it isn't 128, its length behind a slash; a
-    /// range as its bounds, with a dash between them where they aren't the same.
+    /// Prints the block as an IPv6 block.
+    ///
+    /// - A Prefix is printed as its address, a slash and its length. The slash and the length are left out if the
+    ///   length is 128.
+    /// - A Range is printed as its bounds with a dash between them, or as one address if the bounds are the same.
     pub fn fmt_v6<W: fmt::Write>(&self, f: &mut fmt::Formatter<W>) -> fmt::Result
         ensures { WritesOnOk W.write_str_gives f.old result (ip_block_text Ipv6 self.now) f.new }
     {
         self.fmt_as(AddressFamily::Ipv6, f)
     }
 
-    /// The block, to be displayed as one of IPv4, as [`IpBlock::fmt_v4`] writes it.
+    /// Returns the block for display as an IPv4 block, as [`IpBlock::fmt_v4`] prints it.
     pub fn display_v4(self) -> DisplayV4Block
         ensures { result ≡ self }
     {
         DisplayV4Block { block: self }
     }
 
-    /// The block, to be displayed as one of IPv6, as [`IpBlock::fmt_v6`] writes it.
+    /// Returns the block for display as an IPv6 block, as [`IpBlock::fmt_v6`] prints it.
     pub fn display_v6(self) -> DisplayV6Block
         ensures { result ≡ self }
     {
@@ -113,8 +133,9 @@ impl IpBlock {
     }
 }
 
-/// Reads a block of addresses of either family, as [`IpBlock::from_v4_str`] reads one of IPv4. Where the two addresses
-/// of a range are of two families, the text is refused by [`FromStrError::FamilyMismatch`].
+/// Parses a block of addresses of either family, as [`IpBlock::from_v4_str`] does for IPv4.
+///
+/// The fault is [`FromStrError::FamilyMismatch`] if the two addresses of a range are of two families.
 impl FromStr for IpBlock {
     type Err = FromStrError;
 
@@ -125,7 +146,7 @@ impl FromStr for IpBlock {
     }
 }
 
-/// A block that is displayed as one of IPv4.
+/// A block that is displayed as an IPv4 block.
 #[derive(Clone, Copy, Debug)]
 pub struct DisplayV4Block {
     block: IpBlock,
@@ -149,7 +170,7 @@ impl fmt::Display for DisplayV4Block {
     }
 }
 
-/// A block that is displayed as one of IPv6.
+/// A block that is displayed as an IPv6 block.
 #[derive(Clone, Copy, Debug)]
 pub struct DisplayV6Block {
     block: IpBlock,

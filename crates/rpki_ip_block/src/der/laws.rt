@@ -1,4 +1,4 @@
-//! What holds of the octets of blocks, each law as the contract of a function that does nothing.
+//! Lemmas about the encodings of blocks, each as the contract of a function that does nothing.
 ghost use Rattle.std.specs.Prelude.{◌≡◌, ◌≢◌, ◌↔◌, ℕ, ◌<◌, ◌≤◌, List, Err};
 ghost use Rattle.rpki_der.specs.SequenceFaults.{BeginsWithTwo, BeginsWithValue};
 ghost use Rattle.rpki_cover.specs.Prefixes.{last_of};
@@ -14,15 +14,17 @@ pub fn one_block()
     ensures { (limit : ℕ) → OneFront (IsIpBlockDer limit) }
 {}
 
-/// The octets that `encode` appends are the block, where its bounds need no more bits than the limit.
+/// The octets that `encode` appends denote the block, if its bounds need no more bits than the limit.
 #[tactic(auto, using(crate::proofs::BlockWritten::block_written))]
 pub fn written()
     ensures { (limit : ℕ) (block : IpBlock) → limit ≤ 128 → IsBlockWithin limit block
         → IsIpBlockDer limit (ip_block_der block) block }
 {}
 
-/// A block is a reversed range exactly where it is a SEQUENCE that begins with two prefixes of which the second ends
-/// before the first begins, whatever stands behind them.
+/// States when a block is a reversed range.
+///
+/// It is if and only if it is a SEQUENCE that begins with two prefixes of which the second ends before the first
+/// begins. Any octets may follow the two prefixes.
 #[tactic(auto, using(crate::proofs::DerFaults::block_fails))]
 pub fn reversed()
     ensures { (limit : ℕ) (bytes : List ℕ) → (ip_block_at limit bytes ≡ Err ReversedRange)
@@ -30,7 +32,7 @@ pub fn reversed()
         bytes }
 {}
 
-/// Octets are refused as not canonical by a strict cursor alone.
+/// Only a strict cursor refuses octets by `NotCanonical`.
 #[tactic(auto, using(crate::proofs::DerFaults::never_lenient))]
 pub fn not_canonical()
     ensures { (limit : ℕ) (bytes : List ℕ) → ip_block_at limit bytes ≢ Err NotCanonical }

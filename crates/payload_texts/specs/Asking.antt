@@ -1,4 +1,4 @@
--- Which files a reader may refuse for want of memory: those of which it has something to keep.
+-- The files for which a reader may run out of memory: those with something to keep.
 use Rattle.std.specs.Prelude.{◌≢◌, ◌⊎◌, ℕ, List, [], ◌∷◌}
 use Rattle.std.specs.Str.{IsUtf8}
 use Rattle.rpki_text.specs.Lines.{lines_of}
@@ -9,16 +9,16 @@ use Rattle.payload_texts.specs.Rows.{IsRow}
 use Rattle.payload_texts.specs.declared.columns.Columns.{Columns}
 use Rattle.payload_texts.specs.declared.row.Row.{Row}
 
--- one of these lines writes a payload, and no line before it is wrong
+-- one of these lines is a VRP, and no line before it is wrong
 abbrev pub BeginPayloads : Columns → List (List ℕ) → Type 0
 BeginPayloads columns [] = ⊥
 BeginPayloads columns (line ∷ lines) =
     (row : Row) × IsRow columns line row × ((payloads_of row ≢ []) ⊎ BeginPayloads (columns_after columns row) lines)
 
--- a file of lines has a payload before its first wrong line
+-- a CSV file has a VRP before its first wrong line
 abbrev pub HasCsvPayload : List ℕ → Type 0
 HasCsvPayload text = BeginPayloads usual (lines_of text)
 
--- the file is UTF-8 that opens an object, or lines with a payload before the first wrong line
+-- the file is UTF-8 that opens an object, or CSV with a VRP before the first wrong line
 abbrev pub MayWantMemory : List ℕ → Type 0
 MayWantMemory text = (IsObjectText text × IsUtf8 text) ⊎ (IsCsvText text × HasCsvPayload text)

@@ -1,4 +1,4 @@
--- What a file of validated payloads writes, in either form.
+-- The VRPs of a file in either form, and its faults.
 use Rattle.std.specs.Prelude.{◌≡◌, ◌⊎◌, ℕ, List, ◌∷◌}
 use Rattle.std.specs.Str.{IsTrimAsciiStart}
 use Rattle.rpki_prefix.specs.MaxLen.{MaxLenValue}
@@ -7,25 +7,25 @@ use Rattle.payload_texts.specs.JsonFiles.{IsJsonFile, HasJsonFault}
 use Rattle.payload_texts.specs.declared.fault.FileFault.{FileFault}
 use Rattle.payload_texts.specs.declared.fault.FileFault.TheVariants.{JsonArray}
 
--- the first octet that is no white space is `{`, which opens an object (RFC 8259, 4)
+-- the first octet that is not white space is `{`, which opens an object (RFC 8259, 4)
 abbrev pub IsObjectText : List ℕ → Type 0
 IsObjectText text = (rest : List ℕ) × IsTrimAsciiStart text (123 ∷ rest)
 
--- that octet is `[`, which opens an array (RFC 8259, 5)
+-- the first octet that is not white space is `[`, which opens an array (RFC 8259, 5)
 abbrev pub IsArrayText : List ℕ → Type 0
 IsArrayText text = (rest : List ℕ) × IsTrimAsciiStart text (91 ∷ rest)
 
--- the text is neither
+-- the text opens neither an object nor an array
 pub record IsCsvText (text : List ℕ) : Type 0 where
   pub no_object : ¬ IsObjectText text
   pub no_array : ¬ IsArrayText text
 
--- The text writes these payloads, one at least: as JSON if it opens an object, in lines if it opens neither an object
--- nor an array.
+-- The text has these VRPs, at least one: as JSON if it opens an object, as CSV if it opens neither an object nor an
+-- array.
 abbrev pub IsPayloadFile : List ℕ → List (MaxLenValue × ℕ) → Type 0
 IsPayloadFile text payloads = (IsObjectText text × IsJsonFile text payloads) ⊎ (IsCsvText text × IsCsvFile text payloads)
 
--- this is what is wrong with it
+-- this is the fault of the text
 abbrev pub HasFileFault : List ℕ → FileFault → Type 0
 HasFileFault text fault =
     (IsObjectText text × HasJsonFault text fault)

@@ -1,4 +1,4 @@
--- What items of a list in JSON write: payloads.
+-- The VRPs of the items of a JSON array.
 use Rattle.std.specs.Prelude.{◌≡◌, ◌⊎◌, ℕ, ◌+◌, List, [], ◌∷◌}
 use Rattle.json.specs.Json.{Json, Items, no_items, item}
 use Rattle.rpki_prefix.specs.MaxLen.{MaxLenValue}
@@ -10,18 +10,18 @@ use Rattle.payload_texts.specs.declared.fault.ItemFault.{ItemFault}
 use Rattle.payload_texts.specs.declared.fault.ItemFault.TheVariants.{Member, Payload}
 use Rattle.payload_texts.specs.declared.member.Member.TheVariants.{Asn, Prefix, MaxLength}
 
--- the members of an item that are looked at have these texts
+-- the members that an item must have have these texts
 pub record HasTexts (value : Json) (asn_text prefix_text max_text : List ℕ) : Type 0 where
   pub asn : HasText Asn value asn_text
   pub prefix : HasText Prefix value prefix_text
   pub max_length : HasText MaxLength value max_text
 
--- an item writes a payload
+-- an item gives this VRP
 abbrev pub IsItem : Json → MaxLenValue × ℕ → Type 0
 IsItem value payload =
     (asn : List ℕ) × (prefix : List ℕ) × (max : List ℕ) × HasTexts value asn prefix max × ArePayload asn prefix max payload.0 payload.1
 
--- this is its first fault: of the members, in their order, and then of what they write
+-- this is the first fault of an item: of the members, in their order, and then of the VRP that they give
 abbrev pub HasItemFault : Json → ItemFault → Type 0
 HasItemFault value (Member Asn f) = HasMemberFault Asn value f
 HasItemFault value (Member Prefix f) = ((asn : List ℕ) × HasText Asn value asn) × HasMemberFault Prefix value f
@@ -30,13 +30,13 @@ HasItemFault value (Member MaxLength f) =
 HasItemFault value (Payload f) =
     (asn : List ℕ) × (prefix : List ℕ) × (max : List ℕ) × HasTexts value asn prefix max × HaveFault asn prefix max f
 
--- items write these payloads
+-- items give these VRPs
 abbrev pub AreItems : Items → List (MaxLenValue × ℕ) → Type 0
 AreItems no_items payloads = payloads ≡ []
 AreItems (item value items) payloads =
     (payload : MaxLenValue × ℕ) × IsItem value payload × (more : List (MaxLenValue × ℕ)) × (payloads ≡ payload ∷ more) × AreItems items more
 
--- the first of these items that is wrong, and what is wrong with it; place is that of the first item
+-- the first of these items that is wrong, and its fault; place is the number of the first item
 abbrev pub HaveWrongItem : ℕ → Items → FileFault → Type 0
 HaveWrongItem place no_items fault = ⊥
 HaveWrongItem place (item value items) fault =

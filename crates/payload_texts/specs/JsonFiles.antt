@@ -1,4 +1,4 @@
--- What a file in JSON (RFC 8259) writes: the items of its member `roas`.
+-- The VRPs of a JSON file (RFC 8259): the items of its member `roas`.
 use Rattle.std.specs.Prelude.{◌≡◌, ◌≢◌, ℕ, List, [], ◌∷◌, MatchResult, Result, Some, Vec, codes}
 use Rattle.std.specs.Str.{IsUtf8}
 use Rattle.json.specs.Json.{Json, array, object, Items, Members, document}
@@ -12,15 +12,15 @@ use Rattle.payload_texts.specs.declared.fault.FileFault.TheVariants.{Line, NoPay
 abbrev pub IsJsonObject : List ℕ → Members → Type 0
 IsJsonObject text members = IsUtf8 text × (document text ≡ Some (object members))
 
--- the name of the member that has the payloads
+-- the name of the member that has the VRPs
 abbrev pub roas : List ℕ
 roas = codes "roas"
 
--- the values of it are one array, whose items write these payloads
+-- the values of `roas` are one array, whose items give these VRPs
 abbrev pub WriteRoas : List Json → List (MaxLenValue × ℕ) → Type 0
 WriteRoas values payloads = (items : Items) × (values ≡ array items ∷ []) × AreItems items payloads
 
--- the values of it are no single array, or one of its items, of which the first counts as 1, is wrong
+-- the values of `roas` are not a single array, or one of its items is wrong (the first has number 1)
 abbrev pub HaveRoasFault : List Json → FileFault → Type 0
 HaveRoasFault values (Line number wrong) = ⊥
 HaveRoasFault values NoPayload = ⊥
@@ -29,15 +29,15 @@ HaveRoasFault values NotObject = ⊥
 HaveRoasFault values (Roas wrong) = AreWrong (λ value. (items : Items) × (value ≡ array items)) values wrong
 HaveRoasFault values (Item place wrong) = (items : Items) × (values ≡ array items ∷ []) × HaveWrongItem 1 items (Item place wrong)
 
--- they tell the payloads, or what is wrong
+-- the values give these VRPs, or this fault
 abbrev pub TellRoas : {A : Type 0} → List Json → Result (Vec (MaxLenValue × ℕ) A) FileFault → Type 0
 TellRoas values told = MatchResult told (λ payloads. WriteRoas values payloads.items) (HaveRoasFault values)
 
--- the text writes these payloads, one at least
+-- the text has these VRPs, at least one
 abbrev pub IsJsonFile : List ℕ → List (MaxLenValue × ℕ) → Type 0
 IsJsonFile text payloads = ((members : Members) × IsJsonObject text members × WriteRoas (values_in roas members) payloads) × (payloads ≢ [])
 
--- the text is no JSON object, its member `roas` is wrong, or no item writes a payload
+-- the text is no JSON object, its member `roas` is wrong, or it has no items
 abbrev pub HasJsonFault : List ℕ → FileFault → Type 0
 HasJsonFault text (Line number wrong) = ⊥
 HasJsonFault text NoPayload = (members : Members) × IsJsonObject text members × WriteRoas (values_in roas members) []

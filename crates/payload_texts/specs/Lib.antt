@@ -1,4 +1,4 @@
--- Definitions: the fields of lines, their columns, the members of JSON's items, and the payloads that files write.
+-- Definitions: fields of lines, columns, members of JSON items, and the VRPs of files.
 pub mod Asking
 pub mod Columns
 pub mod Csv

@@ -1,5 +1,5 @@
--- Members of JSON objects (RFC 8259, 4). Of two with one name some readers take the first and some the last; so those
--- that are looked at stand once.
+-- Members of JSON objects (RFC 8259, 4). Of two members of one name, some readers take the first and some the last. So
+-- each required member must occur exactly once.
 use Rattle.std.specs.Prelude.{◌≡◌, ◌⊎◌, ℕ, ◌<◌, List, [], ◌∷◌, MatchResult, Result, codes, length, if◌then◌else◌}
 use Rattle.std.specs.Borrow.{Bor}
 use Rattle.std.specs.Str.{bytes_eq}
@@ -16,7 +16,7 @@ abbrev pub values_in : List ℕ → Members → List Json
 values_in name no_members = []
 values_in name (member key value more) = if bytes_eq key name then value ∷ values_in name more else values_in name more
 
--- the same of any value; what is no object has no member
+-- the same for any value; a value that is not an object has no member
 abbrev pub named_values : List ℕ → Json → List Json
 named_values name null = []
 named_values name (boolean b) = []
@@ -25,13 +25,13 @@ named_values name (string s) = []
 named_values name (array js) = []
 named_values name (object ms) = values_in name ms
 
--- what is wrong with the values of a member that is to be there once, and to be of a kind
+-- the fault of the values of a member that must occur exactly once, and be of a kind
 abbrev pub AreWrong : (Json → Type 0) → List Json → MemberFault → Type 0
 AreWrong IsKind values Missing = values ≡ []
 AreWrong IsKind values Repeated = 1 < length values
 AreWrong IsKind values Kind = (value : Json) × (values ≡ value ∷ []) × ¬ IsKind value
 
--- this is found among the values of a member: the one value, or what is wrong
+-- the result for the values of a member: the only value, or the fault
 abbrev pub IsFound : {A : Type 0} → List Json → Result (Bor (Value A)) MemberFault → Type 0
 IsFound values found = MatchResult found (λ value. values ≡ value_view value.now ∷ []) (AreWrong (λ value. Unit {0}) values)
 
@@ -47,10 +47,10 @@ Writes Asn text value = (value ≡ number text) ⊎ (value ≡ string text)
 Writes Prefix text value = value ≡ string text
 Writes MaxLength text value = value ≡ number text
 
--- an item has one such member, and this is its text
+-- an item has exactly one such member, and this is its text
 abbrev pub HasText : Member → Json → List ℕ → Type 0
 HasText part item text = (value : Json) × (named_values (name_of part) item ≡ value ∷ []) × Writes part text value
 
--- it has none, two, or one of another kind
+-- the member is missing, repeated, or of another kind
 abbrev pub HasMemberFault : Member → Json → MemberFault → Type 0
 HasMemberFault part item fault = AreWrong (λ value. (text : List ℕ) × Writes part text value) (named_values (name_of part) item) fault

@@ -1,4 +1,4 @@
--- What a line of a file writes: nothing, names of columns, or a payload.
+-- The content of a line of a CSV file: blank, names of columns, or a VRP.
 use Rattle.std.specs.Prelude.{◌≡◌, ◌≢◌, ℕ, ◌<◌, ◌-◌, ◌^◌, List, [], Some, true}
 use Rattle.std.specs.Str.{IsUtf8, trim}
 use Rattle.rpki_text.specs.Numbers.{IsNumberText, HasNumberFault}
@@ -14,7 +14,7 @@ use Rattle.payload_texts.specs.declared.fault.PayloadFault.TheVariants.{NotUtf8,
 use Rattle.payload_texts.specs.declared.row.Row.{Row}
 use Rattle.payload_texts.specs.declared.row.Row.TheVariants.{Blank, Header, Payload}
 
--- three texts write an AS number, a prefix and a greatest length of the prefix
+-- three texts give an AS number, a prefix and a maximum length of the prefix
 pub record ArePayload (asn_text prefix_text max_text : List ℕ) (prefix : MaxLenValue) (asn : ℕ) : Type 0 where
   pub asn_is : IsAsnText asn_text asn
   pub prefix_is : IsPrefixText prefix_text prefix.prefix
@@ -23,7 +23,7 @@ pub record ArePayload (asn_text prefix_text max_text : List ℕ) (prefix : MaxLe
   pub len_is : IsNumberText (2 ^ 8 - 1) max_text len
   pub within : IsMaxLenOf prefix.prefix (Some len)
 
--- the text writes an AS number; a prefix
+-- the text is an AS number; a prefix
 abbrev pub WritesAsn : List ℕ → Type 0
 WritesAsn text = (n : ℕ) × IsAsnText text n
 
@@ -41,7 +41,7 @@ HaveFault asn_text prefix_text max_text (MaxLenFormat f) = WritesAsn asn_text ×
 HaveFault asn_text prefix_text max_text (MaxLen f) =
     WritesAsn asn_text × ((p : FamilyPrefix) × (len : ℕ) × IsPrefixText prefix_text p × IsNumberText (2 ^ 8 - 1) max_text len × HasMaxLenError p (Some len) f)
 
--- the line is to write a payload: it is no white space, and doesn't name the columns
+-- the line must be a VRP: it is not blank, and doesn't name the columns
 pub record IsBody (line : List ℕ) : Type 0 where
   pub utf8 : IsUtf8 line
   pub some_text : trim line ≢ []
@@ -61,7 +61,7 @@ pub record HasColumns (columns : Columns) (line : List ℕ) : Type 0 where
 abbrev pub FitsColumns : Columns → List ℕ → Type 0
 FitsColumns columns line = (¬ IsTooLong columns line) × HasColumns columns line
 
--- this is what is wrong with the number of its fields: how many it has, and how many columns there are
+-- this is the fault of the number of its fields: how many it has, and how many columns there are
 abbrev pub HasCountFault : Columns → List ℕ → PayloadFault → Type 0
 HasCountFault columns line NotUtf8 = ⊥
 HasCountFault columns line (TooManyFields found named) = IsTooLong columns line × (found ≡ field_count line) × (named ≡ columns.count)
@@ -72,21 +72,21 @@ HasCountFault columns line (Prefix f) = ⊥
 HasCountFault columns line (MaxLenFormat f) = ⊥
 HasCountFault columns line (MaxLen f) = ⊥
 
--- the texts in the three columns of a line write a payload
+-- the texts in the three columns of a line give this VRP
 abbrev pub AreColumns : Columns → List ℕ → MaxLenValue × ℕ → Type 0
 AreColumns columns line payload = ArePayload (field columns.asn line) (field columns.prefix line) (field columns.max_len line) payload.0 payload.1
 
--- this is their first fault
+-- this is the first fault of these texts
 abbrev pub HaveColumnsFault : Columns → List ℕ → PayloadFault → Type 0
 HaveColumnsFault columns line fault = HaveFault (field columns.asn line) (field columns.prefix line) (field columns.max_len line) fault
 
--- what a line writes
+-- the content of a line
 abbrev pub IsRow : Columns → List ℕ → Row → Type 0
 IsRow columns line Blank = IsUtf8 line × (trim line ≡ [])
 IsRow columns line (Header next) = IsUtf8 line × (trim line ≢ []) × IsHeader line next
 IsRow columns line (Payload payload) = IsBody line × FitsColumns columns line × AreColumns columns line payload
 
--- this is what is wrong with a line
+-- this is the fault of a line
 abbrev pub HasRowFault : Columns → List ℕ → PayloadFault → Type 0
 HasRowFault columns line NotUtf8 = ¬ IsUtf8 line
 HasRowFault columns line (TooManyFields found named) = IsBody line × HasCountFault columns line (TooManyFields found named)

@@ -1,23 +1,23 @@
-//! The columns of a file.
+//! The columns of a CSV file.
 ghost use Rattle.std.specs.Prelude.{◌↔◌, ℕ, IsTrue, MatchOption};
 ghost use Rattle.payload_texts.specs.Columns.{IsColumn, IsHeader, Names};
 ghost use Rattle.payload_texts.specs.Fields.{field};
 
 use crate::field::{cut_field, field_count, value_of};
 
-/// A column that a payload needs.
+/// A column that a VRP needs.
 #[derive(Clone, Copy, Debug, PartialEq, Eq)]
 pub enum Column {
-    /// The number of the AS, which is named `ASN`.
+    /// The AS number. The column's name is `ASN`.
     Asn,
-    /// The prefix, which is named `IP Prefix` or `Prefix`.
+    /// The prefix. The column's name is `IP Prefix` or `Prefix`.
     Prefix,
-    /// The greatest length, which is named `Max Length` or `Max prefix length`.
+    /// The maximum length. The column's name is `Max Length` or `Max prefix length`.
     MaxLen,
 }
 
 impl Column {
-    /// Whether the text is the column's name.
+    /// Whether `text` is a name of the column.
     fn is_named(self, text: &str) -> bool
         ensures { IsTrue result ↔ Names self text.now }
     {
@@ -28,7 +28,7 @@ impl Column {
         }
     }
 
-    /// Behind how many commas of a line the column is named first.
+    /// Returns the index of the first field of `line` that is a name of the column.
     #[tactic(auto, using(crate::proofs::ColumnLemmas::looked_none, crate::proofs::ColumnLemmas::looked_more, crate::proofs::ColumnLemmas::looked_found))]
     fn place(self, line: &str) -> Option<usize>
         ensures { MatchOption result ((n : ℕ) → ¬ Names self (field n line.now))
@@ -48,23 +48,23 @@ impl Column {
     }
 }
 
-/// Behind how many commas of a line each column stands, and how many columns there are.
+/// The index of each column in a line, and the number of columns. An index counts the commas before the field.
 #[derive(Clone, Copy, Debug, PartialEq, Eq)]
 pub struct Columns {
-    /// The number of the AS.
+    /// The index of the AS number.
     pub asn: usize,
-    /// The prefix.
+    /// The index of the prefix.
     pub prefix: usize,
-    /// The greatest length.
+    /// The index of the maximum length.
     pub max_len: usize,
     /// The number of columns.
     pub count: usize,
-    /// Whether a line has named them. A line then has no more fields than there are columns.
+    /// Whether a line has named the columns. A later line that is a VRP then has at most `count` fields.
     pub is_named: bool,
 }
 
 impl Columns {
-    /// The columns of a file before one of its lines has named them.
+    /// The columns of a file until one of its lines names them.
     pub const USUAL: Columns = Columns {
         asn: 0,
         prefix: 1,
@@ -73,7 +73,7 @@ impl Columns {
         is_named: false,
     };
 
-    /// The columns that a line names, if it names each.
+    /// Returns the columns that `line` names, if it names all three.
     pub(crate) fn named_by(line: &str) -> Option<Columns>
         ensures { MatchOption result ((columns : Columns) → ¬ IsHeader line.now columns)
             (IsHeader line.now) }

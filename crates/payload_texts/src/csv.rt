@@ -1,4 +1,4 @@
-//! A file of payloads in comma separated values.
+//! CSV files of VRPs.
 ghost use Rattle.std.specs.Prelude.{MatchResult};
 ghost use Rattle.rpki_text.specs.Memory.{MatchOrMemory};
 ghost use Rattle.payload_texts.specs.Asking.{HasCsvPayload};
@@ -13,7 +13,7 @@ use rpki_prefix::MaxLenPrefix;
 use rpki_text::line::cut_line;
 use std::alloc::Allocator;
 
-/// The payloads of lines of fields, in their order, or what is wrong there. Memory is requested for a payload alone.
+/// Returns the VRPs of the lines, in their order, or the first fault. Memory is requested only for VRPs.
 #[tactic(auto, using(crate::proofs::CsvLemmas::read_none, crate::proofs::CsvLemmas::read_more, crate::proofs::CsvLemmas::read_no_payload, crate::proofs::CsvLemmas::read_wrong, crate::proofs::CsvLemmas::read_wanting))]
 pub(crate) fn read_csv<A: Allocator>(
     alloc: A,

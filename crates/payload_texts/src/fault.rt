@@ -1,4 +1,4 @@
-//! What is wrong with files of payloads.
+//! Faults of VRP files.
 ghost use Rattle.std.specs.Prelude.{◌≡◌};
 
 use crate::member::Member;
@@ -7,28 +7,28 @@ use rpki_base::number::ParseIntError;
 use rpki_prefix::{MaxLenError, ParsePrefixError};
 use thiserror::Error;
 
-/// What is wrong with a payload. The first fault in this order is returned. Lines alone have the first three.
+/// A fault of a VRP. A call returns the first fault in this order. Only lines have the first three.
 #[derive(Clone, Copy, Debug, PartialEq, Eq, Error)]
 pub enum PayloadFault {
     /// The line isn't UTF-8.
     #[error("not UTF-8")]
     NotUtf8,
-    /// The line has more fields than the line that names the columns: how many each has.
+    /// The line has more fields than the line that names the columns: the number of fields of each.
     #[error("too many fields: {0}, but the header names {1}")]
     TooManyFields(usize, usize),
-    /// The line has no field in one of the three columns: how many it has, and how many columns there are.
+    /// The line lacks a field in one of the three columns: its number of fields, and the number of columns.
     #[error("too few fields: {0} of {1}")]
     TooFewFields(usize, usize),
-    /// The text of the AS number writes none.
+    /// The text of the AS number is not an AS number.
     #[error("{0}")]
     Asn(ParseAsnError),
-    /// The text of the prefix writes none.
+    /// The text of the prefix is not a prefix.
     #[error("invalid prefix: {0}")]
     Prefix(ParsePrefixError),
-    /// The text of the greatest length writes no number of 8 bits.
+    /// The text of the maximum length is not a number of 8 bits.
     #[error("invalid max length: {0}")]
     MaxLenFormat(ParseIntError),
-    /// It is no greatest length of the prefix.
+    /// The number is not a maximum length of the prefix.
     #[error("{0}")]
     MaxLen(MaxLenError),
 }
@@ -73,50 +73,50 @@ impl From<MaxLenError> for PayloadFault {
     }
 }
 
-/// What is wrong with a member of an object that is to be there once.
+/// A fault of a member that an object must have exactly once.
 #[derive(Clone, Copy, Debug, PartialEq, Eq, Error)]
 pub enum MemberFault {
     /// The object has no member of this name.
     #[error("missing")]
     Missing,
-    /// It has more than one.
+    /// The object has more than one member of this name.
     #[error("repeated")]
     Repeated,
-    /// Its value is of another kind than it should be.
+    /// The value of the member has the wrong kind.
     #[error("wrong kind of value")]
     Kind,
 }
 
-/// What is wrong with an item of a list. The first fault in this order is answered, and the first member.
+/// A fault of an item of a list. A call returns the first fault in this order, and of members the first.
 #[derive(Clone, Copy, Debug, PartialEq, Eq, Error)]
 pub enum ItemFault {
-    /// One of its members. An item that is no object has none.
+    /// A fault of one of its members. An item that is not an object has no members.
     #[error("{0}: {1}")]
     Member(Member, MemberFault),
-    /// What its members write.
+    /// A fault of the VRP that its members give.
     #[error("{0}")]
     Payload(PayloadFault),
 }
 
-/// What is wrong with a file.
+/// A fault of a file.
 #[derive(Clone, Copy, Debug, PartialEq, Eq, Error)]
 pub enum FileFault {
-    /// The first line that is wrong: its number, counted from 1, and what is wrong with it.
+    /// The first wrong line: its number, counted from 1, and its first fault.
     #[error("line {0}: {1}")]
     Line(usize, PayloadFault),
     /// The text opens a JSON array.
     #[error("a JSON array, where an object with the member roas is expected")]
     JsonArray,
-    /// The text that opens an object is no JSON object, or nests deeper than 128.
+    /// The text opens an object, but it is not a JSON object or nests deeper than 128.
     #[error("not a JSON object")]
     NotObject,
-    /// The object's member `roas`, which is to be an array.
+    /// A fault of the object's member `roas`, which must be an array.
     #[error("roas: {0}")]
     Roas(MemberFault),
-    /// The first item of it that is wrong: its place, counted from 1, and what is wrong with it.
+    /// The first wrong item of `roas`: its number, counted from 1, and its first fault.
     #[error("item {0}: {1}")]
     Item(usize, ItemFault),
-    /// Nothing is wrong, and nothing writes a payload.
+    /// The file has no other fault, and it has no VRP.
     #[error("no payload")]
     NoPayload,
 }

@@ -1,10 +1,10 @@
-//! How a line is cut into fields.
+//! Cuts a line into fields.
 ghost use Rattle.std.specs.Prelude.{◌≡◌, ◌<◌, length};
 ghost use Rattle.std.specs.List.{before_first, after_first};
 ghost use Rattle.std.specs.Str.{trim};
 ghost use Rattle.payload_texts.specs.Fields.{field, field_count, is_comma, unquoted};
 
-/// What stands before the first comma of a text, and what stands behind it: nothing, where there is none.
+/// Returns the text before the first comma, and the text after it, which is empty if there is no comma.
 pub(crate) fn cut_field(text: &str) -> (&str, &str)
     ensures before { result.0.now ≡ before_first is_comma text.now }
     ensures behind { result.1.now ≡ after_first is_comma text.now }
@@ -16,7 +16,7 @@ pub(crate) fn cut_field(text: &str) -> (&str, &str)
     }
 }
 
-/// The text without quotes round it.
+/// Returns `text` without the quotes round it, if there are any.
 fn without_quotes(text: &str) -> &str
     ensures { result.now ≡ unquoted text.now }
 {
@@ -27,14 +27,14 @@ fn without_quotes(text: &str) -> &str
     }
 }
 
-/// What stands between two commas, without white space round it, and then without quotes.
+/// Returns the value of a field: `part` without white space round it, and then without quotes.
 pub(crate) fn value_of(part: &str) -> &str
     ensures { result.now ≡ unquoted (trim part.now) }
 {
     without_quotes(part.trim())
 }
 
-/// The field behind so many commas of a line. It is empty where the line has fewer.
+/// Returns the value of the field at index `commas`. It is empty if the line has fewer commas.
 #[tactic(auto, using(crate::proofs::FieldLemmas::behind_next))]
 pub(crate) fn field_at(line: &str, commas: usize) -> &str
     ensures { result.now ≡ field commas line.now }
@@ -50,7 +50,7 @@ pub(crate) fn field_at(line: &str, commas: usize) -> &str
     value_of(part)
 }
 
-/// Returns how many fields a line has: one more than its commas.
+/// Returns the number of fields of a line: its number of commas, plus 1.
 #[tactic(auto, using(crate::proofs::FieldLemmas::few_commas))]
 pub(crate) fn field_count(line: &str) -> usize
     ensures { result ≡ field_count line.now }

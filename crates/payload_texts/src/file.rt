@@ -1,4 +1,4 @@
-//! A file of validated payloads, in either form.
+//! VRP files in either form, JSON or CSV.
 ghost use Rattle.std.specs.Prelude.{◌↔◌, IfErr, IsTrue, MatchResult};
 ghost use Rattle.rpki_text.specs.Memory.{IsMemory, MatchOrMemory};
 ghost use Rattle.rpki_text.specs.Reading.{AnswersOrMemory};
@@ -13,7 +13,7 @@ use rpki_base::memory::OrMemory;
 use rpki_prefix::MaxLenPrefix;
 use std::alloc::Allocator;
 
-/// Reads the VRPs of a file, in the order of the file, each as often as the file has it.
+/// Reads the VRPs of a file, in the order of the file. A VRP that the file repeats is repeated in the list.
 ///
 /// - `alloc`: the allocator of the list.
 /// - `text`: the whole file.
@@ -42,14 +42,14 @@ pub fn read_payloads<A: Allocator + Copy>(
     ensures answers { AnswersOrMemory (λ payloads. payloads.items) (IsPayloadFile text.now)
         (HasFileFault text.now) result }
 
-    // A request for memory was refused. None is made before the first payload of lines, nor for a text that opens an
-    // object and isn't UTF-8.
+    // An allocation failed. None is requested before the first VRP of a CSV file, nor for a text that opens an object
+    // and isn't UTF-8.
     ensures memory { IfErr result (λ error. IsMemory error → MayWantMemory text.now) }
 {
     payloads_in(alloc, text)
 }
 
-/// The payloads of a file, or its fault.
+/// Returns the VRPs of a file, or its fault.
 fn payloads_in<A: Allocator + Copy>(
     alloc: A,
     text: &[u8],
@@ -66,14 +66,14 @@ fn payloads_in<A: Allocator + Copy>(
     }
 }
 
-/// Whether the first octet that is no white space opens an object.
+/// Whether the first octet that is not white space opens an object.
 fn opens_object(text: &[u8]) -> bool
     ensures { IsTrue result ↔ IsObjectText text.now }
 {
     text.trim_ascii_start().starts_with(b"{")
 }
 
-/// Whether the first octet that is no white space opens an array.
+/// Whether the first octet that is not white space opens an array.
 fn opens_array(text: &[u8]) -> bool
     ensures { IsTrue result ↔ IsArrayText text.now }
 {

@@ -1,4 +1,4 @@
-//! An item of a list of payloads in JSON.
+//! An item of the JSON array `roas`.
 ghost use Rattle.std.specs.Prelude.{MatchResult};
 ghost use Rattle.json.specs.Value.{value_view};
 ghost use Rattle.payload_texts.specs.Items.{IsItem, HasItemFault};
@@ -11,7 +11,7 @@ use rpki_base::Asn;
 use rpki_prefix::MaxLenPrefix;
 use std::alloc::Allocator;
 
-/// The payload that an item writes. Members of other names aren't looked at.
+/// Returns the VRP that `item` gives. Members of other names are ignored.
 pub(crate) fn read_item<A: Allocator>(item: &Value<'_, A>) -> Result<(MaxLenPrefix, Asn), ItemFault>
     ensures { MatchResult result (IsItem (value_view item.now))
         (HasItemFault (value_view item.now)) }

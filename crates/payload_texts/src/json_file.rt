@@ -1,4 +1,4 @@
-//! A file of payloads in JSON.
+//! JSON files of VRPs.
 ghost use Rattle.std.specs.Bool.{MatchBool};
 ghost use Rattle.std.specs.Prelude.{◌≡◌, ◌≢◌, List, ◌∷◌, Err, IfOk, MatchResult, Some};
 ghost use Rattle.json.specs.Token.{Token as SpecToken, begin_object};
@@ -16,7 +16,7 @@ use rpki_base::memory::OrMemory;
 use rpki_prefix::MaxLenPrefix;
 use std::alloc::{AllocError, Allocator};
 
-/// The payloads of the member `roas`, in their order, or what is wrong there. Memory is requested for UTF-8 alone.
+/// Returns the VRPs of the member `roas`, in their order, or the fault. Memory is requested only if the text is UTF-8.
 pub(crate) fn read_json<A: Allocator + Copy>(
     alloc: A,
     text: &[u8],
@@ -39,7 +39,7 @@ pub(crate) fn read_json<A: Allocator + Copy>(
     }
 }
 
-/// What an object tells of `roas`.
+/// Reads the member `roas` of the object that `text` is.
 fn read_object<A: Allocator + Copy>(alloc: A, text: &str) -> Result<Roas<A>, Error>
     ensures told { IfOk result (λ told. (ms : Members)
         × (document text.now ≡ Some (object ms)) × TellRoas (values_in roas ms) told) }
@@ -58,7 +58,7 @@ fn read_object<A: Allocator + Copy>(alloc: A, text: &str) -> Result<Roas<A>, Err
     }
 }
 
-/// Whether an object begins. Its members follow.
+/// Whether the next token begins an object. The object's members follow.
 fn begins_object(reader: &mut Reader<'_>) -> bool
     ensures { MatchBool result (reader.old ≡ begin_object ∷ reader.new)
         ((rest : List SpecToken) → reader.old ≢ begin_object ∷ rest) }

@@ -1,5 +1,6 @@
-//! Files of validated payloads in JSON or in comma separated values, as rpki-client, FORT and Routinator write them. Of
-//! what [`read_payloads`] answers a table is made, which tells the validity of routes.
+//! Reads files of VRPs (validated ROA payloads) in JSON or CSV, as rpki-client, FORT and Routinator write them.
+//!
+//! Call [`read_payloads`]. Make a table of its result to look up the validity of routes.
 #![tactic(auto)]
 
 pub mod columns;

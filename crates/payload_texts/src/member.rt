@@ -1,4 +1,4 @@
-//! Members of objects in JSON.
+//! Members of JSON objects.
 ghost use Rattle.std.specs.Prelude.{◌≡◌, ℕ, List, [], ◌∷◌, ◌++◌, MatchOption, MatchResult};
 ghost use Rattle.json.specs.Json.{Json};
 ghost use Rattle.json.specs.Value.{members_view, value_view};
@@ -9,19 +9,19 @@ use json::Value;
 use std::alloc::Allocator;
 use std::fmt;
 
-/// A member of an item that is looked at.
+/// A member that an item must have.
 #[derive(Clone, Copy, Debug, PartialEq, Eq)]
 pub enum Member {
-    /// The number of the AS, `asn`: a number, or a text.
+    /// The AS number, `asn`: a number, or a text.
     Asn,
     /// The prefix, `prefix`: a text.
     Prefix,
-    /// The greatest length, `maxLength`: a number.
+    /// The maximum length, `maxLength`: a number.
     MaxLength,
 }
 
 impl Member {
-    /// Its name.
+    /// Returns the name of the member.
     pub fn name(self) -> &'static str
         ensures { result.now ≡ name_of self }
     {
@@ -32,7 +32,7 @@ impl Member {
         }
     }
 
-    /// The text of its value, if that is of its kind.
+    /// Returns the text of the member's value, if the value has the right kind.
     fn text<'a, A: Allocator>(self, value: &Value<'a, A>) -> Option<&'a str>
         ensures { MatchOption result
             ((text : List ℕ) → ¬ Writes self text (value_view value.now))
@@ -60,7 +60,7 @@ impl fmt::Display for Member {
     }
 }
 
-/// The value of the one member of this name.
+/// Returns the value of the only member of this name.
 fn only<'v, 'a, A: Allocator>(
     members: &'v Vec<(&'a str, Value<'a, A>), A>,
     name: &str,
@@ -77,7 +77,7 @@ fn only<'v, 'a, A: Allocator>(
     found
 }
 
-/// What is found where one value more has the name.
+/// Returns the result of the search after another value of this name, from the result before it.
 #[tactic(auto, using(crate::proofs::MemberLemmas::more_wrong, crate::proofs::MemberLemmas::two_values))]
 fn another<'v, 'a, A: Allocator>(
     found: Result<&'v Value<'a, A>, MemberFault>,
@@ -93,7 +93,7 @@ fn another<'v, 'a, A: Allocator>(
     }
 }
 
-/// The text of a member of an item.
+/// Returns the text of a member of an item.
 pub(crate) fn text_of<'a, A: Allocator>(
     member: Member,
     item: &Value<'a, A>,

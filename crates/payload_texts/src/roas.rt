@@ -1,4 +1,4 @@
-//! The list of payloads in a file of JSON.
+//! The JSON array of VRPs.
 ghost use Rattle.std.specs.Prelude.{◌≡◌, ◌<◌, ◌↔◌, List, [], ◌∷◌, ◌++◌, IfOk, IsTrue, MatchResult, OnOk, Some, None, Err, length};
 ghost use Rattle.json.specs.Json.{Json, Items, Members, array, value, items, member, members, no_members};
 ghost use Rattle.payload_texts.specs.declared.fault.FileFault.TheVariants.{Roas};
@@ -14,10 +14,10 @@ use rpki_base::Asn;
 use rpki_prefix::MaxLenPrefix;
 use std::alloc::Allocator;
 
-/// The payloads of the member `roas`, or what is wrong with it.
+/// The VRPs of the member `roas`, or its fault.
 pub(crate) type Roas<A> = Result<Vec<(MaxLenPrefix, Asn), A>, FileFault>;
 
-/// What the members of an object tell of `roas`, up to the object's end.
+/// Reads the members of an object up to its end, and returns the VRPs of `roas` or its fault.
 pub(crate) fn read_members<A: Allocator + Copy>(
     alloc: A,
     reader: &mut Reader<'_>,
@@ -36,7 +36,7 @@ pub(crate) fn read_members<A: Allocator + Copy>(
     Ok(told)
 }
 
-/// What is told with one member more, whose value follows.
+/// Reads the value of the member `key`, and returns the VRPs of `roas` or its fault, from the result before it.
 fn read_member<A: Allocator + Copy>(
     alloc: A,
     reader: &mut Reader<'_>,
@@ -69,7 +69,7 @@ fn is_missing<A: Allocator>(told: &Roas<A>) -> bool
     matches!(told, Err(FileFault::Roas(MemberFault::Missing)))
 }
 
-/// What a value of `roas` tells.
+/// Reads a value of `roas`.
 #[tactic(auto, using(crate::proofs::RoasLemmas::array_fails, crate::proofs::RoasLemmas::object_fails))]
 fn read_list<A: Allocator + Copy>(
     alloc: A,
@@ -96,7 +96,7 @@ fn read_list<A: Allocator + Copy>(
     }
 }
 
-/// What the items of an array tell, up to the array's end.
+/// Reads the items of an array up to its end, and returns their VRPs or the first fault.
 fn read_items<A: Allocator + Copy>(
     alloc: A,
     reader: &mut Reader<'_>,
@@ -125,7 +125,7 @@ fn read_items<A: Allocator + Copy>(
     Ok(Ok(payloads))
 }
 
-/// Passes over items up to the end of their array.
+/// Skips items up to the end of their array.
 #[tactic(auto, using(crate::proofs::GrammarLemmas::steps))]
 fn skip_items(reader: &mut Reader<'_>, depth: usize) -> Result<(), Invalid>
     ensures read { MatchResult result (λ _. skip_items depth reader.old ≡ Some reader.new)
@@ -138,7 +138,7 @@ fn skip_items(reader: &mut Reader<'_>, depth: usize) -> Result<(), Invalid>
     Ok(())
 }
 
-/// Passes over members up to the end of their object.
+/// Skips members up to the end of their object.
 #[tactic(auto, using(crate::proofs::GrammarLemmas::steps))]
 fn skip_members(reader: &mut Reader<'_>, depth: usize) -> Result<(), Invalid>
     ensures read { MatchResult result (λ _. skip_members depth reader.old ≡ Some reader.new)

@@ -1,4 +1,4 @@
-//! A line of a file of payloads.
+//! A line of a CSV file.
 ghost use Rattle.rpki_text.specs.Reading.{Answers};
 ghost use Rattle.payload_texts.specs.Rows.{AreColumns, ArePayload, FitsColumns, HasCountFault, HasRowFault, HaveColumnsFault, HaveFault, IsRow};
 ghost use Rattle.std.specs.Prelude.{◌≡◌, ◌↔◌, [], IsTrue, MatchResult};
@@ -12,29 +12,36 @@ use rpki_base::number::parse_u8;
 use rpki_prefix::{MaxLenPrefix, Prefix};
 use std::str::FromStr;
 
-/// What a line writes.
+/// The content of a line.
 #[derive(Clone, Copy, Debug, PartialEq, Eq)]
 pub enum Row {
-    /// White space alone.
+    /// Only white space.
     Blank,
-    /// The names of columns, for the lines behind it.
+    /// The names of the columns, for the lines after it.
     Header(Columns),
-    /// A prefix with its greatest length, and the AS that may originate it.
+    /// A prefix with its maximum length, and the AS that may originate it.
     Payload((MaxLenPrefix, Asn)),
 }
 
-/// Reads a line whose fields are in these columns. White space and quotes round a field are no part of it. A field
-/// ends at each comma, a quoted one too.
+/// Reads a line.
 ///
-/// Errors: the first [`PayloadFault`] of the line. A line that writes a payload has a field in each of the three
-/// columns, and no more fields than the line that names the columns. Fields in other columns are not read.
+/// - `columns`: the columns of its fields.
+/// - `line`: the line. White space and quotes round a field are not part of it. Each comma ends a field, even one
+///   between quotes.
+///
+/// A line that is a VRP has a field in each of the three columns, and no more fields than the line that names the
+/// columns. Fields in other columns are ignored.
+///
+/// # Errors
+///
+/// The first [`PayloadFault`] of the line.
 pub fn read_row(columns: Columns, line: &[u8]) -> Result<Row, PayloadFault>
     ensures { Answers (IsRow columns line.now) (HasRowFault columns line.now) result }
 {
     row_of(columns, line)
 }
 
-/// What a line writes, or its fault.
+/// Returns the content of a line, or its fault.
 #[tactic(auto, using(crate::proofs::RowLemmas::row_fault, crate::proofs::RowLemmas::count_fault, crate::proofs::RowLemmas::body_of))]
 fn row_of(columns: Columns, line: &[u8]) -> Result<Row, PayloadFault>
     ensures { MatchResult result (IsRow columns line.now) (HasRowFault columns line.now) }
@@ -55,7 +62,7 @@ fn row_of(columns: Columns, line: &[u8]) -> Result<Row, PayloadFault>
     }
 }
 
-/// Checks how many fields a line has that is to write a payload.
+/// Checks the number of fields of a line that must be a VRP.
 fn check_count(columns: Columns, line: &str) -> Result<(), PayloadFault>
     ensures { MatchResult result (λ _. FitsColumns columns line.now) (HasCountFault columns line.now) }
 {
@@ -70,7 +77,7 @@ fn check_count(columns: Columns, line: &str) -> Result<(), PayloadFault>
     }
 }
 
-/// The payload that the three columns of a line write, or the first fault of their texts.
+/// Returns the VRP in the three columns of a line, or the first fault of their texts.
 fn read_columns(columns: Columns, line: &str) -> Result<(MaxLenPrefix, Asn), PayloadFault>
     ensures { MatchResult result (AreColumns columns line.now)
         (HaveColumnsFault columns line.now) }
@@ -81,14 +88,14 @@ fn read_columns(columns: Columns, line: &str) -> Result<(MaxLenPrefix, Asn), Pay
     read_fields(asn, prefix, max_len)
 }
 
-/// Whether a line is white space alone.
+/// Whether a line is only white space.
 fn is_blank(line: &str) -> bool
     ensures { IsTrue result ↔ (trim line.now ≡ []) }
 {
     line.trim().is_empty()
 }
 
-/// The payload that three texts write.
+/// Returns the VRP that three texts give, or the first fault.
 pub(crate) fn read_fields(
     asn: &str,
     prefix: &str,

@@ -1,4 +1,4 @@
--- Definitions: the lines of routes, and what payloads answer to them.
+-- Definitions: the lines of routes, and their answers by VRPs.
 pub mod Answers
 pub mod Explanations
 pub mod Outcomes

@@ -1,4 +1,4 @@
--- What payloads say of a route in a word (RFC 6811, 2).
+-- The outcome for a route by VRPs, in one word (RFC 6811, 2).
 use Rattle.std.specs.Prelude.{ℕ, List, Option, codes, unwrap_or}
 use Rattle.rpki_prefix.specs.Values.{FamilyPrefix}
 use Rattle.roa_origin.specs.Payloads.{Payload}
@@ -7,18 +7,18 @@ use Rattle.roa_origin.specs.declared.validation.Validity.TheVariants as Validity
 use Rattle.origin_lines.specs.declared.outcome.Outcome.{Outcome}
 use Rattle.origin_lines.specs.declared.outcome.Outcome.TheVariants.{Valid, InvalidLength, InvalidAs, NotFound}
 
--- the number by which payloads are asked of a route: AS0, which none matches, where it has no origin
+-- the AS number to look up for an origin: AS0, which no VRP matches, if the origin is unknown
 abbrev pub asked_asn : Option ℕ → ℕ
 asked_asn origin = unwrap_or origin 0
 
--- the validity, and of an invalid route whether only a length stands against it
+-- the validity, and for an invalid route whether a VRP that covers it has its AS
 abbrev pub IsOutcomeOf : FamilyPrefix → ℕ → List Payload → Outcome → Type 0
 IsOutcomeOf route asn payloads Valid = IsValidity route asn payloads Validity.Valid
 IsOutcomeOf route asn payloads InvalidLength = IsValidity route asn payloads Validity.Invalid × IsHeldBy route asn payloads
 IsOutcomeOf route asn payloads InvalidAs = IsValidity route asn payloads Validity.Invalid × ¬ IsHeldBy route asn payloads
 IsOutcomeOf route asn payloads NotFound = IsValidity route asn payloads Validity.NotFound
 
--- what is printed of it
+-- the text printed for it
 abbrev pub outcome_text : Outcome → List ℕ
 outcome_text Valid = codes "valid"
 outcome_text InvalidLength = codes "invalid-length"

@@ -1,4 +1,4 @@
--- The route that a line writes: a prefix and an AS number, or a line of `bgpdump -m`, which prints the tables of route
+-- The route of a line: a prefix and an AS number, or a line of `bgpdump -m`, which prints the tables of route
 -- collectors (RFC 6396, 4.3; RFC 8050, 4).
 use Rattle.std.specs.Prelude.{◌≡◌, ◌≢◌, ◌⊎◌, ◌==◌, ◌-◌, ◌++◌, ℕ, Bool, List, [], Option, Some, None, codes, length, slice_get, slice_index}
 use Rattle.std.specs.List.{after_first, after_last, before_first, position_or_len, slice_split}
@@ -11,12 +11,12 @@ use Rattle.origin_lines.specs.declared.fault.RouteFault.{RouteFault}
 use Rattle.origin_lines.specs.declared.fault.RouteFault.TheVariants.{NotUtf8, TooFewFields, CommaForSpace, Prefix, Asn}
 use Rattle.origin_lines.specs.declared.route.Route.{Route}
 
--- a text writes the prefix of a route, and what it says of its origin holds
+-- a text is the prefix of a route, and Origin holds of its origin
 pub record IsRouteBy (Origin : Option ℕ → Type 0) (prefix_text : List ℕ) (route : Route) : Type 0 where
   pub prefix : IsPrefixText prefix_text route.prefix
   pub origin : Origin route.origin
 
--- the first fault of both: the text writes no prefix, or it does and nothing tells the origin
+-- the first fault of both: the text is not a prefix, or it is one and the origin is wrong
 abbrev pub HasFaultBy : Type 0 → List ℕ → RouteFault → Type 0
 HasFaultBy NoOrigin prefix_text NotUtf8 = ⊥
 HasFaultBy NoOrigin prefix_text TooFewFields = ⊥
@@ -24,13 +24,13 @@ HasFaultBy NoOrigin prefix_text CommaForSpace = ⊥
 HasFaultBy NoOrigin prefix_text (Prefix f) = HasPrefixTextFault prefix_text f
 HasFaultBy NoOrigin prefix_text (Asn f) = ((p : FamilyPrefix) × IsPrefixText prefix_text p) × NoOrigin
 
--- no AS number
+-- the text is not an AS number
 abbrev pub IsNoAsnText : List ℕ → Type 0
 IsNoAsnText text = (n : ℕ) → ¬ IsAsnText text n
 
 -- ---- a prefix and an AS number
 
--- the line up to its first space, and what stands behind that, without white space round them
+-- the text of a line up to its first space, and the text after that, without white space round them
 abbrev pub prefix_word : List ℕ → List ℕ
 prefix_word line = trim (before_first is_gap line)
 
@@ -45,14 +45,14 @@ IsAsnOrigin text (Some n) = IsAsnText text n
 abbrev pub AreRouteWords : List ℕ → Route → Type 0
 AreRouteWords line = IsRouteBy (IsAsnOrigin (origin_word line)) (prefix_word line)
 
--- the line up to its first comma, and what stands behind that, without white space round them
+-- the text of a line up to its first comma, and the text after that, without white space round them
 abbrev pub prefix_part : List ℕ → List ℕ
 prefix_part line = trim (before_first is_comma_byte line)
 
 abbrev pub origin_part : List ℕ → List ℕ
 origin_part line = trim (after_first is_comma_byte line)
 
--- the line has no space, and would write a route with a space in place of its first comma
+-- the line has no space, and would give a route with a space in place of its first comma
 pub record HasCommaForSpace (line : List ℕ) : Type 0 where
   pub no_space : position_or_len is_gap line ≡ length line
   pub route : Route
@@ -66,21 +66,21 @@ HaveWordsFault line fault =
 
 -- ---- a line of a dump
 
--- `b'|'`, which stands between two fields
+-- `b'|'`, which separates two fields
 abbrev pub is_bar : ℕ → Bool
 is_bar byte = byte == 124
 
 abbrev pub fields_of : List ℕ → List (List ℕ)
 fields_of line = slice_split is_bar line
 
--- the field of a line behind so many others
+-- the field of a line at an index
 abbrev pub IsFieldAt : ℕ → List ℕ → List ℕ → Type 0
 IsFieldAt n line text = slice_get (fields_of line) n ≡ Some text
 
 abbrev pub IsNoFieldAt : ℕ → List ℕ → Type 0
 IsNoFieldAt n line = slice_get (fields_of line) n ≡ None
 
--- behind how many fields the path of a dump's line stands; the first field tells whether an identifier stands before it
+-- the index of the path in a dump's line; the first field says whether an identifier precedes it
 abbrev pub IsPathPlace : List ℕ → ℕ → Type 0
 IsPathPlace line n =
     (IsFieldAt 0 line (codes "TABLE_DUMP2") × (n ≡ 6))
@@ -105,13 +105,13 @@ pub record IsSetWord (word : List ℕ) : Type 0 where
 abbrev pub IsConfedWord : List ℕ → Type 0
 IsConfedWord word = (slice_index word (length word - 1) ≡ 41) ⊎ (slice_index word (length word - 1) ≡ 93)
 
--- The last word of a path that tells no origin (RFC 6811, 2). A path that ends in a set has none. The origin of an
+-- The last word of a path that gives no origin (RFC 6811, 2). A path that ends in a set has none. The origin of an
 -- empty path, and of one that ends in a segment of a confederation, is the speaker's own AS, which the line doesn't
--- tell.
+-- have.
 abbrev pub TellsNone : List ℕ → Type 0
 TellsNone word = (word ≡ []) ⊎ IsSetWord word ⊎ IsConfedWord word
 
--- the origin that the last word of a path tells: of any other path this word
+-- the origin that the last word of a path gives: of any other path this word
 abbrev pub IsWordOrigin : List ℕ → Option ℕ → Type 0
 IsWordOrigin word None = TellsNone word
 IsWordOrigin word (Some n) = (¬ TellsNone word) × IsAsnText word n
@@ -119,7 +119,7 @@ IsWordOrigin word (Some n) = (¬ TellsNone word) × IsAsnText word n
 abbrev pub HasWordFault : List ℕ → Type 0
 HasWordFault word = (¬ TellsNone word) × IsNoAsnText word
 
--- the route of a dump's line whose path stands behind n fields
+-- the route of a dump's line whose path has the index n
 abbrev pub IsDumpRoute : ℕ → List ℕ → Route → Type 0
 IsDumpRoute n line route = (prefix : List ℕ) × (path : List ℕ) × AreDumpTexts n line prefix path × IsRouteBy (IsWordOrigin (last_word path)) prefix route
 
@@ -131,26 +131,26 @@ HasDumpFault n line fault =
 
 -- ---- any line
 
--- the line is none of a dump
+-- the line is not from a dump
 abbrev pub IsNoDump : List ℕ → Type 0
 IsNoDump line = (n : ℕ) → ¬ IsPathPlace line n
 
--- what a line writes without white space round it
+-- the route of a line without white space round it
 abbrev pub IsLineOf : List ℕ → Route → Type 0
 IsLineOf line route = (IsNoDump line × AreRouteWords line route) ⊎ ((n : ℕ) × IsPathPlace line n × IsDumpRoute n line route)
 
 abbrev pub HasLineFault : List ℕ → RouteFault → Type 0
 HasLineFault line fault = (IsNoDump line × HaveWordsFault line fault) ⊎ ((n : ℕ) × IsPathPlace line n × HasDumpFault n line fault)
 
--- the route that a line writes
+-- the route of a line
 abbrev pub IsRouteLine : List ℕ → Route → Type 0
 IsRouteLine line route = IsUtf8 line × IsLineOf (trim line) route
 
--- this is the first thing that is wrong with a line
+-- this is the first fault of a line
 abbrev pub HasRouteFault : List ℕ → RouteFault → Type 0
 HasRouteFault line fault = ((¬ IsUtf8 line) × (fault ≡ NotUtf8)) ⊎ (IsUtf8 line × HasLineFault (trim line) fault)
 
--- what is said of it
+-- the text printed for it
 abbrev pub route_fault_text : RouteFault → List ℕ
 route_fault_text NotUtf8 = codes "not UTF-8"
 route_fault_text TooFewFields = codes "too few fields"

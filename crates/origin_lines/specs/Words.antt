@@ -1,14 +1,14 @@
--- The words of a route's line, and the line that tells a fault.
+-- The words of a route's line, and the line that reports a fault.
 use Rattle.std.specs.Prelude.{ℕ, Bool, ◌==◌, List, ◌++◌, codes}
 
--- the space, at which a word ends
+-- the space, which ends a word
 abbrev pub is_gap : ℕ → Bool
 is_gap byte = byte == 32
 
--- the comma, which some write in its place
+-- the comma, which some write in place of the space
 abbrev pub is_comma_byte : ℕ → Bool
 is_comma_byte byte = byte == 44
 
--- a fault's text, behind `error: `
+-- a fault's text, after `error: `
 abbrev pub fault_line : List ℕ → List ℕ
 fault_line fault = codes "error: " ++ fault

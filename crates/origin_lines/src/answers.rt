@@ -1,4 +1,4 @@
-//! What is answered to the line of a route.
+//! The answer to the line of a route.
 ghost use Rattle.std.specs.Prelude.{◌≡◌, [], OnOk};
 ghost use Rattle.std.specs.String.{string_bytes};
 ghost use Rattle.origin_lines.specs.Answers.{TellsRoute};
@@ -12,17 +12,17 @@ use rpki_base::Asn;
 use rpki_prefix::Prefix;
 use std::alloc::{AllocError, Allocator, Global};
 
-/// Answers lines of routes by a table of validated payloads.
+/// Answers lines of routes by a table of VRPs.
 ///
-/// A line is answered by `valid`, `invalid-length`, `invalid-as` or `not-found` ([`Outcome`](crate::Outcome)), or by
-/// what is wrong with it behind `error: `, a blank line too.
+/// The answer is `valid`, `invalid-length`, `invalid-as` or `not-found` ([`Outcome`](crate::Outcome)). For a faulty
+/// line, which includes a blank one, it is `error: ` and the fault.
 #[derive(Drop)]
 pub struct Routes<'a, B: Allocator = Global> {
-    /// The payloads.
+    /// The VRPs.
     pub table: &'a OriginTable<B>,
-    /// Whether each payload that covers the route is told behind the word: `match:`, `length:` or `as:`, then the
-    /// prefix, a dash and the greatest length, always, and behind another colon the AS. Each stands once, the longest
-    /// prefix first, then the least AS number, then the longest greatest length.
+    /// Whether the answer lists, after the word, each VRP that covers the route. It gives `match:`, `length:` or `as:`,
+    /// then the prefix, a dash and the maximum length, always, and after another colon the AS. Each VRP is listed once.
+    /// The longest prefix comes first, then the least AS number, then the longest maximum length.
     pub why: bool,
 }
 
@@ -48,8 +48,8 @@ impl<B: Allocator> Answers for Routes<'_, B> {
     }
 }
 
-/// Tells what the payloads of a table say of the route to a prefix that an AS originates, and, where that is wanted,
-/// what explains it. The text is empty before.
+/// Writes the outcome for the route to a prefix that an AS originates. If `why` is set, also writes its explanation.
+/// The text is empty before the call.
 fn tell<A: Allocator, B: Allocator>(
     text: &mut String<A>,
     table: &OriginTable<B>,

@@ -1,4 +1,4 @@
-//! What explains the word for a route: the payloads that cover it.
+//! Explains the outcome for a route by the VRPs that cover it.
 ghost use Rattle.std.specs.Prelude.{◌≡◌, ◌↔◌, ◌++◌, ℕ, List, IsTrue, OnOk};
 ghost use Rattle.std.specs.String.{string_bytes};
 ghost use Rattle.roa_origin.specs.Tables.{as_sent};
@@ -12,14 +12,14 @@ use rpki_prefix::{MaxLenPrefix, Prefix};
 use std::alloc::{AllocError, Allocator};
 use std::fmt;
 
-/// What stands against a route by a payload that covers it (RFC 6811, 2).
+/// The relation of a VRP that covers a route to the route (RFC 6811, 2).
 #[derive(Clone, Copy, Debug, PartialEq, Eq)]
 pub enum Reason {
-    /// Nothing: it matches the route.
+    /// The VRP matches the route.
     Match,
-    /// The route is longer than the payload allows.
+    /// The VRP has the AS of the route, and the route's prefix is longer than its maximum length.
     Length,
-    /// The payload has another AS, or AS0; the route's length isn't looked at.
+    /// The VRP has another AS, or AS0. The route's length is not considered.
     As,
 }
 
@@ -38,7 +38,7 @@ impl fmt::Display for Reason {
     }
 }
 
-/// What stands against the route to a prefix that an AS originates by a payload that covers it.
+/// Returns the relation of a VRP that covers a route to the route.
 fn reason_for(route: Prefix, asn: Asn, payload: &(MaxLenPrefix, Asn)) -> Reason
     ensures { IsReason route asn payload.now result }
 {
@@ -52,8 +52,7 @@ fn reason_for(route: Prefix, asn: Asn, payload: &(MaxLenPrefix, Asn)) -> Reason
     }
 }
 
-/// Appends to a text the payloads that cover the route to a prefix, each once, and what stands by each against its
-/// origination by an AS.
+/// Appends to a text each VRP that covers the route to a prefix, once, with its relation to the route.
 pub(crate) fn push_why<A: Allocator, B: Allocator>(
     text: &mut String<A>,
     table: &OriginTable<B>,
@@ -74,8 +73,8 @@ pub(crate) fn push_why<A: Allocator, B: Allocator>(
     Ok(())
 }
 
-/// Appends to a text a payload that covers a route, and what stands against the route by it: nothing, where it is the
-/// same, as it is sent, as the one before it.
+/// Appends to a text a VRP that covers a route, with its relation to the route. Appends nothing if the VRP is the same,
+/// as it is sent, as the one before it.
 fn push_next<A: Allocator>(
     text: &mut String<A>,
     route: Prefix,
@@ -92,7 +91,7 @@ fn push_next<A: Allocator>(
     push_payload(text, route, asn, payload)
 }
 
-/// Whether a payload is the same, as it is sent, as the one before it.
+/// Whether a VRP is the same, as it is sent, as the one before it.
 fn is_told(last: &Option<(MaxLenPrefix, Asn)>, payload: &(MaxLenPrefix, Asn)) -> bool
     ensures { IsTrue result ↔ IsSentAgain last.now payload.now }
 {
@@ -102,7 +101,7 @@ fn is_told(last: &Option<(MaxLenPrefix, Asn)>, payload: &(MaxLenPrefix, Asn)) ->
     }
 }
 
-/// Whether two payloads are the same as they are sent.
+/// Whether two VRPs are the same, as they are sent.
 fn is_same(one: &(MaxLenPrefix, Asn), other: &(MaxLenPrefix, Asn)) -> bool
     ensures { IsTrue result ↔ (as_sent one.now ≡ as_sent other.now) }
 {
@@ -111,7 +110,7 @@ fn is_same(one: &(MaxLenPrefix, Asn), other: &(MaxLenPrefix, Asn)) -> bool
         && one.0.resolved_max_len() == other.0.resolved_max_len()
 }
 
-/// Appends to a text a payload that covers a route, and what stands against the route by it.
+/// Appends to a text a VRP that covers a route, with its relation to the route.
 fn push_payload<A: Allocator>(
     text: &mut String<A>,
     route: Prefix,

@@ -1,4 +1,4 @@
-//! What is wrong with lines of routes.
+//! Faults of lines of routes.
 ghost use Rattle.std.specs.Prelude.{◌≡◌, Some};
 
 use rpki_base::asn::ParseAsnError;
@@ -6,18 +6,18 @@ use rpki_prefix::ParsePrefixError;
 use std::error::Error;
 use std::fmt;
 
-/// What is wrong with the line of a route. The first fault in this order is returned.
+/// A fault of the line of a route. A call returns the first fault in this order.
 #[derive(Clone, Copy, Debug, PartialEq, Eq)]
 pub enum RouteFault {
     /// The line isn't UTF-8.
     NotUtf8,
-    /// It is a line of a dump, and has no field for the path.
+    /// The line is from a dump and lacks the field of the prefix or of the path.
     TooFewFields,
     /// The line has no space, and is a route with a space in place of its first comma.
     CommaForSpace,
-    /// What stands in the prefix's place writes none.
+    /// The text of the prefix is not a prefix.
     Prefix(ParsePrefixError),
-    /// What stands in the origin's place writes no AS number.
+    /// The text of the origin is not an AS number.
     Asn(ParseAsnError),
 }
 

@@ -1,10 +1,10 @@
-//! What callers may rely on and no single call says.
+//! Lemmas on the answers of several calls.
 ghost use Rattle.std.specs.Prelude.{◌≡◌, ◌↔◌, ℕ, Bool, List};
 ghost use Rattle.std.specs.List.Sorted.{IsPermutation};
 ghost use Rattle.roa_origin.specs.Payloads.{Payload};
 ghost use Rattle.origin_lines.specs.Answers.{IsOriginAnswer};
 
-/// A line has one answer alone by a list of payloads, and the same in whatever order these stand.
+/// Proves that a line has at most one answer by a list of VRPs, and that their order does not matter.
 pub fn laws_of_answers()
     ensures one { (why : Bool) (payloads : List Payload) (line text other : List ℕ)
         → IsOriginAnswer why payloads line text → IsOriginAnswer why payloads line other

@@ -1,5 +1,6 @@
-//! Lines of routes, and what a table of validated payloads answers to each (RFC 6811, 2). [`Routes`] answers them, one
-//! by one, or all by the engine of lines.
+//! Answers lines of routes by a table of VRPs (RFC 6811, 2).
+//!
+//! [`Routes`] answers a line. Pass it to the engine of lines to answer all lines of an input.
 #![tactic(auto)]
 
 pub mod answers;

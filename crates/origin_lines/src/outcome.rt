@@ -1,4 +1,4 @@
-//! What payloads say of a route in a word.
+//! The outcome for a route: one word.
 ghost use Rattle.std.specs.Prelude.{◌≡◌, ◌↔◌, IsTrue};
 ghost use Rattle.roa_origin.specs.Payloads.{HasAs};
 ghost use Rattle.origin_lines.specs.Outcomes.{IsOutcomeOf, asked_asn};
@@ -9,16 +9,16 @@ use rpki_prefix::{MaxLenPrefix, Prefix};
 use std::alloc::Allocator;
 use std::fmt;
 
-/// What payloads say of a route (RFC 6811, 2), and of an invalid one whether only a length stands against it.
+/// The validity of a route (RFC 6811, 2). For an invalid route it says whether a VRP that covers it has its AS.
 #[derive(Clone, Copy, Debug, PartialEq, Eq)]
 pub enum Outcome {
-    /// One matches the route.
+    /// A VRP matches the route.
     Valid,
-    /// None matches it, and one that covers it has its AS.
+    /// No VRP matches the route, but one that covers it has its AS.
     InvalidLength,
-    /// Some cover it, and none of these has its AS.
+    /// Some VRPs cover the route, and none of them has its AS.
     InvalidAs,
-    /// None covers it.
+    /// No VRP covers the route.
     NotFound,
 }
 
@@ -38,14 +38,14 @@ impl fmt::Display for Outcome {
     }
 }
 
-/// The AS number by which payloads are asked of a route: AS0, which none matches, where it has no origin.
+/// Returns the AS number to look up for `origin`. It is AS0, which no VRP matches, if the origin is unknown.
 pub fn asked_asn(origin: Option<Asn>) -> Asn
     ensures { result ≡ asked_asn origin }
 {
     origin.unwrap_or(Asn::MIN)
 }
 
-/// What the payloads of a table say of the route to a prefix that an AS originates.
+/// Returns the outcome by the VRPs of `table` for the route to the prefix `route` with the origin `asn`.
 pub fn outcome_of<B: Allocator>(table: &OriginTable<B>, route: Prefix, asn: Asn) -> Outcome
     ensures { IsOutcomeOf route asn table.now result }
 {
@@ -62,7 +62,7 @@ pub fn outcome_of<B: Allocator>(table: &OriginTable<B>, route: Prefix, asn: Asn)
     }
 }
 
-/// Whether a payload has this AS, which isn't AS0.
+/// Whether a VRP has the AS number `asn`, which isn't AS0.
 pub(crate) fn has_as(payload: &(MaxLenPrefix, Asn), asn: Asn) -> bool
     ensures { IsTrue result ↔ HasAs asn payload.now }
 {

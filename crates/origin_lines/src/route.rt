@@ -1,4 +1,4 @@
-//! A line of a route.
+//! The route in a line.
 ghost use Rattle.std.specs.Prelude.{◌≡◌, ◌↔◌, ◌∷◌, [], ◌<◌, IsTrue, MatchBool, MatchOption, MatchResult, length};
 ghost use Rattle.std.specs.List.{after_first, after_last, before_first, position_or_len};
 ghost use Rattle.origin_lines.specs.Words.{is_comma_byte, is_gap};
@@ -11,31 +11,36 @@ use rpki_base::asn::ParseAsnError;
 use rpki_prefix::Prefix;
 use std::str::FromStr;
 
-/// Behind how many fields of a dump's line its prefix stands.
+/// The index of the prefix among the fields of a dump's line.
 const PREFIX_PLACE: usize = 5;
 
-/// A route that a line writes.
+/// A route that a line gives.
 ///
 /// Its prefix is checked, and its origin may be unknown. `route_calls::route::Route` is a struct for C.
 #[derive(Clone, Copy, Debug, PartialEq, Eq)]
 pub struct Route {
-    /// What is announced.
+    /// The announced prefix.
     pub prefix: Prefix,
-    /// The AS that originates it, if its path tells one alone.
+    /// The AS that originates the route, or None if its path gives no single AS.
     pub origin: Option<Asn>,
 }
 
-/// Reads the route that a line writes, in one of two forms.
+/// Reads the route of a line, which has one of two forms.
 ///
-/// A prefix and an AS number, with a space between them, and more white space round each or none.
+/// - A prefix, a space and an AS number. White space may precede or follow each.
+/// - A line of `bgpdump -m`, whose fields are cut at each `|`. If the first field is `TABLE_DUMP2`, the sixth is the
+///   prefix and the seventh the path. If it is `TABLE_DUMP2_AP`, the eighth is the path, which follows its identifier.
 ///
-/// A line of `bgpdump -m`, whose fields are cut at each `|`. Where the first field is `TABLE_DUMP2`, the sixth is the
-/// prefix and the seventh the path; where it is `TABLE_DUMP2_AP`, the path is the eighth, behind its identifier. The
-/// last word of the path is the origin. Three kinds of paths tell no origin (RFC 6811, 2): one that is empty, one that
-/// ends in a set of AS numbers as `{64496,64497}`, and one that ends in a segment of a confederation. The last word of
-/// such a segment ends in `)` or `]`, as in `(64512 64513)` and `[64512,64513]`.
+/// The last word of a path is the origin. The origin is unknown for three kinds of paths (RFC 6811, 2):
 ///
-/// Errors: the first [`RouteFault`] of the line.
+/// - an empty path;
+/// - a path that ends in a set of AS numbers, such as `{64496,64497}`;
+/// - a path that ends in a segment of a confederation. The last word of such a segment ends in `)` or `]`, as in
+///   `(64512 64513)` and `[64512,64513]`.
+///
+/// # Errors
+///
+/// The first [`RouteFault`] of the line.
 #[tactic(auto, using(crate::proofs::LineLemmas::route_answers))]
 pub fn read_route(line: &[u8]) -> Result<Route, RouteFault>
     ensures { Answers (IsRouteLine line.now) (HasRouteFault line.now) result }
@@ -43,7 +48,7 @@ pub fn read_route(line: &[u8]) -> Result<Route, RouteFault>
     route_of(line)
 }
 
-/// The route that a line writes, or its fault.
+/// Returns the route of a line, or its fault.
 #[tactic(auto, using(crate::proofs::LineLemmas::text_found))]
 fn route_of(line: &[u8]) -> Result<Route, RouteFault>
     ensures { MatchResult result (IsRouteLine line.now) (HasRouteFault line.now) }
@@ -54,7 +59,7 @@ fn route_of(line: &[u8]) -> Result<Route, RouteFault>
     read_text(text.trim())
 }
 
-/// The route that a text writes without white space round it, or its fault.
+/// Returns the route of a text without white space round it, or its fault.
 fn read_text(text: &str) -> Result<Route, RouteFault>
     ensures { MatchResult result (IsLineOf text.now) (HasLineFault text.now) }
 {
@@ -64,7 +69,7 @@ fn read_text(text: &str) -> Result<Route, RouteFault>
     }
 }
 
-/// Behind how many fields of a line its path stands, if it is one of a dump.
+/// Returns the index of the path among the fields of a line, if the line is from a dump.
 fn path_place(line: &str) -> Option<usize>
     ensures { MatchOption result (IsNoDump line.now) (IsPathPlace line.now) }
 {
@@ -75,7 +80,7 @@ fn path_place(line: &str) -> Option<usize>
     }
 }
 
-/// The field of a line behind so many others, if there is one.
+/// Returns the field of a line at index `place`, if there is one.
 #[tactic(auto, using(crate::proofs::FieldLemmas::field_first, crate::proofs::FieldLemmas::field_next, crate::proofs::FieldLemmas::field_none))]
 fn field_at(line: &str, place: usize) -> Option<&str>
     ensures { MatchOption result (IsNoFieldAt place line.now) (λ field. IsFieldAt place line.now field.now) }
@@ -93,7 +98,7 @@ fn field_at(line: &str, place: usize) -> Option<&str>
     }
 }
 
-/// What stands before the first bar of a text, and what stands behind it, if there is one.
+/// Returns the text before the first bar and the text after it, if there is a bar.
 #[tactic(auto, using(crate::proofs::FieldLemmas::cut_some, crate::proofs::FieldLemmas::cut_none))]
 fn cut_field(text: &str) -> Option<(&str, &str)>
     ensures { MatchOption result (fields_of text.now ≡ text.now ∷ [])
@@ -102,7 +107,7 @@ fn cut_field(text: &str) -> Option<(&str, &str)>
     text.split_once('|')
 }
 
-/// The route of a prefix and an AS number with a space between them.
+/// Returns the route of a prefix and an AS number with a space between them.
 #[tactic(auto, using(crate::proofs::LineLemmas::words_found))]
 fn read_words(text: &str) -> Result<Route, RouteFault>
     ensures { MatchResult result (AreRouteWords text.now) (HaveWordsFault text.now) }
@@ -138,8 +143,8 @@ fn has_space(text: &str) -> bool
     text.split_once(' ').is_some()
 }
 
-/// What stands before the first comma of a line and what stands behind it, without white space round them: nothing, if
-/// there is no comma.
+/// Returns the text before the first comma of a line and the text after it, without white space round them. The second
+/// is empty if there is no comma.
 fn parts_of(line: &str) -> (&str, &str)
     ensures prefix { result.0.now ≡ prefix_part line.now }
     ensures origin { result.1.now ≡ origin_part line.now }
@@ -148,7 +153,7 @@ fn parts_of(line: &str) -> (&str, &str)
     (prefix.trim(), origin.trim())
 }
 
-/// What stands before the first comma of a text and what stands behind it: nothing, if there is no comma.
+/// Returns the text before the first comma and the text after it, which is empty if there is no comma.
 fn cut_at_comma(text: &str) -> (&str, &str)
     ensures before { result.0.now ≡ before_first is_comma_byte text.now }
     ensures behind { result.1.now ≡ after_first is_comma_byte text.now }
@@ -159,7 +164,7 @@ fn cut_at_comma(text: &str) -> (&str, &str)
     }
 }
 
-/// The route of a prefix and an AS number.
+/// Returns the route of a prefix and an AS number.
 fn read_pair(prefix: &str, origin: &str) -> Result<Route, RouteFault>
     ensures { MatchResult result (IsRouteBy (IsAsnOrigin origin.now) prefix.now)
         (HasFaultBy (IsNoAsnText origin.now) prefix.now) }
@@ -172,8 +177,8 @@ fn read_pair(prefix: &str, origin: &str) -> Result<Route, RouteFault>
     })
 }
 
-/// What stands before the first space of a line and what stands behind it, without white space round them: nothing,
-/// where there is no space.
+/// Returns the text before the first space of a line and the text after it, without white space round them. The second
+/// is empty if there is no space.
 fn words_of(line: &str) -> (&str, &str)
     ensures prefix { result.0.now ≡ prefix_word line.now }
     ensures origin { result.1.now ≡ origin_word line.now }
@@ -182,7 +187,7 @@ fn words_of(line: &str) -> (&str, &str)
     (prefix.trim(), origin.trim())
 }
 
-/// What stands before the first space of a text and what stands behind it: nothing, where there is no space.
+/// Returns the text before the first space and the text after it, which is empty if there is no space.
 fn cut_at_gap(text: &str) -> (&str, &str)
     ensures before { result.0.now ≡ before_first is_gap text.now }
     ensures behind { result.1.now ≡ after_first is_gap text.now }
@@ -193,7 +198,7 @@ fn cut_at_gap(text: &str) -> (&str, &str)
     }
 }
 
-/// The route of a dump's line whose path stands behind so many fields.
+/// Returns the route of a dump's line whose path has the index `path_place`.
 fn read_dump(line: &str, path_place: usize) -> Result<Route, RouteFault>
     ensures { MatchResult result (IsDumpRoute path_place line.now)
         (HasDumpFault path_place line.now) }
@@ -207,7 +212,7 @@ fn read_dump(line: &str, path_place: usize) -> Result<Route, RouteFault>
     read_fields(prefix, last_word(path.trim()))
 }
 
-/// The route of a prefix and the last word of a path.
+/// Returns the route of a prefix and the last word of a path.
 fn read_fields(prefix: &str, word: &str) -> Result<Route, RouteFault>
     ensures { MatchResult result (IsRouteBy (IsWordOrigin word.now) prefix.now)
         (HasFaultBy (HasWordFault word.now) prefix.now) }
@@ -217,7 +222,7 @@ fn read_fields(prefix: &str, word: &str) -> Result<Route, RouteFault>
     Ok(Route { prefix, origin })
 }
 
-/// The origin that the last word of a path tells, if it tells one AS alone.
+/// Returns the origin that the last word of a path gives, or `None` if it is unknown.
 fn read_origin(word: &str) -> Result<Option<Asn>, ParseAsnError>
     ensures { MatchResult result (IsWordOrigin word.now) (λ _. HasWordFault word.now) }
 {
@@ -228,7 +233,7 @@ fn read_origin(word: &str) -> Result<Option<Asn>, ParseAsnError>
     Ok(Some(origin))
 }
 
-/// Whether the last word of a path tells no origin: it is empty, or ends a set of AS numbers or a segment of a
+/// Whether the last word of a path gives no origin: it is empty, or ends a set of AS numbers or a segment of a
 /// confederation.
 fn tells_none(word: &str) -> bool
     ensures { IsTrue result ↔ TellsNone word.now }
@@ -236,7 +241,7 @@ fn tells_none(word: &str) -> bool
     word.is_empty() || is_set(word) || ends_confed(word)
 }
 
-/// What stands behind the last space of a text: all, where there is no space.
+/// Returns the text after the last space, or the whole text if there is no space.
 fn last_word(text: &str) -> &str
     ensures { result.now ≡ after_last is_gap text.now }
 {

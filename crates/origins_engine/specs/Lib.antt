@@ -1,5 +1,5 @@
--- Definitions: what is left of a reader, what is told of a file, what runs leave in a writer by the octets of their
--- inputs, and what a check looks for there.
+-- Definitions: the rest of a reader, the result for a file, the bytes that runs leave in a writer by the octets of
+-- their inputs, and the lines that a check looks for in these bytes.
 pub mod Checks
 pub mod Readers
 pub mod Runs

@@ -1,18 +1,18 @@
-//! What a check of routes looks for in the answers: whether a route is invalid, or a line wrong.
+//! Looks in the answers to routes for invalid routes and faulty lines.
 ghost use Rattle.std.specs.Prelude.{◌≡◌, ◌++◌, ◌↔◌, ◌⊎◌, [], ℕ, IsTrue, List};
 ghost use Rattle.origins_engine.specs.Checks.{IsSeen, IsSought, seen_behind, seen_nothing, seen_with};
 
-/// What was seen of bytes: whether a line begins behind them, and whether one begins in them with `i` or `e`, as the
-/// answers `invalid-as`, `invalid-length` and `error: ..` do, and no other.
+/// The state of a check after some bytes. The check looks for lines that begin with `i` or `e`. These are the answers
+/// `invalid-as`, `invalid-length` and `error: ..`, and no other.
 #[derive(Clone, Copy, Debug)]
 pub struct Seen {
-    /// Whether a line begins behind them.
+    /// Whether a line begins after the bytes.
     pub is_at_start: bool,
-    /// Whether such a line begins in them.
+    /// Whether such a line begins in the bytes.
     pub has_found: bool,
 }
 
-/// Whether a line that begins with a byte is looked for.
+/// Whether a check looks for lines that begin with `byte`.
 fn is_sought(byte: u8) -> bool
     ensures { IsTrue result ↔ IsSought byte }
 {
@@ -20,7 +20,7 @@ fn is_sought(byte: u8) -> bool
 }
 
 impl Seen {
-    /// What is seen of no byte.
+    /// Returns the state before any byte.
     pub fn nothing() -> Seen
         ensures seen { IsSeen [] result }
         ensures value { result ≡ seen_nothing }
@@ -31,14 +31,14 @@ impl Seen {
         }
     }
 
-    /// Whether such a line was found, with one byte more.
+    /// Whether such a line was found, counting one more byte.
     fn has_found_with(self, byte: u8) -> bool
         ensures { IsTrue result ↔ (IsTrue self.has_found ⊎ (IsTrue self.is_at_start × IsSought byte)) }
     {
         self.has_found || (self.is_at_start && is_sought(byte))
     }
 
-    /// What is seen with one byte more.
+    /// Returns the state after one more byte.
     fn with(self, byte: u8) -> Seen
         ensures { result ≡ seen_with self byte }
     {
@@ -48,7 +48,7 @@ impl Seen {
         }
     }
 
-    /// What is seen with the bytes of a piece more.
+    /// Returns the state after the bytes of `piece`.
     pub fn with_all(self, piece: &[u8]) -> Seen
         ensures seen { (octets : List ℕ) → IsSeen octets self → IsSeen (octets ++ piece.now) result }
         ensures value { result ≡ seen_behind self piece.now }

@@ -1,43 +1,43 @@
-//! How a run can fail.
+//! The errors of a run.
 use lines_engine::error::RunError;
 use payload_texts::FileFault;
 use thiserror::Error;
 
-/// Why the payloads of a file weren't read.
+/// Why the VRPs of a file could not be read.
 #[derive(Clone, Copy, Debug, PartialEq, Eq, Error)]
 pub enum PayloadsError {
     /// A read failed.
     #[error("read failed")]
     Read,
-    /// The file is wrong.
+    /// The file is invalid: its first fault.
     #[error("{0}")]
     File(FileFault),
-    /// A request for memory was refused.
+    /// An allocation failed.
     #[error("out of memory")]
     Memory,
 }
 
-/// Why a run by the payloads of one file ended before its end.
+/// Why a run with one VRP file ended early.
 #[derive(Clone, Copy, Debug, PartialEq, Eq, Error)]
 pub enum OriginsError {
-    /// The payloads weren't read. Nothing was written.
+    /// The VRPs could not be read. Nothing was written.
     #[error("VRP file: {0}")]
     Payloads(PayloadsError),
-    /// What came behind the payloads failed.
+    /// A step after reading the VRPs failed.
     #[error("{0}")]
     Run(RunError),
 }
 
-/// Why a run by the payloads of two files ended before its end.
+/// Why a run with two VRP files ended early.
 #[derive(Clone, Copy, Debug, PartialEq, Eq, Error)]
 pub enum ChangesError {
-    /// The old payloads weren't read. Nothing was written.
+    /// The old VRPs could not be read. Nothing was written.
     #[error("old VRP file: {0}")]
     Old(PayloadsError),
-    /// The new payloads weren't read. Nothing was written.
+    /// The new VRPs could not be read. Nothing was written.
     #[error("new VRP file: {0}")]
     New(PayloadsError),
-    /// What came behind the payloads failed.
+    /// A step after reading the VRPs failed.
     #[error("{0}")]
     Run(RunError),
 }

@@ -1,5 +1,5 @@
-//! The engine of the program `origins`: what validated payloads say of routes (RFC 6811, 2), which payloads a file has,
-//! and what changes from one file to the next. A file of payloads is read whole; routes are answered as they are read.
+//! The engine of the program `origins`. It validates routes by VRPs (RFC 6811, 2), lists the VRPs of a file, and
+//! compares the VRPs of two files. It reads a VRP file whole, and answers routes as it reads them.
 #![tactic(auto)]
 
 pub mod check;

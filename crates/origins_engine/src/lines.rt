@@ -1,4 +1,4 @@
-//! Writes payloads, a line for each.
+//! Writes VRPs, one per line.
 ghost use Rattle.std.specs.Prelude.{◌≡◌, List, ℕ, [], true, false, OnOk, OnErr, IsErrOf};
 ghost use Rattle.lines_engine.specs.Run.{HasWritten};
 ghost use Rattle.origins_engine.specs.Runs.{change_lines, is_of, payload_line, payload_lines};
@@ -11,8 +11,19 @@ use rpki_base::Asn;
 use rpki_prefix::MaxLenPrefix;
 use std::alloc::Allocator;
 
-/// Writes the lines of what is withdrawn, and then of what is announced: each a word, the prefix with its greatest
-/// length, a space, and the AS.
+/// Writes a line for each VRP of `withdrawn`, and then for each of `announced`. A line has the word `withdraw` or
+/// `announce`, a space, the prefix with its maximum length, a space, and the AS.
+///
+/// # Preconditions
+///
+/// No call of `writer` has failed, and no write has taken nothing.
+///
+/// # Errors
+///
+/// After an error a beginning of the lines was written.
+///
+/// - [`RunError::Write`]: a write failed, or took nothing.
+/// - [`RunError::Memory`]: an allocation failed.
 pub fn write_both<A: Allocator + Copy, W: Sink>(
     alloc: A,
     withdrawn: &PayloadTable<A>,
@@ -34,8 +45,22 @@ pub fn write_both<A: Allocator + Copy, W: Sink>(
     write_payloads(alloc, None, "announce ", announced, writer)
 }
 
-/// Writes a line for each payload of an AS, or for each where none is asked for, in their order: the word, the prefix
-/// with its greatest length, a space, and the AS.
+/// Writes a line for each VRP of `table`, in their order: `word`, the prefix with its maximum length, a space, and the
+/// AS.
+///
+/// - `alloc`: the allocator of the lines.
+/// - `of`: the AS whose VRPs alone are written; None for all.
+///
+/// # Preconditions
+///
+/// No call of `writer` has failed, and no write has taken nothing.
+///
+/// # Errors
+///
+/// After an error a beginning of the lines was written.
+///
+/// - [`RunError::Write`]: a write failed, or took nothing.
+/// - [`RunError::Memory`]: an allocation failed.
 pub fn write_payloads<A: Allocator + Copy, W: Sink>(
     alloc: A,
     of: Option<Asn>,
@@ -45,12 +70,13 @@ pub fn write_payloads<A: Allocator + Copy, W: Sink>(
 ) -> Result<(), RunError>
     requires clear { W.mark writer.old ≡ false }
 
-    // No call failed, and all of the lines was written.
+    // Ok: no call failed, and all lines were written.
     ensures unmarked { OnOk result (W.mark writer.new ≡ W.mark writer.old) }
     ensures written { OnOk result (HasWritten (W.written writer.old) (W.written writer.new)
         (payload_lines of word.now table.now) []) }
 
-    // A write failed, or took nothing; or a request for memory was refused. A beginning of the lines was written.
+    // Write: a write failed, or took nothing. Memory: an allocation failed. Either way a beginning of the lines was
+    // written.
     ensures write { IsErrOf result RunError.Write → W.mark writer.new ≡ true }
     ensures memory { IsErrOf result RunError.Memory → W.mark writer.new ≡ W.mark writer.old }
     ensures not_read { IsErrOf result RunError.Read → ⊥ }
@@ -60,7 +86,7 @@ pub fn write_payloads<A: Allocator + Copy, W: Sink>(
     write_each(alloc, of, word, table.as_slice(), writer)
 }
 
-/// Writes a line for each payload of a list.
+/// Writes a line for each VRP of a list.
 fn write_each<A: Allocator + Copy, W: Sink>(
     alloc: A,
     of: Option<Asn>,
@@ -86,7 +112,7 @@ fn write_each<A: Allocator + Copy, W: Sink>(
     Ok(())
 }
 
-/// Makes the whole line of a payload, if there is one, and then writes it.
+/// Makes the whole line of a VRP, if it has one, and then writes it.
 fn write_payload<A: Allocator + Copy, W: Sink>(
     alloc: A,
     of: &Option<Asn>,
@@ -115,7 +141,7 @@ fn write_payload<A: Allocator + Copy, W: Sink>(
     }
 }
 
-/// Whether a payload is one of the AS that is asked for; each is, where none is.
+/// Whether a VRP has the requested AS, or no AS is requested.
 fn is_wanted(of: &Option<Asn>, payload: &(MaxLenPrefix, Asn)) -> bool
     ensures { result ≡ is_of of.now payload.now }
 {

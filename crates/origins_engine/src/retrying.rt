@@ -1,4 +1,4 @@
-//! A reader whose interrupted reads are tried again.
+//! A reader that repeats interrupted reads.
 ghost use Rattle.std.specs.Prelude.{◌≡◌, ◌≢◌, IfErr};
 ghost use Rattle.std.specs.Io.{ReadsAtMost};
 ghost use Rattle.std.specs.Io.KnownBytes.{ReadConsumes};
@@ -7,15 +7,15 @@ ghost use Rattle.std.specs.IoError.{error_kind};
 use std::io;
 use std::io::{ErrorKind, Read};
 
-/// A reader of std that tries a read again while a signal interrupts it, as std's own loops do. Any other error is
-/// passed on. So a program that is stopped and continued goes on reading.
+/// A reader of std that repeats a read as long as a signal interrupts it, as std's own loops do. Any other error is
+/// passed on. A program that is stopped and continued therefore goes on reading.
 #[derive(Debug, Drop)]
 pub struct Retrying<R> {
     reader: R,
 }
 
 impl<R: Read> Retrying<R> {
-    /// Wraps a reader, of which nothing is read yet.
+    /// Wraps a reader from which nothing was read yet.
     pub fn new(reader: R) -> Retrying<R>
         ensures { ⟦<Retrying<R> as Read>⟧.remaining result ≡ R.remaining reader }
     {

@@ -1,4 +1,4 @@
-//! Answers routes by the payloads of a file.
+//! Answers routes by the VRPs of a file.
 ghost use Rattle.std.specs.Prelude.{◌≡◌, Err, false, true, IfOk, IfSome, OnOk, IsErrOf, length};
 ghost use Rattle.std.specs.Io.KnownBytes.{IsAtEnd};
 ghost use Rattle.lines_engine.specs.Run.{AnswersAll, AnswersEnded, AnswersFirst, BeginsAnswers};
@@ -31,6 +31,10 @@ use std::alloc::Allocator;
 ///
 /// Returns how many VRPs the file has. No failed call of a device is repeated.
 ///
+/// # Preconditions
+///
+/// No call of `payloads`, `routes` or `writer` has failed, and no write has taken nothing.
+///
 /// # Errors
 ///
 /// - [`OriginsError::Payloads`]: the file could not be read, is wrong, or needs more memory. No route was read, and
@@ -48,13 +52,13 @@ pub fn answer_routes<A: Allocator + Copy, P: Source, R: Source, W: Sink>(
     routes: &mut R,
     writer: &mut W,
 ) -> Result<usize, OriginsError>
-    // None has failed: no call follows one that did.
+    // No call of a device has failed.
     requires payloads_clear { P.mark payloads.old ≡ false }
     requires routes_clear { R.mark routes.old ≡ false }
     requires writer_clear { W.mark writer.old ≡ false }
 
-    // No call failed, all was read, each line of the routes was answered by the payloads that the file writes, which
-    // are as many as is answered, and the writer is flushed.
+    // Ok: no call failed, and both inputs were read to their ends. Each line of the routes was answered by the VRPs of
+    // the file, whose number is returned. The writer is flushed.
     ensures unmarked { OnOk result ((P.mark payloads.new ≡ P.mark payloads.old)
         × (R.mark routes.new ≡ R.mark routes.old) × (W.mark writer.new ≡ W.mark writer.old)) }
     ensures read_whole { OnOk result (IsAtEnd (P.left payloads.new) × IsAtEnd (R.left routes.new)) }
@@ -63,12 +67,12 @@ pub fn answer_routes<A: Allocator + Copy, P: Source, R: Source, W: Sink>(
         (AnswersAll (IsOriginAnswer why listed) (W.written writer.old) (W.written writer.new))))) }
     ensures flushed { OnOk result (W.flushed writer.new ≡ true) }
 
-    // The payloads weren't read: no route was, and nothing was written.
+    // Payloads: the VRPs could not be read. No route was read, and nothing was written.
     ensures untouched { (error : PayloadsError) → result ≡ Err (Payloads error) →
         (routes.new ≡ routes.old) × (writer.new ≡ writer.old) }
 
-    // A read of the payloads failed; or the file is wrong, and was read whole; or a request for memory was refused, and
-    // no read failed.
+    // Read: a read of the VRPs failed. File: the file is invalid, and was read whole. Memory: an allocation failed, and
+    // no read did.
     ensures read { IsErrOf result (Payloads PayloadsError.Read) → P.mark payloads.new ≡ true }
     ensures wrong { (fault : FileFault) → IsErrOf result (Payloads (PayloadsError.File fault)) →
         IfSome (P.left payloads.old) (λ text. HasFileFault text fault) }
@@ -77,26 +81,27 @@ pub fn answer_routes<A: Allocator + Copy, P: Source, R: Source, W: Sink>(
     ensures payloads_memory { IsErrOf result (Payloads PayloadsError.Memory) →
         P.mark payloads.new ≡ P.mark payloads.old }
 
-    // The run failed behind the payloads, which were read whole.
+    // Run: the run failed after the VRPs were read whole.
     ensures payloads_read { (error : RunError) → IsErrOf result (Run error) →
         (P.mark payloads.new ≡ P.mark payloads.old) × IsAtEnd (P.left payloads.new) }
 
-    // A read of the routes failed. The answers of the lines whose ends were read were written whole, and nothing else.
+    // Read: a read of the routes failed. The answers to the lines whose ends were read were written whole, and nothing
+    // else.
     ensures routes_read { IsErrOf result (Run RunError.Read) →
         (R.mark routes.new ≡ true) × (W.mark writer.new ≡ W.mark writer.old) }
     ensures ended_answered { IsErrOf result (Run RunError.Read) → IfSome (P.left payloads.old) (ByFile (λ listed.
         AnswersEnded (IsOriginAnswer why listed) (W.written writer.old) (W.written writer.new)
         (R.left routes.old) (R.left routes.new))) }
 
-    // No call failed. The answers of some first lines, of not all where there is any, were written whole, and nothing
-    // else.
+    // Memory: no call failed. The answers to some first lines, not to all unless there is none, were written whole, and
+    // nothing else.
     ensures memory_unmarked { IsErrOf result (Run RunError.Memory) →
         (R.mark routes.new ≡ R.mark routes.old) × (W.mark writer.new ≡ W.mark writer.old) }
     ensures some_answered { IsErrOf result (Run RunError.Memory) → IfSome (P.left payloads.old) (ByFile (λ listed.
         IfSome (R.left routes.old)
         (AnswersFirst (IsOriginAnswer why listed) (W.written writer.old) (W.written writer.new)))) }
 
-    // A write or a flush failed, or a write took nothing, and a beginning of the answers was written.
+    // Write: a write or the flush failed, or a write took nothing, and a beginning of the answers was written.
     ensures write { IsErrOf result (Run RunError.Write) → W.mark writer.new ≡ true }
     ensures some_written { IsErrOf result (Run RunError.Write) → IfSome (P.left payloads.old) (ByFile (λ listed.
         IfSome (R.left routes.old)
@@ -112,7 +117,7 @@ pub fn answer_routes<A: Allocator + Copy, P: Source, R: Source, W: Sink>(
     }
 }
 
-/// Answers each line of routes by a list of payloads, as it is read.
+/// Answers each line of routes by a list of VRPs, as it is read.
 #[tactic(auto, using(lines_engine::proofs::RunLemmas::unanswered))]
 fn answer_by<A: Allocator + Copy, R: Source, W: Sink>(
     alloc: A,

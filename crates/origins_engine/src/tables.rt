@@ -1,4 +1,4 @@
-//! Tells which payloads files have, and what changes from one to the next.
+//! Lists the VRPs of a file, and compares the VRPs of two files.
 ghost use Rattle.std.specs.Prelude.{◌≡◌, ◌⊎◌, ℕ, List, [], false, true, IfOk, IfSome, OnOk, IsErrOf, length};
 ghost use Rattle.std.specs.Io.KnownBytes.{IsAtEnd};
 ghost use Rattle.lines_engine.specs.declared.error.RunError.TheVariants as RunError;
@@ -29,6 +29,10 @@ use std::alloc::Allocator;
 ///
 /// Returns how many VRPs the file has. No failed call of a device is repeated.
 ///
+/// # Preconditions
+///
+/// No call of `payloads` or `writer` has failed, and no write has taken nothing.
+///
 /// # Errors
 ///
 /// - [`OriginsError::Payloads`]: the file could not be read, is wrong, or needs more memory. Nothing was written.
@@ -42,11 +46,11 @@ pub fn write_table<A: Allocator + Copy, P: Source, W: Sink>(
     of: Option<Asn>,
     writer: &mut W,
 ) -> Result<usize, OriginsError>
-    // Neither has failed: no call follows one that did.
+    // No call of a device has failed.
     requires payloads_clear { P.mark payloads.old ≡ false }
     requires writer_clear { W.mark writer.old ≡ false }
 
-    // No call failed, the file was read whole, the table of what it writes was written, and the writer is flushed.
+    // Ok: no call failed, the file was read to its end, the table of its VRPs was written, and the writer is flushed.
     ensures unmarked { OnOk result ((P.mark payloads.new ≡ P.mark payloads.old)
         × (W.mark writer.new ≡ W.mark writer.old)) }
     ensures read_whole { OnOk result (IsAtEnd (P.left payloads.new)) }
@@ -54,11 +58,12 @@ pub fn write_table<A: Allocator + Copy, P: Source, W: Sink>(
         × TellsTable of (W.written writer.old) (W.written writer.new) [] listed))) }
     ensures flushed { OnOk result (W.flushed writer.new ≡ true) }
 
-    // The payloads weren't read, and nothing was written.
+    // Payloads: the VRPs could not be read, and nothing was written.
     ensures untouched { (error : PayloadsError) → IsErrOf result (OriginsError.Payloads error) →
         writer.new ≡ writer.old }
 
-    // A read failed; or the file is wrong, and was read whole; or a request for memory was refused, and no read failed.
+    // Read: a read failed. File: the file is invalid, and was read whole. Memory: an allocation failed, and no read
+    // did.
     ensures read { IsErrOf result (OriginsError.Payloads PayloadsError.Read) → P.mark payloads.new ≡ true }
     ensures wrong { (fault : FileFault) → IsErrOf result (OriginsError.Payloads (PayloadsError.File fault)) →
         IfSome (P.left payloads.old) (λ text. HasFileFault text fault) }
@@ -67,11 +72,11 @@ pub fn write_table<A: Allocator + Copy, P: Source, W: Sink>(
     ensures payloads_memory { IsErrOf result (OriginsError.Payloads PayloadsError.Memory) →
         P.mark payloads.new ≡ P.mark payloads.old }
 
-    // The run failed behind the payloads, which were read whole.
+    // Run: the run failed after the VRPs were read whole.
     ensures payloads_read { (error : RunError) → IsErrOf result (OriginsError.Run error) →
         (P.mark payloads.new ≡ P.mark payloads.old) × IsAtEnd (P.left payloads.new) }
 
-    // No call failed. Nothing was written, or a beginning of the table.
+    // Memory: no call failed. Nothing was written, or a beginning of the table.
     ensures memory_unmarked { IsErrOf result (OriginsError.Run RunError.Memory) →
         W.mark writer.new ≡ W.mark writer.old }
     ensures some_told { IsErrOf result (OriginsError.Run RunError.Memory) →
@@ -79,7 +84,7 @@ pub fn write_table<A: Allocator + Copy, P: Source, W: Sink>(
         (writer.new ≡ writer.old)
         ⊎ ((unwritten : List ℕ) × TellsTable of (W.written writer.old) (W.written writer.new) unwritten listed))) }
 
-    // A write or a flush failed, or a write took nothing, and a beginning of the table was written.
+    // Write: a write or the flush failed, or a write took nothing, and a beginning of the table was written.
     ensures write { IsErrOf result (OriginsError.Run RunError.Write) → W.mark writer.new ≡ true }
     ensures some_written { IsErrOf result (OriginsError.Run RunError.Write) →
         IfSome (P.left payloads.old) (ByFile (λ listed.
@@ -96,7 +101,7 @@ pub fn write_table<A: Allocator + Copy, P: Source, W: Sink>(
     }
 }
 
-/// Writes the table of payloads.
+/// Writes the table of VRPs.
 fn tell_table<A: Allocator + Copy, W: Sink>(
     alloc: A,
     listed: &[(MaxLenPrefix, Asn)],
@@ -120,14 +125,20 @@ fn tell_table<A: Allocator + Copy, W: Sink>(
     flush_all(writer)
 }
 
-/// Reads two files of VRPs whole, then writes a line `withdraw ..` for each VRP that only the old file has, and a line
-/// `announce ..` for each VRP that only the new file has, both sorted.
+/// Reads two files of VRPs whole, then writes the changes from the old VRPs to the new ones.
+///
+/// It writes a line `withdraw ..` for each VRP that only the old file has. Then it writes a line `announce ..` for each
+/// VRP that only the new file has. Both groups are sorted.
 ///
 /// - `alloc`: the allocator of the tables.
 /// - `old`, `new`: the files of VRPs. The old one is read first.
 /// - `writer`: the output. The call flushes it at the end.
 ///
 /// Returns how many VRPs each file has. No failed call of a device is repeated.
+///
+/// # Preconditions
+///
+/// No call of `old`, `new` or `writer` has failed, and no write has taken nothing.
 ///
 /// # Errors
 ///
@@ -143,13 +154,13 @@ pub fn write_changes<A: Allocator + Copy, P: Source, N: Source, W: Sink>(
     new: &mut N,
     writer: &mut W,
 ) -> Result<(usize, usize), ChangesError>
-    // None has failed: no call follows one that did.
+    // No call of a device has failed.
     requires old_clear { P.mark old.old ≡ false }
     requires new_clear { N.mark new.old ≡ false }
     requires writer_clear { W.mark writer.old ≡ false }
 
-    // No call failed, both files were read whole, the changes from what the old one writes to what the new one does
-    // were written, and the writer is flushed.
+    // Ok: no call failed, and both files were read to their ends. The changes from the VRPs of the old file to those of
+    // the new one were written, and the writer is flushed.
     ensures unmarked { OnOk result ((P.mark old.new ≡ P.mark old.old) × (N.mark new.new ≡ N.mark new.old)
         × (W.mark writer.new ≡ W.mark writer.old)) }
     ensures read_whole { OnOk result (IsAtEnd (P.left old.new) × IsAtEnd (N.left new.new)) }
@@ -158,8 +169,8 @@ pub fn write_changes<A: Allocator + Copy, P: Source, N: Source, W: Sink>(
         × TellsChanges (W.written writer.old) (W.written writer.new) [] before after))))) }
     ensures flushed { OnOk result (W.flushed writer.new ≡ true) }
 
-    // The old payloads weren't read: the new file wasn't either, and nothing was written. A read failed; or the file is
-    // wrong, and was read whole; or a request for memory was refused, and no read failed.
+    // Old: the old VRPs could not be read. The new file was not read, and nothing was written. Read: a read failed.
+    // File: the file is invalid, and was read whole. Memory: an allocation failed, and no read did.
     ensures old_untouched { (error : PayloadsError) → IsErrOf result (ChangesError.Old error) →
         (new.new ≡ new.old) × (writer.new ≡ writer.old) }
     ensures old_read { IsErrOf result (ChangesError.Old PayloadsError.Read) → P.mark old.new ≡ true }
@@ -169,7 +180,8 @@ pub fn write_changes<A: Allocator + Copy, P: Source, N: Source, W: Sink>(
         (P.mark old.new ≡ P.mark old.old) × IsAtEnd (P.left old.new) }
     ensures old_memory { IsErrOf result (ChangesError.Old PayloadsError.Memory) → P.mark old.new ≡ P.mark old.old }
 
-    // The new payloads weren't read: the old file was, whole, and nothing was written. The three faults are the same.
+    // New: the new VRPs could not be read. The old file was read whole, and nothing was written. The three errors
+    // mean the same as for the old file.
     ensures new_untouched { (error : PayloadsError) → IsErrOf result (ChangesError.New error) →
         (P.mark old.new ≡ P.mark old.old) × IsAtEnd (P.left old.new) × (writer.new ≡ writer.old) }
     ensures new_read { IsErrOf result (ChangesError.New PayloadsError.Read) → N.mark new.new ≡ true }
@@ -179,12 +191,12 @@ pub fn write_changes<A: Allocator + Copy, P: Source, N: Source, W: Sink>(
         (N.mark new.new ≡ N.mark new.old) × IsAtEnd (N.left new.new) }
     ensures new_memory { IsErrOf result (ChangesError.New PayloadsError.Memory) → N.mark new.new ≡ N.mark new.old }
 
-    // The run failed behind the payloads, which were read whole.
+    // Run: the run failed after the VRPs of both files were read whole.
     ensures both_read { (error : RunError) → IsErrOf result (ChangesError.Run error) →
         (P.mark old.new ≡ P.mark old.old) × IsAtEnd (P.left old.new)
         × (N.mark new.new ≡ N.mark new.old) × IsAtEnd (N.left new.new) }
 
-    // No call failed. Nothing was written, or a beginning of the changes.
+    // Memory: no call failed. Nothing was written, or a beginning of the changes.
     ensures memory_unmarked { IsErrOf result (ChangesError.Run RunError.Memory) →
         W.mark writer.new ≡ W.mark writer.old }
     ensures some_told { IsErrOf result (ChangesError.Run RunError.Memory) →
@@ -193,7 +205,7 @@ pub fn write_changes<A: Allocator + Copy, P: Source, N: Source, W: Sink>(
         ⊎ ((unwritten : List ℕ)
         × TellsChanges (W.written writer.old) (W.written writer.new) unwritten before after))))) }
 
-    // A write or a flush failed, or a write took nothing, and a beginning of the changes was written.
+    // Write: a write or the flush failed, or a write took nothing, and a beginning of the changes was written.
     ensures write { IsErrOf result (ChangesError.Run RunError.Write) → W.mark writer.new ≡ true }
     ensures some_written { IsErrOf result (ChangesError.Run RunError.Write) →
         IfSome (P.left old.old) (ByFile (λ before.
@@ -215,7 +227,7 @@ pub fn write_changes<A: Allocator + Copy, P: Source, N: Source, W: Sink>(
     }
 }
 
-/// Writes what changes from one list of payloads to the next.
+/// Writes the changes from one list of VRPs to the next.
 fn tell_changes<A: Allocator + Copy, W: Sink>(
     alloc: A,
     before: &[(MaxLenPrefix, Asn)],
@@ -239,7 +251,7 @@ fn tell_changes<A: Allocator + Copy, W: Sink>(
     tell_between(alloc, &old, &new, writer)
 }
 
-/// Writes what changes from one table to the next.
+/// Writes the changes from one table to the next.
 #[tactic(auto, using(lines_engine::proofs::RunLemmas::written_kept, crate::proofs::LineLemmas::told_between))]
 fn tell_between<A: Allocator + Copy, W: Sink>(
     alloc: A,

@@ -1,11 +1,11 @@
-//! A reader that is let go at its end.
+//! A reader that is dropped at its end.
 ghost use Rattle.std.specs.Prelude.{◌≡◌, false};
 
 use lines_engine::device::{DeviceFault, Source};
 use std::io::Read;
 
-/// A reader of std as a source, which is let go as soon as nothing is left of it: a file is closed then, and what is
-/// opened or read later doesn't find it open.
+/// A reader of std as a source. The reader is dropped as soon as nothing is left of it. A file is closed then, so it is
+/// no longer open when something else is opened or read later.
 #[derive(Debug, Drop)]
 pub struct UntilEnd<R> {
     reader: Option<R>,
@@ -13,7 +13,7 @@ pub struct UntilEnd<R> {
 }
 
 impl<R: Read> UntilEnd<R> {
-    /// The reader, none of whose calls has failed.
+    /// Wraps a reader, none of whose calls has failed.
     pub fn new(reader: R) -> UntilEnd<R>
     where
         R: Drop,

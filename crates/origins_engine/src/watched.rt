@@ -1,10 +1,10 @@
-//! A sink that notes what a check asks for.
+//! A sink that records what a check looks for.
 ghost use Rattle.std.specs.Prelude.{◌≡◌, ◌↔◌, [], IfSome, IsTrue, Some};
 
 use crate::check::Seen;
 use lines_engine::device::{DeviceFault, Sink};
 
-/// A sink, and what was seen of the bytes that it took.
+/// A sink, with the state of a check of the bytes that it took.
 #[derive(Debug, Drop)]
 pub struct Watched<W> {
     sink: W,
@@ -14,7 +14,7 @@ pub struct Watched<W> {
 impl<W: Sink> Watched<W> {
     ghost use Rattle.origins_engine.specs.Checks.{HasFound};
 
-    /// Wraps a sink, which stands at the start of a line.
+    /// Wraps a sink that is at the start of a line.
     pub fn new(sink: W) -> Watched<W>
         ensures written { W.written sink ≡ Some [] → ⟦<Watched<W> as Sink>⟧.written result ≡ Some [] }
         ensures mark { ⟦<Watched<W> as Sink>⟧.mark result ≡ W.mark sink }
@@ -26,8 +26,8 @@ impl<W: Sink> Watched<W> {
         }
     }
 
-    /// Returns whether one of the lines that were written begins with `i` or `e`, as `invalid-as`, `invalid-length` and
-    /// `error: ..` do.
+    /// Returns whether one of the written lines begins with `i` or `e`, as `invalid-as`, `invalid-length` and `error:
+    /// ..` do.
     #[tactic(auto, using(crate::proofs::CheckLemmas::known_found))]
     pub fn has_found(&self) -> bool
         ensures { IfSome (⟦<Watched<W> as Sink>⟧.written self.now) (λ octets. IsTrue result ↔ HasFound octets) }
@@ -39,7 +39,7 @@ impl<W: Sink> Watched<W> {
 impl<W: Sink> Sink for Watched<W> {
     ghost use Rattle.origins_engine.specs.Checks.{known_seen};
 
-    /// The sink's own, where what was seen is seen of them.
+    /// The bytes of the sink, if `seen` is what was seen of them. Else they are unknown.
     ghost written = { λ watched. known_seen watched.seen (W.written watched.sink) };
 
     ghost mark = { λ watched. W.mark watched.sink };

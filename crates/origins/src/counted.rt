@@ -1,7 +1,7 @@
-//! How many payloads a file has, in words.
+//! The number of VRPs of a file, in words.
 use std::fmt;
 
-/// A number of payloads: `1 payload`, `2 payloads`.
+/// A number of VRPs, printed as `1 payload` or `2 payloads`.
 #[derive(Clone, Copy, Debug)]
 pub struct Counted(pub usize);
 

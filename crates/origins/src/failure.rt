@@ -1,4 +1,4 @@
-//! What the program says where it fails.
+//! The error messages of the program.
 use lines_engine::error::RunError;
 use origins_engine::error::PayloadsError;
 use std::fmt;
@@ -6,13 +6,13 @@ use std::fmt;
 /// Why the program has no answer, or not all of them.
 #[derive(Clone, Copy, Debug)]
 pub enum Failure<'a> {
-    /// The words behind its name can't be read.
+    /// The command-line arguments can't be read.
     Words,
     /// A file can't be opened.
     NotOpened(&'a str),
-    /// The payloads of a file weren't read.
+    /// The VRPs of a file could not be read.
     Payloads(&'a str, PayloadsError),
-    /// What came behind the payloads failed.
+    /// A step after reading the VRPs failed.
     Run(RunError),
 }
 

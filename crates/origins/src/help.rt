@@ -3,13 +3,13 @@
 /// The version of the program, which is that of the repository.
 pub const VERSION: &str = "0.1.0";
 
-/// How the program is called.
+/// The forms of a call of the program.
 pub const USAGE: &str = "usage: origins [--why] [--check] PAYLOADS < ROUTES
        origins --table [--of ASN] PAYLOADS
        origins --diff OLD NEW
        origins --help | --version";
 
-/// What the program does, its options and its exit statuses.
+/// The description of the program, its options and its exit statuses.
 pub const HELP: &str = "
 Validate the origin of BGP routes (RFC 6811) against validated ROA payloads (VRPs). PAYLOADS, OLD and
 NEW are files of VRPs, which rpki-client, FORT, Routinator or another validator wrote as CSV or JSON.

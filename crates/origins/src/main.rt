@@ -1,5 +1,4 @@
-//! The program `origins`: what validated payloads say of routes, which payloads a file has, and what changes from one
-//! file to the next.
+//! The program `origins`. It validates routes by VRPs, lists the VRPs of a file, and compares the VRPs of two files.
 #![tactic(auto)]
 
 ghost use Rattle.std.specs.Prelude.{◌≡◌, false, IfOk};
@@ -28,7 +27,7 @@ use std::io::{BufWriter, Stdout};
 use std::process::ExitCode;
 use std::{env, fs, io};
 
-/// The bytes that are kept back before they are written to the standard output.
+/// The number of bytes that are buffered before they are written to the standard output.
 const BUFFER: usize = 64 * 1024;
 
 fn main(rt: HostRuntime) -> ExitCode {
@@ -47,19 +46,19 @@ fn main(rt: HostRuntime) -> ExitCode {
     }
 }
 
-/// The program's name and the words behind it.
+/// Returns the program's name and its arguments.
 fn words(rt: &HostRuntime) -> anyhow::Result<Vec<String>> {
     let words = env::args(rt)?.collect::<Vec<String>>(rt.alloc())?;
     Ok(words)
 }
 
-/// Tells a failure. Where that fails too, the status alone tells it.
+/// Reports a failure. If that fails too, only the exit status reports it.
 fn fail(rt: &HostRuntime, failure: Failure<'_>) -> ExitCode {
     let _ = eprintln!(rt; "origins: {failure}");
     ExitCode::FAILURE
 }
 
-/// Does what is asked for, and answers the status.
+/// Performs `task`, and returns the exit status.
 fn serve<'a>(rt: &HostRuntime, task: Task<'a>) -> Result<u8, Failure<'a>> {
     match task {
         Task::Answer {
@@ -74,7 +73,7 @@ fn serve<'a>(rt: &HostRuntime, task: Task<'a>) -> Result<u8, Failure<'a>> {
     }
 }
 
-/// The status behind something that was printed.
+/// Returns the exit status after a text was printed.
 fn told<'a>(printed: io::Result<()>) -> Result<u8, Failure<'a>> {
     match printed {
         Ok(()) => Ok(0),
@@ -82,8 +81,8 @@ fn told<'a>(printed: io::Result<()>) -> Result<u8, Failure<'a>> {
     }
 }
 
-/// Answers the routes of the standard input by the payloads of a file, which is closed before any route is read: where
-/// the standard input is closed, it is not taken for it.
+/// Answers the routes of the standard input by the VRPs of a file. The file is closed before any route is read. If the
+/// standard input is closed, the file is then not taken for it.
 fn answer<'a>(rt: &HostRuntime, name: &'a str, why: bool, check: bool) -> Result<u8, Failure<'a>> {
     let mut payloads = open(rt, name)?;
     let mut routes = FromRead::new(Retrying::new(rt.stdin()));
@@ -98,7 +97,7 @@ fn answer<'a>(rt: &HostRuntime, name: &'a str, why: bool, check: bool) -> Result
     }
 }
 
-/// Tells the payloads of a file.
+/// Prints the VRPs of a file.
 fn tell_table<'a>(rt: &HostRuntime, name: &'a str, of: Option<u32>) -> Result<u8, Failure<'a>> {
     let of = of.map(Asn::from_u32);
     let mut payloads = open(rt, name)?;
@@ -113,7 +112,7 @@ fn tell_table<'a>(rt: &HostRuntime, name: &'a str, of: Option<u32>) -> Result<u8
     }
 }
 
-/// Tells what changes from one file to another.
+/// Prints the changes from one file to another.
 fn tell_changes<'a>(rt: &HostRuntime, old: &'a str, new: &'a str) -> Result<u8, Failure<'a>> {
     let mut before = open(rt, old)?;
     let mut after = open(rt, new)?;
@@ -129,7 +128,7 @@ fn tell_changes<'a>(rt: &HostRuntime, old: &'a str, new: &'a str) -> Result<u8, 
     }
 }
 
-/// A file of payloads.
+/// Opens a VRP file.
 fn open<'a>(rt: &HostRuntime, name: &'a str) -> Result<UntilEnd<Retrying<File>>, Failure<'a>>
     ensures { IfOk result (λ file. ⟦<UntilEnd<Retrying<File>> as Source>⟧.mark file ≡ false) }
 {
@@ -139,7 +138,7 @@ fn open<'a>(rt: &HostRuntime, name: &'a str) -> Result<UntilEnd<Retrying<File>>,
     }
 }
 
-/// The standard output, behind a buffer.
+/// Returns the standard output with a buffer.
 fn buffered<'a>(rt: &HostRuntime) -> Result<BufWriter<Stdout>, Failure<'a>> {
     match BufWriter::with_capacity(rt.alloc(), BUFFER, rt.stdout()) {
         Ok(buffered) => Ok(buffered),

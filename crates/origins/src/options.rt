@@ -1,48 +1,48 @@
-//! The words behind the program's name.
+//! Reads the command-line arguments.
 use rpki_base::Asn;
 use std::fmt;
 use std::str::FromStr;
 
-/// What the program is asked for.
+/// A task of the program.
 #[derive(Clone, Copy, Debug)]
 pub enum Task<'a> {
-    /// To answer routes by the payloads of a file.
+    /// Answer routes by the VRPs of a file.
     Answer {
-        /// The file.
+        /// The VRP file.
         payloads: &'a str,
-        /// Whether the payloads that cover a route are told.
+        /// Whether to print the VRPs that cover a route.
         why: bool,
-        /// Whether the status tells that something is wrong.
+        /// Whether the exit status reports an invalid route or a faulty line.
         check: bool,
     },
-    /// To tell the payloads of a file.
+    /// Print the VRPs of a file.
     Table {
-        /// The file.
+        /// The VRP file.
         payloads: &'a str,
-        /// The number of the AS whose payloads are told alone, if one is asked for.
+        /// The AS whose VRPs alone are printed, if one is requested.
         of: Option<u32>,
     },
-    /// To tell what changes from one file to another.
+    /// Print the changes from one file to another.
     Changes {
-        /// The file that was.
+        /// The old VRP file.
         old: &'a str,
-        /// The file that is.
+        /// The new VRP file.
         new: &'a str,
     },
-    /// To tell how it is called.
+    /// Print the help text.
     Help,
-    /// To tell its version.
+    /// Print the version.
     Version,
 }
 
-/// Why words ask for nothing.
+/// Why the arguments are no task.
 #[derive(Clone, Copy, Debug)]
 pub enum Misuse<'a> {
-    /// No option is called so.
+    /// The option is unknown.
     UnknownOption(&'a str),
-    /// The text behind `--of` is no AS number.
+    /// The argument of `--of` is not an AS number.
     NoAsn(&'a str),
-    /// Options or names are too many, or too few.
+    /// There are too many options or names, or too few.
     Usage,
 }
 
@@ -56,7 +56,7 @@ impl fmt::Display for Misuse<'_> {
     }
 }
 
-/// The options that were read.
+/// The options that were read so far.
 #[derive(Clone, Copy, Debug)]
 struct Options {
     why: bool,
@@ -66,7 +66,7 @@ struct Options {
     of: Option<u32>,
 }
 
-/// The names that were read.
+/// The file names that were read so far.
 #[derive(Clone, Copy, Debug)]
 enum Names<'a> {
     None,
@@ -75,7 +75,7 @@ enum Names<'a> {
     More,
 }
 
-/// What the words ask for, of which the first is the program's name.
+/// Returns the task of the command line. Its first word is the program's name.
 pub fn parse(words: &[String]) -> Result<Task<'_>, Misuse<'_>> {
     let mut options = Options {
         why: false,
@@ -117,7 +117,7 @@ pub fn parse(words: &[String]) -> Result<Task<'_>, Misuse<'_>> {
     asked_for(options, names)
 }
 
-/// The names with one more.
+/// Returns the file names after one more.
 fn with_name<'a>(names: Names<'a>, name: &'a str) -> Names<'a> {
     match names {
         Names::None => Names::One(name),
@@ -126,7 +126,7 @@ fn with_name<'a>(names: Names<'a>, name: &'a str) -> Names<'a> {
     }
 }
 
-/// What options and names ask for, if they go together.
+/// Returns the task of options and file names, if they fit together.
 fn asked_for<'a>(options: Options, names: Names<'a>) -> Result<Task<'a>, Misuse<'a>> {
     let answers = options.why || options.check;
     match names {

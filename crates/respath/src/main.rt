@@ -7,14 +7,14 @@ use respath_lines::run;
 use std::io::BufWriter;
 use std::process::ExitCode;
 
-/// The bytes that are kept back before they are written to the standard output.
+/// The number of bytes that are buffered before they are written to the standard output.
 const BUFFER: usize = 64 * 1024;
 
 fn main(rt: HostRuntime) -> ExitCode {
     match serve(&rt) {
         Ok(()) => ExitCode::SUCCESS,
         Err(error) => {
-            // Where this fails too, the status alone tells it.
+            // If this fails too, only the exit status reports the error.
             let _ = eprintln!(rt; "respath: {error}");
             ExitCode::FAILURE
         }

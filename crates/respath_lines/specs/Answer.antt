@@ -1,4 +1,4 @@
--- What a line is answered.
+-- The answer to a line.
 use Rattle.std.specs.Prelude.{◌≡◌, ◌≢◌, ℕ, List, codes}
 use Rattle.std.specs.Str.{IsUtf8}
 use Rattle.respath_lines.specs.Command.{command_of, kind_of, argument_of}
@@ -8,7 +8,7 @@ use Rattle.respath_lines.specs.Norm.{IsNormAnswer}
 use Rattle.respath_lines.specs.Path.{IsPathAnswer}
 use Rattle.respath_lines.specs.Read.{IsReadAnswer}
 
--- the first word of a line is none of the commands
+-- the first word of a line is not a command
 pub record IsUnknown (command : List ℕ) : Type 0 where
   pub no_norm : command ≢ codes "norm"
   pub no_der : command ≢ codes "der"
@@ -16,7 +16,7 @@ pub record IsUnknown (command : List ℕ) : Type 0 where
   pub no_cover : command ≢ codes "cover"
   pub no_path : command ≢ codes "path"
 
--- this text is answered to this line
+-- this text is the answer to this line
 pub record IsAnswer (line text : List ℕ) : Type 0 where
   pub not_utf8 : ¬ IsUtf8 line → text ≡ codes "error: not UTF-8"
   pub norm : IsUtf8 line → command_of line ≡ codes "norm" → IsNormAnswer (kind_of line) (argument_of line) text

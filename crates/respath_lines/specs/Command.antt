@@ -1,8 +1,8 @@
--- How a line is cut into a command, a kind and an argument.
+-- The command, the kind and the argument of a line.
 use Rattle.std.specs.Prelude.{ℕ, Bool, List, ◌==◌}
 use Rattle.std.specs.List.{before_first, after_first}
 
--- the space, at which a word ends
+-- the space, which ends a word
 abbrev pub is_space : ℕ → Bool
 is_space byte = byte == 32
 
@@ -10,10 +10,10 @@ is_space byte = byte == 32
 abbrev pub command_of : List ℕ → List ℕ
 command_of line = before_first is_space line
 
--- what stands behind the command, up to its own first space
+-- the text after the command, up to its own first space
 abbrev pub kind_of : List ℕ → List ℕ
 kind_of line = before_first is_space (after_first is_space line)
 
--- what stands behind the kind
+-- the text after the kind
 abbrev pub argument_of : List ℕ → List ℕ
 argument_of line = after_first is_space (after_first is_space line)

@@ -1,5 +1,5 @@
--- What `cover` answers: the shortest list of prefixes with the addresses that a list of blocks writes, or the fault of
--- the list.
+-- The answer to `cover`: the shortest list of prefixes with the addresses of a list of blocks, or the fault of the
+-- list.
 use Rattle.std.specs.Prelude.{◌≡◌, ◌≢◌, ℕ, Bool, if◌then◌else◌, List, ◌∷◌, ◌++◌, map, codes, decimal}
 use Rattle.rpki_text.specs.Cuts.{slash}
 use Rattle.rpki_text.specs.Lists.{joined}
@@ -14,19 +14,19 @@ use Rattle.rpki_ip_block.specs.ListText.{HasBlocks, HasBlocksFault}
 use Rattle.rpki_ipres.specs.SetText.{IsSetOf}
 use Rattle.respath_lines.specs.Shown.{ShowsValueOrFault}
 
--- what is printed of a prefix: its address, and behind a slash its length, also where it is the family's greatest
+-- the text printed for a prefix: its address, a slash, and its length, even if that is the family's maximum
 abbrev pub prefix_with_length : AddressFamily → PrefixValue → List ℕ
 prefix_with_length family p = addr_text family p.first ++ slash ∷ decimal p.len
 
--- and of one among others: behind a comma and a space where it isn't the first
+-- the text printed for a prefix in a list: a comma and a space precede all but the first
 abbrev pub listed_text : Bool → AddressFamily → PrefixValue → List ℕ
 listed_text is_first family p = if is_first then prefix_with_length family p else codes ", " ++ prefix_with_length family p
 
--- of a list of them
+-- the text printed for a list of prefixes
 abbrev pub cover_text : AddressFamily → List PrefixValue → List ℕ
 cover_text family ps = joined (map (prefix_with_length family) ps)
 
--- the prefixes are the shortest cover of the set that a list of blocks of the family writes
+-- the prefixes are the shortest cover of the set of a list of blocks of the family
 abbrev pub IsCoverOf : AddressFamily → List ℕ → List PrefixValue → Type 0
 IsCoverOf family list ps = (set : Runs) × IsSetOf (HasBlocks family list) set × IsShortestCover 128 (Holds set) ps
 
@@ -34,11 +34,11 @@ IsCoverOf family list ps = (set : Runs) × IsSetOf (HasBlocks family list) set �
 abbrev pub IsCoverText : AddressFamily → List ℕ → List ℕ → Type 0
 IsCoverText family list text = (ps : List PrefixValue) × IsCoverOf family list ps × (text ≡ cover_text family ps)
 
--- to a list of blocks of a family
+-- the answer to a list of blocks of a family
 abbrev pub IsCoverIp : AddressFamily → List ℕ → List ℕ → Type 0
 IsCoverIp family list text = ShowsValueOrFault (IsCoverOf family list) (cover_text family) (HasBlocksFault family list) IpFaults.ip_from_str_error_text text
 
--- to a list of blocks of this kind
+-- the answer to a list of blocks of this kind
 pub record IsCoverAnswer (kind list text : List ℕ) : Type 0 where
   pub v4_blocks : kind ≡ codes "v4" → IsCoverIp Ipv4 list text
   pub v6_blocks : kind ≡ codes "v6" → IsCoverIp Ipv6 list text

@@ -1,4 +1,4 @@
--- What `der` answers: the octets of the resources that a text writes, or the fault of the text.
+-- The answer to `der`: the octets of the resources in a text, or the fault of the text.
 use Rattle.std.specs.Prelude.{◌≡◌, ◌≢◌, ℕ, List, [], codes}
 use Rattle.rpki_chain.specs.Claims.{Claim, claim_of}
 use Rattle.rpki_chain.specs.Runs.{Runs}
@@ -16,23 +16,23 @@ use Rattle.rpki_ipres.specs.SetText.{IsSetOf}
 use Rattle.respath_lines.specs.Hexadecimal.{lower_hexadecimal}
 use Rattle.respath_lines.specs.Shown.{ShowsValueOrFault}
 
--- the octets in hexadecimal, and `missing` where resources are missing, which have none
+-- the octets in hexadecimal, or `missing` for missing resources, which have none
 abbrev pub octets_text : (Claim → List ℕ) → Claim → List ℕ
 octets_text octets Missing = codes "missing"
 octets_text octets Inherit = lower_hexadecimal (octets Inherit)
 octets_text octets (Blocks set) = lower_hexadecimal (octets (Blocks set))
 
--- to a text of AS resources
+-- the answer to a text of AS resources
 abbrev pub IsDerAs : List ℕ → List ℕ → Type 0
 IsDerAs list text = ShowsValueOrFault (IsAsResourcesText list) (octets_text as_resources_octets) (HasAsResourcesFault list) AsFaults.as_from_str_error_text text
 
 -- ---- resources of a family
 
--- the claim that lists the set which a list of blocks of the family writes
+-- the claim that lists the set of a list of blocks of the family
 abbrev pub IsListed : AddressFamily → List ℕ → Claim → Type 0
 IsListed family list claim = (set : Runs) × IsSetOf (HasBlocks family list) set × (claim ≡ claim_of set)
 
--- the text is `inherit` for inherited resources, and else a list of blocks of the family: of none for missing ones
+-- the text is `inherit` for inherited resources, and else a list of blocks of the family, empty for missing ones
 abbrev pub IsIpResourcesText : AddressFamily → List ℕ → Claim → Type 0
 IsIpResourcesText family list Missing = (list ≢ codes "inherit") × IsSetOf (HasBlocks family list) []
 IsIpResourcesText family list Inherit = list ≡ codes "inherit"
@@ -41,16 +41,16 @@ IsIpResourcesText family list (Blocks set) = (list ≢ codes "inherit") × IsSet
 abbrev pub HasIpResourcesFault : AddressFamily → List ℕ → FromStrError → Type 0
 HasIpResourcesFault family list fault = (list ≢ codes "inherit") × HasBlocksFault family list fault
 
--- the octets of families of which this one alone has resources
+-- the octets of families of which only this one has resources
 abbrev pub one_family_der : AddressFamily → Claim → List ℕ
 one_family_der Ipv4 claim = ip_families_der claim Missing
 one_family_der Ipv6 claim = ip_families_der Missing claim
 
--- to a text of the resources of a family
+-- the answer to a text of the resources of a family
 abbrev pub IsDerIp : AddressFamily → List ℕ → List ℕ → Type 0
 IsDerIp family list text = ShowsValueOrFault (IsIpResourcesText family list) (octets_text (one_family_der family)) (HasIpResourcesFault family list) IpFaults.ip_from_str_error_text text
 
--- to a text of resources of this kind
+-- the answer to a text of resources of this kind
 pub record IsDerAnswer (kind list text : List ℕ) : Type 0 where
   pub as_resources : kind ≡ codes "as" → IsDerAs list text
   pub v4_resources : kind ≡ codes "v4" → IsDerIp Ipv4 list text

@@ -1,9 +1,9 @@
--- The words that name what the blocks of a list are.
+-- The names of the kinds of resources.
 use Rattle.std.specs.Prelude.{◌≡◌, ◌≢◌, ℕ, List, Option, Some, None, codes}
 use Rattle.respath_lines.specs.declared.kind.Kind.{Kind}
 use Rattle.respath_lines.specs.declared.kind.Kind.TheVariants.{As, V4, V6}
 
--- this kind is what the word names, if it names one
+-- this is the kind with this name, if there is one
 pub record IsKindNamed (word : List ℕ) (kind : Option Kind) : Type 0 where
   pub as_numbers : word ≡ codes "as" → kind ≡ Some As
   pub v4_addresses : word ≡ codes "v4" → kind ≡ Some V4

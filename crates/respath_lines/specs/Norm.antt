@@ -1,4 +1,4 @@
--- What `norm` answers: the set that a list writes, as its one list of blocks, or the fault of the list.
+-- The answer to `norm`: the set of a list, as its canonical list of blocks, or the fault of the list.
 use Rattle.std.specs.Prelude.{◌≡◌, ◌≢◌, ℕ, List, codes}
 use Rattle.rpki_as_block.specs.Faults as AsFaults
 use Rattle.rpki_as.specs.ListText.{IsAsListText, HasAsListFault, as_list_text}
@@ -9,15 +9,15 @@ use Rattle.rpki_ip_block.specs.ListText.{HasBlocks, HasBlocksFault}
 use Rattle.rpki_ipres.specs.SetText.{IsSetOf, set_text}
 use Rattle.respath_lines.specs.Shown.{ShowsValueOrFault}
 
--- to a list of AS blocks
+-- the answer to a list of AS blocks
 abbrev pub IsNormAs : List ℕ → List ℕ → Type 0
 IsNormAs list text = ShowsValueOrFault (IsAsListText list) as_list_text (HasAsListFault list) AsFaults.as_from_str_error_text text
 
--- to a list of IP blocks of a family
+-- the answer to a list of IP blocks of a family
 abbrev pub IsNormIp : AddressFamily → List ℕ → List ℕ → Type 0
 IsNormIp family list text = ShowsValueOrFault (IsSetOf (HasBlocks family list)) (set_text family) (HasBlocksFault family list) IpFaults.ip_from_str_error_text text
 
--- to a list of blocks of this kind
+-- the answer to a list of blocks of this kind
 pub record IsNormAnswer (kind list text : List ℕ) : Type 0 where
   pub as_blocks : kind ≡ codes "as" → IsNormAs list text
   pub v4_blocks : kind ≡ codes "v4" → IsNormIp Ipv4 list text

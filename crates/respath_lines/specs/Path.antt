@@ -1,5 +1,5 @@
--- What `path` answers: what the claims along a path leave of a root, the first of them that is refused, or the fault of
--- the first part of the path that isn't read.
+-- The answer to `path`: what remains of the first list after all steps, the first refused step, or the fault of the
+-- first invalid part of the path.
 use Rattle.std.specs.Prelude.{◌≡◌, ◌≢◌, ◌⊎◌, ℕ, ◌==◌, List, [], ◌∷◌, ◌++◌, Result, Ok, Err, codes, decimal}
 use Rattle.std.specs.List.{slice_split, before_first, after_first}
 use Rattle.std.specs.Str.{trim}
@@ -32,53 +32,53 @@ use Rattle.respath_lines.specs.declared.steps.PartFault.TheVariants.{BadList, Un
 abbrev pub parts_of : List ℕ → List (List ℕ)
 parts_of text = slice_split (λ byte. byte == 124) text
 
--- a part without the white space on both its sides, up to its first space, and behind that
+-- a part without the white space on both its sides: the text up to its first space, and the text after that
 abbrev pub word_of : List ℕ → List ℕ
 word_of part = before_first is_space (trim part)
 
 abbrev pub list_of : List ℕ → List ℕ
 list_of part = after_first is_space (trim part)
 
--- the word says what becomes of a claim that lists too much
+-- the word says what happens to overclaimed resources
 abbrev pub IsMode : List ℕ → Overclaim → Type 0
 IsMode word Refuse = word ≡ codes "refuse"
 IsMode word Trim = word ≡ codes "trim"
 
--- a part that is no step: neither of the words that stand alone, and neither of those before a list
+-- the part is not a step: it is neither `inherit` nor `missing`, and its first word is no mode
 pub record IsNoStep (part : List ℕ) : Type 0 where
   pub no_inherit : trim part ≢ codes "inherit"
   pub no_missing : trim part ≢ codes "missing"
   pub no_refuse : word_of part ≢ codes "refuse"
   pub no_trim : word_of part ≢ codes "trim"
 
--- ---- the parts of a path, in whose lists `Writes` says which set a list writes, and `Fails` which fault it has
+-- ---- the parts of a path; `Writes` says which set a list denotes, and `Fails` which fault it has
 
 module _ {R : Type 0} (claim : R → Claim) (Writes : List ℕ → Runs → Type 0) where
-  -- The part is a step: `inherit` or `missing` alone, whose mode says nothing, or a mode and the list of what is
-  -- claimed, of no blocks for a missing claim.
+  -- The part is a step. It is `inherit` or `missing` alone, and then the mode says nothing. Or it is a mode and the
+  -- list of what is claimed, which is empty for a missing claim.
   abbrev pub IsStepText : List ℕ → Step R → Type 0
   IsStepText part step =
       ((trim part ≡ codes "inherit") × (claim step.claim ≡ Inherit))
       ⊎ ((trim part ≡ codes "missing") × (claim step.claim ≡ Missing))
       ⊎ (IsMode (word_of part) step.mode × (set : Runs) × Writes (list_of part) set × (claim step.claim ≡ claim_of set))
 
-  -- the first part is the list of the root, and the others are the steps
+  -- the first part is the first list, and the others are the steps
   abbrev pub ArePath : List (List ℕ) → Runs → List (Step R) → Type 0
   ArePath [] root steps = ⊥
   ArePath (list ∷ parts) root steps = Writes list root × HaveValues IsStepText parts steps
 
 module _ {E : Type 0} (Fails : List ℕ → E → Type 0) where
-  -- why a part isn't the list of a root
+  -- the fault of a part as the first list
   abbrev pub HasRootFault : List ℕ → PartFault E → Type 0
   HasRootFault part UnknownStep = ⊥
   HasRootFault part (BadList fault) = Fails part fault
 
-  -- why a part isn't a step
+  -- the fault of a part as a step
   abbrev pub HasStepFault : List ℕ → PartFault E → Type 0
   HasStepFault part UnknownStep = IsNoStep part
   HasStepFault part (BadList fault) = (mode : Overclaim) × IsMode (word_of part) mode × Fails (list_of part) fault
 
-  -- the first part that isn't read has this fault
+  -- this is the fault of the first invalid part
   module _ {R : Type 0} (claim : R → Claim) (Writes : List ℕ → Runs → Type 0) where
     abbrev pub HavePathFault : List (List ℕ) → PartFault E → Type 0
     HavePathFault [] fault = ⊥
@@ -86,7 +86,7 @@ module _ {E : Type 0} (Fails : List ℕ → E → Type 0) where
         HasRootFault list fault
         ⊎ ((root : Runs) × Writes list root × HasFirstFault (IsStepText claim Writes) HasStepFault parts fault)
 
--- ---- what is printed
+-- ---- texts
 
 abbrev pub part_fault_text : {E : Type 0} → (E → List ℕ) → PartFault E → List ℕ
 part_fault_text fault_text UnknownStep = codes "unknown step"
@@ -95,14 +95,14 @@ part_fault_text fault_text (BadList fault) = fault_text fault
 abbrev pub refusal_text : {F : Type 0} → (F → List ℕ) → PathRefusal F → List ℕ
 refusal_text excess_text refusal = codes "refused at step " ++ decimal refusal.step ++ codes ": " ++ excess_text refusal.fault
 
--- the text is that of what a path leaves, or that of a refusal; none is, where there was no memory for what it leaves
+-- the text is that of what remains after a path, or that of a refusal; no text is, if the call ran out of memory
 abbrev pub ShowsLeft : {S F : Type 0} → (S → List ℕ) → (F → List ℕ) → Result S (OrMemory (PathRefusal F)) → List ℕ
     → Type 0
 ShowsLeft list_text excess_text (Ok set) text = text ≡ list_text set
 ShowsLeft list_text excess_text (Err (Refused refusal)) text = text ≡ refusal_text excess_text refusal
 ShowsLeft list_text excess_text (Err (Memory error)) text = ⊥
 
--- the text is that of what a path leaves of a root, or that of its first refusal
+-- the text is that of what remains of the first list after a path, or that of its first refusal
 abbrev pub ShowsPath : (Runs → List ℕ) → (Runs → List ℕ) → Runs → List (Step Claim) → List ℕ → Type 0
 ShowsPath list_text excess_text root steps text =
     ((left : Runs) × IsPathResult (λ claim. claim) (Holds root) steps left × (text ≡ list_text left))
@@ -110,22 +110,22 @@ ShowsPath list_text excess_text root steps text =
 
 -- ---- the answer
 
--- to a path over the sets that some lists write
+-- the answer to a path over the sets that some lists denote
 abbrev pub IsPathOf : {E : Type 0} → (List ℕ → Runs → Type 0) → (Runs → List ℕ) → (Runs → List ℕ)
     → (List ℕ → E → Type 0) → (E → List ℕ) → List ℕ → List ℕ → Type 0
 IsPathOf {E} Writes list_text excess_text Fails fault_text path text =
     ((root : Runs) × (steps : List (Step Claim)) × ArePath (λ claim. claim) Writes (parts_of path) root steps × ShowsPath list_text excess_text root steps text)
     ⊎ ((fault : PartFault E) × HavePathFault Fails (λ (claim : Claim). claim) Writes (parts_of path) fault × (text ≡ error_line (part_fault_text fault_text fault)))
 
--- of AS numbers
+-- the answer to a path of AS numbers
 abbrev pub IsPathAs : List ℕ → List ℕ → Type 0
 IsPathAs = IsPathOf IsAsListText as_list_text AsFaults.overclaimed_as_text HasAsListFault AsBlockFaults.as_from_str_error_text
 
--- of addresses of a family
+-- the answer to a path of addresses of a family
 abbrev pub IsPathIp : AddressFamily → List ℕ → List ℕ → Type 0
 IsPathIp family = IsPathOf (λ list. IsSetOf (HasBlocks family list)) (set_text family) (IpTexts.overclaimed_ip_text family) (HasBlocksFault family) IpFaults.ip_from_str_error_text
 
--- to a path of this kind
+-- the answer to a path of this kind
 pub record IsPathAnswer (kind path text : List ℕ) : Type 0 where
   pub as_numbers : kind ≡ codes "as" → IsPathAs path text
   pub v4_addresses : kind ≡ codes "v4" → IsPathIp Ipv4 path text

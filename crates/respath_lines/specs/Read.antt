@@ -1,4 +1,4 @@
--- What `read` answers: the resources that octets in hexadecimal are in DER, or that they are none.
+-- The answer to `read`: the resources that octets in hexadecimal encode in DER, or the fault of the octets.
 use Rattle.std.specs.Prelude.{◌≡◌, ◌≢◌, ◌⊎◌, ℕ, List, [], Option, Some, None, Result, Ok, Err, codes}
 use Rattle.rpki_der.specs.Der.{HasNone}
 use Rattle.rpki_der.specs.Faults.{fault_text}
@@ -20,52 +20,52 @@ use Rattle.rpki_ipres.specs.SetText.{set_text}
 use Rattle.respath_lines.specs.Hexadecimal.{IsHexadecimal}
 use Rattle.respath_lines.specs.Shown.{error_line}
 
--- what was taken is answered if no octets are left, and else a refusal
+-- the decoded value is the result if no octets are left; else the result is a refusal
 abbrev pub IsEnded : {V : Type 0} → Result V (OrMemory DerError) → List ℕ → Result V (OrMemory DerError) → Type 0
 IsEnded (Ok value) rest (Ok answer) = (answer ≡ value) × (rest ≡ [])
 IsEnded (Ok value) rest (Err (Refused fault)) = (rest ≢ []) × (fault ≡ TrailingData)
 IsEnded (Ok value) rest (Err (Memory error)) = ⊥
 IsEnded (Err fault) rest answer = answer ≡ Err fault
 
--- the octets are no value, and this is the first fault that their reading meets
+-- the octets are not the encoding of a value, and this is the first fault in reading them
 abbrev pub HasFault : {V Y : Type 0} → (List ℕ → V → Type 0) → (List ℕ → Result (Y × List ℕ) DerError) → List ℕ
     → DerError → Type 0
 HasFault Is reading octets fault = HasNone Is octets × (only reading octets ≡ Err fault)
 
--- the answer is what is printed of the value that the octets are; where they are none, it is the text of their first
--- fault, behind `error: `
+-- the answer is the text of the value that the octets encode; if they are invalid, it is `error: ` and the text of
+-- their first fault
 abbrev pub ShowsOctets : {V Y : Type 0} → (List ℕ → V → Type 0) → (List ℕ → Result (Y × List ℕ) DerError) → (V → List ℕ)
     → List ℕ → List ℕ → Type 0
 ShowsOctets {V} Is reading value_text octets answer =
     ((value : V) × Is octets value × (answer ≡ value_text value))
     ⊎ ((fault : DerError) × HasFault Is reading octets fault × (answer ≡ error_line (fault_text fault)))
 
--- the same of the octets that a text writes in hexadecimal, if it writes some
+-- the same for the octets of a text in hexadecimal, if the text is hexadecimal
 pub record ShowsHexadecimal {V Y : Type 0} (Is : List ℕ → V → Type 0) (reading : List ℕ → Result (Y × List ℕ) DerError) (value_text : V → List ℕ) (text answer : List ℕ) : Type 0 where
   pub octets : (octets : List ℕ) → IsHexadecimal text octets → ShowsOctets Is reading value_text octets answer
   pub none : ((octets : List ℕ) → ¬ IsHexadecimal text octets) → answer ≡ codes "error: bad hex"
 
--- to octets of AS resources
+-- the answer to octets of AS resources
 abbrev pub IsReadAs : List ℕ → List ℕ → Type 0
 IsReadAs = ShowsHexadecimal IsAsResources as_choice_at as_resources_text
 
 -- ---- resources of a family
 
--- what is printed of the resources that a family has, if it has some
+-- the text printed for the resources of a family, if it has some
 abbrev pub family_text : AddressFamily → Option Claim → List ℕ
 family_text family None = codes "missing"
 family_text family (Some Missing) = codes "missing"
 family_text family (Some Inherit) = codes "inherit"
 family_text family (Some (Blocks set)) = set_text family set
 
--- to octets of families, of which the answer shows one
+-- the answer to octets of families, which shows one of them
 abbrev pub ShowsFamily : AddressFamily → List ℕ → List ℕ → Type 0
 ShowsFamily family = ShowsOctets IsIpFamilies ip_families_at (λ (found : ByFamily Claim). family_text family (of_family family found))
 
 abbrev pub IsReadIp : AddressFamily → List ℕ → List ℕ → Type 0
 IsReadIp family = ShowsHexadecimal IsIpFamilies ip_families_at (λ (found : ByFamily Claim). family_text family (of_family family found))
 
--- to octets of resources of this kind
+-- the answer to octets of resources of this kind
 pub record IsReadAnswer (kind text answer : List ℕ) : Type 0 where
   pub as_resources : kind ≡ codes "as" → IsReadAs text answer
   pub v4_resources : kind ≡ codes "v4" → IsReadIp Ipv4 text answer

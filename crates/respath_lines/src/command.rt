@@ -1,10 +1,10 @@
-//! How a line is cut into words.
+//! Cuts a line into words.
 ghost use Rattle.std.specs.Prelude.{◌≡◌};
 ghost use Rattle.std.specs.List.{before_first, after_first, position_or_len};
 ghost use Rattle.respath_lines.specs.Command.{is_space};
 
-/// Where the first space of a text stands, and its length where there is none. Words are short, so bytes are looked at
-/// one by one.
+/// Returns the index of the first space of a text, or the length of the text if it has none. Words are short, so the
+/// bytes are examined one by one.
 #[tactic(auto, using(std::proofs::lemmas::List::Sums::position_or_len_is))]
 fn first_space(text: &[u8]) -> usize
     ensures { result ≡ position_or_len is_space text.now }
@@ -16,7 +16,7 @@ fn first_space(text: &[u8]) -> usize
     at
 }
 
-/// What stands before the first space of a text and what stands behind it: nothing, where there is no space.
+/// Returns the text before the first space, and the text after it, which is empty if there is no space.
 #[tactic(auto, using(crate::proofs::CommandLemmas::cut_before, crate::proofs::CommandLemmas::cut_behind))]
 pub(crate) fn cut_word(text: &str) -> (&str, &str)
     ensures word { result.0.now ≡ before_first is_space text.now }

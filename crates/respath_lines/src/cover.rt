@@ -1,4 +1,4 @@
-//! The command `cover`: a list of blocks becomes the shortest list of prefixes with the same addresses.
+//! The command `cover`: turns a list of blocks into the shortest list of prefixes with the same addresses.
 ghost use Rattle.std.specs.Prelude.{◌≡◌, ◌≤◌, ◌++◌, ◌∷◌, [], List, length, take, codes, if◌then◌else◌, Some, OnOk};
 ghost use Rattle.std.specs.Iterator.{Drains, IsFinite};
 ghost use Rattle.std.specs.String.{string_bytes};
@@ -16,7 +16,7 @@ use rpki_ipres::blocks::IpBlocks;
 use std::alloc::{AllocError, Allocator};
 use std::fmt;
 
-/// The answer to `cover KIND LIST`.
+/// Answers `cover KIND LIST`.
 pub(crate) fn cover<A: Allocator + Copy>(
     alloc: A,
     kind: &str,
@@ -32,7 +32,7 @@ pub(crate) fn cover<A: Allocator + Copy>(
     }
 }
 
-/// Tells the prefixes that cover the set that a list of blocks of a family writes, or the fault of the list.
+/// Answers with the prefixes that cover the set of a list of blocks of a family, or with the fault of the list.
 fn cover_ip<A: Allocator + Copy>(
     alloc: A,
     family: AddressFamily,
@@ -48,8 +48,8 @@ fn cover_ip<A: Allocator + Copy>(
     }
 }
 
-/// Tells what is printed of prefixes of a family, joined by a comma and a space; nothing where there are none. Each is
-/// printed as it comes, so that no list of them is kept.
+/// Prints prefixes of a family, joined by a comma and a space. Without prefixes the answer is empty. Each is printed as
+/// it comes, so no list of them is kept.
 fn print_prefixes<A: Allocator, I: Iterator<Item = Prefix>>(
     answer: &mut String<A>,
     family: AddressFamily,
@@ -67,10 +67,10 @@ fn print_prefixes<A: Allocator, I: Iterator<Item = Prefix>>(
     Ok(())
 }
 
-/// The most bytes of a prefix among others: a comma, a space and those of the prefix.
+/// The maximum number of bytes of a prefix in a list: a comma, a space and the prefix.
 const ROOM: usize = PREFIX_ROOM + 2;
 
-/// Puts a comma and a space in front of a buffer, if something stands before what follows, and answers where they end.
+/// Writes a comma and a space to the front of a buffer, unless `is_first`, and returns the index of their end.
 fn put_separator(out: &mut [u8], is_first: bool) -> usize
     requires { 2 ≤ length out.old }
     ensures text { take result out.new ≡ (if is_first then [] else codes ", ") }
@@ -83,7 +83,7 @@ fn put_separator(out: &mut [u8], is_first: bool) -> usize
     put(out, at, b' ')
 }
 
-/// A prefix of a family among those that are printed.
+/// A prefix of a family in a printed list.
 #[derive(Drop)]
 struct Listed {
     family: AddressFamily,
@@ -92,7 +92,7 @@ struct Listed {
 }
 
 impl Listed {
-    /// Puts the prefix in front of a buffer, and answers where it ends.
+    /// Writes the prefix to the front of a buffer, and returns the index of its end.
     fn put(&self, out: &mut [u8]) -> usize
         requires { 46 ≤ length out.old }
         ensures text { take result out.new
@@ -105,7 +105,7 @@ impl Listed {
     }
 }
 
-/// Prints the address, a slash and the length, whatever that is, behind a comma and a space where it isn't the first.
+/// Prints the address, a slash and the length, even the maximum one. A comma and a space precede all but the first.
 impl fmt::Display for Listed {
     ghost output = { λ p. Some (listed_text p.is_first p.family p.prefix) };
 
@@ -116,7 +116,7 @@ impl fmt::Display for Listed {
     }
 }
 
-/// Appends a prefix to those that are printed, behind a comma and a space where one stands before it.
+/// Appends a prefix to the printed ones, after a comma and a space unless it is the first.
 #[tactic(auto, using(crate::proofs::CoverLemmas::more_text))]
 fn append<A: Allocator>(
     text: &mut String<A>,

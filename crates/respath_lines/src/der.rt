@@ -1,4 +1,4 @@
-//! The command `der`: resources become their octets in DER, in hexadecimal.
+//! The command `der`: encodes resources in DER, and prints the octets in hexadecimal.
 ghost use Rattle.std.specs.Prelude.{◌≡◌, ◌≢◌, [], IfOk, OnOk, MatchResult};
 ghost use Rattle.std.specs.String.{string_bytes};
 ghost use Rattle.rpki_text.specs.Memory.{IfRefused};
@@ -20,7 +20,7 @@ use rpki_ipres::resources::IpResources;
 use std::alloc::{AllocError, Allocator};
 use std::mem::replace;
 
-/// The answer to `der KIND LIST`.
+/// Answers `der KIND LIST`.
 pub(crate) fn der<A: Allocator + Copy>(
     alloc: A,
     kind: &str,
@@ -37,7 +37,7 @@ pub(crate) fn der<A: Allocator + Copy>(
     }
 }
 
-/// The room of an answer, which is left with none.
+/// Returns the emptied buffer of an answer. The answer is empty and has no buffer afterwards.
 fn room_of<A: Allocator>(alloc: A, answer: &mut String<A>) -> Vec<u8, A>
     ensures { result.items ≡ [] }
 {
@@ -46,7 +46,7 @@ fn room_of<A: Allocator>(alloc: A, answer: &mut String<A>) -> Vec<u8, A>
     room
 }
 
-/// Tells the octets of the AS resources that a text writes, or the fault of the text.
+/// Answers with the octets of the AS resources in a text, or with the fault of the text.
 fn der_as<A: Allocator + Copy>(
     alloc: A,
     list: &str,
@@ -61,7 +61,7 @@ fn der_as<A: Allocator + Copy>(
     }
 }
 
-/// Tells octets, whose digits take their room.
+/// Answers with octets. Their digits are written to the buffer of `octets`.
 fn tell_octets<A: Allocator>(octets: Vec<u8, A>, answer: &mut String<A>) -> Result<(), AllocError>
     ensures { OnOk result (string_bytes answer.new ≡ lower_hexadecimal octets.items) }
 {
@@ -69,7 +69,7 @@ fn tell_octets<A: Allocator>(octets: Vec<u8, A>, answer: &mut String<A>) -> Resu
     Ok(())
 }
 
-/// Tells the octets of AS resources.
+/// Answers with the octets of AS resources.
 fn tell_as<A: Allocator + Copy>(
     alloc: A,
     resources: AsResources<A>,
@@ -84,7 +84,7 @@ fn tell_as<A: Allocator + Copy>(
     tell_octets(octets, answer)
 }
 
-/// The octets of AS resources, which are given back, in the room of an answer.
+/// Returns the octets of AS resources, which aren't missing, in the buffer of an answer. The resources are dropped.
 fn as_octets<A: Allocator + Copy>(
     alloc: A,
     resources: AsResources<A>,
@@ -98,7 +98,7 @@ fn as_octets<A: Allocator + Copy>(
     Ok(octets)
 }
 
-/// Tells the octets of the resources of a family that a text writes, or the fault of the text.
+/// Answers with the octets of the resources of a family in a text, or with the fault of the text.
 fn der_ip<A: Allocator + Copy>(
     alloc: A,
     family: AddressFamily,
@@ -114,7 +114,7 @@ fn der_ip<A: Allocator + Copy>(
     }
 }
 
-/// The resources of a family that a text writes: inherited ones for `inherit`, and else those of the list.
+/// Returns the resources of a family in a text: inherited ones for `inherit`, and else those of the list.
 #[tactic(auto, using(crate::proofs::DerLemmas::listed_resources, rpki_as::proofs::ResourcesTexts::not_true))]
 fn ip_resources<A: Allocator + Copy>(
     alloc: A,
@@ -130,7 +130,7 @@ fn ip_resources<A: Allocator + Copy>(
     listed(alloc, family, list)
 }
 
-/// The resources that a list of blocks of a family writes.
+/// Returns the resources that list the set of a list of blocks of a family.
 fn listed<A: Allocator + Copy>(
     alloc: A,
     family: AddressFamily,
@@ -143,7 +143,7 @@ fn listed<A: Allocator + Copy>(
     Ok(IpResources::blocks(set))
 }
 
-/// Tells the octets of a list of families that has resources of this family alone.
+/// Answers with the octets of a list of families in which only this family has resources.
 fn tell_ip<A: Allocator + Copy>(
     alloc: A,
     family: AddressFamily,
@@ -160,8 +160,8 @@ fn tell_ip<A: Allocator + Copy>(
     tell_octets(octets, answer)
 }
 
-/// The octets of a list of families that has resources of this family alone, which are given back, in the room of an
-/// answer.
+/// Returns the octets of a list of families in which only this family has resources, in the buffer of an answer. The
+/// resources aren't missing, and are dropped.
 fn ip_octets<A: Allocator + Copy>(
     alloc: A,
     family: AddressFamily,
@@ -176,7 +176,7 @@ fn ip_octets<A: Allocator + Copy>(
     Ok(octets)
 }
 
-/// Puts the octets of a list of families that has resources of this family alone into an empty vector.
+/// Appends to an empty vector the octets of a list of families in which only this family has resources.
 fn encode_alone<A: Allocator>(
     family: AddressFamily,
     resources: &IpResources<A>,

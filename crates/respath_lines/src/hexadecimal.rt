@@ -1,4 +1,4 @@
-//! Octets in hexadecimal, two digits an octet.
+//! Octets in hexadecimal, two digits for each.
 ghost use Rattle.std.specs.Prelude.{◌≡◌, ◌*◌, ◌<◌, ℕ, length, List, take, IfOk, IsTrue, IsFalse, MatchOption};
 ghost use Rattle.std.specs.Char.{digit_char};
 ghost use Rattle.std.specs.String.{string_bytes};
@@ -7,7 +7,7 @@ ghost use Rattle.respath_lines.specs.Hexadecimal.{IsHexadecimal, IsPairOf, lower
 
 use std::alloc::{AllocError, Allocator};
 
-/// The value of each byte as a digit, in either case, and 16 where it is none.
+/// The value of each byte as a digit, in either case, or 16 if the byte is not a digit.
 static DIGIT_VALUES: [u8; 256] = [
     16, 16, 16, 16, 16, 16, 16, 16, 16, 16, 16, 16, 16, 16, 16, 16, 16, 16, 16, 16, 16, 16, 16, 16,
     16, 16, 16, 16, 16, 16, 16, 16, 16, 16, 16, 16, 16, 16, 16, 16, 16, 16, 16, 16, 16, 16, 16, 16,
@@ -22,7 +22,7 @@ static DIGIT_VALUES: [u8; 256] = [
     16, 16, 16, 16, 16, 16, 16, 16, 16, 16, 16, 16, 16, 16,
 ];
 
-/// The value of a digit, or 16 at any other byte.
+/// Returns the value of a digit, or 16 for any other byte.
 #[inline(always)]
 fn value_of(byte: u8) -> u8
     ensures { result ≡ hex_value byte }
@@ -30,7 +30,7 @@ fn value_of(byte: u8) -> u8
     DIGIT_VALUES[usize::from(byte)]
 }
 
-/// The octet that two digits write; None where one of them is no digit.
+/// Returns the octet that two digits write, or None if one of them is not a digit.
 #[inline(always)]
 #[tactic(auto, using(crate::proofs::HexadecimalLemmas::value_is))]
 fn octet_of(high: u8, low: u8) -> Option<u8>
@@ -43,7 +43,7 @@ fn octet_of(high: u8, low: u8) -> Option<u8>
     Some(high * 16 + low)
 }
 
-/// Puts the octets that pairs of digits write. False, where one of them writes none.
+/// Writes to `octets` the octets of pairs of digits. Returns false if one of the pairs is not an octet.
 fn put_octets(digits: &[u8], octets: &mut [u8]) -> bool
     requires { length digits.now ≡ 2 * length octets.old }
     ensures written { IsTrue result → IsHexadecimal digits.now octets.new }
@@ -58,7 +58,7 @@ fn put_octets(digits: &[u8], octets: &mut [u8]) -> bool
     true
 }
 
-/// The octets that a text writes, with digits of either case; None where it writes none.
+/// Returns the octets of a text with digits of either case, or None if the text is not hexadecimal.
 #[tactic(auto, using(crate::proofs::HexadecimalLemmas::even_text))]
 pub(crate) fn octets_of<A: Allocator>(
     alloc: A,
@@ -84,7 +84,7 @@ static LOWER_DIGITS: [u8; 16] = [
     48, 49, 50, 51, 52, 53, 54, 55, 56, 57, 97, 98, 99, 100, 101, 102,
 ];
 
-/// The digit of a value below 16, in lower case.
+/// Returns the digit of a value below 16, in lower case.
 #[inline(always)]
 fn digit_of(value: u8) -> u8
     requires { value < 16 }
@@ -93,8 +93,7 @@ fn digit_of(value: u8) -> u8
     LOWER_DIGITS[usize::from(value)]
 }
 
-/// Puts the digits of octets, which stand in front, in the place of all bytes: those of the last octet first, so that
-/// none is lost.
+/// Replaces all bytes by the digits of the octets at their front. The last octet is written first, so none is lost.
 fn spread(bytes: &mut [u8], count: usize)
     requires { length bytes.old ≡ 2 * count }
     ensures { bytes.new ≡ lower_hexadecimal (take count bytes.old) }
@@ -108,7 +107,8 @@ fn spread(bytes: &mut [u8], count: usize)
     }
 }
 
-/// The text that writes octets, in lower case, made in their memory, with room for the end of a line.
+/// Returns the digits of octets, in lower case. They are made in the buffer of the octets, with capacity for an end of
+/// line.
 pub(crate) fn hexadecimal_of<A: Allocator>(mut octets: Vec<u8, A>) -> Result<String<A>, AllocError>
     ensures { IfOk result (λ text. string_bytes text ≡ lower_hexadecimal octets.items) }
 {
@@ -119,6 +119,6 @@ pub(crate) fn hexadecimal_of<A: Allocator>(mut octets: Vec<u8, A>) -> Result<Str
     octets.reserve(count + 1)?;
     octets.resize(len, 0)?;
     spread(octets.as_mut_slice(), count);
-    // Digits are ASCII, so they are a text.
+    // Digits are ASCII, so they are valid UTF-8.
     String::from_utf8(octets).map_err(|_| AllocError)
 }

@@ -1,7 +1,7 @@
-//! What the blocks of a list are.
+//! The kinds of resources.
 ghost use Rattle.respath_lines.specs.Kinds.{IsKindNamed};
 
-/// What the blocks of a list are: AS numbers, or addresses of a family.
+/// The kind of the blocks of a list: AS numbers, or addresses of a family.
 #[derive(Clone, Copy)]
 pub(crate) enum Kind {
     As,
@@ -9,7 +9,7 @@ pub(crate) enum Kind {
     V6,
 }
 
-/// The kind that a word names.
+/// Returns the kind with this name.
 pub(crate) fn kind_named(word: &str) -> Option<Kind>
     ensures { IsKindNamed word.now result }
 {

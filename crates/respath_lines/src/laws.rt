@@ -1,9 +1,9 @@
-//! What no single answer says of its text.
+//! Lemmas on the texts of answers.
 ghost use Rattle.std.specs.Prelude.{◌≡◌, ℕ, List};
 ghost use Rattle.rpki_der.specs.Der.{IsBytes};
 ghost use Rattle.respath_lines.specs.Hexadecimal.{IsHexadecimal, lower_hexadecimal};
 
-/// The text that octets are written as is read as them, and a text writes one list of octets at most (RFC 4648, 8).
+/// Proves that the text of octets is read back as them, and that a text has at most one list of octets (RFC 4648, 8).
 #[tactic(auto, using(crate::proofs::HexadecimalLemmas::lower_writes, crate::proofs::HexadecimalLemmas::one_octets))]
 pub fn hexadecimal_read_back()
     ensures written { (octets : List ℕ) → IsBytes octets

@@ -36,13 +36,13 @@ use read::read;
 use shown::tell;
 use std::alloc::{AllocError, Allocator};
 
-/// The bytes that an answer has room for from the start, so that a short one isn't moved as it grows.
+/// The initial capacity of an answer in bytes. A short answer isn't moved as it grows.
 const ROOM: usize = 64;
 
 /// Returns the answer to `line`. Neither has an end of line.
 ///
-/// The answer to a line that isn't UTF-8, or doesn't begin with a command, is an error message. So is the answer to a
-/// list that its command refuses.
+/// The answer to a line that isn't UTF-8, or doesn't begin with a command, is an error message. The same holds for the
+/// answer to a list that its command refuses.
 ///
 /// # Errors
 ///

@@ -1,4 +1,4 @@
-//! The lists of a kind of resources, as sets and as claims of them.
+//! Lists of a kind of resources, as sets and as claims.
 ghost use Rattle.std.specs.Prelude.{◌≡◌, ℕ, List, MatchResult};
 ghost use Rattle.rpki_text.specs.Memory.{IfRefused};
 ghost use Rattle.rpki_chain.specs.Claims.{Claim, claim_of};
@@ -20,16 +20,16 @@ use std::alloc::Allocator;
 
 /// Reads the lists of a kind of resources, and makes claims of them.
 pub(crate) trait Lists<A: Allocator> {
-    /// What a list writes.
+    /// The set of a list.
     type Set: Drop;
 
-    /// What may be wrong with a list.
+    /// The fault of a list.
     type Fault: Drop;
 
-    /// What claims a set.
+    /// A claim of a set.
     type Resources: Drop;
 
-    // The list writes the set.
+    // The list denotes the set.
     ghost writes: { Self → List ℕ → Runs → Type 0 };
 
     // The list has the fault.
@@ -38,23 +38,23 @@ pub(crate) trait Lists<A: Allocator> {
     // The runs of a set.
     ghost runs: { Self.Set → Runs };
 
-    // What is claimed.
+    // The claim in resources.
     ghost claim: { Self.Resources → Claim };
 
-    /// The set that a list writes, or the fault of the list.
+    /// Returns the set of a list, or the fault of the list.
     fn read(&self, alloc: A, list: &str) -> Result<Self::Set, OrMemory<Self::Fault>>
         ensures { MatchResult result (λ set. writes self.now list.now (runs set))
             (IfRefused (fails self.now list.now)) };
 
-    /// The claim that lists a set, and a missing one where the set is empty.
+    /// Returns the claim of a set, which is a missing claim if the set is empty.
     fn listed(set: Self::Set) -> Self::Resources
         ensures { claim result ≡ claim_of (runs set) };
 
-    /// A claim of nothing.
+    /// Returns a missing claim, which claims nothing.
     fn missing() -> Self::Resources
         ensures { claim result ≡ Missing };
 
-    /// A claim of what the issuer has.
+    /// Returns an inherited claim, of all that the issuer has.
     fn inherited() -> Self::Resources
         ensures { claim result ≡ Inherit };
 }

@@ -1,4 +1,4 @@
-//! The command `norm`: a list of blocks becomes the one list of the same numbers.
+//! The command `norm`: turns a list of blocks into the canonical list of the same numbers.
 ghost use Rattle.std.specs.Prelude.{OnOk};
 ghost use Rattle.std.specs.String.{string_bytes};
 ghost use Rattle.respath_lines.specs.Norm.{IsNormAnswer, IsNormAs, IsNormIp};
@@ -11,7 +11,7 @@ use rpki_ip::family::AddressFamily;
 use rpki_ipres::blocks::IpBlocks;
 use std::alloc::{AllocError, Allocator};
 
-/// The answer to `norm KIND LIST`.
+/// Answers `norm KIND LIST`.
 pub(crate) fn norm<A: Allocator + Copy>(
     alloc: A,
     kind: &str,
@@ -28,7 +28,7 @@ pub(crate) fn norm<A: Allocator + Copy>(
     }
 }
 
-/// The set that a list of AS blocks writes, printed, or the fault of the list.
+/// Prints the set of a list of AS blocks, or the fault of the list.
 fn norm_as<A: Allocator + Copy>(
     alloc: A,
     list: &str,
@@ -39,7 +39,7 @@ fn norm_as<A: Allocator + Copy>(
     show(answer, AsBlocks::from_str(alloc, list))
 }
 
-/// The set that a list of blocks of a family writes, printed, or the fault of the list.
+/// Prints the set of a list of blocks of a family, or the fault of the list.
 fn norm_ip<A: Allocator + Copy>(
     alloc: A,
     family: AddressFamily,

@@ -1,4 +1,4 @@
-//! The command `path`: what the claims along a path leave of a root, or the first of them that is refused.
+//! The command `path`: prints what remains of the first list after all steps, or the first refused step.
 ghost use Rattle.std.specs.Prelude.{◌≡◌, ℕ, List, Some, OnOk};
 ghost use Rattle.std.specs.String.{string_bytes};
 ghost use Rattle.rpki_as.specs.Faults.{overclaimed_as_text};
@@ -21,7 +21,7 @@ use rpki_ipres::overclaim::OverclaimedIpResources;
 use std::alloc::{AllocError, Allocator};
 use std::fmt;
 
-/// The answer to `path KIND ROOT | STEP ..`.
+/// Answers `path KIND ROOT | STEP ..`.
 pub(crate) fn path<A: Allocator + Copy>(
     alloc: A,
     kind: &str,
@@ -38,7 +38,7 @@ pub(crate) fn path<A: Allocator + Copy>(
     }
 }
 
-/// What a path leaves of a set of AS numbers, its first refusal, or the fault of its first part that isn't read.
+/// Prints the AS numbers that remain after a path, its first refusal, or the fault of its first invalid part.
 fn path_as<A: Allocator + Copy>(
     alloc: A,
     path: &str,
@@ -53,8 +53,8 @@ fn path_as<A: Allocator + Copy>(
     }
 }
 
-/// What a path leaves of a set of addresses of a family, its first refusal, or the fault of its first part that isn't
-/// read.
+/// Prints the addresses of a family that remain after a path, its first refusal, or the fault of its first invalid
+/// part.
 fn path_ip<A: Allocator + Copy>(
     alloc: A,
     family: AddressFamily,
@@ -70,8 +70,8 @@ fn path_ip<A: Allocator + Copy>(
     }
 }
 
-/// What is printed of what a path leaves of AS numbers, or of its first refusal. `AllocError` where there was no memory
-/// for what it leaves, or there is none for the text.
+/// Prints the AS numbers that remain after a path, or the first refusal. Returns `AllocError` if memory ran out
+/// for the AS numbers or for the text.
 fn told_as<A: Allocator>(
     left: Result<AsBlocks<A>, OrMemory<PathRefusal<OverclaimedAsResources<A>>>>,
     answer: &mut String<A>,
@@ -85,7 +85,7 @@ fn told_as<A: Allocator>(
     }
 }
 
-/// The same of addresses, which are printed as those of a family.
+/// Does the same for addresses, which are printed as those of a family.
 fn told_ip<A: Allocator>(
     family: AddressFamily,
     left: Result<IpBlocks<A>, OrMemory<PathRefusal<OverclaimedIpResources<A>>>>,
@@ -104,12 +104,12 @@ fn told_ip<A: Allocator>(
     }
 }
 
-/// The text of a refusal: the place of the step that is refused, and why it is.
+/// Prints a refusal: the index of the refused step, and the reason.
 fn refused<F: fmt::Display + Drop, A: Allocator>(
     refusal: PathRefusal<F>,
     answer: &mut String<A>,
 ) -> Result<(), AllocError>
-    // Whatever text each fault prints, that is what is told.
+    // Whatever text each fault prints, the answer has it.
     ensures { (excess_text : F → List ℕ) → ((fault : F) → F.output fault ≡ Some (excess_text fault))
         → OnOk result (string_bytes answer.new ≡ refusal_text excess_text refusal) }
 {
@@ -118,12 +118,12 @@ fn refused<F: fmt::Display + Drop, A: Allocator>(
     write!(answer, "refused at step {step}: {fault}")
 }
 
-/// The text of the fault of a part that isn't read.
+/// Prints the fault of an invalid part.
 fn unread<E: fmt::Display + Drop, A: Allocator>(
     fault: PartFault<E>,
     answer: &mut String<A>,
 ) -> Result<(), AllocError>
-    // Whatever text each fault of a list prints, that is what is told.
+    // Whatever text each fault of a list prints, the answer has it.
     ensures { (fault_text : E → List ℕ) → ((fault : E) → E.output fault ≡ Some (fault_text fault))
         → OnOk result (string_bytes answer.new ≡ error_line (part_fault_text fault_text fault)) }
 {

@@ -1,4 +1,4 @@
-//! The command `read`: octets in hexadecimal become the resources that they are in DER.
+//! The command `read`: decodes octets in hexadecimal as resources in DER.
 ghost use Rattle.std.specs.Prelude.{OnOk, ◌≡◌, MatchResult};
 ghost use Rattle.std.specs.String.{string_bytes};
 ghost use Rattle.rpki_der.specs.Views.{left};
@@ -20,7 +20,7 @@ use rpki_ipres::blocks::IpBlocks;
 use rpki_ipres::resources::IpResources;
 use std::alloc::{AllocError, Allocator};
 
-/// The answer to `read KIND HEX`.
+/// Answers `read KIND HEX`.
 pub(crate) fn read<A: Allocator + Copy>(
     alloc: A,
     kind: &str,
@@ -37,7 +37,7 @@ pub(crate) fn read<A: Allocator + Copy>(
     }
 }
 
-/// The AS resources that octets are, printed, or why they are none.
+/// Prints the AS resources that octets encode, or the fault of the octets.
 fn read_as<A: Allocator + Copy>(
     alloc: A,
     text: &str,
@@ -51,7 +51,7 @@ fn read_as<A: Allocator + Copy>(
     show(answer, as_resources_in(alloc, octets.as_slice()))
 }
 
-/// The AS resources that all these octets are. `Refused` with their first fault where they are none.
+/// Returns the AS resources that the octets, all of them, encode. `Refused` has the first fault of invalid octets.
 fn as_resources_in<A: Allocator + Copy>(
     alloc: A,
     octets: &[u8],
@@ -64,7 +64,7 @@ fn as_resources_in<A: Allocator + Copy>(
     ended(taken, cursor)
 }
 
-/// What was taken, if nothing is left behind it.
+/// Returns the decoded value if no octets follow it.
 fn ended<V: Drop>(
     taken: Result<V, OrMemory<DerError>>,
     cursor: Cursor<'_>,
@@ -80,7 +80,7 @@ fn ended<V: Drop>(
     }
 }
 
-/// What the families that octets are have of one family, printed, or why they are none.
+/// Prints the resources of one family in the families that octets encode, or the fault of the octets.
 fn read_ip<A: Allocator + Copy>(
     alloc: A,
     family: AddressFamily,
@@ -95,7 +95,7 @@ fn read_ip<A: Allocator + Copy>(
     family_in(alloc, family, octets.as_slice(), answer)
 }
 
-/// What the families that these octets are have of one family, printed, or why the octets are none.
+/// Prints the resources of one family in the families that these octets encode, or the fault of the octets.
 fn family_in<A: Allocator + Copy>(
     alloc: A,
     family: AddressFamily,
@@ -111,7 +111,7 @@ fn family_in<A: Allocator + Copy>(
     }
 }
 
-/// What a family has, of what both have.
+/// Returns the resources of a family, from those of both.
 fn resources_of<A: Allocator>(
     families: (Option<IpResources<A>>, Option<IpResources<A>>),
     family: AddressFamily,
@@ -124,7 +124,8 @@ fn resources_of<A: Allocator>(
     }
 }
 
-/// The resources by family that all these octets are. `Refused` with their first fault where they are none.
+/// Returns the resources by family that the octets, all of them, encode. `Refused` has the first fault of invalid
+/// octets.
 fn families_in<A: Allocator + Copy>(
     alloc: A,
     octets: &[u8],
@@ -137,7 +138,7 @@ fn families_in<A: Allocator + Copy>(
     ended(taken, cursor)
 }
 
-/// Tells what is printed of the resources of a family.
+/// Prints the resources of a family.
 fn print_resources<A: Allocator>(
     family: AddressFamily,
     resources: Option<IpResources<A>>,

@@ -1,4 +1,4 @@
-//! How an answer shows what a call gave. Each of these puts what it tells in the place of what the answer had.
+//! Writes the result of a call as an answer. Each function replaces the content of the answer.
 ghost use Rattle.std.specs.Prelude.{◌≡◌, ℕ, List, Some, OnOk};
 ghost use Rattle.std.specs.String.{string_bytes};
 ghost use Rattle.rpki_ipres.specs.SetText.{set_text};
@@ -10,7 +10,7 @@ use rpki_ipres::blocks::IpBlocks;
 use std::alloc::{AllocError, Allocator};
 use std::fmt;
 
-/// Tells a text.
+/// Writes a text.
 pub(crate) fn tell<A: Allocator>(answer: &mut String<A>, text: &str) -> Result<(), AllocError>
     ensures { OnOk result (string_bytes answer.new ≡ text.now) }
 {
@@ -18,7 +18,7 @@ pub(crate) fn tell<A: Allocator>(answer: &mut String<A>, text: &str) -> Result<(
     answer.push_str(text)
 }
 
-/// Tells what is printed of a value.
+/// Prints a value.
 pub(crate) fn print<T: fmt::Display, A: Allocator>(
     answer: &mut String<A>,
     value: &T,
@@ -31,7 +31,7 @@ pub(crate) fn print<T: fmt::Display, A: Allocator>(
     write!(answer, "{value}")
 }
 
-/// Tells what is printed of a set of addresses of a family.
+/// Prints a set of addresses of a family.
 pub(crate) fn print_set<A: Allocator>(
     answer: &mut String<A>,
     family: AddressFamily,
@@ -42,7 +42,7 @@ pub(crate) fn print_set<A: Allocator>(
     print(answer, &set.as_family(family))
 }
 
-/// Tells what is printed of a fault, behind `error: `.
+/// Prints a fault, after `error: `.
 pub(crate) fn tell_fault<E: fmt::Display, A: Allocator>(
     answer: &mut String<A>,
     fault: &E,
@@ -55,13 +55,13 @@ pub(crate) fn tell_fault<E: fmt::Display, A: Allocator>(
     write!(answer, "error: {fault}")
 }
 
-/// Tells what is printed of the value, or of the fault behind `error: `. `AllocError` where there was no memory for the
-/// call, or there is none for the text.
+/// Prints the value, or the fault after `error: `. Returns `AllocError` if memory ran out in the call or
+/// for the text.
 pub(crate) fn show<T: fmt::Display + Drop, E: fmt::Display + Drop, A: Allocator>(
     answer: &mut String<A>,
     found: Result<T, OrMemory<E>>,
 ) -> Result<(), AllocError>
-    // Whatever text each value and each fault prints, that is what the answer shows.
+    // Whatever text each value and each fault prints, the answer shows it.
     ensures { (value_text : T → List ℕ) → ((value : T) → T.output value ≡ Some (value_text value))
         → (fault_text : E → List ℕ) → ((fault : E) → E.output fault ≡ Some (fault_text fault))
         → OnOk result (ShowsResult value_text fault_text found (string_bytes answer.new)) }

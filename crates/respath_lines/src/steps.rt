@@ -1,4 +1,4 @@
-//! The parts of a path: the list of the root, and the steps.
+//! The parts of a path: the first list, and the steps.
 ghost use Rattle.std.specs.Prelude.{◌≢◌, codes, MatchOption, MatchResult};
 ghost use Rattle.rpki_text.specs.Lists.{HaveValues, HasFirstFault};
 ghost use Rattle.rpki_text.specs.Memory.{IfRefused};
@@ -10,17 +10,17 @@ use rpki_base::memory::OrMemory;
 use rpki_chain::path::{Overclaim, Step};
 use std::alloc::Allocator;
 
-/// Why a part of a path isn't read.
+/// The fault of a part of a path.
 #[derive(Drop)]
 pub(crate) enum PartFault<E> {
-    /// It is no step.
+    /// The part is not a step.
     UnknownStep,
-    /// Its list has this fault.
+    /// The list of the part has this fault.
     BadList(E),
 }
 
-/// The set of a path's root and the steps, or the fault of the first part that isn't read. The path is cut at each `|`:
-/// its first part is the list of the root, and the others are the steps.
+/// Returns the set of a path's first list and the steps, or the fault of the first invalid part. The path is cut at
+/// each `|`. Its first part is the first list, and the others are the steps.
 pub(crate) fn read_path<A: Allocator + Copy, L: Lists<A>>(
     alloc: A,
     lists: &L,
@@ -41,7 +41,7 @@ pub(crate) fn read_path<A: Allocator + Copy, L: Lists<A>>(
     Ok((root, steps))
 }
 
-/// The set that the list of a root writes.
+/// Returns the set of the first list.
 fn read_root<A: Allocator + Copy, L: Lists<A>>(
     alloc: A,
     lists: &L,
@@ -57,7 +57,7 @@ fn read_root<A: Allocator + Copy, L: Lists<A>>(
     }
 }
 
-/// The steps that a text writes, which is cut at each `|`, or the fault of the first part that is none.
+/// Returns the steps in a text, which is cut at each `|`, or the fault of the first part that is not a step.
 fn read_steps<A: Allocator + Copy, L: Lists<A>>(
     alloc: A,
     lists: &L,
@@ -79,8 +79,8 @@ fn read_steps<A: Allocator + Copy, L: Lists<A>>(
     Ok(steps)
 }
 
-/// The step that a part writes, without the white space on both its sides: `inherit` or `missing` alone, or what
-/// becomes of a claim that lists too much and, behind a space, the list of what is claimed.
+/// Returns the step in a part, without the white space on both its sides. It is `inherit` or `missing` alone, or a
+/// mode, a space and the list of what is claimed. The mode says what happens to overclaimed resources.
 fn read_step<A: Allocator + Copy, L: Lists<A>>(
     alloc: A,
     lists: &L,
@@ -116,7 +116,7 @@ fn read_step<A: Allocator + Copy, L: Lists<A>>(
     }
 }
 
-/// What a word says of a claim that lists too much.
+/// Returns the mode with this name. It says what happens to overclaimed resources.
 fn mode_named(word: &str) -> Option<Overclaim>
     ensures { MatchOption result ((word.now ≢ codes "refuse") × (word.now ≢ codes "trim"))
         (IsMode word.now) }

@@ -1,5 +1,4 @@
--- What a path of claims leaves of a root's resources, kind by kind
--- (RFC 3779, 2.3 and 3.3; RFC 6487, 7.2).
+-- What remains of a root's resources after the claims on a path, kind by kind (RFC 3779, 2.3 and 3.3; RFC 6487, 7.2).
 use Rattle.std.specs.Prelude.{List}
 use Rattle.rpki_chain.specs.Claims.{Claim}
 use Rattle.rpki_chain.specs.Paths.{IsFirstRefusal, IsPathResult}
@@ -9,11 +8,11 @@ use Rattle.rpki_resources.specs.Triples.{Triple}
 use Rattle.example_calls.specs.declared.certificates.Overclaimed.{Overclaimed}
 use Rattle.example_calls.specs.declared.certificates.Overclaimed.TheVariants.{Asn, Ipv4, Ipv6}
 
--- the set is what a path of claims leaves of the root's
+-- the set is what remains of the root's after a path of claims
 abbrev pub IsLeftOf : Runs → List (Step Claim) → Runs → Type 0
 IsLeftOf root steps set = IsPathResult (λ claim. claim) (Holds root) steps set
 
--- so of each kind, each with its own path: of AS numbers, of IPv4 and of IPv6 addresses
+-- this holds for each kind, each with its own path: AS numbers, IPv4 and IPv6 addresses
 pub record IsLeftInEach (root : Triple) (numbers v4 v6 : List (Step Claim)) (set : Triple) : Type 0 where
   pub asn : IsLeftOf root.asn numbers set.asn
   pub ipv4 : IsLeftOf root.ipv4 v4 set.ipv4

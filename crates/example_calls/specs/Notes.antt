@@ -1,7 +1,7 @@
--- What a reader of the caller's own notes.
+-- The record that a reader of the caller's own keeps.
 use Rattle.std.specs.Prelude.{ℕ, Option}
 use Rattle.example_calls.specs.declared.reads.Noted.{Noted}
 
--- the place of the block that was read last, if one was
+-- the index of the block that was read last, if one was
 abbrev pub last_read : Noted → Option ℕ
 last_read noted = noted.last

@@ -1,4 +1,4 @@
--- Routes that a table's payloads make invalid (RFC 6811, 2), and what an authorization lists too much (RFC 9582, 5).
+-- Routes that a table's VRPs make invalid (RFC 6811, 2), and prefixes outside a certificate's resources (RFC 9582, 5).
 use Rattle.std.specs.Prelude.{◌≡◌, ℕ, List, length, Some, HoldsAt}
 use Rattle.rpki_prefix.specs.MaxLen.{MaxLenValue}
 use Rattle.rpki_prefix.specs.Values.{FamilyPrefix}
@@ -8,18 +8,18 @@ use Rattle.roa_origin.specs.Coverings.{AreThose}
 use Rattle.roa_origin.specs.Payloads.{Payload}
 use Rattle.roa_origin.specs.Validities.{IsRouteCovered, IsMatched}
 
--- what contracts see of a route: its prefix, and the number of the AS that originates it
+-- the model of a route: its prefix, and the number of the AS that originates it
 abbrev pub Route : Type 0
 Route = FamilyPrefix × ℕ
 
--- some payload covers the route, and none matches it (RFC 6811, 2: 'Invalid')
+-- some VRP covers the route, and none matches it (RFC 6811, 2: 'Invalid')
 abbrev pub IsInvalid : List Payload → Route → Type 0
 IsInvalid payloads route = IsRouteCovered route.0 payloads × ¬ IsMatched route.0 route.1 payloads
 
--- as many of the routes are invalid, each counted as often as it stands there
+-- this number of the routes is invalid; a repeated route counts each time
 abbrev pub IsCountOfInvalid : List Payload → List Route → ℕ → Type 0
 IsCountOfInvalid payloads routes count = (invalid : List Route) × AreThose (IsInvalid payloads) routes invalid × (count ≡ length invalid)
 
--- the entry stands at the least place whose prefix isn't inside its family's set
+-- the entry is the first one whose prefix isn't inside its family's set
 abbrev pub IsFirstExcess : Triple → List MaxLenValue → MaxLenValue → Type 0
 IsFirstExcess set entries entry = (at : ℕ) × IsFirstOutside set entries (Some at) × HoldsAt (λ e. e ≡ entry) entries at

@@ -1,4 +1,4 @@
-//! Resources that are built block by block.
+//! Builds resources block by block.
 ghost use Rattle.std.specs.Prelude.{[], ◌∷◌, Some, IfOk};
 ghost use Rattle.rpki_chain.specs.Claims.{IsBuilt};
 ghost use Rattle.rpki_as_block.specs.Blocks.{as_bounds};
@@ -6,7 +6,11 @@ ghost use Rattle.rpki_as_block.specs.Blocks.{as_bounds};
 use rpki_resources::repository::resources::{AsBlock, AsResources, AsResourcesBuilder};
 use std::alloc::{AllocError, Allocator};
 
-/// AS resources that list one block. They were to be inherited before. `AllocError` where there is no memory for them.
+/// Returns AS resources that list one block. The builder first inherits, and the block replaces this.
+///
+/// # Errors
+///
+/// [`AllocError`] if an allocation fails.
 pub fn listed_in_the_end<A: Allocator + Copy>(
     alloc: A,
     block: AsBlock,

@@ -1,4 +1,4 @@
-//! A router's cache: prefixes in order, each once, and those of them that cover a route.
+//! A router's cache: a sorted table of prefixes, and the prefixes that cover a route.
 ghost use Rattle.std.specs.Prelude.{◌↔◌, IfOk, Contains};
 ghost use Rattle.std.specs.List.Sorted.{IsStrictlySortedBy};
 ghost use Rattle.rpki_prefix.specs.Order.{prefix_cmp};
@@ -8,8 +8,12 @@ ghost use Rattle.roa_origin.specs.Coverings.{AreThose};
 use rpki_resources::resources::addr::Prefix;
 use std::alloc::{AllocError, Allocator};
 
-/// The prefixes of a list in their order, each once: IPv4 before IPv6, then by the last address, and a prefix never
-/// before one that it covers. `AllocError` where there is no memory for the table.
+/// Returns the prefixes of a list, sorted and each once: IPv4 before IPv6, then by the last address. A prefix never
+/// precedes one that it covers.
+///
+/// # Errors
+///
+/// [`AllocError`] if an allocation fails.
 pub fn table<A: Allocator>(alloc: A, prefixes: &[Prefix]) -> Result<Vec<Prefix, A>, AllocError>
     ensures ascending { IfOk result (λ table. IsStrictlySortedBy prefix_cmp table.items) }
     ensures members { IfOk result (λ table.
@@ -24,8 +28,11 @@ pub fn table<A: Allocator>(alloc: A, prefixes: &[Prefix]) -> Result<Vec<Prefix, 
     Ok(table)
 }
 
-/// The prefixes of a table that cover a route, in the table's order, each as often as it stands there. `AllocError`
-/// where there is no memory for them.
+/// Returns the prefixes of `table` that cover `route`, in the order of the table. A repeated prefix is repeated.
+///
+/// # Errors
+///
+/// [`AllocError`] if an allocation fails.
 pub fn covering<A: Allocator>(
     alloc: A,
     table: &[Prefix],

@@ -1,4 +1,4 @@
-//! A reader of certificates that has their claims: what a path of them leaves of a root's resources, kind by kind.
+//! Verifies the claims on a certificate path, kind by kind.
 ghost use Rattle.std.specs.Prelude.{IfOk, MatchResult, All};
 ghost use Rattle.rpki_text.specs.Memory.{IfRefused};
 ghost use Rattle.rpki_ipres.specs.Resources.{IsWholeClaim};
@@ -12,7 +12,7 @@ use rpki_resources::repository::resources::{
 };
 use std::alloc::{Allocator, Global};
 
-/// A claim on a path lists more than is left for it: the place of its certificate, and what it lists too much.
+/// A refused claim on a path: the index of its certificate, and the overclaimed resources.
 #[derive(Drop)]
 pub enum Overclaimed<A: Allocator = Global> {
     /// AS numbers.
@@ -23,9 +23,20 @@ pub enum Overclaimed<A: Allocator = Global> {
     Ipv6(PathRefusal<OverclaimedIpv6Resources<A>>),
 }
 
-/// What the claims of the certificates on a path leave of a root's resources; those of IPv4 consist of whole addresses,
-/// as what `Extensions::claims` answers do. `Refused` with the first claim that lists too much, of AS numbers before
-/// IPv4 and IPv4 before IPv6; `Memory` where there is no memory for a set on the way.
+/// Returns what remains of the resources of `root` after the claims of the certificates on a path. It lies in `root`.
+///
+/// - `alloc`: the allocator of the sets.
+/// - `root`: the resources at the start of the path.
+/// - `asn`, `ipv4`, `ipv6`: the claims of the certificates, in the order of the path.
+///
+/// # Preconditions
+///
+/// The IPv4 claims consist of whole addresses. The claims that `Extensions::claims` returns do.
+///
+/// # Errors
+///
+/// - `Refused`: the first overclaim, of AS numbers before IPv4, and of IPv4 before IPv6.
+/// - `Memory`: an allocation failed.
 pub fn verified<A: Allocator + Copy>(
     alloc: A,
     root: &ResourceSet<A>,

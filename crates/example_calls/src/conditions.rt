@@ -1,4 +1,4 @@
-//! Conditions of calls, each met by a comparison or by a call that tests it.
+//! Meets the preconditions of calls, by a comparison or by a call that tests the precondition.
 ghost use Rattle.std.specs.Prelude.{◌≡◌, ◌≢◌, ◌+◌, ◌≤◌, ◌<◌, ◌++◌, ◌⊎◌, IsOk, IfOk, OnOk, OnErr, MatchOption};
 ghost use Rattle.rpki_block.specs.Ranges.{range_bounds};
 ghost use Rattle.rpki_chain.specs.Runs.{Holds};
@@ -14,7 +14,7 @@ use rpki_resources::repository::resources::{
 };
 use std::alloc::{AllocError, Allocator};
 
-/// The range between two AS numbers, in either order: [`AsRange::new`] wants the least number first.
+/// Returns the range between two AS numbers, in either order. [`AsRange::new`] requires the least number first.
 pub fn between(one: Asn, other: Asn) -> AsRange
     ensures in_order { one ≤ other → range_bounds result ≡ (one, other) }
     ensures turned { other < one → range_bounds result ≡ (other, one) }
@@ -26,7 +26,7 @@ pub fn between(one: Asn, other: Asn) -> AsRange
     }
 }
 
-/// The AS number behind another, or None behind the last: [`Asn::add`] wants a sum that is an AS number.
+/// Returns the next AS number, or None after the last one. [`Asn::add`] requires a sum that is an AS number.
 pub fn behind(asn: Asn) -> Option<Asn>
     ensures { MatchOption result (asn ≡ 4294967295) (λ next. next ≡ asn + 1) }
 {
@@ -36,8 +36,8 @@ pub fn behind(asn: Asn) -> Option<Asn>
     Some(asn.add(1))
 }
 
-/// A set of IPv4 addresses, or None where the set has a part of one: [`Ipv4Blocks::from_ip_blocks`] wants whole
-/// addresses.
+/// Returns a set of IPv4 addresses, or None if the set has only a part of an address. [`Ipv4Blocks::from_ip_blocks`]
+/// requires whole addresses.
 pub fn whole_v4<A: Allocator>(blocks: IpBlocks<A>) -> Option<Ipv4Blocks<A>>
     ensures { MatchOption result (¬ IsWhole (Holds blocks)) (λ set. set ≡ blocks) }
 {
@@ -47,8 +47,12 @@ pub fn whole_v4<A: Allocator>(blocks: IpBlocks<A>) -> Option<Ipv4Blocks<A>>
     Some(Ipv4Blocks::from_ip_blocks(blocks))
 }
 
-/// The set that resources list, or None where they list a part of an IPv4 address or some are inherited:
-/// [`ResourceSet::from_resources`] wants whole addresses. `AllocError` where there is no memory for the set.
+/// Returns the set that resources list, or None if they list a part of an IPv4 address or some are inherited.
+/// [`ResourceSet::from_resources`] requires whole addresses.
+///
+/// # Errors
+///
+/// [`AllocError`] if an allocation fails.
 pub fn listed_set<A: Allocator>(
     asn: &AsResources<A>,
     ipv4: &IpResources<A>,
@@ -68,8 +72,12 @@ pub fn listed_set<A: Allocator>(
     }
 }
 
-/// Appends what is written of resources, and nothing where they are missing: [`AsResources::encode`] wants some.
-/// `AllocError` where there is no memory for it; then the octets stay as they were.
+/// Appends the encoding of resources to `out`, or nothing if they are missing. [`AsResources::encode`] requires
+/// resources that aren't missing.
+///
+/// # Errors
+///
+/// [`AllocError`] if an allocation fails. The octets of `out` are unchanged then.
 pub fn append<A: Allocator, B: Allocator>(
     resources: &AsResources<A>,
     out: &mut Vec<u8, B>,

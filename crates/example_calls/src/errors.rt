@@ -1,4 +1,4 @@
-//! Refusals and want of memory: passed on, told apart, and brought about by an allocator that refuses.
+//! Passes on errors, distinguishes them, and causes out-of-memory errors by an allocator that refuses.
 ghost use Rattle.std.specs.Prelude.{IsTrue, IfOk, MatchOption};
 ghost use Rattle.rpki_chain.specs.Runs.{Runs};
 ghost use Rattle.rpki_as.specs.ListText.{HasAsListFault, IsAsListText};
@@ -9,8 +9,12 @@ use rpki_resources::repository::resources::asres::FromStrError;
 use std::alloc::{AllocError, Allocator, Global};
 use test_support::{Plan, Refusing};
 
-/// The set that a list of AS blocks writes; the error is the list's fault, or want of memory. An error of any kind
-/// tells no clause what it is: where that matters, see [`fault_of`].
+/// Returns the set of a list of AS blocks.
+///
+/// # Errors
+///
+/// The fault of the list, or the out-of-memory error. A contract cannot say what an [`anyhow::Error`] is. If you need
+/// to know the fault, see [`fault_of`].
 pub fn any_error(alloc: Global, list: &str) -> anyhow::Result<AsBlocks>
     ensures { IfOk result (IsAsListText list.now) }
 {
@@ -18,7 +22,11 @@ pub fn any_error(alloc: Global, list: &str) -> anyhow::Result<AsBlocks>
     Ok(set)
 }
 
-/// The fault of a list of AS blocks, or None where it writes a set. `AllocError` where there is no memory to tell.
+/// Returns the fault of a list of AS blocks, or None if the list is valid.
+///
+/// # Errors
+///
+/// [`AllocError`] if an allocation fails.
 pub fn fault_of<A: Allocator + Copy>(
     alloc: A,
     list: &str,
@@ -33,7 +41,7 @@ pub fn fault_of<A: Allocator + Copy>(
     }
 }
 
-/// Whether a list of AS blocks is read where each request for memory is refused.
+/// Whether a list of AS blocks can be read if every allocation is refused.
 pub fn is_read_without_memory<A: Allocator>(alloc: A, list: &str) -> bool
     ensures { IsTrue result → (set : Runs) × IsAsListText list.now set }
 {

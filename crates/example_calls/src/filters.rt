@@ -1,4 +1,4 @@
-//! A maker of route origin authorizations and router filters: sets of addresses as the fewest prefixes.
+//! Turns sets of addresses into the fewest prefixes, for route origin authorizations and router filters.
 ghost use Rattle.std.specs.Prelude.{IfOk};
 ghost use Rattle.rpki_chain.specs.Runs.{Holds};
 ghost use Rattle.rpki_cover.specs.Covers.{IsShortestCover, IsV4CoverList};
@@ -7,8 +7,12 @@ ghost use Rattle.rpki_family.specs.Families.{Ipv4Of};
 use rpki_resources::repository::resources::{Ipv4Blocks, Ipv6Blocks, Prefix};
 use std::alloc::{AllocError, Allocator};
 
-/// The fewest prefixes that have exactly the addresses of a set of IPv4, ascending: none outside it, none missing.
-/// Their lengths are at most 32. `AllocError` where there is no memory for the list.
+/// Returns the fewest prefixes that have exactly the addresses of a set of IPv4, ascending. Their lengths are at most
+/// 32.
+///
+/// # Errors
+///
+/// [`AllocError`] if an allocation fails.
 pub fn v4_filter<A: Allocator>(alloc: A, set: &Ipv4Blocks<A>) -> Result<Vec<Prefix, A>, AllocError>
     ensures cover { IfOk result (λ list. IsShortestCover 128 (Holds set.now) list.items) }
     ensures v4 { IfOk result (λ list. IsV4CoverList (Ipv4Of set.now) list.items) }
@@ -20,8 +24,11 @@ pub fn v4_filter<A: Allocator>(alloc: A, set: &Ipv4Blocks<A>) -> Result<Vec<Pref
     Ok(list)
 }
 
-/// The fewest prefixes that have exactly the addresses of a set of IPv6, ascending: none outside it, none missing.
-/// `AllocError` where there is no memory for the list.
+/// Returns the fewest prefixes that have exactly the addresses of a set of IPv6, ascending.
+///
+/// # Errors
+///
+/// [`AllocError`] if an allocation fails.
 pub fn v6_filter<A: Allocator>(alloc: A, set: &Ipv6Blocks<A>) -> Result<Vec<Prefix, A>, AllocError>
     ensures { IfOk result (λ list. IsShortestCover 128 (Holds set.now) list.items) }
 {

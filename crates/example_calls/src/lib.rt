@@ -1,7 +1,14 @@
-//! Proved callers of the libraries, each a short function with a contract of its own: what a reader of claims, a maker
-//! of route origin authorizations and router filters, a router's cache, whoever asks for the origins of routes, and a
-//! protocol that carries texts ask of these libraries. They rest on the contracts of public calls alone;
-//! `docs/CALLING.md` shows them.
+//! Proved example callers of the libraries. Each is a short function with a contract of its own.
+//!
+//! They show the calls that these users need:
+//!
+//! - a reader of claims;
+//! - a maker of route origin authorizations and router filters;
+//! - a router's cache;
+//! - a validator of route origins;
+//! - a protocol that carries texts.
+//!
+//! Their proofs use only the contracts of public calls. `docs/CALLING.md` shows them.
 //!
 //! The program `rows_calls` calls each of them:
 //!

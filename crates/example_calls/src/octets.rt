@@ -1,4 +1,4 @@
-//! Blocks, sets and resources that are written in DER, and read again from what was written: each is the same.
+//! Encodes blocks, sets and resources in DER, and decodes them. The result is the same value.
 ghost use Rattle.std.specs.Prelude.{◌≡◌, ◌≢◌, IfOk};
 ghost use Rattle.rpki_chain.specs.declared.choice.ResourcesChoice.TheVariants.{Missing};
 ghost use Rattle.rpki_ipres.specs.Resources.{IsWholeClaim};
@@ -11,8 +11,11 @@ use rpki_resources::repository::resources::{
 };
 use std::alloc::{AllocError, Allocator};
 
-/// An AS block as it is read again from octets that begin with what is written of it. `AllocError` where there is no
-/// memory for them.
+/// Encodes an AS block, and decodes it from octets that begin with its encoding.
+///
+/// # Errors
+///
+/// [`AllocError`] if an allocation fails.
 pub fn as_block_written_and_read<A: Allocator>(
     alloc: A,
     block: &AsBlock,
@@ -30,8 +33,11 @@ pub fn as_block_written_and_read<A: Allocator>(
     }
 }
 
-/// A block of addresses as it is read again from octets that begin with what is written of it. `AllocError` where there
-/// is no memory for them.
+/// Encodes a block of addresses, and decodes it from octets that begin with its encoding.
+///
+/// # Errors
+///
+/// [`AllocError`] if an allocation fails.
 pub fn block_written_and_read<A: Allocator>(
     alloc: A,
     block: &IpBlock,
@@ -49,7 +55,11 @@ pub fn block_written_and_read<A: Allocator>(
     }
 }
 
-/// A set of addresses as it is read again from its SEQUENCE. `AllocError` where there is no memory for it.
+/// Encodes a set of addresses, and decodes it from its SEQUENCE.
+///
+/// # Errors
+///
+/// [`AllocError`] if an allocation fails.
 pub fn written_and_read<A: Allocator + Copy>(
     alloc: A,
     set: &IpBlocks<A>,
@@ -66,8 +76,11 @@ pub fn written_and_read<A: Allocator + Copy>(
     }
 }
 
-/// A set of AS numbers as it is read again from what is written of it, put in one SEQUENCE. `AllocError` where there is
-/// no memory for it.
+/// Encodes a set of AS numbers in one SEQUENCE, and decodes it.
+///
+/// # Errors
+///
+/// [`AllocError`] if an allocation fails.
 pub fn as_written_and_read<A: Allocator + Copy>(
     alloc: A,
     set: &AsBlocks<A>,
@@ -88,8 +101,15 @@ pub fn as_written_and_read<A: Allocator + Copy>(
     }
 }
 
-/// AS resources as they are read again from what is written of them. They aren't missing. `AllocError` where there is
-/// no memory for them.
+/// Encodes AS resources, and decodes them.
+///
+/// # Preconditions
+///
+/// The resources aren't missing.
+///
+/// # Errors
+///
+/// [`AllocError`] if an allocation fails.
 pub fn resources_written_and_read<A: Allocator + Copy>(
     alloc: A,
     resources: &AsResources<A>,
@@ -107,9 +127,15 @@ pub fn resources_written_and_read<A: Allocator + Copy>(
     }
 }
 
-/// The resources of IPv4 and IPv6 as they are read again from what is written of them, and None where they are missing.
-/// One of them at least isn't, and what is listed of IPv4 consists of whole addresses. `AllocError` where there is no
-/// memory for them.
+/// Encodes the resources of IPv4 and IPv6, and decodes them. The result has None for missing resources.
+///
+/// # Preconditions
+///
+/// At least one of the two isn't missing. A list of IPv4 resources consists of whole addresses.
+///
+/// # Errors
+///
+/// [`AllocError`] if an allocation fails.
 pub fn families_written_and_read<A: Allocator + Copy>(
     alloc: A,
     v4: &IpResources<A>,

@@ -1,4 +1,4 @@
-//! Blocks that are read through a reader of the caller's own, and how often.
+//! Reads blocks through a reader of the caller's own, and counts the reads.
 ghost use Rattle.std.specs.Prelude.{◌≡◌, ◌+◌, ◌^◌, ◌<◌, ◌≤◌, ◌↔◌, ℕ, length, IsTrue, None};
 ghost use Rattle.rpki_as_block.specs.Blocks.{as_bounds};
 ghost use Rattle.rpki_chains.specs.Sets.{Covers};
@@ -11,7 +11,7 @@ use rpki_chains::counted::Counted;
 use rpki_chains::reads::Reads;
 use rpki_resources::repository::resources::{AsBlock, Asn};
 
-/// A chain of AS numbers that notes which of its blocks was read last.
+/// A chain of AS numbers that records which of its blocks was read last.
 #[derive(Drop)]
 pub struct Noted<'a> {
     blocks: Counted<'a, AsBlock>,
@@ -19,7 +19,7 @@ pub struct Noted<'a> {
 }
 
 impl<'a> Noted<'a> {
-    /// The chain, of which nothing was read yet.
+    /// Wraps a chain from which nothing was read yet.
     pub fn new(chain: Chain<'a, AsBlock>) -> Noted<'a>
         ensures blocks { ⟦<Noted<'a> as Reads<AsBlock>>⟧.blocks result ≡ chain_blocks chain.entry }
         ensures count { ⟦<Noted<'a> as Reads<AsBlock>>⟧.count result ≡ 0 }
@@ -31,7 +31,7 @@ impl<'a> Noted<'a> {
         }
     }
 
-    /// The place of the block that was read last, or None where none was.
+    /// Returns the index of the block that was read last, or None if none was.
     pub fn last(&self) -> Option<usize>
         ensures { result ≡ last_read self.now }
     {
@@ -54,7 +54,7 @@ impl Reads<AsBlock> for Noted<'_> {
     }
 }
 
-/// Whether a chain has an AS number. Of fewer than 2^n blocks at most n are read.
+/// Whether a chain has an AS number. If it has fewer than 2^n blocks, at most n are read.
 pub fn has<'a>(chain: &mut Noted<'a>, asn: Asn) -> bool
     ensures value { IsTrue result
         ↔ Covers as_bounds (⟦<Noted<'a> as Reads<AsBlock>>⟧.blocks chain.old) asn }

@@ -1,5 +1,5 @@
-//! Route origins: what validated payloads say of routes, which of them say it, and what an authorization lists that its
-//! certificate hasn't (RFC 6811; RFC 9582).
+//! Validates route origins by VRPs, explains the results, and compares an authorization with the resources of its
+//! certificate (RFC 6811; RFC 9582).
 ghost use Rattle.std.specs.Prelude.{All, IfOk, MatchOption, reverse};
 ghost use Rattle.std.specs.List.Sorted.{IsNonDecreasingBy};
 ghost use Rattle.roa_check.specs.Inside.{IsPrefixInside};
@@ -15,15 +15,19 @@ use rpki_resources::resources::addr::{MaxLenPrefix, Prefix};
 use rpki_resources::resources::asn::Asn;
 use std::alloc::{AllocError, Allocator};
 
-/// The validity of the route to a prefix that an AS originates, by a list of payloads: without memory, for one route.
+/// Returns the validity of the route to a prefix that an AS originates, by a list of VRPs. The call needs no memory,
+/// and suits a single route.
 pub fn by_list(route: Prefix, asn: Asn, payloads: &[(MaxLenPrefix, Asn)]) -> Validity
     ensures { IsValidity route asn payloads.now result }
 {
     origin(route, asn, payloads)
 }
 
-/// The same by a table of the list, which a router makes once and asks for many routes. `AllocError` where there is no
-/// memory for the table.
+/// Returns the same by a table of the list. A router makes such a table once, and uses it for many routes.
+///
+/// # Errors
+///
+/// [`AllocError`] if an allocation fails.
 pub fn by_table<A: Allocator + Copy>(
     alloc: A,
     route: Prefix,
@@ -37,7 +41,7 @@ pub fn by_table<A: Allocator + Copy>(
     Ok(table.origin(route, asn))
 }
 
-/// How many of the routes are invalid by a table: some payload covers the route, and none matches it (RFC 6811, 2).
+/// Returns how many of the routes are invalid by a table: some VRP covers the route, and none matches it (RFC 6811, 2).
 pub fn count_invalid<A: Allocator>(table: &OriginTable<A>, routes: &[(Prefix, Asn)]) -> usize
     ensures { IsCountOfInvalid table.now routes.now result }
 {
@@ -50,8 +54,12 @@ pub fn count_invalid<A: Allocator>(table: &OriginTable<A>, routes: &[(Prefix, As
     count
 }
 
-/// The payloads of a table that cover the route to a prefix, which explain the validity of its origin: each as often as
-/// it was listed, those of longer prefixes first. `AllocError` where there is no memory for the list.
+/// Returns the VRPs of a table that cover the route to a prefix. They explain the validity of its origin. VRPs of
+/// longer prefixes come first. A repeated VRP is repeated.
+///
+/// # Errors
+///
+/// [`AllocError`] if an allocation fails.
 pub fn explanation<A: Allocator>(
     alloc: A,
     table: &OriginTable<A>,
@@ -69,8 +77,8 @@ pub fn explanation<A: Allocator>(
     Ok(found)
 }
 
-/// The first prefix of an authorization that isn't inside the resources of its certificate, or None where each one is:
-/// then the certificate has all that the authorization is about (RFC 9582, 5).
+/// Returns the first prefix of an authorization that isn't inside the resources of its certificate. It
+/// returns None if each one is inside: the certificate then has all addresses of the authorization (RFC 9582, 5).
 pub fn excess<A: Allocator>(
     resources: &ResourceSet<A>,
     entries: &[MaxLenPrefix],

@@ -1,4 +1,4 @@
-//! Sets that are joined, and gone over block by block.
+//! Joins sets, and iterates over the blocks of a set.
 ghost use Rattle.std.specs.Prelude.{◌≡◌, ◌⊎◌, IfOk, map};
 ghost use Rattle.rpki_chain.specs.Runs.{Holds, IsRunsOf};
 ghost use Rattle.rpki_as.specs.Blocks.{IsAsSet};
@@ -8,7 +8,11 @@ use rpki_chain::laws::{blocks_of_runs, laws_of_runs};
 use rpki_resources::repository::resources::{AsBlock, AsBlocks, Ipv4Blocks};
 use std::alloc::{AllocError, Allocator};
 
-/// The addresses of both sets and of a third. `AllocError` where there is no memory for them.
+/// Returns the union of three sets of IPv4 addresses.
+///
+/// # Errors
+///
+/// [`AllocError`] if an allocation fails.
 pub fn union_of_three<A: Allocator + Copy>(
     alloc: A,
     one: &Ipv4Blocks<A>,
@@ -22,8 +26,11 @@ pub fn union_of_three<A: Allocator + Copy>(
     both.union(alloc, three)
 }
 
-/// The blocks of a set in a list of their own: its runs, ascending, an Id where a run is one number and else a Range.
-/// `AllocError` where there is no memory for the list.
+/// Returns the blocks of a set as a list: its runs, ascending. A run of one number is an Id, and any other a Range.
+///
+/// # Errors
+///
+/// [`AllocError`] if an allocation fails.
 pub fn blocks_of<A: Allocator>(alloc: A, set: &AsBlocks<A>) -> Result<Vec<AsBlock, A>, AllocError>
     ensures blocks { IfOk result (λ list. list.items ≡ map new_as_block set.now) }
     ensures bounds { IfOk result (λ list. map as_bounds list.items ≡ set.now) }
@@ -36,7 +43,11 @@ pub fn blocks_of<A: Allocator>(alloc: A, set: &AsBlocks<A>) -> Result<Vec<AsBloc
     Ok(list)
 }
 
-/// A set as it is made again of its blocks: the same set. `AllocError` where there is no memory for it.
+/// Returns the set that is made again from the blocks of a set. It is the same set.
+///
+/// # Errors
+///
+/// [`AllocError`] if an allocation fails.
 pub fn made_again<A: Allocator + Copy>(
     alloc: A,
     set: &AsBlocks<A>,

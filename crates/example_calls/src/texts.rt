@@ -1,12 +1,15 @@
-//! Sets and resources that are sent as texts: printed, and read again from what was printed. Each is the same.
+//! Prints sets and resources, and parses the texts. The result is the same value.
 ghost use Rattle.std.specs.Prelude.{◌≡◌, IfOk};
 
 use rpki_resources::OrMemory;
 use rpki_resources::repository::resources::{AsResources, IpBlocks, ResourceSet};
 use std::alloc::{AllocError, Allocator};
 
-/// A set of addresses of either family, printed as one of IPv6, as it is read again. `AllocError` where there is no
-/// memory for it.
+/// Prints a set of addresses of either family as one of IPv6, and parses the text.
+///
+/// # Errors
+///
+/// [`AllocError`] if an allocation fails.
 pub fn printed_and_read<A: Allocator + Copy>(
     alloc: A,
     set: &IpBlocks<A>,
@@ -23,8 +26,11 @@ pub fn printed_and_read<A: Allocator + Copy>(
     }
 }
 
-/// AS resources, missing, inherited or listed, as they are read again from what is printed of them. `AllocError` where
-/// there is no memory for them.
+/// Prints AS resources (missing, inherited or listed), and parses the text.
+///
+/// # Errors
+///
+/// [`AllocError`] if an allocation fails.
 pub fn as_resources_printed_and_read<A: Allocator + Copy>(
     alloc: A,
     resources: &AsResources<A>,
@@ -40,8 +46,11 @@ pub fn as_resources_printed_and_read<A: Allocator + Copy>(
     }
 }
 
-/// A set of resources of the three kinds, sent as three lists, as it is read again. `AllocError` where there is no
-/// memory for it.
+/// Prints the three kinds of resources of a set as three lists, and parses them.
+///
+/// # Errors
+///
+/// [`AllocError`] if an allocation fails.
 pub fn resources_printed_and_read<A: Allocator + Copy>(
     alloc: A,
     set: &ResourceSet<A>,

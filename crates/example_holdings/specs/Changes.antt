@@ -1,4 +1,4 @@
--- What changes for a holder of resources.
+-- The changes for a holder of resources.
 use Rattle.std.specs.Prelude.{◌≡◌}
 use Rattle.rpki_resources.specs.Triples.{Triple, Changes, IsDifferenceOf, IsUnionOf}
 

@@ -19,7 +19,7 @@ lists_of line = slice_split (λ b. b == semicolon) line
 abbrev pub AreLists : List ℕ → Lists → Type 0
 AreLists line lists = lists_of line ≡ lists.asn.now ∷ lists.ipv4.now ∷ lists.ipv6.now ∷ []
 
--- the line has so many lists, and not three
+-- the line has this number of lists, which isn't 3
 abbrev pub HasOtherCount : List ℕ → ℕ → Type 0
 HasOtherCount line count = (length (lists_of line) ≡ count) × (count ≢ 3)
 
@@ -30,11 +30,11 @@ pub record OfTwoLines (text : List ℕ) (P : List ℕ → List ℕ → Type 0) :
   pub two : lines text ≡ first ∷ second ∷ []
   pub holds : P first second
 
--- the text is two lines, each of the three lists
+-- the text is two lines of three lists each, which are those of the input
 abbrev pub IsInput : List ℕ → Input → Type 0
 IsInput text input = OfTwoLines text (λ first second. AreLists first input.had × AreLists second input.gets)
 
--- this is the first thing that is wrong with the text
+-- this is the first fault of the text
 abbrev pub HasInputFault : List ℕ → InputError → Type 0
 HasInputFault text (Lines count) = (length (lines text) ≡ count) × (count ≢ 2)
 HasInputFault text (Had count) = OfTwoLines text (λ first second. HasOtherCount first count)

@@ -1,4 +1,4 @@
-//! What changes for a holder of resources.
+//! The changes for a holder of resources.
 ghost use Rattle.std.specs.Prelude.{◌≡◌, ℕ, List, Some, IfOk};
 ghost use Rattle.std.specs.String.{string_bytes};
 ghost use Rattle.rpki_resources.specs.TripleText.{changes_text};
@@ -10,8 +10,11 @@ use rpki_resources::repository::resources::{ResourceDiff, ResourceSet};
 use std::alloc::{AllocError, Allocator};
 use std::fmt;
 
-/// What is printed of the changes that lead from what a holder had to what it gets. `AllocError` where there is no
-/// memory for it.
+/// Returns the text of the changes from what a holder had to what it gets.
+///
+/// # Errors
+///
+/// [`AllocError`] if an allocation fails.
 pub fn printed<A: Allocator + Copy>(
     alloc: A,
     had: &ResourceSet<A>,
@@ -23,7 +26,7 @@ pub fn printed<A: Allocator + Copy>(
     text(alloc, between(alloc, had, gets)?)
 }
 
-/// What is added to the one set and removed from it where a holder gets the other.
+/// Returns what is added to `had` and removed from it if the holder gets `gets`.
 fn between<A: Allocator + Copy>(
     alloc: A,
     had: &ResourceSet<A>,
@@ -37,7 +40,7 @@ fn between<A: Allocator + Copy>(
     gets.difference(alloc, had)
 }
 
-/// What is printed of a value.
+/// Returns the printed text of a value.
 fn text<T: fmt::Display + Drop, A: Allocator>(alloc: A, value: T) -> Result<String<A>, AllocError>
     ensures { (written : List ℕ) → T.output value ≡ Some written
         → IfOk result (λ text. string_bytes text ≡ written) }

@@ -1,4 +1,4 @@
-//! The program's input: what a holder had and what it gets, each a line of three lists.
+//! The input of the program: what a holder had and what it gets, each a line of three lists.
 ghost use Rattle.std.specs.Prelude.{◌≡◌, IfOk, MatchResult, map};
 ghost use Rattle.std.specs.Str.Lines.{lines};
 ghost use Rattle.rpki_resources.specs.Memory.{IfRefused};
@@ -8,7 +8,7 @@ use rpki_resources::OrMemory;
 use std::alloc::{AllocError, Allocator};
 use thiserror::Error;
 
-/// Three lists of resources, with semicolons between them.
+/// Three lists of resources, separated by semicolons.
 #[derive(Clone, Copy)]
 pub struct Lists<'a> {
     /// AS numbers.
@@ -19,32 +19,36 @@ pub struct Lists<'a> {
     pub ipv6: &'a str,
 }
 
-/// What a holder had, and what it gets.
+/// The resources that a holder had, and those that it gets.
 #[derive(Clone, Copy)]
 pub struct Input<'a> {
-    /// The first line.
+    /// The first line: what the holder had.
     pub had: Lists<'a>,
-    /// The second line.
+    /// The second line: what the holder gets.
     pub gets: Lists<'a>,
 }
 
-/// What is wrong with an input.
+/// A fault of an input.
 #[derive(Clone, Copy, Debug, PartialEq, Eq, Error)]
 pub enum InputError {
-    /// There aren't two lines, but so many.
+    /// The text has not two lines, but this number.
     #[error("two lines are wanted, there are {0}")]
     Lines(usize),
-    /// The first line hasn't three lists, but so many.
+    /// The first line has not three lists, but this number.
     #[error("what was had: three lists are wanted, there are {0}")]
     Had(usize),
-    /// The second line hasn't three lists, but so many.
+    /// The second line has not three lists, but this number.
     #[error("what is got: three lists are wanted, there are {0}")]
     Gets(usize),
 }
 
-/// The two lines of a text, each cut at its semicolons. `Refused` with the count of its lines where there aren't
-/// exactly two, and else with the count of lists of the first line that hasn't exactly three; `Memory` where there is
-/// no memory to cut it.
+/// Cuts a text into its two lines, and each line into its three lists.
+///
+/// # Errors
+///
+/// - `Refused`: the text hasn't exactly two lines, or a line hasn't exactly three lists. The fault has the number of
+///   lines, or the number of lists of the first such line.
+/// - `Memory`: an allocation failed.
 pub fn read_input<A: Allocator + Copy>(
     alloc: A,
     text: &str,
@@ -68,8 +72,8 @@ pub fn read_input<A: Allocator + Copy>(
     }
 }
 
-/// The three lists of a line. `Refused` with their count where there aren't exactly three; `Memory` where there is no
-/// memory to cut it.
+/// Returns the three lists of a line. `Refused` has their number if there aren't exactly three. `Memory` means that an
+/// allocation failed.
 fn read_lists<A: Allocator + Copy>(alloc: A, line: &str) -> Result<Lists<'_>, OrMemory<usize>>
     ensures { MatchResult result (AreLists line.now) (IfRefused (HasOtherCount line.now)) }
 {
@@ -80,14 +84,14 @@ fn read_lists<A: Allocator + Copy>(alloc: A, line: &str) -> Result<Lists<'_>, Or
     }
 }
 
-/// The lines of a text.
+/// Returns the lines of a text.
 fn lines_of<A: Allocator>(alloc: A, text: &str) -> Result<Vec<&str, A>, AllocError>
     ensures { IfOk result (λ parts. map (λ line. line.now) parts.items ≡ lines text.now) }
 {
     text.lines().collect(alloc)
 }
 
-/// The parts of a line between its semicolons.
+/// Returns the parts of a line between its semicolons.
 fn parts_of<A: Allocator>(alloc: A, line: &str) -> Result<Vec<&str, A>, AllocError>
     ensures { IfOk result (λ parts. map (λ part. part.now) parts.items ≡ lists_of line.now) }
 {

@@ -1,9 +1,9 @@
 //! The program `example_holdings`: a certification authority compares what a resource holder had with what it gets.
 //!
-//! The first line of the standard input is what the holder had, the second what it gets: each a list of AS numbers, one
-//! of IPv4 addresses and one of IPv6 addresses, with semicolons between them. The program prints what changes, and the
-//! octets of AS numbers and of addresses for the new certificate, or `missing` where it has none. Any other input is
-//! refused, by what is wrong with it, with status 1.
+//! The first line of the standard input is what the holder had, and the second is what it gets. Each line has three
+//! lists, separated by semicolons: AS numbers, IPv4 addresses and IPv6 addresses. The program prints the changes. It
+//! also prints the octets of AS numbers and of addresses for the new certificate, or `missing` if it has none. For any
+//! other input the program reports the fault, and exits with status 1.
 #![tactic(auto)]
 
 mod changes;
@@ -24,25 +24,25 @@ fn main(rt: HostRuntime) -> anyhow::Result<()> {
     compare(&rt, input)
 }
 
-/// Compares what two lines list; each of the calls from here on holds one set more, so that few owners are alive at
-/// once.
+/// Compares the resources of two lines. Each of the calls from here on holds one set more, so that few owners are alive
+/// at once.
 fn compare(rt: &HostRuntime, input: Input<'_>) -> anyhow::Result<()> {
     let had = set_of(rt.alloc(), input.had)?;
     compare_with(rt, &had, input.gets)
 }
 
-/// Compares a set with what a line lists.
+/// Compares a set with the resources of a line.
 fn compare_with(rt: &HostRuntime, had: &ResourceSet, gets: Lists<'_>) -> anyhow::Result<()> {
     let gets = set_of(rt.alloc(), gets)?;
     print(rt, had, &gets)
 }
 
-/// The set that three lists write.
+/// Returns the set of three lists.
 fn set_of(alloc: Global, lists: Lists<'_>) -> Result<ResourceSet, OrMemory<FromStrError>> {
     ResourceSet::from_strs(alloc, lists.asn, lists.ipv4, lists.ipv6)
 }
 
-/// Prints what changes from the one set to the other, and the octets of the second.
+/// Prints the changes from `had` to `gets`, and the octets of `gets`.
 fn print(rt: &HostRuntime, had: &ResourceSet, gets: &ResourceSet) -> anyhow::Result<()> {
     print_line(rt, "", changes::printed(rt.alloc(), had, gets))?;
     print_line(
@@ -57,7 +57,7 @@ fn print(rt: &HostRuntime, had: &ResourceSet, gets: &ResourceSet) -> anyhow::Res
     )
 }
 
-/// Prints a text behind its name.
+/// Prints a text after its name.
 fn print_line(
     rt: &HostRuntime,
     kind: &str,
@@ -68,7 +68,7 @@ fn print_line(
     Ok(())
 }
 
-/// The octets in hexadecimal, or that there are none.
+/// Returns the octets in hexadecimal, or `missing` without octets.
 fn hexadecimal(alloc: Global, octets: Octets<Global>) -> Result<String, AllocError> {
     match octets? {
         Some(octets) => hex::encode(alloc, octets.as_slice()),

@@ -1,4 +1,4 @@
-//! The octets of what a certificate lists (RFC 3779, 2.2.3 and 3.2.3).
+//! The octets of the resources in a certificate (RFC 3779, 2.2.3 and 3.2.3).
 ghost use Rattle.std.specs.Prelude.{◌≡◌, [], IfOk, MatchOption};
 ghost use Rattle.rpki_resources.specs.Claims.{claim_of};
 ghost use Rattle.rpki_resources.specs.ResourcesChoice.TheVariants.{Missing};
@@ -8,10 +8,10 @@ ghost use Rattle.rpki_resources.specs.ResourcesDer.{ip_families_der};
 use rpki_resources::repository::resources::{AsResources, IpResources, ResourceSet};
 use std::alloc::{AllocError, Allocator};
 
-/// Octets, and None where nothing is listed. `AllocError` where there is no memory for them.
+/// Octets, or None if nothing is listed, or [`AllocError`] if an allocation fails.
 pub type Octets<A> = Result<Option<Vec<u8, A>>, AllocError>;
 
-/// The octets of AS resources that list the AS numbers of a set.
+/// Returns the octets of AS resources that list the AS numbers of a set.
 pub fn of_asn<A: Allocator>(alloc: A, set: &ResourceSet<A>) -> Octets<A>
     ensures { IfOk result (λ found. MatchOption found (set.now.asn ≡ [])
         (λ octets. octets.items ≡ as_resources_octets (claim_of set.now.asn))) }
@@ -20,7 +20,7 @@ pub fn of_asn<A: Allocator>(alloc: A, set: &ResourceSet<A>) -> Octets<A>
     of_as_resources(alloc, &resources)
 }
 
-/// The octets of AS resources, where they aren't missing.
+/// Returns the octets of AS resources, or None if they are missing.
 fn of_as_resources<A: Allocator>(alloc: A, resources: &AsResources<A>) -> Octets<A>
     ensures { IfOk result (λ found. MatchOption found (resources.now ≡ Missing)
         (λ octets. octets.items ≡ as_resources_octets resources.now)) }
@@ -33,7 +33,7 @@ fn of_as_resources<A: Allocator>(alloc: A, resources: &AsResources<A>) -> Octets
     Ok(Some(octets))
 }
 
-/// The octets of the families that list the addresses of a set.
+/// Returns the octets of the families that list the addresses of a set.
 pub fn of_addresses<A: Allocator>(alloc: A, set: &ResourceSet<A>) -> Octets<A>
     ensures { IfOk result (λ found. MatchOption found ((set.now.ipv4 ≡ []) × (set.now.ipv6 ≡ []))
         (λ octets. octets.items ≡ ip_families_der (claim_of set.now.ipv4)
@@ -44,7 +44,7 @@ pub fn of_addresses<A: Allocator>(alloc: A, set: &ResourceSet<A>) -> Octets<A>
     of_families(alloc, &v4, &v6)
 }
 
-/// The octets of the families of resources that aren't missing.
+/// Returns the octets of the families of resources, or None if both are missing.
 fn of_families<A: Allocator>(alloc: A, v4: &IpResources<A>, v6: &IpResources<A>) -> Octets<A>
     ensures { IfOk result (λ found. MatchOption found ((v4.now ≡ Missing) × (v6.now ≡ Missing))
         (λ octets. octets.items ≡ ip_families_der v4.now v6.now)) }

@@ -1,9 +1,14 @@
-//! The program `example_verified_set`: what an issuer verifies of a certificate, or why it doesn't.
+//! The program `example_verified_set`: prints the resources that an issuer verifies of a certificate, or why it
+//! refuses.
 //!
-//! Its arguments are the issuer's AS numbers, IPv4 addresses and IPv6 addresses, each a list, two files of octets, the
-//! values of the certificate's AS identifiers and IP address blocks, and a mode: `refuse` or `trim`, which is what
-//! becomes of a claim that lists too much, and `canonical-refuse` or `canonical-trim` where canonical octets alone are
-//! read.
+//! Its arguments are:
+//!
+//! - the issuer's AS numbers, IPv4 addresses and IPv6 addresses, each a list;
+//! - two files with the values of the certificate extensions: AS identifiers and IP address blocks;
+//! - a mode.
+//!
+//! The modes `refuse` and `trim` say what happens to overclaimed resources. The modes `canonical-refuse` and
+//! `canonical-trim` also reject encodings that aren't canonical.
 #![tactic(auto)]
 
 use rpki_extensions::encoding::Encoding;
@@ -26,7 +31,7 @@ fn main(rt: HostRuntime) -> anyhow::Result<ExitCode> {
     verify_files(&rt, &issuer, [numbers, addresses], reading)
 }
 
-/// Which octets are read, and what becomes of a claim that lists too much, by the name of a mode.
+/// Returns which encodings are accepted and what happens to overclaimed resources, by the name of a mode.
 fn reading_named(mode: &str) -> Option<(Encoding, Overclaim)> {
     match mode {
         "refuse" => Some((Encoding::Any, Overclaim::Refuse)),
@@ -37,7 +42,7 @@ fn reading_named(mode: &str) -> Option<(Encoding, Overclaim)> {
     }
 }
 
-/// Prints what the issuer verifies of the octets in two files.
+/// Prints the resources that the issuer verifies of the octets in two files.
 fn verify_files(
     rt: &HostRuntime,
     issuer: &ResourceSet,
@@ -55,8 +60,8 @@ fn verify_files(
     verify(rt, issuer, &certificate)
 }
 
-/// Prints what the issuer verifies of a certificate, or all of the reason why it doesn't: an [`anyhow::Error`] would
-/// keep its first 120 bytes.
+/// Prints the resources that the issuer verifies of a certificate, or the whole reason why it refuses. An
+/// [`anyhow::Error`] would keep the first 120 bytes of the reason.
 fn verify(
     rt: &HostRuntime,
     issuer: &ResourceSet,

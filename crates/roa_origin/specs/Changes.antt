@@ -1,10 +1,10 @@
--- What changes from one table to the next (RFC 8210, 5.6 and 8.2).
+-- The VRPs that are announced and withdrawn from one table to the next (RFC 8210, 5.6 and 8.2).
 use Rattle.std.specs.Prelude.{List}
 use Rattle.roa_origin.specs.Payloads.{Payload}
 use Rattle.roa_origin.specs.Tables.{IsWithout}
 use Rattle.roa_origin.specs.declared.changes.PayloadChanges.{PayloadChanges}
 
--- announced is what the next table has and the one before it hasn't, withdrawn what that has and the next one hasn't
+-- announced: in the next table and not in the previous one; withdrawn: in the previous table and not in the next one
 pub record ArePayloadChanges {A : Type 0} (table next : List Payload) (changes : PayloadChanges A) : Type 0 where
   pub announced : IsWithout next table changes.announced
   pub withdrawn : IsWithout table next changes.withdrawn

@@ -1,4 +1,4 @@
--- The payloads of a list that cover a route (RFC 6811, 2).
+-- The VRPs of a list that cover a route (RFC 6811, 2).
 use Rattle.std.specs.Prelude.{◌≡◌, ◌&&◌, ◌==◌, ℕ, ◌≤◌, ◌⊎◌, Bool, nat_le, List, [], ◌∷◌, reverse, take, length}
 use Rattle.std.specs.List.{filter}
 use Rattle.rpki_prefix.specs.Order.{last_bits}
@@ -7,22 +7,22 @@ use Rattle.roa_origin.specs.Links.{AreUpTo, IsTable}
 use Rattle.roa_origin.specs.Payloads.{Payload}
 use Rattle.roa_origin.specs.declared.links.Link.{Link}
 
--- ys are the elements of xs at which P holds, in their order, each as often as it stands there
+-- ys are the elements of xs for which P holds, in their order, each as often as it is there
 abbrev pub AreThose : {X : Type 0} → (X → Type 0) → List X → List X → Type 0
 AreThose P [] ys = ys ≡ []
 AreThose {X} P (x ∷ xs) ys = (P x × (zs : List X) × (ys ≡ x ∷ zs) × AreThose P xs zs) ⊎ ((¬ P x) × AreThose P xs ys)
 
--- whether a payload covers the route: it is of its family, and its addresses lie round the route's
+-- whether a VRP covers the route: it is of the route's family, and its addresses include the route's
 abbrev pub covers_route : FamilyPrefix → Payload → Bool
 covers_route route payload =
     (width payload.0.prefix.addr == width route.addr)
     && (nat_le (address_number payload.0.prefix.addr) (address_number route.addr) && nat_le (last_bits route) (last_bits payload.0.prefix))
 
--- the first n payloads that cover the route, the last first
+-- those of the first n VRPs that cover the route, the last first
 abbrev pub covering_before : FamilyPrefix → List Payload → ℕ → List Payload
 covering_before route xs n = reverse (filter (covers_route route) (take n xs))
 
--- a walk in a table from the first n payloads on, which come no later than the route
+-- a traversal of a table from its first n VRPs on, which come no later than the route
 pub record IsWalk (xs : List Payload) (links : List Link) (n : ℕ) (route : FamilyPrefix) : Type 0 where
   pub table : IsTable xs links
   pub within : n ≤ length xs

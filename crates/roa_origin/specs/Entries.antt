@@ -1,4 +1,4 @@
--- The fields of a payload as a table holds them.
+-- The fields of a VRP as a table stores them.
 use Rattle.std.specs.Prelude.{ℕ, Bool, true, false, Option}
 use Rattle.rpki_addr.specs.declared.addr.IpAddr.{IpAddr}
 use Rattle.rpki_addr.specs.declared.addr.IpAddr.TheVariants.{V4, V6}
@@ -10,14 +10,14 @@ abbrev pub addr_of : Bool → ℕ → IpAddr
 addr_of false n = V4 n
 addr_of true n = V6 n
 
--- the payload of a family, an address, a length, a greatest length and an AS number
+-- the VRP of a family, an address, a length, a maximum length and an AS number
 abbrev pub payload_of : Bool → ℕ → ℕ → Option ℕ → ℕ → Payload
 payload_of v6 n len max_len asn = (record { prefix = record { addr = addr_of v6 n; len = len }; max_len = max_len }, asn)
 
--- the number that the bits of a payload's address write
+-- the number that the bits of a VRP's address write
 abbrev pub address_bits : Payload → ℕ
 address_bits payload = address_number payload.0.prefix.addr
 
--- whether a payload is of IPv6
+-- whether a VRP is of IPv6
 abbrev pub is_of_v6 : Payload → Bool
 is_of_v6 payload = is_v6 payload.0.prefix.addr

@@ -1,17 +1,17 @@
--- Routes that are sought in a table.
+-- Lookups of routes in a table.
 use Rattle.std.specs.Prelude.{ℕ, List}
 use Rattle.rpki_prefix.specs.Values.{FamilyPrefix, IsFamilyPrefix}
 use Rattle.roa_origin.specs.Links.{IsBetween, IsTable}
 use Rattle.roa_origin.specs.Payloads.{Payload}
 use Rattle.roa_origin.specs.declared.links.Link.{Link}
 
--- payloads, and the route to a prefix that an AS originates, which is sought in them
+-- VRPs, and the route to a prefix that an AS originates, which is looked up in them
 pub record SoughtRoute : Type 0 where
   pub payloads : List Payload
   pub route : FamilyPrefix
   pub asn : ℕ
 
--- a table, and the places between which a prefix is sought
+-- a table, and the indices between which a prefix is searched
 pub record IsSoughtBetween (xs : List Payload) (links : List Link) (from to : ℕ) (route : FamilyPrefix) : Type 0 where
   pub table : IsTable xs links
   pub is_prefix : IsFamilyPrefix route

@@ -1,14 +1,14 @@
--- Where the payloads whose addresses begin with the same bits stand in a table.
+-- The indices in a table at which VRPs begin whose addresses have the same first bits.
 use Rattle.std.specs.Prelude.{◌≡◌, ℕ, ◌+◌, ◌-◌, ◌*◌, ◌/◌, ◌^◌, ◌<◌, ◌≤◌, List, length, slice_index, slice_index_or}
 use Rattle.rpki_prefix.specs.Values.{FamilyPrefix, address_number, width}
 use Rattle.roa_origin.specs.Payloads.{Payload}
 use Rattle.roa_origin.specs.Places.{family_place}
 
--- the number that the first n bits of a prefix's address write, those of IPv6 after those of IPv4
+-- the number that the first n bits of a prefix's address write, plus 2 ^ n for IPv6
 abbrev pub first_bits : ℕ → FamilyPrefix → ℕ
 first_bits n p = family_place p.addr * 2 ^ n + address_number p.addr / 2 ^ (width p.addr - n)
 
--- a place in a table before which the first n bits write less than a number, and from which on no less
+-- an index in a table: the first n bits write less than a number before it, and no less from it on
 pub record IsStart (n : ℕ) (xs : List Payload) (number start : ℕ) : Type 0 where
   pub within : start ≤ length xs
   pub before : (k : ℕ) (d : Payload) → k < start → first_bits n (slice_index_or xs k d).0.prefix < number

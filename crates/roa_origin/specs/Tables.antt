@@ -1,4 +1,4 @@
--- Tables of validated payloads, as a cache sends them to routers (RFC 6811, 2; RFC 8210, 5.6 and 5.7).
+-- Tables of VRPs, as a cache sends them to routers (RFC 6811, 2; RFC 8210, 5.6 and 5.7).
 use Rattle.std.specs.Prelude.{◌≡◌, ◌↔◌, ◌⊎◌, List, Contains, AllPairs, Some, map}
 use Rattle.std.specs.Ordering.{on, then_cmp, nat_cmp}
 use Rattle.std.specs.declared.cmp.Ordering.{Ordering}
@@ -6,29 +6,29 @@ use Rattle.std.specs.declared.cmp.Ordering.TheVariants.{Less}
 use Rattle.rpki_prefix.specs.MaxLen.{max_len_cmp, resolved}
 use Rattle.roa_origin.specs.Payloads.{Payload}
 
--- a payload as it is sent: with a greatest length, that of its prefix where it has none
+-- a VRP as it is sent: with a maximum length, which is its prefix length if it has none
 abbrev pub as_sent : Payload → Payload
 as_sent payload = (record { prefix = payload.0.prefix; max_len = Some (resolved payload.0.prefix payload.0.max_len) }, payload.1)
 
--- by the prefix with its greatest length, then by the AS number
+-- by the prefix with its maximum length, then by the AS number
 abbrev pub payload_cmp : Payload → Payload → Ordering
 payload_cmp = then_cmp (on (λ p. p.0) max_len_cmp) (on (λ p. p.1) nat_cmp)
 
--- each payload is less than those after it
+-- each VRP is less than those after it
 abbrev pub IsAscending : List Payload → Type 0
 IsAscending = AllPairs (λ p q. payload_cmp p q ≡ Less)
 
--- the table has the payloads of the list as they are sent, ascending, and so each once
+-- the table has the VRPs of the list as they are sent, ascending, and so each once
 pub record IsTableOf (payloads table : List Payload) : Type 0 where
   pub ascending : IsAscending table
   pub members : (p : Payload) → Contains table p ↔ Contains (map as_sent payloads) p
 
--- the list has what the one has and the other hasn't, ascending
+-- the list has the VRPs that are in one and not in other, ascending
 pub record IsWithout (one other left : List Payload) : Type 0 where
   pub ascending : IsAscending left
   pub members : (p : Payload) → Contains left p ↔ (Contains one p × ¬ Contains other p)
 
--- a list in order that has what the table has and isn't withdrawn, and what is announced
+-- an ascending list of the VRPs of the table that aren't withdrawn, and of those that are announced
 pub record IsAfter (table announced withdrawn set : List Payload) : Type 0 where
   pub ascending : IsAscending set
   pub members : (p : Payload) → Contains set p ↔ ((Contains table p × ¬ Contains withdrawn p) ⊎ Contains announced p)

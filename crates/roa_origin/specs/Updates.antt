@@ -1,4 +1,4 @@
--- What a router has after the changes that a cache sends it (RFC 8210, 5.3, 5.6, 5.7, 5.11 and 12).
+-- A router's table after the changes that a cache sends (RFC 8210, 5.3, 5.6, 5.7, 5.11 and 12).
 use Rattle.std.specs.Prelude.{◌≡◌, ℕ, ◌+◌, ◌*◌, ◌^◌, ◌<◌, ◌≤◌, ◌⊎◌, List, ◌++◌, All, Any, length, map, slice_index_or, take}
 use Rattle.std.specs.List.Sorted.{IsNonDecreasingBy, IsPermutation}
 use Rattle.roa_origin.specs.Coverings.{AreThose}
@@ -9,26 +9,25 @@ use Rattle.roa_origin.specs.declared.updates.Change.{Change}
 use Rattle.roa_origin.specs.declared.updates.ChangeFault.{ChangeFault}
 use Rattle.roa_origin.specs.declared.updates.ChangeFault.TheVariants.{DuplicateAnnouncement, UnknownWithdrawal}
 
--- the list has the payload, as payloads are sent
+-- the list has the VRP, compared as VRPs are sent
 abbrev pub IsSentIn : List Payload → Payload → Type 0
 IsSentIn payloads p = Any (λ q. as_sent q ≡ as_sent p) payloads
 
--- at this place a payload is withdrawn that the table hasn't, or that is withdrawn before ('Withdrawal of Unknown
--- Record')
+-- the VRP withdrawn at this index isn't in the table, or is withdrawn before ('Withdrawal of Unknown Record')
 pub record IsUnknownRecord (table withdrawn : List Payload) (n : ℕ) : Type 0 where
   pub within : n < length withdrawn
   pub unknown : (d : Payload)
       → (¬ IsSentIn table (slice_index_or withdrawn n d)) ⊎ IsSentIn (take n withdrawn) (slice_index_or withdrawn n d)
 
--- at this place a payload is announced that the table has and that isn't withdrawn, or that is announced before
--- ('Duplicate Announcement Received')
+-- the VRP announced at this index is in the table and isn't withdrawn, or is announced before ('Duplicate Announcement
+-- Received')
 pub record IsDuplicateRecord (table announced withdrawn : List Payload) (n : ℕ) : Type 0 where
   pub within : n < length announced
   pub duplicate : (d : Payload)
       → (IsSentIn table (slice_index_or announced n d) × ¬ IsSentIn withdrawn (slice_index_or announced n d))
       ⊎ IsSentIn (take n announced) (slice_index_or announced n d)
 
--- P holds at a number, and at none before
+-- P holds at a number, and at no lower one
 pub record IsFirst (P : ℕ → Type 0) (n : ℕ) : Type 0 where
   pub here : P n
   pub none : (k : ℕ) → k < n → ¬ P k
@@ -43,8 +42,8 @@ pub record AreUpdates (table announced withdrawn : List Payload) : Type 0 where
   pub known : (n : ℕ) → ¬ IsUnknownRecord table withdrawn n
   pub fresh : (n : ℕ) → ¬ IsDuplicateRecord table announced withdrawn n
 
--- the next table has what the table lists and isn't withdrawn, as often as it is listed, and what is announced, as it
--- is sent
+-- the next table has the VRPs of the table that aren't withdrawn, as often as they are listed, and the announced VRPs
+-- as they are sent
 pub record IsUpdated (table announced withdrawn next : List Payload) : Type 0 where
   pub kept : List Payload
   pub stays : AreThose (λ p. ¬ IsSentIn withdrawn p) table kept
@@ -52,17 +51,17 @@ pub record IsUpdated (table announced withdrawn next : List Payload) : Type 0 wh
 
 -- ---- changes in order
 
--- a payload as it is sent, and a place of a list
+-- a VRP as it is sent, and an index of a list
 pub record IsLawfulChange (change : Change) : Type 0 where
   pub payload : IsLawfulPayload change.entry
   pub sent : told change.entry.0.max_len ≡ 1
   pub number : change.place < 2 ^ 64
 
--- a number that is less where the payload comes earlier, and by one payload where the place is less
+-- a sort key: by the VRP, then by the index
 abbrev pub change_place : Change → ℕ
 change_place change = sent_place change.entry * 2 ^ 64 + change.place
 
--- changes of the payloads of a list, each with its place there
+-- changes of the VRPs of a list, each with its index there
 pub record AreChangesOf (payloads : List Payload) (changes : List Change) : Type 0 where
   pub lawful : All IsLawfulChange changes
   pub entries : IsPermutation (map as_sent payloads) (map (λ change. change.entry) changes)
@@ -77,28 +76,28 @@ pub record AreSorted (changes : List Change) : Type 0 where
   pub lawful : All IsLawfulChange changes
   pub ordered : IsNonDecreasingBy change_place changes
 
--- the number of a change's payload as it is sent
+-- the sort key of a change's VRP as it is sent
 abbrev pub sent_change : Change → ℕ
 sent_change change = sent_place change.entry
 
--- a search in a list for a number stops at a place: before it the numbers are less, and from it on they aren't
+-- a search in a list for a number stops at an index: before it the numbers are less, and from it on they aren't
 pub record IsSearched {X : Type 0} (f : X → ℕ) (xs : List X) (t at : ℕ) : Type 0 where
   pub before : (k : ℕ) (d : X) → k < at → k < length xs → f (slice_index_or xs k d) < t
   pub from : (k : ℕ) (d : X) → at ≤ k → k < length xs → t ≤ f (slice_index_or xs k d)
 
--- a change is one of the payload; and stands before a place of the list that it came in
+-- a change is one of the VRP; the second also requires that its index is lower than n
 abbrev pub IsOf : Payload → Change → Type 0
 IsOf p change = sent_place change.entry ≡ sent_place p
 
 abbrev pub IsOfBefore : Payload → ℕ → Change → Type 0
 IsOfBefore p n change = IsOf p change × (change.place < n)
 
--- the least place of a change of a payload
+-- the lowest index of a change of a VRP
 pub record IsFirstPlace (changes : List Change) (p : Payload) (n : ℕ) : Type 0 where
   pub there : Any (λ change. IsOf p change × (change.place ≡ n)) changes
   pub first : All (λ change. IsOf p change → n ≤ change.place) changes
 
--- the list has what the table lists and no change of the withdrawn is of, and the payloads of the announced
+-- the list has the VRPs of the table that no withdrawn change is of, and the VRPs of the announced changes
 pub record IsMergedOf (table : List Payload) (withdrawn announced : List Change) (next : List Payload) : Type 0 where
   pub kept : List Payload
   pub stays : AreThose (λ p. ¬ Any (IsOf p) withdrawn) table kept

@@ -1,4 +1,4 @@
-//! What changes from one table of payloads to the next.
+//! The VRPs that are announced and withdrawn from one table to the next.
 ghost use Rattle.std.specs.Prelude.{◌≡◌, ◌≤◌, ◌<◌, ◌≢◌, ◌↔◌, IsTrue, IfOk, length, slice_index_or};
 ghost use Rattle.std.specs.declared.cmp.Ordering.TheVariants.{Less};
 ghost use Rattle.roa_origin.specs.Payloads.{Payload};
@@ -10,22 +10,26 @@ use rpki_base::Asn;
 use rpki_prefix::MaxLenPrefix;
 use std::alloc::{AllocError, Allocator, Global};
 
-/// What a router is told so that it gets from one table to the next.
+/// The changes that a cache sends to a router, so that the router gets from one table to the next.
 #[derive(Drop)]
 #[derive_where(Debug)]
 pub struct PayloadChanges<A: Allocator = Global> {
-    /// The payloads that the next table has and the one before it hasn't.
+    /// The VRPs that are in the next table and not in the previous one.
     pub announced: PayloadTable<A>,
-    /// Those that the table had and the next one hasn't.
+    /// The VRPs that are in the previous table and not in the next one.
     pub withdrawn: PayloadTable<A>,
 }
 
 impl<A: Allocator> PayloadTable<A> {
-    /// What is announced and what is withdrawn from this table to the next, both ascending (RFC 8210, 5.6 and 8.2).
-    /// Each table is gone through twice. `AllocError` where there is no memory for the two lists.
+    /// Returns the VRPs to announce and to withdraw from this table to `next`, both ascending (RFC 8210, 5.6 and 8.2).
     ///
-    /// This call finds the changes between two tables, as a cache does. [`crate::OriginTable::with_changes`] applies
-    /// changes to a table, as a router does. [`crate::changed`] finds the routes whose validity differs.
+    /// The call goes through each table twice. It finds the changes between two tables, as a cache does.
+    /// [`crate::OriginTable::with_changes`] applies changes to a table, as a router does. [`crate::changed`] finds the
+    /// routes whose validity differs.
+    ///
+    /// # Errors
+    ///
+    /// [`AllocError`] if an allocation for the two lists fails.
     pub fn changes_to(
         &self,
         alloc: A,
@@ -44,7 +48,7 @@ impl<A: Allocator> PayloadTable<A> {
     }
 }
 
-/// The payloads of the one table that the other hasn't.
+/// Returns the table of the VRPs of `one` that `other` doesn't have.
 fn without<A: Allocator>(
     alloc: A,
     one: &PayloadTable<A>,
@@ -56,8 +60,8 @@ fn without<A: Allocator>(
     Ok(PayloadTable::of(left))
 }
 
-/// The payloads of the one list that the other hasn't. One walk along both: payloads of the other one that are less
-/// than one payload are less than all behind it.
+/// Returns the VRPs of `one` that `other` doesn't have, in one pass over both. VRPs of `other` that are less than a VRP
+/// of `one` are less than all later VRPs of `one`.
 fn left_of<A: Allocator>(
     alloc: A,
     one: &[(MaxLenPrefix, Asn)],
@@ -78,7 +82,7 @@ fn left_of<A: Allocator>(
     Ok(left)
 }
 
-/// The first place from one on at which a list hasn't a payload that is less.
+/// Returns the first index, from `from` on, whose VRP isn't less than `payload`, or the length of the list.
 fn not_less(payloads: &[(MaxLenPrefix, Asn)], from: usize, payload: &(MaxLenPrefix, Asn)) -> usize
     requires { from ≤ length payloads.now }
     ensures behind { from ≤ result }
@@ -95,7 +99,7 @@ fn not_less(payloads: &[(MaxLenPrefix, Asn)], from: usize, payload: &(MaxLenPref
     at
 }
 
-/// Whether the payload stands at a place of a list.
+/// Returns whether `payload` is the VRP at index `at`.
 #[tactic(auto, using(crate::proofs::Totals::equal_of, crate::proofs::Totals::ties))]
 fn stands_at(payloads: &[(MaxLenPrefix, Asn)], at: usize, payload: &(MaxLenPrefix, Asn)) -> bool
     ensures { IsTrue result ↔ ((at < length payloads.now)

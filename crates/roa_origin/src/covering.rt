@@ -1,4 +1,4 @@
-//! The payloads that cover a route: what explains its validity (RFC 6811, 2).
+//! The VRPs that cover a route: they explain its validity (RFC 6811, 2).
 ghost use Rattle.std.specs.Prelude.{◌≡◌};
 ghost use Rattle.std.specs.Iterator.{YieldsFirst, item_count};
 ghost use Rattle.roa_origin.specs.Coverings.{IsWalk, covering_before};
@@ -10,9 +10,9 @@ use rpki_prefix::MaxLenPrefix;
 use std::fmt;
 use std::marker::Model;
 
-/// The payloads of a table that cover a route and are left, the longest prefix first. Contracts see it as their list.
+/// An iterator over the VRPs of a table that cover a route, the longest prefix first.
 ///
-/// This is an iterator. `route_calls::route::Covering` is one such payload as C gets it.
+/// Its value in contracts is the list of the VRPs that are left. `route_calls::route::Covering` is one such VRP for C.
 #[derive(Drop)]
 pub struct Covering<'a> {
     payloads: &'a [Entry],
@@ -34,7 +34,7 @@ impl<'a> Model for Covering<'a> {
 }
 
 impl<'a> Covering<'a> {
-    /// The walk from the first `at` payloads of a table on.
+    /// Returns the iterator over the covering VRPs among the first `at` VRPs of a table.
     pub(crate) fn from(
         payloads: &'a [Entry],
         links: &'a [Link],
@@ -53,7 +53,7 @@ impl<'a> Covering<'a> {
     }
 }
 
-/// Shows the route's prefix. The payloads that are left are left out.
+/// Shows the route's prefix. It doesn't show the VRPs that are left.
 impl fmt::Debug for Covering<'_> {
     fn fmt<W: fmt::Write>(&self, f: &mut fmt::Formatter<W>) -> fmt::Result {
         f.debug_struct("Covering")

@@ -1,4 +1,4 @@
-//! Payloads as a table holds them: in 32 octets each.
+//! VRPs as a table stores them: in 32 octets each.
 ghost use Rattle.std.specs.Prelude.{◌+◌, ◌-◌, ◌*◌, ◌^◌, ◌<◌, ◌≡◌, ◌↔◌, ◌≤◌, IsTrue, nat_le, nat_lt};
 ghost use Rattle.std.specs.Ordering.{nat_cmp};
 ghost use Rattle.rpki_prefix.specs.Values.{IsFamilyPrefix, is_v6, width};
@@ -12,7 +12,7 @@ use rpki_prefix::{MaxLenPrefix, Prefix};
 use std::cmp::Ordering;
 use std::marker::Model;
 
-/// The fields of a payload, without the room that their types leave between them. Contracts see the payload.
+/// The fields of a VRP, without the padding of their types. Its value in contracts is the VRP.
 #[derive(Clone, Copy)]
 pub(crate) struct Entry {
     bits: u128,
@@ -47,7 +47,7 @@ impl Model for Entry {
 }
 
 impl Entry {
-    /// The entry of a payload.
+    /// Returns the entry of a VRP.
     pub(crate) fn new(payload: (MaxLenPrefix, Asn)) -> Entry
         ensures value { result ≡ payload }
         ensures payload { IsLawfulPayload payload }
@@ -74,7 +74,7 @@ impl Entry {
         }
     }
 
-    /// The entry of a route that an AS originates: a payload of its prefix alone. A lookup makes it once.
+    /// Returns the entry of a route: a VRP of its prefix and AS without a maximum length. A lookup makes it once.
     pub(crate) fn of_route(route: Prefix, asn: Asn) -> Entry
         ensures route { result.0.prefix ≡ route }
         ensures asn { result.1 ≡ asn }
@@ -84,7 +84,7 @@ impl Entry {
         Entry::new((MaxLenPrefix::from(route), asn))
     }
 
-    /// The payload.
+    /// Returns the VRP.
     pub(crate) fn payload(&self) -> (MaxLenPrefix, Asn)
         ensures { result ≡ self.now }
     {
@@ -94,7 +94,7 @@ impl Entry {
         }
     }
 
-    /// The payload's prefix.
+    /// Returns the VRP's prefix.
     pub(crate) fn prefix(&self) -> Prefix
         ensures { result ≡ self.now.0.prefix }
     {
@@ -109,14 +109,15 @@ impl Entry {
         }
     }
 
-    /// The longest route that the payload allows: its greatest length, or its prefix's length where there is none.
+    /// Returns the length of the longest route that the VRP allows: its maximum length, or its prefix length if it has
+    /// none.
     fn longest(&self) -> u8
         ensures { result ≡ longest self.now }
     {
         self.max_len.unwrap_or(self.len)
     }
 
-    /// 1 where a greatest length is told.
+    /// Returns 1 if the VRP has a maximum length, and 0 otherwise.
     fn told(&self) -> u64
         ensures value { result ≡ told self.now.0.max_len }
         ensures few { result ≤ 1 }
@@ -127,8 +128,8 @@ impl Entry {
         }
     }
 
-    /// The number by which payloads of one prefix are in order as they are sent: the greatest AS number comes first,
-    /// and by one AS the shortest greatest length.
+    /// Returns the sort key of VRPs of one prefix as they are sent: descending by AS number, then ascending by longest
+    /// route.
     fn sent_rank(&self) -> u64
         ensures value { result ≡ sent_rank self.now }
         ensures small { result < 2 ^ 42 }
@@ -137,29 +138,28 @@ impl Entry {
         below_greatest * 512 + u64::from(self.longest()) * 2
     }
 
-    /// The number by which payloads of one prefix are in order: by one greatest length the one comes first that isn't
-    /// told.
+    /// Returns the sort key of VRPs of one prefix. If all else is equal, a VRP without a maximum length comes first.
     fn rank(&self) -> u64
         ensures { result ≡ rank self.now }
     {
         self.sent_rank() + self.told()
     }
 
-    /// Compares the ranks of payloads as they are sent.
+    /// Compares the ranks of two VRPs as they are sent.
     fn cmp_sent_rank(&self, other: &Entry) -> Ordering
         ensures { result ≡ nat_cmp (sent_rank self.now) (sent_rank other.now) }
     {
         self.sent_rank().cmp(&other.sent_rank())
     }
 
-    /// Compares the ranks of payloads.
+    /// Compares the ranks of two VRPs.
     fn cmp_rank(&self, other: &Entry) -> Ordering
         ensures { result ≡ nat_cmp (rank self.now) (rank other.now) }
     {
         self.rank().cmp(&other.rank())
     }
 
-    /// Compares the prefixes of payloads by a table's order.
+    /// Compares the prefixes of two VRPs in a table's order.
     #[tactic(auto, using(crate::proofs::Places::fields_cmp))]
     fn cmp_prefix(&self, other: &Entry) -> Ordering
         ensures order { result ≡ nat_cmp (payload_place self.now) (payload_place other.now) }
@@ -171,7 +171,7 @@ impl Entry {
             .then(self.len.cmp(&other.len))
     }
 
-    /// Compares payloads by a table's order.
+    /// Compares two VRPs in a table's order.
     pub(crate) fn cmp_place(&self, other: &Entry) -> Ordering
         ensures { result ≡ nat_cmp (table_place self.now) (table_place other.now) }
     {
@@ -181,14 +181,14 @@ impl Entry {
         }
     }
 
-    /// Whether the payload comes no later in a table's order than another.
+    /// Returns whether the VRP comes no later than `other` in a table's order.
     pub(crate) fn is_up_to(&self, other: &Entry) -> bool
         ensures { result ≡ nat_le (table_place self.now) (table_place other.now) }
     {
         self.cmp_place(other).is_le()
     }
 
-    /// Compares payloads by a table's order, as they are sent.
+    /// Compares two VRPs as they are sent, in a table's order.
     pub(crate) fn cmp_sent(&self, other: &Entry) -> Ordering
         ensures order { result ≡ nat_cmp (sent_place self.now) (sent_place other.now) }
         ensures payloads { IsLawfulPayload self.now × IsLawfulPayload other.now }
@@ -199,14 +199,14 @@ impl Entry {
         }
     }
 
-    /// Whether the payload comes before another in a table's order, as they are sent.
+    /// Returns whether the VRP, as it is sent, comes before `other` in a table's order.
     pub(crate) fn is_sent_before(&self, other: &Entry) -> bool
         ensures { result ≡ nat_lt (sent_place self.now) (sent_place other.now) }
     {
         self.cmp_sent(other).is_lt()
     }
 
-    /// Whether two payloads are the same as they are sent.
+    /// Returns whether the two VRPs are sent alike.
     pub(crate) fn is_sent_as(&self, other: &Entry) -> bool
         ensures same { IsTrue result ↔ (sent_place self.now ≡ sent_place other.now) }
         ensures payloads { IsLawfulPayload self.now × IsLawfulPayload other.now }
@@ -214,7 +214,7 @@ impl Entry {
         self.cmp_sent(other).is_eq()
     }
 
-    /// Whether the payload's prefix comes no later in a table's order than that of another.
+    /// Returns whether the VRP's prefix comes no later than the prefix of `other` in a table's order.
     pub(crate) fn comes_by(&self, other: &Entry) -> bool
         ensures { IsTrue result ↔ (payload_place self.now ≤ payload_place other.now) }
     {
@@ -224,14 +224,14 @@ impl Entry {
         self.bits < other.bits || (self.bits == other.bits && self.len <= other.len)
     }
 
-    /// Whether two payloads are of one prefix.
+    /// Returns whether both VRPs have the same prefix.
     pub(crate) fn has_prefix_of(&self, other: &Entry) -> bool
         ensures { IsTrue result ↔ (self.now.0.prefix ≡ other.now.0.prefix) }
     {
         self.cmp_prefix(other).is_eq()
     }
 
-    /// The number that the first bits of the prefix's address write, those of IPv6 after those of IPv4.
+    /// Returns the number that the first `count` bits of the prefix's address write, plus 2^`count` for IPv6.
     #[tactic(auto, using(crate::proofs::Firsts::few_numbers, crate::proofs::Firsts::first_part))]
     pub(crate) fn first_bits(&self, count: u8) -> usize
         requires some { 1 ≤ count }
@@ -246,14 +246,14 @@ impl Entry {
         }
     }
 
-    /// How many of 128 bits stand before those that the prefix leaves open; an IPv4 address is the last 32 of them.
+    /// Returns how many of 128 bits the prefix fixes. An IPv4 address is in the last 32 bits.
     fn fixed_bits(&self) -> u8
         ensures { result + (width self.now.0.prefix.addr - prefix_len self.now) ≡ 128 }
     {
         if self.is_v6 { self.len } else { self.len + 96 }
     }
 
-    /// How many addresses the prefix has beside its first.
+    /// Returns the number of addresses of the prefix, minus one.
     fn addresses_behind(&self) -> u128
         ensures { result + 1 ≡ 2 ^ (width self.now.0.prefix.addr - prefix_len self.now) }
     {
@@ -261,14 +261,14 @@ impl Entry {
         if fixed == 128 { 0 } else { u128::MAX >> fixed }
     }
 
-    /// Whether both are of one family.
+    /// Returns whether both are of the same address family.
     fn has_family_of(&self, other: &Entry) -> bool
         ensures { IsTrue result ↔ (is_v6 self.now.0.prefix.addr ≡ is_v6 other.now.0.prefix.addr) }
     {
         self.is_v6 == other.is_v6
     }
 
-    /// Whether the payload covers a route (RFC 6811, 2).
+    /// Returns whether the VRP covers the route (RFC 6811, 2).
     #[tactic(auto, using(crate::proofs::Nested::starts_by, crate::proofs::Places::covers_len))]
     pub(crate) fn covers(&self, route: &Entry) -> bool
         ensures { IsTrue result ↔ CoversRoute route.now.0.prefix self.now }
@@ -285,21 +285,21 @@ impl Entry {
         route.bits - self.bits <= self.addresses_behind()
     }
 
-    /// Whether the payload's AS number isn't below the route's.
+    /// Returns whether the VRP's AS number is not below the route's.
     pub(crate) fn has_asn_from(&self, route: &Entry) -> bool
         ensures { result ≡ nat_le route.now.1 self.now.1 }
     {
         route.asn.into_u32() <= self.asn.into_u32()
     }
 
-    /// Whether the payload's AS is the route's, which isn't AS0.
+    /// Returns whether the VRP's AS is the route's, and is not AS0.
     pub(crate) fn has_as_of(&self, route: &Entry) -> bool
         ensures { IsTrue result ↔ HasAs route.now.1 self.now }
     {
         route.asn != Asn::MIN && self.asn == route.asn
     }
 
-    /// Whether the payload matches a route that it covers (RFC 6811, 2; RFC 9582, 4.3.2).
+    /// Returns whether the VRP matches a route that it covers (RFC 6811, 2; RFC 9582, 4.3.2).
     pub(crate) fn allows(&self, route: &Entry) -> bool
         requires { CoversRoute route.now.0.prefix self.now }
         ensures { IsTrue result ↔ Matches route.now.0.prefix route.now.1 self.now }

@@ -1,4 +1,4 @@
-//! What callers may rely on and no single call says.
+//! Lemmas for callers: facts that follow from no single contract.
 ghost use Rattle.std.specs.Prelude.{◌≡◌, ◌↔◌, ◌⊎◌, List, [], Contains, map, ℕ};
 ghost use Rattle.std.specs.List.Sorted.{IsPermutation};
 ghost use Rattle.rpki_prefix.specs.Values.{FamilyPrefix};
@@ -10,7 +10,7 @@ ghost use Rattle.roa_origin.specs.Validities.{IsValidity};
 
 use crate::validation::Validity;
 
-/// A list of payloads gives a route one validity alone, and the same in whatever order its payloads stand.
+/// A route has at most one validity by a list of VRPs, and the order of the list doesn't matter.
 pub fn laws_of_validities()
     ensures one { (route : FamilyPrefix) (asn : ℕ) (payloads : List Payload) (v w : Validity)
         → IsValidity route asn payloads v → IsValidity route asn payloads w → v ≡ w }
@@ -19,7 +19,7 @@ pub fn laws_of_validities()
         IsValidity route asn payloads validity ↔ IsValidity route asn others validity }
 {}
 
-/// A list of payloads has one table alone, and tables with the same payloads are the same.
+/// A list of VRPs has at most one table, and tables with the same VRPs are equal.
 pub fn laws_of_tables()
     ensures one { (payloads table other : List Payload) → IsTableOf payloads table
         → IsTableOf payloads other → table ≡ other }
@@ -27,7 +27,7 @@ pub fn laws_of_tables()
         → ((p : Payload) → Contains table p ↔ Contains other p) → table ≡ other }
 {}
 
-/// A table without what is withdrawn and with what is announced is the next one; from a table to itself nothing
+/// A table without the withdrawn VRPs, and with the announced ones, is the next table. From a table to itself nothing
 /// changes.
 pub fn laws_of_changes()
     ensures leads { (table next announced withdrawn set : List Payload) → IsAscending next
@@ -36,9 +36,11 @@ pub fn laws_of_changes()
     ensures none { (table left : List Payload) → IsWithout table table left → left ≡ [] }
 {}
 
-/// A table after changes has, as payloads are sent, those of the table before that aren't withdrawn, and those that are
-/// announced; it lists them as they were listed, and announced ones as they are sent. Changes lead to one list,
-/// whatever its order.
+/// A table after changes has the VRPs of the old table that aren't withdrawn, and the announced VRPs. VRPs are compared
+/// as they are sent.
+///
+/// The next table lists the old VRPs as they were listed, and the announced ones as they are sent. Changes lead to one
+/// list, except for its order.
 pub fn laws_of_updates()
     ensures sent { (table announced withdrawn next : List Payload) → IsUpdated table announced withdrawn next
         → (p : Payload) → IsSentIn next p ↔ ((IsSentIn table p × ¬ IsSentIn withdrawn p) ⊎ IsSentIn announced p) }
@@ -50,8 +52,10 @@ pub fn laws_of_updates()
         → IsPermutation next other }
 {}
 
-/// Payloads are the same where the number is by which tables list them: so their order is one, and of payloads that are
-/// listed both `OriginTable::payloads` and `OriginTable::covering` give one list.
+/// Two VRPs are equal if their sort keys in a table are equal.
+///
+/// Their order is therefore unique: for the same listed VRPs, `OriginTable::payloads` and `OriginTable::covering` each
+/// give one list.
 pub fn laws_of_places()
     ensures { (p q : Payload) → IsLawfulPayload p → IsLawfulPayload q → table_place p ≡ table_place q → p ≡ q }
 {}

@@ -1,8 +1,10 @@
-//! The validity of route origins by validated payloads of route origin authorizations (RFC 6811, RFC 9582): of one
-//! route by a list, and of many routes by a table, which follows the changes that a cache sends; and what a cache tells
-//! routers of payloads (RFC 8210): a table of them, and what is announced and withdrawn from one table to the next.
+//! Route origin validation (RFC 6811, RFC 9582), and the tables of VRPs that caches and routers exchange (RFC 8210).
 //!
-//! A list that is made already is asked by [`origin`]; for many routes a table is made of it once, and is asked as in
+//! [`origin`] returns the validity of one route by a list of VRPs. An [`OriginTable`] does so for many routes, and
+//! follows the changes that a cache sends. A [`PayloadTable`] holds what a cache sends to routers.
+//! [`PayloadTable::changes_to`] finds the VRPs to announce and to withdraw from one table to the next.
+//!
+//! Use [`origin`] for a list that you already have. For many routes make a table once and look them up in it, as in
 //! `example_calls::routes::count_invalid`:
 //!
 //! ```rust

@@ -1,4 +1,4 @@
-//! The links of a table's payloads, by which a walk gets from a prefix to the shorter ones that cover it.
+//! The links of a table's VRPs, by which a lookup gets from a prefix to the shorter ones that cover it.
 ghost use Rattle.std.specs.Prelude.{◌≡◌, ◌-◌, ◌^◌, ◌<◌, ◌≤◌, ◌⊎◌, IfOk, length, slice_index_or};
 ghost use Rattle.rpki_prefix.specs.Values.{IsFamilyPrefix};
 ghost use Rattle.roa_origin.specs.Links.{AreLinks, AreUpTo, IsInOrder, IsLink, IsTable, NoneCovers};
@@ -7,11 +7,13 @@ ghost use Rattle.roa_origin.specs.Payloads.{CoversRoute, Payload};
 use crate::entry::Entry;
 use std::alloc::{AllocError, Allocator};
 
-/// How many payloads a table has at most, so that its links and starts take half the room.
+/// The most VRPs that a table can have. With this limit its links and starts take half the memory.
 const MOST: usize = 0xffff_ffff;
 
-/// Where the payloads begin that have the prefix of one, and how many there are up to the nearest one before them that
-/// covers it: 0 where none does.
+/// The link of a VRP to shorter prefixes.
+///
+/// `first` is the index of the first VRP with the same prefix. `back` is the index, plus one, of the nearest earlier
+/// VRP of another prefix that covers this one, or 0 if no VRP does.
 #[derive(Clone, Copy)]
 pub(crate) struct Link {
     pub(crate) first: u32,
@@ -19,8 +21,8 @@ pub(crate) struct Link {
 }
 
 impl Link {
-    /// How many payloads are left of those before the one at a place, which has this link, when those are left out that
-    /// can't cover what it covers: all, where the last of them has its prefix.
+    /// Returns how many VRPs a lookup has left before index `at`, whose link this is. It passes over those that can't
+    /// cover what this one covers. If the VRP before has the same prefix, all are left.
     pub(crate) fn left(self, at: usize) -> usize
         ensures { ((result ≡ at) × (self.first < at))
             ⊎ ((result ≡ self.back) × (at ≤ self.first)) }
@@ -30,8 +32,9 @@ impl Link {
     }
 }
 
-/// How many payloads are left of the first `from` when the last ones are left out that don't cover the route. Each step
-/// gets to a shorter prefix, so there are at most 129.
+/// Returns how many of the first `from` VRPs are left when the last ones that don't cover the route are dropped.
+///
+/// Each step gets to a shorter prefix, so there are at most 129.
 pub(crate) fn nearest(payloads: &[Entry], links: &[Link], from: usize, route: &Entry) -> usize
     requires in_order { IsInOrder payloads.now }
     requires is_prefix { IsFamilyPrefix route.now.0.prefix }
@@ -54,7 +57,7 @@ pub(crate) fn nearest(payloads: &[Entry], links: &[Link], from: usize, route: &E
     at
 }
 
-/// The link of a payload, by those of the payloads before it.
+/// Returns the link of the VRP at index `at`, by the links of the earlier VRPs.
 fn next_link(payloads: &[Entry], links: &[Link], at: usize) -> Link
     requires in_order { IsInOrder payloads.now }
     requires within { at < length payloads.now }
@@ -77,7 +80,7 @@ fn next_link(payloads: &[Entry], links: &[Link], at: usize) -> Link
     }
 }
 
-/// The link of each payload. `AllocError` too where there are more than links have room for.
+/// Returns the link of each VRP, or `AllocError` if an allocation fails or there are more than [`MOST`] VRPs.
 pub(crate) fn links<A: Allocator>(alloc: A, payloads: &[Entry]) -> Result<Vec<Link, A>, AllocError>
     requires { IsInOrder payloads.now }
     ensures links { IfOk result (λ links. IsTable payloads.now links.items) }

@@ -1,4 +1,4 @@
-//! The payloads of a table.
+//! An iterator over the VRPs of a table.
 ghost use Rattle.std.specs.Prelude.{◌≡◌};
 ghost use Rattle.std.specs.Iterator.{YieldsFirst, item_count};
 
@@ -8,9 +8,9 @@ use rpki_prefix::MaxLenPrefix;
 use std::fmt;
 use std::marker::Model;
 
-/// The payloads of a table that are left, in its order. Contracts see it as their list.
+/// An iterator over the VRPs of a table, in its order. Its value in contracts is the list of the VRPs that are left.
 ///
-/// This iterator borrows an [`crate::OriginTable`]. A [`crate::PayloadTable`] owns its payloads, each once, as a cache
+/// This iterator borrows an [`crate::OriginTable`]. A [`crate::PayloadTable`] owns its VRPs, each once, as a cache
 /// sends them.
 #[derive(Drop)]
 pub struct TablePayloads<'a> {
@@ -34,7 +34,7 @@ impl<'a> TablePayloads<'a> {
     }
 }
 
-/// Lists the payloads that are left.
+/// Lists the VRPs that are left.
 impl fmt::Debug for TablePayloads<'_> {
     fn fmt<W: fmt::Write>(&self, f: &mut fmt::Formatter<W>) -> fmt::Result {
         f.debug_list()

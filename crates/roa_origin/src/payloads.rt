@@ -1,4 +1,4 @@
-//! A table of payloads.
+//! A table of VRPs as a cache sends them.
 ghost use Rattle.std.specs.Prelude.{◌≡◌, IfOk, map};
 ghost use Rattle.roa_origin.specs.Tables.{IsAscending, IsTableOf, as_sent};
 
@@ -8,13 +8,13 @@ use std::alloc::{AllocError, Allocator, Global};
 use std::fmt;
 use std::marker::Model;
 
-/// Payloads as routers get them, ascending and each once: each has its greatest length, which is that of its prefix
-/// where the authorization has none (RFC 9582, 4.3.2; RFC 8210, 5.6 and 5.7).
+/// VRPs as routers get them, ascending and without duplicates (RFC 9582, 4.3.2; RFC 8210, 5.6 and 5.7).
 ///
-/// They are in the order of their prefixes, then the longer greatest length first, then by the AS number. Contracts see
-/// the list of them.
+/// Each VRP has a maximum length. It is the prefix length if the ROA has no maximum length. VRPs are in the order of
+/// their prefixes, then the longer maximum length first, then by the AS number. The value of a table in contracts is
+/// the list of its VRPs.
 ///
-/// A `PayloadTable` owns its payloads. [`crate::TablePayloads`] is an iterator that borrows those of an
+/// A `PayloadTable` owns its VRPs. [`crate::TablePayloads`] is an iterator that borrows those of an
 /// [`crate::OriginTable`].
 #[derive(Drop)]
 pub struct PayloadTable<A: Allocator = Global> {
@@ -34,8 +34,14 @@ impl<A: Allocator> Model for PayloadTable<A> {
 }
 
 impl<A: Allocator> PayloadTable<A> {
-    /// The table of payloads in any order, with duplicates or not; two that differ in a greatest length that is told
-    /// and is that of the prefix are one. `AllocError` where there is no memory for it.
+    /// Returns the table of VRPs in any order, with or without duplicates.
+    ///
+    /// A VRP without a maximum length, and one whose maximum length is its prefix length, become one VRP if they are
+    /// otherwise equal.
+    ///
+    /// # Errors
+    ///
+    /// [`AllocError`] if an allocation fails.
     pub fn new(alloc: A, payloads: &[(MaxLenPrefix, Asn)]) -> Result<PayloadTable<A>, AllocError>
         ensures { IfOk result (IsTableOf payloads.now) }
     {
@@ -46,7 +52,7 @@ impl<A: Allocator> PayloadTable<A> {
         Ok(PayloadTable { payloads: table })
     }
 
-    /// The payloads, ascending.
+    /// Returns the VRPs, ascending.
     pub fn as_slice(&self) -> &[(MaxLenPrefix, Asn)]
         ensures value { result.now ≡ self.now }
         ensures ascending { IsAscending self.now }
@@ -54,7 +60,7 @@ impl<A: Allocator> PayloadTable<A> {
         self.payloads.as_slice()
     }
 
-    /// The table of payloads that are in order.
+    /// Returns the table of VRPs that are in order.
     pub(crate) fn of(payloads: Vec<(MaxLenPrefix, Asn), A>) -> PayloadTable<A>
         requires { IsAscending payloads.items }
         ensures { result ≡ payloads.items }
@@ -63,14 +69,14 @@ impl<A: Allocator> PayloadTable<A> {
     }
 }
 
-/// Lists the payloads, ascending.
+/// Lists the VRPs, ascending.
 impl<A: Allocator> fmt::Debug for PayloadTable<A> {
     fn fmt<W: fmt::Write>(&self, f: &mut fmt::Formatter<W>) -> fmt::Result {
         f.debug_list().entries(self.as_slice()).finish()
     }
 }
 
-/// The payloads as they are sent. `AllocError` where there is no memory for them.
+/// Returns the VRPs as they are sent, or `AllocError` if an allocation fails.
 #[tactic(auto, using(std::proofs::lemmas::Grind::common_steps))]
 fn sent<A: Allocator>(
     alloc: A,
@@ -85,7 +91,7 @@ fn sent<A: Allocator>(
     Ok(list)
 }
 
-/// The payload with its greatest length told.
+/// Returns the VRP with a maximum length: its own, or else its prefix length.
 pub(crate) fn with_greatest_length(payload: &(MaxLenPrefix, Asn)) -> (MaxLenPrefix, Asn)
     ensures { result ≡ as_sent payload.now }
 {

@@ -1,4 +1,4 @@
-//! Routes that are to be evaluated anew when a table changes (RFC 6811, 4).
+//! The routes that a router evaluates anew when its table changes (RFC 6811, 4).
 ghost use Rattle.std.specs.Prelude.{◌≢◌, ◌↔◌, IfOk, IsTrue};
 ghost use Rattle.roa_origin.specs.Reevaluations.{AreChanged};
 
@@ -8,11 +8,16 @@ use rpki_base::Asn;
 use rpki_prefix::Prefix;
 use std::alloc::{AllocError, Allocator};
 
-/// The places of the routes, each a prefix and the AS that originates it, whose validity differs by two tables:
-/// ascending, counted from 0. These are the ones that a router evaluates anew when the one table follows the other; all
-/// others have the validity that they had (RFC 6811, 4). `AllocError` where there is no memory for the list.
+/// Returns the indices of the routes whose validity differs between `old` and `new`, ascending and counted from 0.
 ///
-/// This call compares the validity of routes. [`crate::PayloadTable::changes_to`] compares the payloads of two tables.
+/// `routes` has a prefix and an origin AS for each route. A router evaluates the returned routes anew when it replaces
+/// `old` by `new`. All other routes keep their validity (RFC 6811, 4).
+///
+/// This call compares the validity of routes. [`crate::PayloadTable::changes_to`] compares the VRPs of two tables.
+///
+/// # Errors
+///
+/// [`AllocError`] if an allocation for the list fails.
 pub fn changed<A: Allocator>(
     alloc: A,
     old: &OriginTable<A>,
@@ -30,7 +35,7 @@ pub fn changed<A: Allocator>(
     Ok(places)
 }
 
-/// Whether two validities differ.
+/// Returns whether two validities differ.
 fn differ(one: Validity, other: Validity) -> bool
     ensures { IsTrue result ↔ (one ≢ other) }
 {

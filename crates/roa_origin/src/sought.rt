@@ -1,4 +1,4 @@
-//! A route that is sought in a table, step by step.
+//! A lookup of a route in a table, step by step.
 ghost use Rattle.std.specs.Prelude.{◌≡◌, ◌≤◌, ◌↔◌, IsTrue, length, reverse};
 ghost use Rattle.std.specs.List.{filter};
 ghost use Rattle.rpki_prefix.specs.Values.{IsFamilyPrefix};
@@ -15,9 +15,11 @@ use crate::validation::Validity;
 use std::fmt;
 use std::marker::Model;
 
-/// A route that is sought in a table. Each step reads another place there. Whoever asks for many routes takes a step
-/// for some before the next step for the first of them, so that the reads of one don't wait for those of another.
-/// Contracts see the table's payloads, the route's prefix and its AS.
+/// A lookup of a route in a table.
+///
+/// Each step reads another element of the table. With many routes, take a step for several of them before the next step
+/// for the first one. Then the reads for one route don't wait for those for another. The value in contracts is the
+/// table's VRPs, the route's prefix and its AS.
 #[derive(Drop)]
 pub struct Sought<'a> {
     payloads: &'a [Entry],
@@ -42,7 +44,7 @@ impl<'a> Model for Sought<'a> {
 }
 
 impl<'a> Sought<'a> {
-    /// The first step: the starts tell between which places the route is sought.
+    /// Starts a lookup: the starts give the two indices between which it searches.
     #[tactic(auto, using(crate::proofs::Firsts::between_starts))]
     pub(crate) fn of(
         payloads: &'a [Entry],
@@ -70,7 +72,8 @@ impl<'a> Sought<'a> {
         }
     }
 
-    /// The next step: a payload in the middle between the places halves what is between them.
+    /// Takes the next step: the VRP in the middle halves the range that is left. The result of the lookup stays the
+    /// same.
     pub fn come_nearer(&mut self)
         ensures { self.new ≡ self.old }
     {
@@ -85,7 +88,7 @@ impl<'a> Sought<'a> {
         }
     }
 
-    /// How many payloads in the table's order come no later than the route's prefix.
+    /// Returns how many VRPs come no later than the route's prefix in the table's order.
     pub(crate) fn count(&self) -> usize
         ensures within { result ≤ length self.now.payloads }
         ensures up_to { AreUpTo self.now.payloads result self.now.route }
@@ -94,21 +97,21 @@ impl<'a> Sought<'a> {
         count_between(self.payloads, self.from, self.to, &self.route)
     }
 
-    /// The validity of the route by the payloads of the table.
+    /// Returns the validity of the route by the VRPs of the table.
     pub fn validity(&self) -> Validity
         ensures { IsValidity self.now.route self.now.asn self.now.payloads result }
     {
         validity_in(self.payloads, self.links, self.count(), &self.route)
     }
 
-    /// Whether a payload of the table that covers the route has its AS, which isn't AS0.
+    /// Returns whether a VRP of the table that covers the route has its AS, and that AS is not AS0.
     pub fn is_held(&self) -> bool
         ensures { IsTrue result ↔ IsHeldBy self.now.route self.now.asn self.now.payloads }
     {
         is_held_in(self.payloads, self.links, self.count(), &self.route)
     }
 
-    /// The payloads of the table that cover the route, the last first.
+    /// Returns the VRPs of the table that cover the route, the last first.
     #[tactic(auto, using(crate::proofs::Covered::all_before))]
     pub(crate) fn covering(self) -> Covering<'a>
         ensures covering { reverse result
@@ -121,7 +124,7 @@ impl<'a> Sought<'a> {
     }
 }
 
-/// Shows the route. The table's payloads are left out.
+/// Shows the route. It doesn't show the table's VRPs.
 impl fmt::Debug for Sought<'_> {
     fn fmt<W: fmt::Write>(&self, f: &mut fmt::Formatter<W>) -> fmt::Result {
         let (prefix, asn) = self.route.payload();

@@ -1,4 +1,4 @@
-//! Where a table's payloads stand whose addresses begin with the same bits: a search looks there first.
+//! The indices in a table at which VRPs begin whose addresses have the same first bits. A search begins there.
 ghost use Rattle.std.specs.Prelude.{◌^◌, ◌<◌, ◌≤◌, IfOk, length, slice_index_or};
 ghost use Rattle.std.specs.List.Sorted.{IsNonDecreasingBy};
 ghost use Rattle.roa_origin.specs.Links.{AreFamilyPrefixes};
@@ -9,8 +9,8 @@ ghost use Rattle.roa_origin.specs.Starts.{AreStarts, IsStart, first_bits};
 use crate::entry::Entry;
 use std::alloc::{AllocError, Allocator};
 
-/// How many first bits tell the starts of so many payloads apart: a start for each two or three of them, up to a
-/// million starts of a family.
+/// Returns how many first bits the starts for this many VRPs use: about one start for two or three VRPs, and at most a
+/// million starts for each family.
 pub(crate) fn bits_for(payloads: usize) -> u8
     ensures some { 1 ≤ result }
     ensures few { result ≤ 20 }
@@ -22,7 +22,7 @@ pub(crate) fn bits_for(payloads: usize) -> u8
     bits
 }
 
-/// The place in a table before which the first bits write less than a number, from one on before which they do.
+/// Returns the index up to which the first bits of VRPs write less than `number`. They do so before index `from`.
 fn start_from(payloads: &[Entry], bits: u8, number: usize, from: usize) -> usize
     requires ordered { IsNonDecreasingBy payload_place payloads.now }
     requires prefixes { AreFamilyPrefixes payloads.now (length payloads.now) }
@@ -40,7 +40,7 @@ fn start_from(payloads: &[Entry], bits: u8, number: usize, from: usize) -> usize
     at
 }
 
-/// The starts of all numbers that the first bits of an address write, and the end. One walk along the payloads.
+/// Returns the starts of all numbers that the first bits of an address write, and the end, in one pass over the VRPs.
 pub(crate) fn starts<A: Allocator>(
     alloc: A,
     payloads: &[Entry],

@@ -1,4 +1,4 @@
-//! A router's table after the changes that a cache sends it (RFC 8210, 5.3, 5.6 and 5.7).
+//! A router's table after the changes that a cache sends (RFC 8210, 5.3, 5.6 and 5.7).
 ghost use Rattle.std.specs.Prelude.{◌≡◌, ◌^◌, ◌<◌, ◌≤◌, ◌⊎◌, ◌↔◌, ℕ, false, List, All, Any, IfOk, IsTrue, MatchOption, MatchResult, length, nat_le, nat_lt, slice_index_or};
 ghost use Rattle.std.specs.List.Sorted.{IsPermutation};
 ghost use Rattle.std.specs.Ordering.{nat_cmp};
@@ -18,19 +18,21 @@ use std::alloc::{AllocError, Allocator};
 use std::cmp::Ordering;
 use thiserror::Error;
 
-/// Why changes are none of a table, which a router reports to its cache (RFC 8210, 5.11 and 12). Withdrawals are looked
-/// at first, each list in its order; the first that is wrong is told by its place in its list, counted from 0.
+/// The reason why changes don't apply to a table. A router reports it to its cache (RFC 8210, 5.11 and 12).
+///
+/// Withdrawals are checked first, each list in its order. The field is the index of the first faulty VRP in its list,
+/// counted from 0.
 #[derive(Clone, Copy, Debug, PartialEq, Eq, Error)]
 pub enum ChangeFault {
-    /// A payload is withdrawn that the table hasn't, or that is withdrawn before (error 6).
+    /// A withdrawn VRP isn't in the table, or is withdrawn before in the same list (error 6).
     #[error("withdrawal of unknown record at {0}")]
     UnknownWithdrawal(usize),
-    /// A payload is announced that the table has and that isn't withdrawn, or that is announced before (error 7).
+    /// An announced VRP is in the table and isn't withdrawn, or is announced before in the same list (error 7).
     #[error("duplicate announcement received at {0}")]
     DuplicateAnnouncement(usize),
 }
 
-/// A payload that is announced or withdrawn, as it is sent, with its place in the list that it came in.
+/// A VRP that is announced or withdrawn, as it is sent, with its index in its list.
 #[derive(Clone, Copy)]
 pub(crate) struct Change {
     pub(crate) entry: Entry,
@@ -38,7 +40,7 @@ pub(crate) struct Change {
 }
 
 impl Change {
-    /// The change of the payload at a place of a list.
+    /// Returns the change of the VRP at an index of a list.
     fn new(payload: &(MaxLenPrefix, Asn), place: usize) -> Change
         ensures entry { result.entry ≡ as_sent payload.now }
         ensures place { result.place ≡ place }
@@ -50,7 +52,7 @@ impl Change {
         }
     }
 
-    /// Compares changes by their payloads, and by one payload by their places.
+    /// Compares changes by their VRPs, and those of one VRP by their indices.
     fn cmp_place(&self, other: &Change) -> Ordering
         ensures { result ≡ nat_cmp (change_place self.now) (change_place other.now) }
     {
@@ -59,7 +61,7 @@ impl Change {
     }
 }
 
-/// Compares places.
+/// Compares indices.
 fn cmp_numbers(one: usize, other: usize) -> Ordering
     ensures order { result ≡ nat_cmp one other }
     ensures one { one < 2 ^ 64 }
@@ -68,7 +70,7 @@ fn cmp_numbers(one: usize, other: usize) -> Ordering
     one.cmp(&other)
 }
 
-/// The changes of a list of payloads, in its order.
+/// Returns the changes of a list of VRPs, in its order.
 fn listed_changes<A: Allocator>(
     alloc: A,
     payloads: &[(MaxLenPrefix, Asn)],
@@ -82,7 +84,7 @@ fn listed_changes<A: Allocator>(
     Ok(changes)
 }
 
-/// The changes of a list of payloads, in the order of the payloads.
+/// Returns the changes of a list of VRPs, in the order of the VRPs.
 fn sorted_changes<A: Allocator>(
     alloc: A,
     payloads: &[(MaxLenPrefix, Asn)],
@@ -95,7 +97,7 @@ fn sorted_changes<A: Allocator>(
     Ok(changes)
 }
 
-/// Brings changes into the order of their payloads.
+/// Sorts changes by their VRPs.
 fn sort_changes<A: Allocator>(changes: &mut Vec<Change, A>)
     requires { All IsLawfulChange changes.old.items }
     ensures permutation { IsPermutation changes.old.items changes.new.items }
@@ -108,7 +110,7 @@ fn sort_changes<A: Allocator>(changes: &mut Vec<Change, A>)
     );
 }
 
-/// Whether a change of the payload stands at a place.
+/// Returns whether the change at an index is one of the VRP.
 fn stands_at(changes: &[Change], at: usize, payload: &Entry) -> bool
     ensures { IsTrue result ↔ ((at < length changes.now)
         × ((d : Change) → IsOf payload.now (slice_index_or changes.now at d))) }
@@ -116,7 +118,7 @@ fn stands_at(changes: &[Change], at: usize, payload: &Entry) -> bool
     at < changes.len() && changes[at].entry.is_sent_as(payload)
 }
 
-/// The place before which changes are of payloads that come earlier. This is a binary search.
+/// Returns the index up to which changes are of VRPs that come earlier, by a binary search.
 fn place_of(changes: &[Change], payload: &Entry) -> usize
     requires { AreSorted changes.now }
     ensures within { result ≤ length changes.now }
@@ -129,7 +131,7 @@ fn place_of(changes: &[Change], payload: &Entry) -> usize
     )
 }
 
-/// The least place at which a list has a payload, by its changes.
+/// Returns the lowest index at which a list has the VRP, by the changes of the list.
 #[tactic(auto, using(crate::proofs::Listed::first_of, crate::proofs::Listed::none_of))]
 fn first_place(changes: &[Change], payload: &Entry) -> Option<usize>
     requires { AreSorted changes.now }
@@ -143,7 +145,7 @@ fn first_place(changes: &[Change], payload: &Entry) -> Option<usize>
     None
 }
 
-/// Whether a list has a payload before a place, by its changes.
+/// Returns whether a list has the VRP before an index, by the changes of the list.
 fn is_listed_before(changes: &[Change], payload: &Entry, place: usize) -> bool
     requires { AreSorted changes.now }
     ensures { IsTrue result ↔ Any (IsOfBefore payload.now place) changes.now }
@@ -154,7 +156,7 @@ fn is_listed_before(changes: &[Change], payload: &Entry, place: usize) -> bool
     }
 }
 
-/// Whether a list has a payload, by its changes.
+/// Returns whether a list has the VRP, by the changes of the list.
 fn is_listed(changes: &[Change], payload: &Entry) -> bool
     requires { AreSorted changes.now }
     ensures { IsTrue result ↔ Any (IsOf payload.now) changes.now }
@@ -162,7 +164,7 @@ fn is_listed(changes: &[Change], payload: &Entry) -> bool
     first_place(changes, payload).is_some()
 }
 
-/// The place before which a table's payloads come earlier, as they are sent. This is a binary search.
+/// Returns the index up to which a table's VRPs, as they are sent, come earlier, by a binary search.
 fn place_in(table: &[Entry], payload: &Entry) -> usize
     requires { IsInOrder table.now }
     ensures within { result ≤ length table.now }
@@ -175,7 +177,7 @@ fn place_in(table: &[Entry], payload: &Entry) -> usize
     )
 }
 
-/// Whether a table has a payload, as payloads are sent.
+/// Returns whether a table has the VRP, compared as VRPs are sent.
 #[tactic(auto, using(crate::proofs::Sent::sent_there, crate::proofs::Sent::same_sent))]
 fn has(table: &[Entry], payload: &Entry) -> bool
     requires { IsInOrder table.now }
@@ -185,7 +187,7 @@ fn has(table: &[Entry], payload: &Entry) -> bool
     at < table.len() && table[at].is_sent_as(payload)
 }
 
-/// Whether a table hasn't a payload, or a list has it before a place.
+/// Returns whether a table doesn't have the VRP, or a list has it before an index.
 fn is_unknown(table: &[Entry], changes: &[Change], payload: &Entry, place: usize) -> bool
     requires table { IsInOrder table.now }
     requires changes { AreSorted changes.now }
@@ -198,7 +200,7 @@ fn is_unknown(table: &[Entry], changes: &[Change], payload: &Entry, place: usize
     true
 }
 
-/// Whether a table has a payload that isn't withdrawn, or a list has it before a place.
+/// Returns whether a table has the VRP and it isn't withdrawn, or a list has it before an index.
 fn is_duplicate(
     table: &[Entry],
     withdrawn: &[Change],
@@ -218,7 +220,7 @@ fn is_duplicate(
     is_listed_before(changes, payload, place)
 }
 
-/// The first place at which a payload is withdrawn that a table hasn't, or that is withdrawn before.
+/// Returns the first index at which a VRP is withdrawn that isn't in the table, or that is withdrawn before.
 fn first_unknown(
     table: &[Entry],
     withdrawn: &[(MaxLenPrefix, Asn)],
@@ -239,7 +241,7 @@ fn first_unknown(
     None
 }
 
-/// The first place at which a payload is announced that a table has and that isn't withdrawn, or that is announced
+/// Returns the first index at which a VRP is announced that is in the table and isn't withdrawn, or that is announced
 /// before.
 fn first_duplicate(
     table: &[Entry],
@@ -264,8 +266,8 @@ fn first_duplicate(
     None
 }
 
-/// Whether the next payload to be listed is announced: that one comes before the next of the table, or the table is
-/// listed whole.
+/// Returns whether the next VRP to list is an announced one: it comes before the table's next one, or none is left
+/// there.
 fn announced_is_next(table: &[Entry], at: usize, announced: &[Change], come: usize) -> bool
     requires at { at ≤ length table.now }
     requires come { come ≤ length announced.now }
@@ -284,7 +286,7 @@ fn announced_is_next(table: &[Entry], at: usize, announced: &[Change], come: usi
     announced[come].entry.cmp_place(&table[at]).is_lt()
 }
 
-/// The first place from one on at which no change is of a payload that comes earlier.
+/// Returns the first index, from `from` on, at which no change is of a VRP that comes earlier.
 fn passed(changes: &[Change], from: usize, payload: &Entry) -> usize
     requires from { from ≤ length changes.now }
     requires in_order { AreSorted changes.now }
@@ -300,7 +302,7 @@ fn passed(changes: &[Change], from: usize, payload: &Entry) -> usize
     at
 }
 
-/// The place up to which a table's payloads come before that of the next change, as they are sent.
+/// Returns the index up to which a table's VRPs, as they are sent, come before the VRP of the next change.
 fn end_before(table: &[Entry], changes: &[Change], next: usize) -> usize
     requires { IsInOrder table.now }
     ensures within { result ≤ length table.now }
@@ -316,7 +318,7 @@ fn end_before(table: &[Entry], changes: &[Change], next: usize) -> usize
     table.len()
 }
 
-/// How many of a table's payloads come no later than another. This is a binary search.
+/// Returns how many of a table's VRPs come no later than another VRP, by a binary search.
 fn count_up_to(table: &[Entry], payload: &Entry) -> usize
     requires { IsInOrder table.now }
     ensures within { result ≤ length table.now }
@@ -332,7 +334,7 @@ fn count_up_to(table: &[Entry], payload: &Entry) -> usize
     )
 }
 
-/// The place up to which a table's payloads come no later than that of the next change.
+/// Returns the index up to which a table's VRPs come no later than the VRP of the next change.
 fn end_up_to(table: &[Entry], changes: &[Change], next: usize) -> usize
     requires { IsInOrder table.now }
     ensures within { result ≤ length table.now }
@@ -348,8 +350,8 @@ fn end_up_to(table: &[Entry], changes: &[Change], next: usize) -> usize
     table.len()
 }
 
-/// The place up to which a table's payloads stay and are next to be listed: the one at a place, and those behind it
-/// that come before what is withdrawn next and no later than what is announced next.
+/// Returns the index up to which a table's VRPs, from index `at` on, stay and are next to be listed. They come before
+/// the next withdrawn VRP, and no later than the next announced one.
 fn run_end(
     table: &[Entry],
     at: usize,
@@ -376,8 +378,8 @@ fn run_end(
     before.min(up_to)
 }
 
-/// The payloads of a table that aren't withdrawn, and those announced, in a table's order. One walk along the
-/// changes, which lists the payloads between them run by run.
+/// Returns the VRPs of a table that aren't withdrawn, and those announced, in a table's order. The call makes one pass
+/// over the changes, and lists the VRPs between them run by run.
 fn updated<A: Allocator>(
     alloc: A,
     table: &[Entry],
@@ -413,7 +415,7 @@ fn updated<A: Allocator>(
     Ok(next)
 }
 
-/// The payloads of a table after changes, in a table's order, or the first fault of the changes.
+/// Returns the VRPs of a table after changes, in a table's order, or the first fault of the changes.
 pub(crate) fn after_changes<A: Allocator>(
     alloc: A,
     table: &[Entry],

@@ -1,4 +1,4 @@
-//! The validity of a route's origin by a list of payloads (RFC 6811, 2).
+//! The validity of a route's origin by a list of VRPs (RFC 6811, 2).
 ghost use Rattle.std.specs.Prelude.{◌↔◌, IsTrue};
 ghost use Rattle.roa_origin.specs.Validities.{IsValidity};
 ghost use Rattle.roa_origin.specs.Payloads.{CoversRoute, Matches};
@@ -6,26 +6,31 @@ ghost use Rattle.roa_origin.specs.Payloads.{CoversRoute, Matches};
 use rpki_base::Asn;
 use rpki_prefix::{MaxLenPrefix, Prefix};
 
-/// What payloads say of the origin of a route (RFC 6811, 2).
+/// The validity of a route's origin (RFC 6811, 2).
 #[derive(Debug, Clone, Copy, PartialEq, Eq)]
 pub enum Validity {
-    /// One matches the route.
+    /// A VRP matches the route.
     Valid,
-    /// One covers the route, and none matches it.
+    /// A VRP covers the route, and none matches it.
     Invalid,
-    /// None covers the route.
+    /// No VRP covers the route.
     NotFound,
 }
 
-/// Whether a payload covers a route: its prefix covers the route's, so both are of one family (RFC 6811, 2).
+/// Returns whether a VRP covers a route: its prefix covers the route's, so both are of one family (RFC 6811, 2).
 pub(crate) fn covers(payload: &(MaxLenPrefix, Asn), route: Prefix) -> bool
     ensures { IsTrue result ↔ CoversRoute route payload.now }
 {
     payload.0.prefix().covers(route)
 }
 
-/// Whether a payload matches a route that an AS originates: its prefix covers the route's, which is no longer than the
-/// payload's greatest length, and the AS is the payload's and not AS0 (RFC 6811, 2; RFC 9582, 4.3.2).
+/// Returns whether a VRP matches a route that an AS originates (RFC 6811, 2; RFC 9582, 4.3.2).
+///
+/// It matches if all of these hold:
+///
+/// - Its prefix covers the route's.
+/// - The route is no longer than its maximum length.
+/// - Its AS is the route's, and is not AS0.
 pub(crate) fn matches(payload: &(MaxLenPrefix, Asn), route: Prefix, asn: Asn) -> bool
     ensures { IsTrue result ↔ Matches route asn payload.now }
 {
@@ -35,10 +40,10 @@ pub(crate) fn matches(payload: &(MaxLenPrefix, Asn), route: Prefix, asn: Asn) ->
         && covers(payload, route)
 }
 
-/// The validity of the route to a prefix that an AS originates, by a list of validated payloads: prefixes with a
-/// greatest length, and the AS that may originate them. It takes no memory, and looks at each payload at most once
-/// (RFC 6811, 2). Of a path that has no single origin ('NONE' there, as behind an AS_SET) ask with AS0, which no
-/// payload matches.
+/// Returns the validity of the route to `route` that `asn` originates, by a list of VRPs (RFC 6811, 2).
+///
+/// The call looks at each VRP at most once, and allocates nothing. If a path has no single origin (`NONE` in the RFC,
+/// for example if it ends in an AS_SET), pass AS0 as `asn`: no VRP matches it.
 pub fn origin(route: Prefix, asn: Asn, payloads: &[(MaxLenPrefix, Asn)]) -> Validity
     ensures { IsValidity route asn payloads.now result }
 {

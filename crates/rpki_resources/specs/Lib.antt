@@ -2,7 +2,7 @@ pub mod TripleFaults
 pub mod TripleLaws
 pub mod Triples
 pub mod TripleText
--- The words of its public clauses that stand in the crates below: whoever calls this crate lists it alone.
+-- The words of the public clauses that are defined in the crates below. A caller of this crate lists this crate alone.
 pub use Rattle.rpki_text.specs.Memory
 pub use Rattle.rpki_text.specs.Reading
 pub use Rattle.rpki_der.specs.declared.family.AddressFamily

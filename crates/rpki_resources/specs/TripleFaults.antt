@@ -1,4 +1,4 @@
--- What is wrong with the three lists of a set, and what is printed of it, as by the Rust crate `rpki` 0.20.1.
+-- The faults of the three lists of a set, and their texts, as in the Rust crate `rpki` 0.20.1.
 use Rattle.std.specs.Prelude.{ℕ, List, ◌++◌, codes}
 use Rattle.rpki_text.specs.declared.memory.OrMemory.{OrMemory}
 use Rattle.rpki_text.specs.declared.memory.OrMemory.TheVariants.{Refused, Memory}
@@ -10,18 +10,18 @@ use Rattle.rpki_resources.specs.TripleText.{IsIpv4ListText, HasIpv4ListFault, Ha
 use Rattle.rpki_resources.specs.declared.error.FromStrError.{FromStrError}
 use Rattle.rpki_resources.specs.declared.error.FromStrError.TheVariants.{Asn, Ipv4, Ipv6}
 
--- the first list that writes no set of its kind has this fault
+-- the first list that is not the text of a set of its kind has this fault
 abbrev pub HasTripleFault : List ℕ → List ℕ → List ℕ → FromStrError → Type 0
 HasTripleFault asn ipv4 ipv6 (Asn fault) = HasAsListFault asn fault
 HasTripleFault asn ipv4 ipv6 (Ipv4 fault) = ((set : Runs) × IsAsListText asn set) × HasIpv4ListFault ipv4 fault
 HasTripleFault asn ipv4 ipv6 (Ipv6 fault) = ((set : Runs) × IsAsListText asn set) × ((set : Runs) × IsIpv4ListText ipv4 set) × HasIpv6ListFault ipv6 fault
 
--- the refusal of one of the lists; want of memory is the same for each
+-- the refusal of one of the lists; an out-of-memory error is the same for each
 abbrev pub refusal_of : {E : Type 0} → (E → FromStrError) → OrMemory E → OrMemory FromStrError
 refusal_of kind (Refused fault) = Refused (kind fault)
 refusal_of kind (Memory error) = Memory error
 
--- what is printed of a fault: which list has it, and the fault of that list
+-- the text of a fault: which list has it, and the fault of that list
 abbrev pub triple_fault_text : FromStrError → List ℕ
 triple_fault_text (Asn fault) = codes "cannot parse ASN resources: " ++ as_from_str_error_text fault
 triple_fault_text (Ipv4 fault) = codes "cannot parse IPv4 resources: " ++ ip_from_str_error_text fault

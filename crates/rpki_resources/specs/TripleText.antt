@@ -1,5 +1,4 @@
--- Texts of sets of the three kinds, and of what differs between two of them, as the Rust crate `rpki` 0.20.1 prints
--- them.
+-- Texts of sets of the three kinds, and of the changes between two sets, as the Rust crate `rpki` 0.20.1 prints them.
 use Rattle.std.specs.Prelude.{ℕ, List, [], ◌++◌, codes, if◌then◌else◌}
 use Rattle.rpki_as.specs.ListText.{IsAsListText, as_list_text}
 use Rattle.rpki_chain.specs.Runs.{Runs}
@@ -9,27 +8,27 @@ use Rattle.rpki_ip_block.specs.ListText.{HasBlocks, HasBlocksFault}
 use Rattle.rpki_ipres.specs.SetText.{IsSetOf, set_text}
 use Rattle.rpki_resources.specs.Triples.{Triple, Changes, is_none, is_no_triple}
 
--- the list of a family writes the set
+-- the list of a family is a text of the set
 abbrev pub IsIpv4ListText : List ℕ → Runs → Type 0
 IsIpv4ListText text = IsSetOf (HasBlocks Ipv4 text)
 
 abbrev pub IsIpv6ListText : List ℕ → Runs → Type 0
 IsIpv6ListText text = IsSetOf (HasBlocks Ipv6 text)
 
--- or has this fault
+-- the list of a family has this fault
 abbrev pub HasIpv4ListFault : List ℕ → FromStrError → Type 0
 HasIpv4ListFault = HasBlocksFault Ipv4
 
 abbrev pub HasIpv6ListFault : List ℕ → FromStrError → Type 0
 HasIpv6ListFault = HasBlocksFault Ipv6
 
--- each list writes the set of its kind
+-- each list is a text of the set of its kind
 pub record IsTripleText (a b c : List ℕ) (t : Triple) : Type 0 where
   pub asn : IsAsListText a t.asn
   pub ipv4 : IsIpv4ListText b t.ipv4
   pub ipv6 : IsIpv6ListText c t.ipv6
 
--- ---- what is printed
+-- ---- printed texts
 
 abbrev pub ipv4_list_text : Runs → List ℕ
 ipv4_list_text = set_text Ipv4
@@ -41,15 +40,15 @@ ipv6_list_text = set_text Ipv6
 abbrev pub triple_text : Triple → List ℕ
 triple_text t = codes "asn: '" ++ as_list_text t.asn ++ codes "', ipv4: '" ++ ipv4_list_text t.ipv4 ++ codes "', ipv6: '" ++ ipv6_list_text t.ipv6 ++ codes "'"
 
--- a kind and its list, and nothing where the list is empty
+-- a kind and its list, or nothing if the list is empty
 abbrev pub kind_text : List ℕ → (Runs → List ℕ) → Runs → List ℕ
 kind_text kind text set = if is_none set then [] else kind ++ text set
 
--- a word, and the kinds of which there is anything
+-- a word, and each kind that is not empty with its list
 abbrev pub change_text : List ℕ → Triple → List ℕ
 change_text word t = word ++ kind_text (codes " asn: ") as_list_text t.asn ++ kind_text (codes " ipv4: ") ipv4_list_text t.ipv4 ++ kind_text (codes " ipv6: ") ipv6_list_text t.ipv6
 
--- of what differs: what is added and what is removed, each where there is anything of it, with a space between them
+-- of changes: the added and the removed resources, each if there are any, with a space between them
 abbrev pub changes_text : Changes → List ℕ
 changes_text d =
     if is_no_triple d.added

@@ -1,4 +1,4 @@
--- Sets of the three kinds of resources (RFC 3779, 2 and 3), and what differs between two of them.
+-- Sets of the three kinds of resources (RFC 3779, 2 and 3), and the changes between two sets.
 use Rattle.std.specs.Prelude.{◌≡◌, ℕ, ◌↔◌, ◌⊎◌, [], ◌∷◌, Bool, true, false, ◌&&◌}
 use Rattle.rpki_chains.specs.Equality.{same_runs}
 use Rattle.rpki_chain.specs.Claims.{Claim}
@@ -16,13 +16,13 @@ pub record Triple : Type 0 where
   pub ipv4 : Runs
   pub ipv6 : Runs
 
--- P of the set of each kind
+-- P holds for the set of each kind
 pub record InEach (P : (Triple → Runs) → Type 0) : Type 0 where
   pub asn : P (λ t. t.asn)
   pub ipv4 : P (λ t. t.ipv4)
   pub ipv6 : P (λ t. t.ipv6)
 
--- each set is one of its kind; that of IPv4 consists of whole addresses
+-- each set is one of its kind; the IPv4 set consists of whole addresses
 pub record IsTriple (t : Triple) : Type 0 where
   pub asn : IsAsSet t.asn
   pub ipv4 : IsFamilySet Ipv4 t.ipv4
@@ -32,7 +32,7 @@ pub record IsTriple (t : Triple) : Type 0 where
 abbrev pub no_resources : Triple
 no_resources = record { asn = []; ipv4 = []; ipv6 = [] }
 
--- all AS numbers (RFC 6793, 1) and all addresses of both families, which are kept as 128 bits
+-- all AS numbers (RFC 6793, 1) and all addresses of both families, which are stored in 128 bits
 abbrev pub all_resources : Triple
 all_resources = record {
   asn = (0, 4294967295) ∷ [];
@@ -45,7 +45,7 @@ abbrev pub set_of_family : AddressFamily → Triple → Runs
 set_of_family Ipv4 t = t.ipv4
 set_of_family Ipv6 t = t.ipv6
 
--- whether a set has nothing, and whether all three have nothing
+-- whether a set is empty, and whether all three are empty
 abbrev pub is_none : Runs → Bool
 is_none [] = true
 is_none (run ∷ runs) = false
@@ -76,13 +76,13 @@ HaveSameNumbers a b = InEach (λ kind. (n : ℕ) → Holds (kind a) n ↔ Holds 
 abbrev pub is_same_triple : Triple → Triple → Bool
 is_same_triple a b = same_runs a.asn b.asn && (same_runs a.ipv4 b.ipv4 && same_runs a.ipv6 b.ipv6)
 
--- ---- what differs
+-- ---- changes
 
 pub record Changes : Type 0 where
   pub added : Triple
   pub removed : Triple
 
--- what the first has beyond the second, and what it lacks
+-- added: the first set without the second; removed: the second set without the first
 pub record AreChanges (a b : Triple) (d : Changes) : Type 0 where
   pub added : IsDifferenceOf a b d.added
   pub removed : IsDifferenceOf b a d.removed
@@ -95,18 +95,18 @@ are_same_changes d e = is_same_triple d.added e.added && is_same_triple d.remove
 
 -- ---- claims
 
--- the claim lists the set, which is empty where it is missing
+-- the claim lists the set; the set is empty if the claim is missing
 abbrev pub ListsRuns : Claim → Runs → Type 0
 ListsRuns Missing set = set ≡ []
 ListsRuns Inherit set = ⊥
 ListsRuns (Blocks listed) set = set ≡ listed
 
--- so of each kind
+-- the claim of each kind lists the set of that kind
 pub record AreListed (a b c : Claim) (t : Triple) : Type 0 where
   pub asn : ListsRuns a t.asn
   pub ipv4 : ListsRuns b t.ipv4
   pub ipv6 : ListsRuns c t.ipv6
 
--- one of the claims at least is inherited
+-- at least one of the claims is inherited
 abbrev pub IsOneInherited : Claim → Claim → Claim → Type 0
 IsOneInherited asn ipv4 ipv6 = (asn ≡ Inherit) ⊎ ((ipv4 ≡ Inherit) ⊎ (ipv6 ≡ Inherit))

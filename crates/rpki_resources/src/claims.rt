@@ -1,4 +1,4 @@
-//! Sets of resources and claims on them.
+//! Conversions between sets of resources and claims.
 ghost use Rattle.std.specs.Prelude.{◌≡◌, IfOk, MatchResult};
 ghost use Rattle.rpki_text.specs.Memory.{IfRefused};
 ghost use Rattle.rpki_chain.specs.Claims.{IsClaim, claim_of};
@@ -17,8 +17,16 @@ use rpki_ipres::IpResources;
 use std::alloc::{AllocError, Allocator};
 
 impl<A: Allocator> ResourceSet<A> {
-    /// The set of what is listed, and of nothing where resources are missing; what is listed of IPv4 consists of whole
-    /// addresses. [`InheritError`] where some are inherited. `Memory` where there is no memory for the set.
+    /// Returns the set of the listed resources. Missing resources give an empty set.
+    ///
+    /// # Preconditions
+    ///
+    /// A list in `ipv4` consists of whole IPv4 addresses.
+    ///
+    /// # Errors
+    ///
+    /// - `Refused` with [`InheritError`] if a claim is inherited. It is returned even if an allocation fails.
+    /// - `Memory` if an allocation fails.
     #[tactic(auto, using(crate::proofs::ClaimLemmas::lists))]
     pub fn from_resources(
         asn: &AsResources<A>,
@@ -30,7 +38,8 @@ impl<A: Allocator> ResourceSet<A> {
             (IfRefused (λ _. IsOneInherited asn.now ipv4.now ipv6.now)) }
         ensures inherited { IsOneInherited asn.now ipv4.now ipv6.now → IsRefused result }
     {
-        // All three are asked first: one that is inherited is told, even where there was no memory for another.
+        // All three are read before any error is returned. An inherited claim is reported even if an allocation for
+        // another failed.
         match (asn.to_blocks(), ipv4.to_blocks(), ipv6.to_blocks()) {
             (Ok(asn), Ok(ipv4), Ok(ipv6)) => Ok(ResourceSet::new(
                 asn,
@@ -44,8 +53,11 @@ impl<A: Allocator> ResourceSet<A> {
         }
     }
 
-    /// Resources that list the AS numbers, and missing ones where there are none. `AllocError` where there is no memory
-    /// for them.
+    /// Returns a claim that lists the AS numbers, or a missing claim if the set has no AS numbers.
+    ///
+    /// # Errors
+    ///
+    /// [`AllocError`] if out of memory.
     pub fn to_as_resources(&self) -> Result<AsResources<A>, AllocError>
         ensures claim { IfOk result (λ resources. resources ≡ claim_of self.now.asn) }
         ensures set { IfOk result (IsClaim IsAsSet) }
@@ -54,8 +66,11 @@ impl<A: Allocator> ResourceSet<A> {
         Ok(AsResources::blocks(blocks))
     }
 
-    /// Resources that list the IPv4 addresses, and missing ones where there are none. `AllocError` where there is no
-    /// memory for them.
+    /// Returns a claim that lists the IPv4 addresses, or a missing claim if the set has no IPv4 addresses.
+    ///
+    /// # Errors
+    ///
+    /// [`AllocError`] if out of memory.
     pub fn to_ip_resources_v4(&self) -> Result<IpResources<A>, AllocError>
         ensures claim { IfOk result (λ resources. resources ≡ claim_of self.now.ipv4) }
         ensures family { IfOk result (IsFamilyClaim Ipv4) }
@@ -63,8 +78,11 @@ impl<A: Allocator> ResourceSet<A> {
         self.ipv4.to_ip_resources()
     }
 
-    /// Resources that list the IPv6 addresses, and missing ones where there are none. `AllocError` where there is no
-    /// memory for them.
+    /// Returns a claim that lists the IPv6 addresses, or a missing claim if the set has no IPv6 addresses.
+    ///
+    /// # Errors
+    ///
+    /// [`AllocError`] if out of memory.
     pub fn to_ip_resources_v6(&self) -> Result<IpResources<A>, AllocError>
         ensures claim { IfOk result (λ resources. resources ≡ claim_of self.now.ipv6) }
         ensures family { IfOk result (IsFamilyClaim Ipv6) }

@@ -1,4 +1,4 @@
-//! What differs between two sets of resources.
+//! The changes between two sets of resources.
 ghost use Rattle.std.specs.Prelude.{◌≡◌, ◌↔◌, IsTrue, IfOk, Ok, Err, MatchResult};
 ghost use Rattle.rpki_resources.specs.Triples.{Changes, are_same_changes, no_changes};
 ghost use Rattle.rpki_resources.specs.TripleLaws.{changes_equiv, changes_per};
@@ -8,7 +8,7 @@ use std::alloc::{AllocError, Allocator, Global};
 use std::fmt;
 use std::marker::Model;
 
-/// What one set of resources has beyond another, and what it lacks.
+/// The changes between two sets: the resources that only the first one has, and those that only the second one has.
 #[derive(Drop)]
 pub struct ResourceDiff<A: Allocator = Global> {
     added: ResourceSet<A>,
@@ -24,7 +24,7 @@ impl<A: Allocator> Model for ResourceDiff<A> {
 }
 
 impl<A: Allocator> ResourceDiff<A> {
-    /// What is added and what is removed, where there was memory for the second.
+    /// Returns the changes, or the error of `removed`.
     pub(crate) fn of_two(
         added: ResourceSet<A>,
         removed: Result<ResourceSet<A>, AllocError>,
@@ -38,28 +38,32 @@ impl<A: Allocator> ResourceDiff<A> {
         }
     }
 
-    /// Whether nothing differs.
+    /// Returns whether nothing is added and nothing is removed.
     pub fn is_empty(&self) -> bool
         ensures { IsTrue result ↔ (self.now ≡ no_changes) }
     {
         self.added.is_empty() && self.removed.is_empty()
     }
 
-    /// What the first set has beyond the second.
+    /// Returns the resources of the first set that the second one doesn't have.
     pub fn added(&self) -> &ResourceSet<A>
         ensures { result.now ≡ self.now.added }
     {
         &self.added
     }
 
-    /// What the first set lacks of the second.
+    /// Returns the resources of the second set that the first one doesn't have.
     pub fn removed(&self) -> &ResourceSet<A>
         ensures { result.now ≡ self.now.removed }
     {
         &self.removed
     }
 
-    /// The same differences; the memory of their sets has one owner more. `AllocError` where std refuses one of these.
+    /// Returns the same changes, which share the memory of `self` (reference count + 1 for each set).
+    ///
+    /// # Errors
+    ///
+    /// [`AllocError`] if `std` refuses a further share of a set's memory.
     pub fn clone(&self) -> Result<ResourceDiff<A>, AllocError>
         ensures { IfOk result (λ diff. diff ≡ self.now) }
     {
@@ -77,7 +81,7 @@ impl<A: Allocator> fmt::Debug for ResourceDiff<A> {
     }
 }
 
-/// Differences are equal where the same is added and the same is removed.
+/// Changes are equal if and only if they add the same resources and remove the same resources.
 impl<A: Allocator> PartialEq for ResourceDiff<A> {
     ghost eq = { are_same_changes };
 

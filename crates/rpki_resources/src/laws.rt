@@ -1,10 +1,12 @@
-//! Laws of what the calls on sets of resources answer. Each holds of any answers that meet the calls' contracts.
+//! Lemmas about the results of calls on sets of resources. Each holds for any results that meet the calls' contracts.
 ghost use Rattle.std.specs.Prelude.{◌≡◌, ◌↔◌};
 ghost use Rattle.rpki_resources.specs.Triples.{AreChanges, Changes, IsDifferenceOf, IsTriple, IsUnionOf, Triple, no_changes};
 
-/// What differs between two sets leads from the second to the first: without what is removed and with what is added it
-/// is the first one. Asked the other way round, added and removed change places. Nothing differs exactly between equal
-/// sets.
+/// The changes between two sets lead from the second set to the first.
+///
+/// - The second set without the removed resources, and with the added ones, is the first set.
+/// - In the opposite direction, added and removed are exchanged.
+/// - Nothing changes if and only if the sets are equal.
 pub fn laws_of_changes()
     ensures restores { (a b : Triple) (d : Changes) (kept set : Triple) → IsTriple a
         → AreChanges a b d →

@@ -1,9 +1,9 @@
 //! Sets of the three kinds of resources of RFC 3779, and the public paths of the whole layer.
 //!
-//! [`resources::addr`], [`resources::asn`] and [`repository::resources`] name every type where a user of the Rust crate
+//! [`resources::addr`], [`resources::asn`] and [`repository::resources`] have each type where a user of the Rust crate
 //! `rpki` looks for it.
 //!
-//! A set is read from three lists, as in the program `rows_calls`:
+//! Read a set from three lists, as in the program `rows_calls`:
 //!
 //! ```rust
 //! let (asn, addresses) = cut(lists, ';');
@@ -25,5 +25,5 @@ pub use diff::ResourceDiff;
 pub use error::{FromStrError, InheritError};
 pub use set::ResourceSet;
 
-/// Why a call that takes memory answered no value, and the call that turns why it refuses.
+/// The error of a call that allocates, and the call that maps its refusals.
 pub use rpki_base::memory::{OrMemory, refused_as};

@@ -1,3 +1,3 @@
-//! What certificates and signed objects say.
+//! The contents of certificates and signed objects.
 
 pub mod resources;

@@ -1,4 +1,4 @@
-//! Numbers and addresses as routing and route origins have them.
+//! AS numbers and addresses in routing and route origins.
 
 pub mod addr;
 pub mod asn;

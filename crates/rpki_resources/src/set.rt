@@ -1,4 +1,4 @@
-//! Sets of AS numbers, of IPv4 addresses and of IPv6 addresses.
+//! Sets of AS numbers, IPv4 addresses and IPv6 addresses.
 ghost use Rattle.std.specs.Prelude.{◌≡◌, ◌≢◌, ℕ, ◌↔◌, [], IsTrue, IfOk, Ok, Err, MatchOption, MatchResult};
 ghost use Rattle.rpki_chains.specs.Sets.{IsWithin};
 ghost use Rattle.rpki_chain.specs.Runs.{Holds};
@@ -18,10 +18,12 @@ use std::alloc::{AllocError, Allocator, Global};
 use std::fmt;
 use std::marker::Model;
 
-/// A set of AS numbers, one of IPv4 addresses and one of IPv6 addresses. Sets of the same numbers and addresses are
-/// equal and print alike. Their memory may have several owners, and empty ones have none.
+/// A set of AS numbers, a set of IPv4 addresses and a set of IPv6 addresses.
 ///
-/// Contracts see the three as the ascending lists of their runs; that of IPv4 consists of whole addresses.
+/// Sets with the same numbers and addresses are equal and print alike. Several sets may share their memory. Empty sets
+/// have no allocated memory.
+///
+/// The value in contracts is the three ascending lists of runs. The IPv4 list consists of whole addresses.
 #[derive(Drop)]
 pub struct ResourceSet<A: Allocator = Global> {
     pub(crate) asn: AsBlocks<A>,
@@ -38,14 +40,14 @@ impl<A: Allocator> Model for ResourceSet<A> {
 }
 
 impl<A: Allocator> ResourceSet<A> {
-    /// The set of these AS numbers and addresses.
+    /// Returns the set of these AS numbers and addresses.
     pub fn new(asn: AsBlocks<A>, ipv4: Ipv4Blocks<A>, ipv6: Ipv6Blocks<A>) -> ResourceSet<A>
         ensures { result ≡ record { asn = asn; ipv4 = ipv4; ipv6 = ipv6 } }
     {
         ResourceSet { asn, ipv4, ipv6 }
     }
 
-    /// The set of three, where there was memory for the last.
+    /// Returns the set of the three, or the error of `ipv6`.
     fn of_three(
         asn: AsBlocks<A>,
         ipv4: Ipv4Blocks<A>,
@@ -60,14 +62,18 @@ impl<A: Allocator> ResourceSet<A> {
         }
     }
 
-    /// The set of no resources.
+    /// Returns the set of no resources.
     pub fn empty() -> ResourceSet<A>
         ensures { result ≡ no_resources }
     {
         ResourceSet::new(AsBlocks::empty(), Ipv4Blocks::empty(), Ipv6Blocks::empty())
     }
 
-    /// The set of all AS numbers and all addresses. `AllocError` where there is no memory for it.
+    /// Returns the set of all AS numbers and all addresses.
+    ///
+    /// # Errors
+    ///
+    /// [`AllocError`] if an allocation fails.
     pub fn all(alloc: A) -> Result<ResourceSet<A>, AllocError>
     where
         A: Copy,
@@ -78,7 +84,11 @@ impl<A: Allocator> ResourceSet<A> {
         ResourceSet::of_three(asn, ipv4, Ipv6Blocks::all(alloc))
     }
 
-    /// The same set, whose memory has one owner more. `AllocError` where std refuses that owner.
+    /// Returns the same set, which shares the memory of `self` (reference count + 1).
+    ///
+    /// # Errors
+    ///
+    /// [`AllocError`] if `std` refuses a further share of the memory.
     pub fn clone(&self) -> Result<ResourceSet<A>, AllocError>
         ensures { IfOk result (λ set. set ≡ self.now) }
     {
@@ -99,7 +109,7 @@ impl<A: Allocator> ResourceSet<A> {
         self.ipv6.is_lawful();
     }
 
-    /// Whether there are no resources of any kind.
+    /// Returns whether the set has no resources of any kind.
     pub fn is_empty(&self) -> bool
         ensures value { result ≡ is_no_triple self.now }
         ensures none { IsTrue result ↔ (self.now ≡ no_resources) }
@@ -109,28 +119,28 @@ impl<A: Allocator> ResourceSet<A> {
         self.asn.is_empty() && self.ipv4.is_empty() && self.ipv6.is_empty()
     }
 
-    /// Puts other AS numbers in the place of those of the set.
+    /// Replaces the AS numbers of the set. The addresses stay.
     pub fn set_asn(&mut self, asn: AsBlocks<A>)
         ensures { self.new ≡ record { asn = asn; ipv4 = self.old.ipv4; ipv6 = self.old.ipv6 } }
     {
         self.asn = asn;
     }
 
-    /// Puts other IPv4 addresses in the place of those of the set.
+    /// Replaces the IPv4 addresses of the set. The AS numbers and the IPv6 addresses stay.
     pub fn set_ipv4(&mut self, ipv4: Ipv4Blocks<A>)
         ensures { self.new ≡ record { asn = self.old.asn; ipv4 = ipv4; ipv6 = self.old.ipv6 } }
     {
         self.ipv4 = ipv4;
     }
 
-    /// Puts other IPv6 addresses in the place of those of the set.
+    /// Replaces the IPv6 addresses of the set. The AS numbers and the IPv4 addresses stay.
     pub fn set_ipv6(&mut self, ipv6: Ipv6Blocks<A>)
         ensures { self.new ≡ record { asn = self.old.asn; ipv4 = self.old.ipv4; ipv6 = ipv6 } }
     {
         self.ipv6 = ipv6;
     }
 
-    /// The AS numbers.
+    /// Returns the AS numbers.
     pub fn asn(&self) -> &AsBlocks<A>
         ensures value { result.now ≡ self.now.asn }
         ensures set { IsAsSet self.now.asn }
@@ -139,7 +149,7 @@ impl<A: Allocator> ResourceSet<A> {
         &self.asn
     }
 
-    /// The IPv4 addresses.
+    /// Returns the IPv4 addresses.
     pub fn ipv4(&self) -> &Ipv4Blocks<A>
         ensures value { result.now ≡ self.now.ipv4 }
         ensures set { IsFamilySet Ipv4 self.now.ipv4 }
@@ -148,7 +158,7 @@ impl<A: Allocator> ResourceSet<A> {
         &self.ipv4
     }
 
-    /// The IPv6 addresses.
+    /// Returns the IPv6 addresses.
     pub fn ipv6(&self) -> &Ipv6Blocks<A>
         ensures value { result.now ≡ self.now.ipv6 }
         ensures set { IsFamilySet Ipv6 self.now.ipv6 }
@@ -157,7 +167,7 @@ impl<A: Allocator> ResourceSet<A> {
         &self.ipv6
     }
 
-    /// The AS numbers, or None where there are none.
+    /// Returns the AS numbers, or None if the set has no AS numbers.
     pub fn asn_opt(&self) -> Option<&AsBlocks<A>>
         ensures { MatchOption result (self.now.asn ≡ [])
             (λ set. (set.now ≡ self.now.asn) × (set.now ≢ [])) }
@@ -168,7 +178,7 @@ impl<A: Allocator> ResourceSet<A> {
         Some(&self.asn)
     }
 
-    /// The IPv4 addresses, or None where there are none.
+    /// Returns the IPv4 addresses, or None if the set has no IPv4 addresses.
     pub fn ipv4_opt(&self) -> Option<&Ipv4Blocks<A>>
         ensures { MatchOption result (self.now.ipv4 ≡ [])
             (λ set. (set.now ≡ self.now.ipv4) × (set.now ≢ [])) }
@@ -179,7 +189,7 @@ impl<A: Allocator> ResourceSet<A> {
         Some(&self.ipv4)
     }
 
-    /// The IPv6 addresses, or None where there are none.
+    /// Returns the IPv6 addresses, or None if the set has no IPv6 addresses.
     pub fn ipv6_opt(&self) -> Option<&Ipv6Blocks<A>>
         ensures { MatchOption result (self.now.ipv6 ≡ [])
             (λ set. (set.now ≡ self.now.ipv6) × (set.now ≢ [])) }
@@ -190,7 +200,7 @@ impl<A: Allocator> ResourceSet<A> {
         Some(&self.ipv6)
     }
 
-    /// Whether the set has each number and each address of another.
+    /// Returns whether the set has each number and each address of `other`.
     pub fn contains(&self, other: &ResourceSet<A>) -> bool
         ensures { IsTrue result ↔ HasEachOf self.now other.now }
     {
@@ -199,15 +209,16 @@ impl<A: Allocator> ResourceSet<A> {
             && self.ipv6.contains(&other.ipv6)
     }
 
-    /// Whether the set has an AS number.
+    /// Returns whether the set has the AS number.
     pub fn contains_asn(&self, asn: Asn) -> bool
         ensures { IsTrue result ↔ Holds self.now.asn asn }
     {
         self.asn.contains_asn(asn)
     }
 
-    /// Whether the set of a family has each address of a range, as those that an entry of a route origin authorization
-    /// names (RFC 9582, 4.3).
+    /// Returns whether the set has each address of a range, by its addresses of the given family.
+    ///
+    /// Use it for the addresses of a ROA's entries (RFC 9582, 4.3).
     pub fn contains_roa_address(&self, family: AddressFamily, addresses: AddressRange) -> bool
         ensures { IsTrue result ↔ ((n : ℕ) → IsWithin (range_bounds addresses) n
             → Holds (set_of_family family self.now) n) }
@@ -218,7 +229,11 @@ impl<A: Allocator> ResourceSet<A> {
         }
     }
 
-    /// The set of what one or the other has. `AllocError` where there is no memory for it.
+    /// Returns the union of `self` and `other`.
+    ///
+    /// # Errors
+    ///
+    /// [`AllocError`] if an allocation fails.
     #[tactic(auto, using(crate::proofs::MadeLemmas::made))]
     pub fn union(&self, alloc: A, other: &ResourceSet<A>) -> Result<ResourceSet<A>, AllocError>
     where
@@ -230,7 +245,11 @@ impl<A: Allocator> ResourceSet<A> {
         ResourceSet::of_three(asn, ipv4, self.ipv6.union(alloc, &other.ipv6))
     }
 
-    /// The set of what both have. `AllocError` where there is no memory for it.
+    /// Returns the intersection of `self` and `other`.
+    ///
+    /// # Errors
+    ///
+    /// [`AllocError`] if an allocation fails.
     #[tactic(auto, using(crate::proofs::MadeLemmas::made))]
     pub fn intersection(
         &self,
@@ -246,7 +265,11 @@ impl<A: Allocator> ResourceSet<A> {
         ResourceSet::of_three(asn, ipv4, self.ipv6.intersection(alloc, &other.ipv6))
     }
 
-    /// The set of what this one has and the other hasn't. `AllocError` where there is no memory for it.
+    /// Returns the resources of `self` that `other` doesn't have.
+    ///
+    /// # Errors
+    ///
+    /// [`AllocError`] if an allocation fails.
     #[tactic(auto, using(crate::proofs::MadeLemmas::made))]
     pub fn minus(&self, alloc: A, other: &ResourceSet<A>) -> Result<ResourceSet<A>, AllocError>
     where
@@ -258,8 +281,13 @@ impl<A: Allocator> ResourceSet<A> {
         ResourceSet::of_three(asn, ipv4, self.ipv6.difference(alloc, &other.ipv6))
     }
 
-    /// What the set has beyond another, and what it lacks: added is what the other doesn't have, removed what the other
-    /// alone has. `AllocError` where there is no memory for it.
+    /// Returns the changes from `other` to `self`.
+    ///
+    /// Added resources are those that only `self` has. Removed resources are those that only `other` has.
+    ///
+    /// # Errors
+    ///
+    /// [`AllocError`] if an allocation fails.
     pub fn difference(
         &self,
         alloc: A,
@@ -284,7 +312,7 @@ impl<A: Allocator> fmt::Debug for ResourceSet<A> {
     }
 }
 
-/// The set of no resources.
+/// Returns the set of no resources.
 impl<A: Allocator> Default for ResourceSet<A> {
     ghost is_default = { λ set. set ≡ no_resources };
 
@@ -293,7 +321,7 @@ impl<A: Allocator> Default for ResourceSet<A> {
     }
 }
 
-/// Sets are equal exactly where they have the same numbers and addresses of each kind.
+/// Sets are equal if and only if they have the same numbers and addresses of each kind.
 impl<A: Allocator> PartialEq for ResourceSet<A> {
     ghost eq = { is_same_triple };
 

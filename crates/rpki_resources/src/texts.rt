@@ -1,4 +1,4 @@
-//! Texts of sets of resources and of what differs between two of them.
+//! Texts of sets of resources and of the changes between two sets.
 ghost use Rattle.std.specs.Prelude.{◌≡◌, ℕ, List, [], ◌++◌, codes, Some, MatchResult, if◌then◌else◌};
 ghost use Rattle.std.specs.Fmt.{WritesOnOk};
 ghost use Rattle.rpki_text.specs.Memory.{IsMemory};
@@ -18,7 +18,7 @@ use rpki_family::{Ipv4Blocks, Ipv6Blocks};
 use std::alloc::Allocator;
 use std::fmt;
 
-/// The refusal of the list of AS numbers.
+/// Maps a fault of the list of AS numbers.
 fn of_asn(fault: OrMemory<rpki_as::error::FromStrError>) -> OrMemory<FromStrError>
     ensures { result ≡ refusal_of Asn fault }
 {
@@ -28,7 +28,7 @@ fn of_asn(fault: OrMemory<rpki_as::error::FromStrError>) -> OrMemory<FromStrErro
     }
 }
 
-/// The refusal of the list of IPv4 addresses.
+/// Maps a fault of the list of IPv4 addresses.
 fn of_ipv4(fault: OrMemory<rpki_ip::error::FromStrError>) -> OrMemory<FromStrError>
     ensures { result ≡ refusal_of Ipv4 fault }
 {
@@ -38,7 +38,7 @@ fn of_ipv4(fault: OrMemory<rpki_ip::error::FromStrError>) -> OrMemory<FromStrErr
     }
 }
 
-/// The refusal of the list of IPv6 addresses.
+/// Maps a fault of the list of IPv6 addresses.
 fn of_ipv6(fault: OrMemory<rpki_ip::error::FromStrError>) -> OrMemory<FromStrError>
     ensures { result ≡ refusal_of Ipv6 fault }
 {
@@ -49,9 +49,14 @@ fn of_ipv6(fault: OrMemory<rpki_ip::error::FromStrError>) -> OrMemory<FromStrErr
 }
 
 impl<A: Allocator> ResourceSet<A> {
-    /// The set that three lists of blocks write, each as [`AsBlocks::from_str`], [`Ipv4Blocks::from_str`] and
-    /// [`Ipv6Blocks::from_str`] read it. They are read in this order. `Refused` with the fault of the first that can't
-    /// be read; `Memory` where there is no memory for its set.
+    /// Reads a set from three lists of blocks, in this order.
+    ///
+    /// Each list is read as by [`AsBlocks::from_str`], [`Ipv4Blocks::from_str`] and [`Ipv6Blocks::from_str`].
+    ///
+    /// # Errors
+    ///
+    /// - `Refused` with the fault of the first list that can't be read.
+    /// - `Memory` if an allocation fails.
     pub fn from_strs(
         alloc: A,
         asn: &str,
@@ -62,7 +67,7 @@ impl<A: Allocator> ResourceSet<A> {
         A: Copy,
         ensures exact { AnswersOrMemory (λ set. set) (IsTripleText asn.now ipv4.now ipv6.now)
             (HasTripleFault asn.now ipv4.now ipv6.now) result }
-        // What is printed of the three lists of a set is read as that set.
+        // The printed lists of a set are read back as that set.
         ensures reads_back { (set : Triple) → IsTriple set → asn.now ≡ as_list_text set.asn
             → ipv4.now ≡ ipv4_list_text set.ipv4 → ipv6.now ≡ ipv6_list_text set.ipv6
             → MatchResult result (λ read. read ≡ set) IsMemory }
@@ -94,7 +99,7 @@ impl<A: Allocator> fmt::Display for ResourceSet<A> {
     }
 }
 
-/// Writes a kind and its list, and nothing where the list is empty.
+/// Writes a kind and its list, or nothing if the list is empty.
 fn fmt_kind<T: fmt::Display, W: fmt::Write>(
     kind: &str,
     is_empty: bool,
@@ -112,7 +117,7 @@ fn fmt_kind<T: fmt::Display, W: fmt::Write>(
     list.fmt(f)
 }
 
-/// Writes a word, and the kinds of which there is anything.
+/// Writes a word, and each kind that is not empty with its list.
 fn fmt_change<A: Allocator, W: fmt::Write>(
     word: &str,
     set: &ResourceSet<A>,
@@ -126,7 +131,7 @@ fn fmt_change<A: Allocator, W: fmt::Write>(
     fmt_kind(" ipv6: ", set.ipv6.is_empty(), &set.ipv6, f)
 }
 
-/// Writes what is added and what is removed, with a space between them.
+/// Writes the added resources and the removed ones, with a space between them.
 fn fmt_both<A: Allocator, W: fmt::Write>(
     added: &ResourceSet<A>,
     removed: &ResourceSet<A>,
@@ -140,7 +145,7 @@ fn fmt_both<A: Allocator, W: fmt::Write>(
     fmt_change("Removed:", removed, f)
 }
 
-/// Prints what is added and what is removed, each where there is anything of it.
+/// Prints the added and the removed resources, each if there are any.
 impl<A: Allocator> fmt::Display for ResourceDiff<A> {
     ghost output = { λ diff. Some (changes_text diff) };
 

@@ -1,6 +1,6 @@
-//! The resources of RFC 3779: blocks, sets of them, claims, and sets of all three kinds.
+//! The resources of RFC 3779: blocks, sets, claims, and sets of all three kinds.
 //!
-//! The three errors that are called `FromStrError` stand in [`asres`], [`ipres`] and [`set`] alone.
+//! Three errors are called `FromStrError`. They are only in [`asres`], [`ipres`] and [`set`].
 
 pub mod asres;
 pub mod chain;

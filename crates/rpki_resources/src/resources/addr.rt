@@ -1,8 +1,8 @@
-//! Prefixes of IPv4 and IPv6 addresses, with a greatest length or without.
+//! Prefixes of IPv4 and IPv6 addresses, with or without a maximum length.
 
 pub use rpki_prefix::error::{MaxLenError, ParseMaxLenPrefixError, ParsePrefixError, PrefixError};
 pub use rpki_prefix::max_len::MaxLenPrefix;
 pub use rpki_prefix::prefix::Prefix;
 
-/// The addresses themselves and the faults of their texts, which in Rust are those of std.
+/// The addresses, and the errors of reading them. In Rust they are types of `std`.
 pub use rpki_base::{AddrParseError, IpAddr, Ipv4Addr, Ipv6Addr, ParseIntError};

@@ -1,4 +1,4 @@
-//! AS numbers, and small sets of them.
+//! AS numbers, and small sets of AS numbers.
 
 pub use rpki_base::asn::{Asn, ParseAsnError};
 pub use rpki_base::small_set::{

@@ -1,4 +1,4 @@
-//! AS numbers: blocks, sets and claims, along paths too.
+//! AS numbers: blocks, sets, claims, and the check along paths.
 
 pub use rpki_as::block::AsBlock;
 pub use rpki_as::blocks::AsBlocks;

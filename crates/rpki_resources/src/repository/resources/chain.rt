@@ -1,4 +1,4 @@
-//! Blocks of any kind, and chains of them.
+//! Blocks of any kind, and chains of blocks.
 
 pub use rpki_chains::block::Block;
 pub use rpki_chains::chain::Chain;

@@ -1,4 +1,4 @@
-//! Addresses of both families: prefixes, ranges, blocks, sets and claims, along paths too.
+//! Addresses of both families: prefixes, ranges, blocks, sets, claims, and the check along paths.
 
 pub use rpki_family::iter::BlockIter;
 pub use rpki_family::prefixes::{V4SetPrefixes, V6SetPrefixes};

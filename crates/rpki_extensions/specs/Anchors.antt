@@ -1,4 +1,4 @@
--- The resources of a trust anchor, which nobody issued (RFC 6487, 4.8.10 and 4.8.11; RFC 8630, 2.3).
+-- The resources of a trust anchor, which has no issuer (RFC 6487, 4.8.10 and 4.8.11; RFC 8630, 2.3).
 use Rattle.std.specs.Prelude.{◌⊎◌}
 use Rattle.rpki_chain.specs.Claims.{Claim}
 use Rattle.rpki_resources.specs.Triples.{AreListed, IsOneInherited, Triple}
@@ -23,6 +23,6 @@ InheritsSome certificate (Asn excess) = ⊥
 InheritsSome certificate (Ipv4 excess) = ⊥
 InheritsSome certificate (Ipv6 excess) = ⊥
 
--- for the reason there are no claims, or some are inherited
+-- the reason is that there are no claims, or that some resources are inherited
 abbrev pub IsNoAnchor : {A : Type 0} → Extensions → Unverified A → Type 0
 IsNoAnchor certificate reason = AreNoClaims certificate reason ⊎ InheritsSome certificate reason

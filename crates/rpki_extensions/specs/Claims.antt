@@ -1,4 +1,4 @@
--- What a certificate's extensions claim, where either may be absent (RFC 6487, 4.8.10 and 4.8.11; RFC 9582, 5).
+-- The claims of a certificate's extensions, either of which may be absent (RFC 6487, 4.8.10 and 4.8.11; RFC 9582, 5).
 use Rattle.std.specs.Prelude.{◌≡◌, ℕ, List, Option, Some, None, option_map}
 use Rattle.rpki_der.specs.declared.error.DerError.{DerError}
 use Rattle.rpki_chain.specs.Claims.{Claim}
@@ -10,7 +10,7 @@ use Rattle.rpki_extensions.specs.declared.error.Unverified.{Unverified}
 use Rattle.rpki_extensions.specs.declared.error.Unverified.TheVariants.{Absent, AsOctets, AddressOctets, Inherited, Asn, Ipv4, Ipv6}
 use Rattle.rpki_extensions.specs.declared.extensions.Extensions.{Extensions}
 
--- the claim of a family, missing where the family isn't there
+-- the claim of a family, missing if the family isn't there
 abbrev pub claim_or_missing : Option Claim → Claim
 claim_or_missing None = Missing
 claim_or_missing (Some claim) = claim
@@ -21,17 +21,17 @@ AreClaimed encoding octets claims = (families : ByFamily Claim) × IsAddressValu
 
 -- ---- an extension that may be absent
 
--- what is claimed of AS numbers
+-- the claim on AS numbers
 abbrev pub IsNumbersClaim : Encoding → Option (List ℕ) → Claim → Type 0
 IsNumbersClaim encoding None claim = claim ≡ Missing
 IsNumbersClaim encoding (Some octets) claim = IsAsValue encoding octets claim
 
--- what is there is no claim, and this is the first fault
+-- the extension is present and invalid, and this is its first fault
 abbrev pub HasNumbersFault : Encoding → Option (List ℕ) → DerError → Type 0
 HasNumbersFault encoding None fault = ⊥
 HasNumbersFault encoding (Some octets) fault = HasAsFault encoding octets fault
 
--- what is claimed of addresses
+-- the claims on addresses
 abbrev pub AreAddressClaims : Encoding → Option (List ℕ) → Claim × Claim → Type 0
 AreAddressClaims encoding None claims = claims ≡ (Missing, Missing)
 AreAddressClaims encoding (Some octets) claims = AreClaimed encoding octets claims
@@ -53,15 +53,15 @@ octets_of_addresses certificate = option_map (λ octets. octets.now) certificate
 abbrev pub AreAbsent : Extensions → Type 0
 AreAbsent certificate = (octets_of_numbers certificate ≡ None) × (octets_of_addresses certificate ≡ None)
 
--- one at least is there, and these are the claims on AS numbers, IPv4 and IPv6
+-- at least one is there, and these are the claims on AS numbers, IPv4 and IPv6
 abbrev pub AreClaims : Extensions → Claim → Claim → Claim → Type 0
 AreClaims certificate asn v4 v6 =
     (¬ AreAbsent certificate)
     × IsNumbersClaim certificate.encoding (octets_of_numbers certificate) asn
     × AreAddressClaims certificate.encoding (octets_of_addresses certificate) (v4, v6)
 
--- for the reason there are no claims: neither extension is there, or the AS identifiers are none, or else the IP
--- address blocks
+-- the reason why there are no claims: neither extension is there, or the AS identifiers are invalid, or else the IP
+-- address blocks are
 abbrev pub AreNoClaims : {A : Type 0} → Extensions → Unverified A → Type 0
 AreNoClaims certificate Absent = AreAbsent certificate
 AreNoClaims certificate (AsOctets fault) = HasNumbersFault certificate.encoding (octets_of_numbers certificate) fault

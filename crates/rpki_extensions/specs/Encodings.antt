@@ -1,4 +1,4 @@
--- Which octets of the two extensions a reader takes (RFC 3779, 2.2.3 and 3.2.3; X.690, 10 and 11).
+-- The octets of the two extensions that a reader accepts (RFC 3779, 2.2.3 and 3.2.3; X.690, 10 and 11).
 use Rattle.std.specs.Prelude.{◌≡◌, ℕ, Bool, true, false, List, Err}
 use Rattle.rpki_der.specs.Der.{HasNone, Spells}
 use Rattle.rpki_der.specs.declared.error.DerError.{DerError}
@@ -17,7 +17,7 @@ abbrev pub is_canonical : Encoding → Bool
 is_canonical Any = false
 is_canonical Canonical = true
 
--- the value of a grammar, or canonically what is written of the value
+-- Any: the octets have the value by the grammar; Canonical: they are those that are written for the value
 abbrev pub IsSaidIn : {X : Type 0} → Encoding → (List ℕ → X → Type 0) → (X → Type 0) → (X → List ℕ) → List ℕ → X
     → Type 0
 IsSaidIn Any G P octets = G
@@ -31,7 +31,7 @@ IsAsValue encoding = IsSaidIn encoding IsAsResources IsPresentAsClaim as_resourc
 abbrev pub IsAddressValue : Encoding → List ℕ → ByFamily Claim → Type 0
 IsAddressValue encoding = IsSaidIn encoding IsIpFamilies ArePresentClaims (families_der ip_resources_der)
 
--- octets are none, and this is their first fault
+-- the octets are invalid, and this is their first fault
 abbrev pub HasAsFault : Encoding → List ℕ → DerError → Type 0
 HasAsFault encoding octets fault = HasNone (IsAsValue encoding) octets × (only (as_choice_by (is_canonical encoding)) octets ≡ Err fault)
 

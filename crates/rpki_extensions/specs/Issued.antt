@@ -1,4 +1,4 @@
--- What a certificate's extensions claim of an issuer's resources (RFC 3779, 2.3 and 3.3; RFC 6487, 7.2; RFC 8360, 4).
+-- The part of an issuer's resources that a certificate claims (RFC 3779, 2.3 and 3.3; RFC 6487, 7.2; RFC 8360, 4).
 use Rattle.std.specs.Prelude.{◌⊎◌}
 use Rattle.rpki_chain.specs.Claims.{Claim}
 use Rattle.rpki_chain.specs.Paths.{IsExcess, IsIssued}
@@ -10,7 +10,7 @@ use Rattle.rpki_extensions.specs.declared.error.Unverified.{Unverified}
 use Rattle.rpki_extensions.specs.declared.error.Unverified.TheVariants.{Absent, AsOctets, AddressOctets, Inherited, Asn, Ipv4, Ipv6}
 use Rattle.rpki_extensions.specs.declared.extensions.Extensions.{Extensions}
 
--- the reason is such an excess, of this kind
+-- the reason is the overclaimed resources, and they are of this kind
 abbrev pub IsAsExcess : {A : Type 0} → Runs → Claim → Overclaim → Unverified A → Type 0
 IsAsExcess issuer claim mode (Asn excess) = IsExcess (Holds issuer) claim mode excess
 IsAsExcess issuer claim mode Absent = ⊥
@@ -40,17 +40,17 @@ IsV6Excess issuer claim mode (Ipv4 excess) = ⊥
 
 -- ---- claims
 
--- the sets are what the claims on addresses leave of the issuer's
+-- the sets are the parts of the issuer's that the claims on addresses leave
 abbrev pub AreIssued : Triple → Claim → Claim → Overclaim → Runs × Runs → Type 0
 AreIssued issuer v4 v6 mode sets = IsIssued (Holds issuer.ipv4) v4 mode sets.0 × IsIssued (Holds issuer.ipv6) v6 mode sets.1
 
--- the claim on IPv4 is refused, or else that on IPv6
+-- the claim on IPv4 is refused, or else the claim on IPv6
 abbrev pub AreNotIssued : {A : Type 0} → Triple → Claim → Claim → Overclaim → Unverified A → Type 0
 AreNotIssued issuer v4 v6 mode reason =
     IsV4Excess issuer.ipv4 v4 mode reason
     ⊎ (((set : Runs) × IsIssued (Holds issuer.ipv4) v4 mode set) × IsV6Excess issuer.ipv6 v6 mode reason)
 
--- so of each kind
+-- the set of each kind is the part of the issuer's that the claim leaves
 pub record IsIssuedOfEach (issuer : Triple) (numbers v4 v6 : Claim) (mode : Overclaim) (set : Triple) : Type 0 where
   pub asn : IsIssued (Holds issuer.asn) numbers mode set.asn
   pub of_families : AreIssued issuer v4 v6 mode (set.ipv4, set.ipv6)
@@ -63,12 +63,12 @@ IsNotIssuedOfEach issuer asn v4 v6 mode reason =
 
 -- ---- a certificate
 
--- the set is what the extensions claim of the issuer's
+-- the set is the part of the issuer's that the extensions claim
 abbrev pub IsVerified : Triple → Extensions → Triple → Type 0
 IsVerified issuer certificate set =
     (asn : Claim) × (v4 : Claim) × (v6 : Claim) × AreClaims certificate asn v4 v6 × IsIssuedOfEach issuer asn v4 v6 certificate.mode set
 
--- for the reason there are no claims, or they are refused
+-- the reason is that there are no claims, or that they are refused
 abbrev pub IsUnverified : {A : Type 0} → Triple → Extensions → Unverified A → Type 0
 IsUnverified issuer certificate reason =
     AreNoClaims certificate reason

@@ -1,4 +1,4 @@
--- What the certificates on a path leave of the resources of a trust anchor (RFC 3779, 2.3 and 3.3; RFC 6487, 7.2;
+-- The part of a trust anchor's resources that the certificates on a path leave (RFC 3779, 2.3 and 3.3; RFC 6487, 7.2;
 -- RFC 8360, 4).
 use Rattle.std.specs.Prelude.{◌≡◌, ◌<◌, List, [], ◌∷◌, take, slice_index_or, length}
 use Rattle.rpki_resources.specs.Triples.{Triple}
@@ -6,12 +6,12 @@ use Rattle.rpki_extensions.specs.Issued.{IsUnverified, IsVerified}
 use Rattle.rpki_extensions.specs.declared.error.UnverifiedCertificate.{UnverifiedCertificate}
 use Rattle.rpki_extensions.specs.declared.extensions.Extensions.{Extensions}
 
--- the set is what the certificates leave of the anchor's, each verified by what the ones before it leave
+-- the set is the part of the anchor's that the certificates leave, each verified by what the ones before it leave
 abbrev pub IsVerifiedPath : Triple → List Extensions → Triple → Type 0
 IsVerifiedPath anchor [] set = set ≡ anchor
 IsVerifiedPath anchor (certificate ∷ certificates) set = (next : Triple) × IsVerified anchor certificate next × IsVerifiedPath next certificates set
 
--- for the reason the certificate at the place isn't verified by what the ones before it leave
+-- the certificate at the index isn't verified, for the reason, by what the ones before it leave
 abbrev pub IsFirstUnverified : {A : Type 0} → Triple → List Extensions → UnverifiedCertificate A → Type 0
 IsFirstUnverified anchor certificates refusal =
     (certificate : Extensions) × (refusal.step < length certificates) × (slice_index_or certificates refusal.step certificate ≡ certificate)

@@ -1,4 +1,4 @@
--- What is printed of certificates that aren't verified.
+-- The texts of errors for certificates that aren't verified.
 use Rattle.std.specs.Prelude.{ℕ, List, ◌++◌, codes, decimal}
 use Rattle.rpki_der.specs.Faults.{fault_text}
 use Rattle.rpki_as.specs.Faults.{overclaimed_as_text}
@@ -10,7 +10,7 @@ use Rattle.rpki_extensions.specs.declared.error.Unverified.{Unverified}
 use Rattle.rpki_extensions.specs.declared.error.Unverified.TheVariants.{Absent, AsOctets, AddressOctets, Inherited, Asn, Ipv4, Ipv6}
 use Rattle.rpki_extensions.specs.declared.error.UnverifiedCertificate.{UnverifiedCertificate}
 
--- the reason in one line: the extension and the first fault of its octets, or the kind and its excess
+-- the reason in one line: the extension and the first fault of its octets, or the kind and its overclaimed resources
 abbrev pub unverified_text : {A : Type 0} → Unverified A → List ℕ
 unverified_text Absent = codes "neither AS identifiers nor IP address blocks"
 unverified_text (AsOctets fault) = codes "AS identifiers: " ++ fault_text fault
@@ -20,7 +20,7 @@ unverified_text (Asn excess) = overclaimed_as_text excess
 unverified_text (Ipv4 excess) = overclaimed_ip_text v4 excess
 unverified_text (Ipv6 excess) = overclaimed_ip_text v6 excess
 
--- the place of the certificate on its path, and the reason
+-- the index of the certificate on its path, and the reason
 abbrev pub certificate_text : {A : Type 0} → UnverifiedCertificate A → List ℕ
 certificate_text refusal = codes "certificate " ++ decimal refusal.step ++ codes ": " ++ unverified_text refusal.reason
 

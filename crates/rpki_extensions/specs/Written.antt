@@ -1,5 +1,5 @@
--- The octets of both extensions in their one form, each absent where it would claim nothing (RFC 3779, 2.2.3 and 3.2.3;
--- RFC 6487, 4.8.10 and 4.8.11).
+-- The canonical octets of both extensions. Each is absent if it would claim nothing (RFC 3779, 2.2.3 and 3.2.3; RFC
+-- 6487, 4.8.10 and 4.8.11).
 use Rattle.std.specs.Prelude.{ℕ, List, Option, Some, None, option_map}
 use Rattle.rpki_chain.specs.Claims.{Claim, claim_of}
 use Rattle.rpki_chain.specs.Runs.{Runs}
@@ -12,7 +12,7 @@ use Rattle.rpki_ipres.specs.ResourcesDer.{ip_families_der}
 abbrev pub claimed_numbers : Claim → Option (List ℕ)
 claimed_numbers claim = option_map as_resources_octets (if_present claim)
 
--- IP address blocks that make the claims on IPv4 and on IPv6: a family that is missing isn't there
+-- IP address blocks that make the claims on IPv4 and on IPv6: a missing family isn't in them
 abbrev pub claimed_addresses : Claim → Claim → Option (List ℕ)
 claimed_addresses Missing Missing = None
 claimed_addresses Missing Inherit = Some (ip_families_der Missing Inherit)
@@ -26,6 +26,6 @@ claimed_addresses (Blocks set) v6 = Some (ip_families_der (Blocks set) v6)
 abbrev pub written_numbers : Runs → Option (List ℕ)
 written_numbers set = claimed_numbers (claim_of set)
 
--- IP address blocks: a family without addresses isn't there
+-- IP address blocks: a family without addresses isn't in them
 abbrev pub written_addresses : Runs → Runs → Option (List ℕ)
 written_addresses v4 v6 = claimed_addresses (claim_of v4) (claim_of v6)

@@ -1,4 +1,4 @@
-//! The resources of a trust anchor, which nobody issued.
+//! The resources of a trust anchor, which has no issuer.
 ghost use Rattle.std.specs.Prelude.{◌≡◌, MatchResult};
 ghost use Rattle.rpki_text.specs.Memory.{IfRefused};
 ghost use Rattle.rpki_ipres.specs.Resources.{IsWholeClaim};
@@ -12,10 +12,16 @@ use rpki_resources::OrMemory;
 use rpki_resources::repository::resources::ResourceSet;
 use std::alloc::Allocator;
 
-/// The set that the extensions of a trust anchor list, and nothing of a kind that is missing. Its mode isn't looked at,
-/// since it has no issuer. `Refused` where there are no claims, as by [`Extensions::claims`], and else with
-/// [`Unverified::Inherited`] where resources of some kind are inherited (RFC 6487, 4.8.10 and 4.8.11; RFC 8630, 2.3).
-/// `Memory` where there is no memory for the set.
+/// Returns the set that the extensions of a trust anchor list (RFC 6487, 4.8.10 and 4.8.11; RFC 8630, 2.3).
+///
+/// Missing resources of a kind give an empty set. The call ignores the certificate's mode, because an anchor has no
+/// issuer.
+///
+/// # Errors
+///
+/// - `Refused` with an error of [`Extensions::claims`] if that call refuses the certificate.
+/// - `Refused` with [`Unverified::Inherited`] if resources of some kind are inherited.
+/// - `Memory` if an allocation fails.
 pub fn anchor_set<A: Allocator + Copy>(
     alloc: A,
     certificate: &Extensions<'_>,
@@ -29,7 +35,7 @@ pub fn anchor_set<A: Allocator + Copy>(
     }
 }
 
-/// The set that claims list. `Refused` with [`Unverified::Inherited`] where some are inherited.
+/// Returns the set that claims list, or [`Unverified::Inherited`] if one of them is inherited.
 fn listed_by<A: Allocator>(claims: &Claims<A>) -> Result<ResourceSet<A>, OrMemory<Unverified<A>>>
     requires { IsWholeClaim claims.now.ipv4 }
     ensures { MatchResult result (AreListed claims.now.asn claims.now.ipv4 claims.now.ipv6)

@@ -1,4 +1,4 @@
-//! Why what stands in a certificate's extensions isn't verified.
+//! The reasons why a certificate's extensions aren't verified.
 ghost use Rattle.std.specs.Prelude.{Some};
 ghost use Rattle.rpki_extensions.specs.Texts.{below_text, certificate_text, unverified_text};
 
@@ -10,23 +10,24 @@ use std::alloc::{Allocator, Global};
 use std::error::Error;
 use std::fmt;
 
-/// Why an issuer doesn't verify what stands in a certificate's extensions, or why they are no trust anchor's. Prints
-/// one line.
+/// The reason why an issuer doesn't verify a certificate's extensions, or why they aren't those of a trust anchor.
+///
+/// It prints one line.
 #[derive(Drop)]
 pub enum Unverified<A: Allocator = Global> {
-    /// The certificate has neither extension (RFC 6487, 4.8.10 and 4.8.11: one at least).
+    /// The certificate has neither extension. At least one is required (RFC 6487, 4.8.10 and 4.8.11).
     Absent,
-    /// The octets of AS identifiers are none: their first fault.
+    /// The value of the AS identifiers extension is invalid. The field is its first fault.
     AsOctets(DerError),
-    /// The octets of IP address blocks are none: their first fault.
+    /// The value of the IP address blocks extension is invalid. The field is its first fault.
     AddressOctets(DerError),
     /// A trust anchor inherits resources, and has no issuer.
     Inherited,
-    /// AS numbers that the issuer hasn't: exactly those.
+    /// The overclaimed AS numbers: exactly those that the issuer doesn't have.
     Asn(OverclaimedAsResources<A>),
-    /// IPv4 addresses that the issuer hasn't: exactly those.
+    /// The overclaimed IPv4 addresses: exactly those that the issuer doesn't have.
     Ipv4(OverclaimedIpv4Resources<A>),
-    /// IPv6 addresses that the issuer hasn't: exactly those.
+    /// The overclaimed IPv6 addresses: exactly those that the issuer doesn't have.
     Ipv6(OverclaimedIpv6Resources<A>),
 }
 
@@ -55,12 +56,12 @@ impl<A: Allocator> fmt::Debug for Unverified<A> {
 
 impl<A: Allocator> Error for Unverified<A> {}
 
-/// The first certificate of a path that isn't verified. Prints one line: the place and the reason.
+/// The first certificate of a path that isn't verified. It prints one line: the index and the reason.
 #[derive(Drop)]
 pub struct UnverifiedCertificate<A: Allocator = Global> {
-    /// The place of the certificate, counted from 0 below the trust anchor.
+    /// The index of the certificate on the path, counted from 0 below the trust anchor.
     pub step: usize,
-    /// Why it isn't verified by what the ones before it leave.
+    /// The reason why the certificate isn't verified by the resources that the ones before it leave.
     pub reason: Unverified<A>,
 }
 
@@ -83,10 +84,10 @@ impl<A: Allocator> fmt::Debug for UnverifiedCertificate<A> {
 
 impl<A: Allocator> Error for UnverifiedCertificate<A> {}
 
-/// Why nothing is verified below a trust anchor. Prints one line.
+/// The reason why nothing is verified below a trust anchor. It prints one line.
 #[derive(Drop)]
 pub enum RefusedBelow<A: Allocator = Global> {
-    /// The anchor lists no set.
+    /// The extensions of the anchor list no set.
     Anchor(Unverified<A>),
     /// A certificate on the path isn't verified.
     Certificate(UnverifiedCertificate<A>),

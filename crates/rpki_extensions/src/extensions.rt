@@ -1,4 +1,4 @@
-//! What a certificate says of resources, and what it claims by that.
+//! The two resource extensions of a certificate, and its claims.
 ghost use Rattle.std.specs.Prelude.{◌≡◌, Err, IfOk, MatchResult};
 ghost use Rattle.rpki_text.specs.Memory.{IfRefused};
 ghost use Rattle.rpki_text.specs.declared.memory.OrMemory.TheVariants.{Refused};
@@ -13,39 +13,43 @@ use rpki_resources::repository::resources::{AsResources, IpResources, Overclaim}
 use rpki_resources::{OrMemory, refused_as};
 use std::alloc::{Allocator, Global};
 
-/// The values of a certificate's two extensions, and how they are read.
+/// The values of a certificate's two resource extensions, and how to read them.
 #[derive(Clone, Copy, Debug)]
 pub struct Extensions<'a> {
-    /// The octets of AS identifiers (RFC 3779, 3.2.3), or None where that extension is absent.
+    /// The value of the AS identifiers extension (RFC 3779, 3.2.3), or None if the extension is absent.
     pub numbers: Option<&'a [u8]>,
-    /// The octets of IP address blocks (RFC 3779, 2.2.3), or None where that extension is absent.
+    /// The value of the IP address blocks extension (RFC 3779, 2.2.3), or None if the extension is absent.
     pub addresses: Option<&'a [u8]>,
-    /// Which octets are read.
+    /// The encodings that are accepted.
     pub encoding: Encoding,
-    /// What becomes of a claim that lists too much, as the certificate's policy says (RFC 8360, 4).
+    /// The mode for overclaims, from the certificate's policy (RFC 8360, 4).
     pub mode: Overclaim,
 }
 
-/// What a certificate claims: missing, inherited or listed resources of each kind.
+/// The claims of a certificate: missing, inherited or listed resources of each kind.
 ///
 /// This is a struct of three claims. `rpki_chain::path::Claims` is the trait that each claim of one kind has.
 #[derive(Drop)]
 #[derive_where(Debug)]
 pub struct Claims<A: Allocator = Global> {
-    /// AS numbers.
+    /// The claim on AS numbers.
     pub asn: AsResources<A>,
-    /// IPv4 addresses.
+    /// The claim on IPv4 addresses.
     pub ipv4: IpResources<A>,
-    /// IPv6 addresses.
+    /// The claim on IPv6 addresses.
     pub ipv6: IpResources<A>,
 }
 
 impl Extensions<'_> {
-    /// Returns what the certificate claims. An absent extension and an absent family are missing resources.
+    /// Returns the claims of the certificate. An absent extension and an absent family claim missing resources.
     ///
-    /// Errors: [`Unverified::Absent`] if both extensions are absent, whatever memory there is. Else the first fault of
-    /// AS identifiers ([`Unverified::AsOctets`]), and then of IP address blocks ([`Unverified::AddressOctets`]).
-    /// `Memory` if an allocation for the claims fails.
+    /// # Errors
+    ///
+    /// - `Refused` with [`Unverified::Absent`] if both extensions are absent. It is returned even if out of memory.
+    /// - `Refused` with [`Unverified::AsOctets`] and the first fault of the AS identifiers extension.
+    /// - `Refused` with [`Unverified::AddressOctets`] and the first fault of the IP address blocks extension, if the AS
+    ///   identifiers have no fault.
+    /// - `Memory` if an allocation fails.
     pub fn claims<A: Allocator + Copy>(
         &self,
         alloc: A,

@@ -1,4 +1,4 @@
-//! A certificate's extensions, held against what its issuer has.
+//! A certificate's extensions, checked against the resources of its issuer.
 ghost use Rattle.std.specs.Prelude.{IfOk, MatchResult};
 ghost use Rattle.rpki_text.specs.Memory.{IfRefused};
 ghost use Rattle.rpki_chain.specs.Paths.{IsIssued};
@@ -16,10 +16,16 @@ use rpki_resources::repository::resources::{
 };
 use std::alloc::Allocator;
 
-/// The resources of a certificate: what its extensions claim of the resources of its issuer, nothing of an extension
-/// or a family that isn't there. `Refused` where there are no claims, as by [`Extensions::claims`], and else with
-/// what the issuer hasn't, of AS numbers before IPv4 and IPv4 before IPv6; [`Overclaim::Trim`] leaves no excess.
-/// `Memory` where there is no memory for a set.
+/// Returns the resources of a certificate: the part of its issuer's resources that its extensions claim.
+///
+/// An absent extension and an absent family claim nothing.
+///
+/// # Errors
+///
+/// - `Refused` with an error of [`Extensions::claims`] if that call refuses the certificate.
+/// - `Refused` with the overclaimed resources of the first kind that has any. AS numbers come before IPv4, and IPv4
+///   before IPv6. With [`Overclaim::Trim`] no resources are overclaimed.
+/// - `Memory` if an allocation fails.
 pub fn verified_octets<A: Allocator + Copy>(
     alloc: A,
     issuer: &ResourceSet<A>,
@@ -35,7 +41,7 @@ pub fn verified_octets<A: Allocator + Copy>(
     }
 }
 
-/// What the claims of a certificate leave of an issuer's resources.
+/// Returns the part of an issuer's resources that the claims of a certificate leave.
 fn issued<A: Allocator + Copy>(
     alloc: A,
     issuer: &ResourceSet<A>,
@@ -53,7 +59,7 @@ fn issued<A: Allocator + Copy>(
     Ok(ResourceSet::new(asn, ipv4, ipv6))
 }
 
-/// What a claim leaves of an issuer's AS numbers.
+/// Returns the part of an issuer's AS numbers that a claim leaves.
 fn issued_numbers<A: Allocator + Copy>(
     alloc: A,
     issuer: &AsBlocks<A>,
@@ -69,7 +75,7 @@ fn issued_numbers<A: Allocator + Copy>(
     }
 }
 
-/// What the claims on both families leave of an issuer's addresses.
+/// Returns the parts of an issuer's addresses that the claims on both families leave.
 fn issued_addresses<A: Allocator + Copy>(
     alloc: A,
     issuer: &ResourceSet<A>,
@@ -86,7 +92,7 @@ fn issued_addresses<A: Allocator + Copy>(
     Ok((ipv4, ipv6))
 }
 
-/// What a claim leaves of an issuer's IPv4 addresses.
+/// Returns the part of an issuer's IPv4 addresses that a claim leaves.
 fn issued_v4<A: Allocator + Copy>(
     alloc: A,
     issuer: &Ipv4Blocks<A>,
@@ -103,7 +109,7 @@ fn issued_v4<A: Allocator + Copy>(
     }
 }
 
-/// What a claim leaves of an issuer's IPv6 addresses.
+/// Returns the part of an issuer's IPv6 addresses that a claim leaves.
 fn issued_v6<A: Allocator + Copy>(
     alloc: A,
     issuer: &Ipv6Blocks<A>,

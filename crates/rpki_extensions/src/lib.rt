@@ -1,9 +1,10 @@
-//! What a certificate's two extensions of RFC 3779 say of resources (RFC 6487, 4.8.10 and 4.8.11): read, held against
-//! what an issuer has, followed down a path from a trust anchor, and written. Either extension may be absent; a
-//! certificate with neither is refused.
+//! Reads, verifies and writes the two resource extensions of a certificate (RFC 3779; RFC 6487, 4.8.10 and 4.8.11).
 //!
-//! The octets of both go to `verified_octets`, with how they are read (`Encoding`) and what becomes of a claim that
-//! lists too much (`Overclaim`), as in the program `example_verified_set`:
+//! The crate checks their claims against the resources of an issuer, and follows a path of certificates down from a
+//! trust anchor. Either extension may be absent. A certificate with neither extension is refused.
+//!
+//! Pass the values of both to `verified_octets`, with the accepted encoding (`Encoding`) and the mode for overclaims
+//! (`Overclaim`), as in the program `example_verified_set`:
 //!
 //! ```rust
 //! let certificate = Extensions {

@@ -14,9 +14,14 @@ use rpki_resources::OrMemory;
 use rpki_resources::repository::resources::ResourceSet;
 use std::alloc::Allocator;
 
-/// What the certificates on a path leave of the resources of a trust anchor: each is verified by what the ones before
-/// it leave, the first by the anchor's. `Refused` with the place of the first that isn't verified, counted from 0,
-/// and the reason; `Memory` where there is no memory for a set on the way.
+/// Returns the part of a trust anchor's resources that the certificates on a path leave.
+///
+/// Each certificate is verified by the resources that the ones before it leave, and the first one by the anchor's.
+///
+/// # Errors
+///
+/// - `Refused` with the index, counted from 0, of the first certificate that isn't verified, and the reason.
+/// - `Memory` if an allocation on the way fails.
 pub fn verified_path<A: Allocator + Copy>(
     alloc: A,
     anchor: &ResourceSet<A>,
@@ -36,7 +41,7 @@ pub fn verified_path<A: Allocator + Copy>(
     Ok(issuer)
 }
 
-/// What a certificate leaves of its issuer's resources. `Refused` with its place on the path and the reason.
+/// Returns the part of an issuer's resources that a certificate leaves, or its index on the path and the reason.
 fn verified_at<A: Allocator + Copy>(
     alloc: A,
     issuer: &ResourceSet<A>,
@@ -56,9 +61,16 @@ fn verified_at<A: Allocator + Copy>(
     }
 }
 
-/// What the certificates on a path leave of what a trust anchor lists: each is verified by what the ones before it
-/// leave, the first by the anchor's set. `Refused` with the reason for which the anchor lists no set, or else with the
-/// first certificate that isn't verified; `Memory` where there is no memory for a set on the way.
+/// Returns the part of a trust anchor's set that the certificates on a path leave.
+///
+/// The anchor's set is the one that its extensions list. Each certificate is verified by the resources that the ones
+/// before it leave, and the first one by the anchor's set.
+///
+/// # Errors
+///
+/// - `Refused` with [`RefusedBelow::Anchor`] and the reason if the anchor lists no set.
+/// - `Refused` with [`RefusedBelow::Certificate`] and the first certificate that isn't verified.
+/// - `Memory` if an allocation on the way fails.
 pub fn verified_below<A: Allocator + Copy>(
     alloc: A,
     anchor: &Extensions<'_>,
@@ -75,7 +87,7 @@ pub fn verified_below<A: Allocator + Copy>(
     }
 }
 
-/// What the certificates on a path leave of the set that a trust anchor lists.
+/// Returns the part of a trust anchor's set that the certificates on a path leave.
 fn below_root<A: Allocator + Copy>(
     alloc: A,
     root: &ResourceSet<A>,

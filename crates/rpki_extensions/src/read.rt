@@ -1,4 +1,4 @@
-//! The value of each extension, read.
+//! Readers for the value of each extension.
 ghost use Rattle.std.specs.Prelude.{◌≡◌, IfOk, IfSome, MatchResult, option_map};
 ghost use Rattle.rpki_text.specs.Memory.{IfRefused};
 ghost use Rattle.rpki_ipres.specs.Resources.{IsWholeClaim};
@@ -16,7 +16,10 @@ use std::alloc::Allocator;
 ///
 /// The value has to be read to its end. [`numbers_claim`] also accepts an absent extension.
 ///
-/// Returns `Refused` with the first fault of the octets, and `Memory` if an allocation fails.
+/// # Errors
+///
+/// - `Refused` with the first fault of the octets.
+/// - `Memory` if an allocation fails.
 pub fn read_as<A: Allocator + Copy>(
     alloc: A,
     octets: &[u8],
@@ -33,9 +36,12 @@ pub fn read_as<A: Allocator + Copy>(
 
 /// Reads the IPv4 and the IPv6 resources from the value of the IP address blocks extension (RFC 3779, 2.2).
 ///
-/// Returns None for a family that isn't in the value. [`read_claims`] returns missing resources instead.
+/// The call returns None for a family that isn't in the value. [`read_claims`] returns missing resources instead.
 ///
-/// Returns `Refused` with the first fault of the octets, and `Memory` if an allocation fails.
+/// # Errors
+///
+/// - `Refused` with the first fault of the octets.
+/// - `Memory` if an allocation fails.
 pub fn read_families<A: Allocator + Copy>(
     alloc: A,
     octets: &[u8],
@@ -56,7 +62,10 @@ pub fn read_families<A: Allocator + Copy>(
 /// A family that isn't in the value claims missing resources. [`read_families`] returns None instead, and
 /// [`address_claims`] also accepts an absent extension.
 ///
-/// Returns `Refused` with the first fault of the octets, and `Memory` if an allocation fails.
+/// # Errors
+///
+/// - `Refused` with the first fault of the octets.
+/// - `Memory` if an allocation fails.
 pub fn read_claims<A: Allocator + Copy>(
     alloc: A,
     octets: &[u8],
@@ -76,7 +85,10 @@ pub fn read_claims<A: Allocator + Copy>(
 ///
 /// An absent extension, None, claims missing resources. [`read_as`] reads one that is present.
 ///
-/// Returns `Refused` with the first fault of the octets, and `Memory` if an allocation fails.
+/// # Errors
+///
+/// - `Refused` with the first fault of the octets.
+/// - `Memory` if an allocation fails.
 pub fn numbers_claim<A: Allocator + Copy>(
     alloc: A,
     octets: Option<&[u8]>,
@@ -96,7 +108,10 @@ pub fn numbers_claim<A: Allocator + Copy>(
 ///
 /// An absent extension, None, claims missing resources of both families. [`read_claims`] reads one that is present.
 ///
-/// Returns `Refused` with the first fault of the octets, and `Memory` if an allocation fails.
+/// # Errors
+///
+/// - `Refused` with the first fault of the octets.
+/// - `Memory` if an allocation fails.
 pub fn address_claims<A: Allocator + Copy>(
     alloc: A,
     octets: Option<&[u8]>,
@@ -113,7 +128,7 @@ pub fn address_claims<A: Allocator + Copy>(
     }
 }
 
-/// What each family claims, missing where it isn't there.
+/// Returns the claims of both families. A family that isn't in the value claims missing resources.
 fn each_or_missing<A: Allocator>(
     found: (Option<IpResources<A>>, Option<IpResources<A>>),
 ) -> (IpResources<A>, IpResources<A>)
@@ -124,7 +139,7 @@ fn each_or_missing<A: Allocator>(
     (or_missing(v4), or_missing(v6))
 }
 
-/// The resources of a family, missing ones where it isn't there.
+/// Returns the resources of a family, or missing resources if the family isn't in the value.
 fn or_missing<A: Allocator>(found: Option<IpResources<A>>) -> IpResources<A>
     ensures value { result ≡ claim_or_missing found }
     ensures whole { IfSome found IsWholeClaim → IsWholeClaim result }

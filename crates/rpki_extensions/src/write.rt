@@ -1,4 +1,4 @@
-//! The values of both extensions, written of claims or of a set.
+//! Writers for the values of both extensions, from claims or from a set.
 ghost use Rattle.std.specs.Prelude.{◌≡◌, IfOk, option_map};
 ghost use Rattle.rpki_chain.specs.Claims.{claim_of};
 ghost use Rattle.rpki_ipres.specs.Resources.{IsWholeClaim};
@@ -9,8 +9,13 @@ ghost use Rattle.rpki_extensions.specs.declared.encoding.Encoding.{Encoding};
 use rpki_resources::repository::resources::{AsResources, IpResources, ResourceSet};
 use std::alloc::{AllocError, Allocator};
 
-/// The octets of AS identifiers (RFC 3779, 3.2.3) that make a claim, in their one form, or None where it is missing and
-/// the extension is absent. They are read back in either encoding. `AllocError` where there is no memory for them.
+/// Returns the canonical value of the AS identifiers extension for a claim (RFC 3779, 3.2.3).
+///
+/// The call returns None for a missing claim: the extension is then absent. The value is read back in either encoding.
+///
+/// # Errors
+///
+/// [`AllocError`] if an allocation fails.
 #[tactic(auto, using(rpki_as::proofs::ResourcesDer::resources_written))]
 pub fn write_numbers_claim<A: Allocator>(
     alloc: A,
@@ -29,9 +34,14 @@ pub fn write_numbers_claim<A: Allocator>(
     Ok(Some(octets))
 }
 
-/// The octets of IP address blocks (RFC 3779, 2.2.3) that make the claims on IPv4 and on IPv6, in their one form, or
-/// None where both are missing and the extension is absent. They are read back in either encoding, where what is
-/// claimed of IPv4 consists of whole addresses. `AllocError` where there is no memory for them.
+/// Returns the canonical value of the IP address blocks extension for claims on IPv4 and IPv6 (RFC 3779, 2.2.3).
+///
+/// The call returns None if both claims are missing: the extension is then absent. The value is read back in either
+/// encoding, if a list in `v4` consists of whole IPv4 addresses.
+///
+/// # Errors
+///
+/// [`AllocError`] if an allocation fails.
 #[tactic(auto, using(crate::proofs::WrittenLemmas::is_written))]
 pub fn write_address_claims<A: Allocator>(
     alloc: A,
@@ -52,8 +62,13 @@ pub fn write_address_claims<A: Allocator>(
     Ok(Some(octets))
 }
 
-/// The octets of AS identifiers that list the AS numbers of a set, as by [`write_numbers_claim`], or None where there
-/// are none and the extension is absent. `AllocError` where there is no memory for them.
+/// Returns the value of the AS identifiers extension that lists the AS numbers of a set, as by [`write_numbers_claim`].
+///
+/// The call returns None if the set has no AS numbers: the extension is then absent.
+///
+/// # Errors
+///
+/// [`AllocError`] if an allocation fails.
 pub fn write_numbers<A: Allocator + Copy>(
     alloc: A,
     set: &ResourceSet<A>,
@@ -68,8 +83,13 @@ pub fn write_numbers<A: Allocator + Copy>(
     write_numbers_claim(alloc, &claim)
 }
 
-/// The octets of IP address blocks that list the addresses of a set, as by [`write_address_claims`], or None where
-/// there are none and the extension is absent. `AllocError` where there is no memory for them.
+/// Returns the value of the IP address blocks extension that lists a set's addresses, as by [`write_address_claims`].
+///
+/// The call returns None if the set has no addresses: the extension is then absent.
+///
+/// # Errors
+///
+/// [`AllocError`] if an allocation fails.
 pub fn write_addresses<A: Allocator + Copy>(
     alloc: A,
     set: &ResourceSet<A>,

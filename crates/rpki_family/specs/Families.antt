@@ -1,4 +1,5 @@
--- What is of a family: all bounds in IPv6, and in IPv4 whole ones; and covers by its own addresses.
+-- The values of a family: in IPv6 all bounds, in IPv4 those of whole addresses; and covers by the family's own
+-- addresses.
 use Rattle.std.specs.Prelude.{ℕ, ◌*◌, ◌^◌, List, ⊤}
 use Rattle.rpki_cover.specs.Prefixes.{PrefixValue}
 use Rattle.rpki_chain.specs.Runs.{Runs, Holds}
@@ -12,11 +13,11 @@ abbrev pub HasBoundsIn : AddressFamily → ℕ × ℕ → Type 0
 HasBoundsIn Ipv4 b = HasWholeBounds b
 HasBoundsIn Ipv6 b = ⊤
 
--- the IPv4 addresses of a set of whole ones
+-- the IPv4 addresses of a set of whole addresses
 abbrev pub Ipv4Of : Runs → ℕ → Type 0
 Ipv4Of set a = Holds set (a * 2 ^ 96)
 
--- In IPv4 the prefixes are those that cover a set by its own addresses. Of IPv6 this says nothing.
+-- In IPv4 the prefixes are those that cover a set by its own addresses. In IPv6 this is always true.
 abbrev pub IsCoverListIn : AddressFamily → Runs → List PrefixValue → Type 0
 IsCoverListIn Ipv4 set ps = IsV4CoverList (Ipv4Of set) ps
 IsCoverListIn Ipv6 set ps = ⊤

@@ -20,9 +20,9 @@ use std::fmt;
 use std::marker::{Model, PhantomData};
 use std::str::FromStr;
 
-/// The addresses of one family of a prefix or of a range (RFC 3779, 2.2.3.7).
+/// The addresses of a prefix or of a range of one family (RFC 3779, 2.2.3.7).
 ///
-/// Contracts see it as the block of addresses of either family that it is. In IPv4 it consists of whole addresses.
+/// Its value in contracts is a block of addresses of either family. In IPv4 it consists of whole addresses.
 #[derive_where(Clone, Copy)]
 pub struct FamilyBlock<F: Family> {
     block: IpBlock,
@@ -44,14 +44,14 @@ impl<F: Family> Model for FamilyBlock<F> {
 }
 
 impl<F: Family> FamilyBlock<F> {
-    /// All addresses of the family: the prefix of length 0.
+    /// Returns the block of all addresses of the family: the prefix of length 0.
     pub fn all() -> FamilyBlock<F>
         ensures { result ≡ Prefix (record { first = 0; len = 0 }) }
     {
         FamilyBlock::of(IpBlock::all())
     }
 
-    /// The addresses of a prefix, or None where the prefix is of the other family.
+    /// Returns the block of a prefix's addresses, or None if the prefix is of the other family.
     #[tactic(auto, using(crate::proofs::FamilyLemmas::prefix_in))]
     pub fn from_prefix(prefix: FamilyPrefix) -> Option<FamilyBlock<F>>
         ensures { IsPrefixBlock F.FAMILY prefix result }
@@ -67,14 +67,14 @@ impl<F: Family> FamilyBlock<F> {
         }
     }
 
-    /// Whether the block is the prefix of length 0. A range of all addresses isn't.
+    /// Returns whether the block is the prefix of length 0. For a range of all addresses this is false.
     pub fn is_slash_zero(&self) -> bool
         ensures { IsTrue result ↔ (self.now ≡ Prefix (record { first = 0; len = 0 })) }
     {
         self.block.is_slash_zero()
     }
 
-    /// A block of addresses of either family as one of the family.
+    /// Returns a block of addresses of either family as one of the family.
     pub(crate) fn of(block: IpBlock) -> FamilyBlock<F>
         requires { HasBoundsIn F.FAMILY (ip_bounds block) }
         ensures { result ≡ block }
@@ -85,7 +85,7 @@ impl<F: Family> FamilyBlock<F> {
         }
     }
 
-    /// The block of addresses of either family that it is.
+    /// Returns the block as one of addresses of either family.
     pub(crate) fn to_block(&self) -> IpBlock
         ensures value { result ≡ self.now }
         ensures bounds { HasBoundsIn F.FAMILY (ip_bounds result) }
@@ -104,7 +104,7 @@ impl<F: Family> fmt::Debug for FamilyBlock<F> {
     }
 }
 
-/// Blocks are equal where their bounds are, whatever their forms.
+/// Blocks are equal if and only if their bounds are, whether they are prefixes or ranges.
 impl<F: Family> PartialEq for FamilyBlock<F> {
     ghost eq = { have_same_bounds ip_bounds };
 
@@ -140,7 +140,7 @@ impl<F: Family> BlockOfSet for FamilyBlock<F> {
     }
 }
 
-/// The block of the family that a text writes.
+/// Reads a block of the family from its text.
 fn read_block(family: AddressFamily, text: &str) -> Result<IpBlock, FromStrError>
     ensures { ReadsFamilyBlock family text.now result }
 {
@@ -150,8 +150,10 @@ fn read_block(family: AddressFamily, text: &str) -> Result<IpBlock, FromStrError
     }
 }
 
-/// Reads a prefix round the first slash; without one a range round the first dash; else one address, as
-/// [`IpBlock::from_v4_str`] and [`IpBlock::from_v6_str`].
+/// Reads a block as [`IpBlock::from_v4_str`] and [`IpBlock::from_v6_str`] do.
+///
+/// A text with a slash is read as a prefix, split at the first slash. Without a slash, a text with a dash is read as a
+/// range, split at the first dash. Any other text is read as one address.
 impl<F: Family> FromStr for FamilyBlock<F> {
     type Err = FromStrError;
 
@@ -166,8 +168,9 @@ impl<F: Family> FromStr for FamilyBlock<F> {
     }
 }
 
-/// Prints a prefix as its address and, where it isn't the length of one address, its length behind a slash, and a range
-/// as its bounds with a dash between them, or as one address where they are one.
+/// Prints a prefix as its address, a slash and its length. The slash and the length are omitted for one address.
+///
+/// A range is printed as its bounds with a dash between them, or as one address if the bounds are equal.
 impl<F: Family> fmt::Display for FamilyBlock<F> {
     ghost output = { λ block. Some (ip_block_text F.FAMILY block) };
 

@@ -25,11 +25,13 @@ use std::alloc::{AllocError, Allocator, Global};
 use std::fmt;
 use std::marker::{Model, PhantomData};
 
-/// A set of addresses of one family. Sets of the same addresses are equal and print alike. Its memory may have several
-/// owners, and the empty set has none.
+/// A set of addresses of one family.
 ///
-/// Contracts see it as the ascending list of the runs of its addresses as numbers of 128 bits, each as its least and
-/// its greatest number. In IPv4 it consists of whole addresses.
+/// Sets with the same addresses are equal and print alike. Several sets may share their memory. The empty set has no
+/// allocated memory.
+///
+/// The value in contracts is the ascending list of the runs of its addresses as numbers of 128 bits. Each run is a pair
+/// of its lowest and its highest number. In IPv4 the set consists of whole addresses.
 #[derive(Drop)]
 pub struct FamilyBlocks<F: Family, A: Allocator = Global> {
     pub(crate) blocks: IpBlocks<A>,
@@ -48,14 +50,18 @@ impl<F: Family, A: Allocator> Model for FamilyBlocks<F, A> {
 }
 
 impl<F: Family, A: Allocator> FamilyBlocks<F, A> {
-    /// The set of no addresses.
+    /// Returns the set of no addresses.
     pub fn empty() -> FamilyBlocks<F, A>
         ensures { result ≡ [] }
     {
         FamilyBlocks::of(IpBlocks::empty())
     }
 
-    /// The set of all addresses of the family. `AllocError` where there is no memory for it.
+    /// Returns the set of all addresses of the family.
+    ///
+    /// # Errors
+    ///
+    /// [`AllocError`] if an allocation fails.
     pub fn all(alloc: A) -> Result<FamilyBlocks<F, A>, AllocError>
     where
         A: Copy,
@@ -65,8 +71,11 @@ impl<F: Family, A: Allocator> FamilyBlocks<F, A> {
         Ok(FamilyBlocks::of(blocks))
     }
 
-    /// The set of the addresses that some block has. The blocks may come in any order and may overlap. `AllocError`
-    /// where there is no memory for it.
+    /// Returns the set of the addresses of the blocks, which may come in any order and may overlap.
+    ///
+    /// # Errors
+    ///
+    /// [`AllocError`] if an allocation fails.
     pub fn from_blocks(
         alloc: A,
         blocks: &[FamilyBlock<F>],
@@ -83,7 +92,7 @@ impl<F: Family, A: Allocator> FamilyBlocks<F, A> {
         Ok(FamilyBlocks::of(blocks))
     }
 
-    /// A set of addresses of either family as one of the family.
+    /// Returns a set of addresses of either family as one of the family.
     pub(crate) fn of(blocks: IpBlocks<A>) -> FamilyBlocks<F, A>
         requires { IsWholeIn F.FAMILY blocks }
         ensures { result ≡ blocks }
@@ -105,7 +114,7 @@ impl<F: Family, A: Allocator> FamilyBlocks<F, A> {
         self.blocks.is_lawful();
     }
 
-    /// The set as one of addresses of either family.
+    /// Returns the set as one of addresses of either family.
     #[tactic(auto, using(crate::proofs::FamilyLemmas::is_family_set))]
     pub fn ip_blocks(&self) -> &IpBlocks<A>
         ensures value { result.now ≡ self.now }
@@ -116,7 +125,7 @@ impl<F: Family, A: Allocator> FamilyBlocks<F, A> {
         &self.blocks
     }
 
-    /// The set as one of addresses of either family; its memory has as many owners as before.
+    /// Converts the set into one of addresses of either family. The number of shares of its memory stays.
     pub fn into_ip_blocks(self) -> IpBlocks<A>
         ensures value { result ≡ self }
         ensures whole { IsWholeIn F.FAMILY self }
@@ -124,8 +133,13 @@ impl<F: Family, A: Allocator> FamilyBlocks<F, A> {
         self.blocks
     }
 
-    /// The resources that list the set, whose memory has one owner more, and missing ones where it has no addresses.
-    /// `AllocError` where std refuses that owner.
+    /// Returns resources that list the set, or missing resources if the set is empty.
+    ///
+    /// The resources share the memory of the set (reference count + 1).
+    ///
+    /// # Errors
+    ///
+    /// [`AllocError`] if `std` refuses a further share of the memory.
     #[tactic(auto, using(crate::proofs::FamilyLemmas::is_family_set))]
     pub fn to_ip_resources(&self) -> Result<IpResources<A>, AllocError>
         ensures claim { IfOk result (λ resources. resources ≡ claim_of self.now) }
@@ -135,7 +149,11 @@ impl<F: Family, A: Allocator> FamilyBlocks<F, A> {
         Ok(IpResources::blocks(blocks))
     }
 
-    /// The same set, whose memory has one owner more. `AllocError` where std refuses that owner.
+    /// Returns the same set, which shares the memory of `self` (reference count + 1).
+    ///
+    /// # Errors
+    ///
+    /// [`AllocError`] if `std` refuses a further share of the memory.
     pub fn clone(&self) -> Result<FamilyBlocks<F, A>, AllocError>
         ensures { IfOk result (λ set. set ≡ self.now) }
     {
@@ -143,14 +161,15 @@ impl<F: Family, A: Allocator> FamilyBlocks<F, A> {
         Ok(FamilyBlocks::of(blocks))
     }
 
-    /// Whether the set has no addresses.
+    /// Returns whether the set has no addresses.
     pub fn is_empty(&self) -> bool
         ensures { IsTrue result ↔ (self.now ≡ []) }
     {
         self.blocks.is_empty()
     }
 
-    /// The blocks of the set one by one, ascending: its runs, each a prefix where it is one, and else a range.
+    /// Returns an iterator over the blocks of the set, ascending: its runs, each as a prefix if it is one, or else as a
+    /// range.
     #[tactic(auto, using(crate::proofs::FamilyLemmas::is_family_set, crate::proofs::FamilyLemmas::blocks_in))]
     pub fn iter(&self) -> BlockIter<'_, FamilyBlock<F>>
         ensures blocks { map ip_bounds result ≡ self.now }
@@ -160,28 +179,32 @@ impl<F: Family, A: Allocator> FamilyBlocks<F, A> {
         BlockIter::over(self.blocks.iter())
     }
 
-    /// Whether the set has each address of another.
+    /// Returns whether the set has each address of `other`.
     pub fn contains(&self, other: &FamilyBlocks<F, A>) -> bool
         ensures { IsTrue result ↔ ((n : ℕ) → Holds other.now n → Holds self.now n) }
     {
         self.blocks.contains(&other.blocks)
     }
 
-    /// Whether the set has each address of a block.
+    /// Returns whether the set has each address of a block.
     pub fn contains_block(&self, block: FamilyBlock<F>) -> bool
         ensures { IsTrue result ↔ ((n : ℕ) → IsWithin (ip_bounds block) n → Holds self.now n) }
     {
         self.blocks.contains_block(block.to_block())
     }
 
-    /// Whether the set has an address of a block.
+    /// Returns whether the set has at least one address of a block.
     pub fn intersects_block(&self, block: FamilyBlock<F>) -> bool
         ensures { IsTrue result ↔ ((n : ℕ) × IsWithin (ip_bounds block) n × Holds self.now n) }
     {
         self.blocks.intersects_block(block.to_block())
     }
 
-    /// The set of the addresses that both have. `AllocError` where there is no memory for it.
+    /// Returns the intersection of `self` and `other`.
+    ///
+    /// # Errors
+    ///
+    /// [`AllocError`] if an allocation fails.
     pub fn intersection(
         &self,
         alloc: A,
@@ -195,7 +218,11 @@ impl<F: Family, A: Allocator> FamilyBlocks<F, A> {
         Ok(FamilyBlocks::of(blocks))
     }
 
-    /// The set of the addresses that the other doesn't have. `AllocError` where there is no memory for it.
+    /// Returns the set of the addresses of `self` that `other` doesn't have.
+    ///
+    /// # Errors
+    ///
+    /// [`AllocError`] if an allocation fails.
     pub fn difference(
         &self,
         alloc: A,
@@ -209,7 +236,11 @@ impl<F: Family, A: Allocator> FamilyBlocks<F, A> {
         Ok(FamilyBlocks::of(blocks))
     }
 
-    /// The set of the addresses that one or the other has. `AllocError` where there is no memory for it.
+    /// Returns the union of `self` and `other`.
+    ///
+    /// # Errors
+    ///
+    /// [`AllocError`] if an allocation fails.
     pub fn union(
         &self,
         alloc: A,
@@ -223,16 +254,22 @@ impl<F: Family, A: Allocator> FamilyBlocks<F, A> {
         Ok(FamilyBlocks::of(blocks))
     }
 
-    /// The set that a list of blocks of the family writes: the text is cut at commas, white space round an element is
-    /// dropped, and so is an element that is empty then. `Refused` for the first element that is no block: with
-    /// [`FromStrError::FamilyMismatch`] where it has in IPv4 a colon, and in IPv6 a dot and no colon; else with its own
-    /// fault. `Memory` where there is no memory for the set.
+    /// Reads a set from a list of blocks of the family.
+    ///
+    /// The text is split at commas. White space around an element is dropped, and so is an element that is then empty.
+    ///
+    /// # Errors
+    ///
+    /// - `Refused` with [`FromStrError::FamilyMismatch`] if the first element that isn't a block looks like one of the
+    ///   other family. In IPv4 that element has a colon. In IPv6 it has a dot and no colon.
+    /// - `Refused` with the fault of the first element that isn't a block, in all other cases.
+    /// - `Memory` if an allocation fails.
     pub fn from_str(alloc: A, text: &str) -> Result<FamilyBlocks<F, A>, OrMemory<FromStrError>>
     where
         A: Copy,
         ensures exact { AnswersOrMemory (λ set. set) (IsSetOf (HasBlocks F.FAMILY text.now))
             (HasBlocksFault F.FAMILY text.now) result }
-        // What is printed of a set is read as that set.
+        // The printed text of a set is read back as that set.
         ensures reads_back { (set : Runs) → IsFamilySet F.FAMILY set
             → text.now ≡ set_text F.FAMILY set
             → MatchResult result (λ read. read ≡ set) IsMemory }
@@ -249,7 +286,7 @@ impl<'a, F: Family, A: Allocator> IntoIterator for &'a FamilyBlocks<F, A> {
 
     type IntoIter = BlockIter<'a, FamilyBlock<F>>;
 
-    // what `iter` says
+    // the postconditions of `iter`
     ghost into_iter_gives = { λ set blocks. (map ip_bounds blocks ≡ set.now)
         × (blocks ≡ map new_ip_block set.now)
         × IsFamilySet F.FAMILY set.now };
@@ -265,7 +302,7 @@ impl<F: Family, A: Allocator> fmt::Debug for FamilyBlocks<F, A> {
     }
 }
 
-/// The set of no addresses.
+/// Returns the set of no addresses.
 impl<F: Family, A: Allocator> Default for FamilyBlocks<F, A> {
     ghost is_default = { λ set. set ≡ [] };
 
@@ -274,7 +311,7 @@ impl<F: Family, A: Allocator> Default for FamilyBlocks<F, A> {
     }
 }
 
-/// Sets are equal exactly where they have the same addresses.
+/// Sets are equal if and only if they have the same addresses.
 impl<F: Family, A: Allocator> PartialEq for FamilyBlocks<F, A> {
     ghost eq = { λ a b. same_runs a b };
 
@@ -293,7 +330,7 @@ impl<F: Family, A: Allocator> Eq for FamilyBlocks<F, A> {
     ghost laws = { runs_equiv };
 }
 
-/// Prints the blocks of the set, ascending, joined by a comma and a space; nothing, where the set is empty.
+/// Prints the blocks of the set, ascending, joined by a comma and a space. An empty set prints nothing.
 impl<F: Family, A: Allocator> fmt::Display for FamilyBlocks<F, A> {
     ghost output = { λ set. Some (set_text F.FAMILY set) };
 

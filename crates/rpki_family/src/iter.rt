@@ -1,4 +1,4 @@
-//! The blocks of a set of one family, one by one. The iterators take no memory.
+//! Iterators over the blocks of a set of one family. They allocate nothing.
 ghost use Rattle.std.specs.Prelude.{◌≡◌, ℕ, All, map};
 ghost use Rattle.std.specs.Iterator.{YieldsFirst, item_count};
 ghost use Rattle.std.specs.Slice.Iter.{iter_rest};
@@ -10,21 +10,21 @@ use std::fmt;
 use std::marker::{Model, PhantomData};
 use std::slice::Iter;
 
-/// A block of one family, as an iterator makes it of a block of addresses.
+/// A block of one family that an iterator makes from a block of addresses.
 pub trait BlockOfSet: Copy {
-    // The block of the family that a block of addresses is.
+    // The block of the family for a block of addresses.
     ghost of: { IpBlock → Self };
 
-    // What holds of the bounds of a block of the family.
+    // The condition on the bounds of a block of the family.
     ghost fits: { ℕ × ℕ → Type 0 };
 
-    /// The block of the family that a block of addresses is.
+    /// Returns the block of the family for a block of addresses.
     fn from_block(ip: IpBlock) -> Self
         requires { fits (ip_bounds ip) }
         ensures { result ≡ of ip };
 }
 
-/// The blocks of a set of one family that are left. Contracts see it as their list.
+/// An iterator over the blocks of a set of one family. Its value in contracts is the list of the blocks that are left.
 #[derive(Drop)]
 pub struct BlockIter<'a, B: BlockOfSet> {
     left: Iter<'a, IpBlock>,
@@ -44,7 +44,7 @@ impl<'a, B: BlockOfSet> Model for BlockIter<'a, B> {
 }
 
 impl<'a, B: BlockOfSet> BlockIter<'a, B> {
-    /// The blocks of a set of the family.
+    /// Returns an iterator over the blocks of a set of the family.
     pub(crate) fn over(blocks: Iter<'a, IpBlock>) -> BlockIter<'a, B>
         requires { All (λ block. B.fits (ip_bounds block)) (iter_rest blocks) }
         ensures { result ≡ map B.of (iter_rest blocks.entry) }

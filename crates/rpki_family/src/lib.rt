@@ -1,6 +1,6 @@
 //! Blocks and sets of addresses of one family, with their texts.
 //!
-//! Sets are joined, as in `example_calls::sets::union_of_three`:
+//! Join sets as in `example_calls::sets::union_of_three`:
 //!
 //! ```rust
 //! let both = one.union(alloc, two)?;

@@ -13,8 +13,9 @@ use std::alloc::Allocator;
 use std::fmt;
 use std::marker::{Model, PhantomData};
 
-/// An iterator over the prefixes of the shortest cover of a set of addresses of one family, ascending. Contracts see
-/// it as the list of the prefixes that are left.
+/// An iterator over the prefixes of the shortest cover of a set of addresses of one family, ascending.
+///
+/// Its value in contracts is the list of the prefixes that are left.
 #[derive(Drop)]
 pub struct FamilySetPrefixes<'a, F: Family> {
     left: SetPrefixes<'a>,
@@ -57,8 +58,10 @@ impl<F: Family> Iterator for FamilySetPrefixes<'_, F> {
 }
 
 impl<F: Family, A: Allocator> FamilyBlocks<F, A> {
-    /// The shortest list of prefixes that covers the set, ascending: all prefixes inside it that have length 0 or whose
-    /// parent, which is one bit shorter, isn't inside. In IPv4 their lengths are at most 32.
+    /// Returns an iterator over the shortest list of prefixes that covers the set, ascending.
+    ///
+    /// The list has each prefix inside the set that has length 0, or whose parent isn't inside the set. The parent is
+    /// the prefix that is one bit shorter. In IPv4 the lengths are at most 32.
     #[tactic(auto, using(crate::proofs::FamilyLemmas::covered_in))]
     pub fn prefixes(&self) -> FamilySetPrefixes<'_, F>
         ensures cover { IsShortestCover 128 (Holds self.now) result }

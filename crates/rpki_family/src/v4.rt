@@ -13,14 +13,14 @@ pub use rpki_der::family::Ipv4Family;
 use rpki_ipres::blocks::IpBlocks;
 use std::alloc::{Allocator, Global};
 
-/// The IPv4 addresses of a prefix or of a range (RFC 3779, 2.2.3.7). It consists of whole IPv4 addresses.
+/// The IPv4 addresses of a prefix or of a range (RFC 3779, 2.2.3.7). A block consists of whole IPv4 addresses.
 pub type Ipv4Block = FamilyBlock<Ipv4Family>;
 
 /// A set of IPv4 addresses. It consists of whole IPv4 addresses.
 pub type Ipv4Blocks<A = Global> = FamilyBlocks<Ipv4Family, A>;
 
 impl FamilyBlock<Ipv4Family> {
-    /// The least address.
+    /// Returns the lowest address.
     pub fn min(&self) -> Ipv4Addr
         ensures value { result * 2 ^ 96 ≡ (ip_bounds self.now).0 }
         ensures whole { HasWholeBounds (ip_bounds self.now) }
@@ -28,7 +28,7 @@ impl FamilyBlock<Ipv4Family> {
         self.to_block().min().to_v4()
     }
 
-    /// The greatest address.
+    /// Returns the highest address.
     pub fn max(&self) -> Ipv4Addr
         ensures value { result * 2 ^ 96 + (2 ^ 96 - 1) ≡ (ip_bounds self.now).1 }
         ensures block { IsBlockOf Ipv4 self.now }
@@ -38,7 +38,11 @@ impl FamilyBlock<Ipv4Family> {
 }
 
 impl<A: Allocator> FamilyBlocks<Ipv4Family, A> {
-    /// A set of whole IPv4 addresses, which [`IpBlocks::is_whole_v4`] tells, as one of IPv4.
+    /// Returns a set of addresses of either family as one of IPv4.
+    ///
+    /// # Preconditions
+    ///
+    /// `blocks` consists of whole IPv4 addresses. [`IpBlocks::is_whole_v4`] returns whether it does.
     pub fn from_ip_blocks(blocks: IpBlocks<A>) -> Ipv4Blocks<A>
         requires { IsWhole (Holds blocks) }
         ensures { result ≡ blocks }

@@ -18,14 +18,14 @@ pub type Ipv6Block = FamilyBlock<Ipv6Family>;
 pub type Ipv6Blocks<A = Global> = FamilyBlocks<Ipv6Family, A>;
 
 impl FamilyBlock<Ipv6Family> {
-    /// The least address.
+    /// Returns the lowest address.
     pub fn min(&self) -> Ipv6Addr
         ensures { result ≡ (ip_bounds self.now).0 }
     {
         self.to_block().min().to_v6()
     }
 
-    /// The greatest address.
+    /// Returns the highest address.
     pub fn max(&self) -> Ipv6Addr
         ensures value { result ≡ (ip_bounds self.now).1 }
         ensures block { IsBlockOf Ipv6 self.now }
@@ -35,7 +35,7 @@ impl FamilyBlock<Ipv6Family> {
 }
 
 impl<A: Allocator> FamilyBlocks<Ipv6Family, A> {
-    /// A set of addresses of either family as one of IPv6.
+    /// Returns a set of addresses of either family as one of IPv6.
     pub fn from_ip_blocks(blocks: IpBlocks<A>) -> Ipv6Blocks<A>
         ensures { result ≡ blocks }
     {

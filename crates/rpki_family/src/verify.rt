@@ -1,4 +1,4 @@
-//! What claims of addresses leave of a set of a family (RFC 3779, 2.3; RFC 6487, 7.2; RFC 8360, 4).
+//! Checks of claims on addresses against a set of a family (RFC 3779, 2.3; RFC 6487, 7.2; RFC 8360, 4).
 ghost use Rattle.std.specs.Prelude.{◌≡◌, ◌↔◌, IsOk, IfOk, IfErr, All};
 ghost use Rattle.rpki_text.specs.Memory.{IfRefused};
 ghost use Rattle.rpki_text.specs.Reading.{AnswersOrMemory};
@@ -15,12 +15,24 @@ use rpki_ipres::verify::IpStep;
 use rpki_text::memory::OrMemory;
 use std::alloc::{AllocError, Allocator};
 
-/// In IPv4 what a claim lists consists of whole addresses, as it does where it was read for IPv4 or made by a set of
-/// IPv4.
+/// Checks of claims. In IPv4 they require that a listed claim consists of whole addresses.
+///
+/// A claim that was read for IPv4, or made by a set of IPv4, meets this precondition.
 impl<F: Family, A: Allocator> FamilyBlocks<F, A> {
-    /// What a claim leaves of the set: nothing where it is missing, all where it is inherited, and what both have where
-    /// it lists a set. `Refused` with the excess where the mode is [`Overclaim::Refuse`] and the claim lists more than
-    /// the set has; `Memory` where there is no memory for the answer.
+    /// Returns the part of the set that a claim leaves.
+    ///
+    /// A missing claim leaves nothing, an inherited claim leaves the whole set, and a listed claim leaves its
+    /// intersection with the set.
+    ///
+    /// # Preconditions
+    ///
+    /// In IPv4 a listed claim consists of whole addresses.
+    ///
+    /// # Errors
+    ///
+    /// - `Refused` with the overclaimed resources if `mode` is [`Overclaim::Refuse`] and the claim lists more than the
+    ///   set has.
+    /// - `Memory` if an allocation fails.
     pub fn verify_issued(
         &self,
         alloc: A,
@@ -40,9 +52,19 @@ impl<F: Family, A: Allocator> FamilyBlocks<F, A> {
         }
     }
 
-    /// Whether the claim of an issuer has the whole set: a missing one the empty set alone, an inherited one each set,
-    /// and one that lists a set what lies in it; this takes no memory. `Refused` with what the issuer doesn't have,
-    /// `Memory` where there is no memory for that.
+    /// Checks that an issuer's claim has each address of the set. A check that succeeds allocates nothing.
+    ///
+    /// A missing claim covers only the empty set. An inherited claim covers each set. A listed claim covers the sets
+    /// inside it.
+    ///
+    /// # Preconditions
+    ///
+    /// In IPv4 a listed claim consists of whole addresses.
+    ///
+    /// # Errors
+    ///
+    /// - `Refused` with the addresses of the set that the issuer doesn't have.
+    /// - `Memory` if an allocation for these addresses fails.
     pub fn verify_covered(
         &self,
         alloc: A,
@@ -61,9 +83,18 @@ impl<F: Family, A: Allocator> FamilyBlocks<F, A> {
         }
     }
 
-    /// What a path of claims leaves of the set, each made on what the steps before it leave: all of the set where there
-    /// is no step. `Refused` with the first step that is refused, counted from 0, and its excess; `Memory` where there
-    /// is no memory for a set on the way.
+    /// Returns the part of the set that a path of claims leaves. Without steps this is the whole set.
+    ///
+    /// Each claim is checked against what the steps before it leave.
+    ///
+    /// # Preconditions
+    ///
+    /// In IPv4 each listed claim consists of whole addresses.
+    ///
+    /// # Errors
+    ///
+    /// - `Refused` with the first refused step, counted from 0, and its overclaimed resources.
+    /// - `Memory` if an allocation on the way fails.
     pub fn verify_path(
         &self,
         alloc: A,
@@ -86,8 +117,11 @@ impl<F: Family, A: Allocator> FamilyBlocks<F, A> {
         }
     }
 
-    /// The addresses that a claim lists too much, as a set whose memory has one owner more. `AllocError` where std
-    /// refuses that owner.
+    /// Returns the overclaimed addresses of a fault as a set, which shares their memory (reference count + 1).
+    ///
+    /// # Errors
+    ///
+    /// [`AllocError`] if `std` refuses a further share of the memory.
     pub fn from_excess(
         fault: &OverclaimedFamilyResources<F, A>,
     ) -> Result<FamilyBlocks<F, A>, AllocError>

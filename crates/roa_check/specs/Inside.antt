@@ -11,12 +11,12 @@ use Rattle.rpki_prefix.specs.MaxLen.{MaxLenValue}
 use Rattle.rpki_prefix.specs.Values.{FamilyPrefix, interval, width}
 use Rattle.rpki_resources.specs.Triples.{Triple, set_of_family}
 
--- how many numbers of 128 bits stand for an address: one of IPv4 stands for its bits with any 96 after them
+-- how many numbers of 128 bits an address has: an IPv4 address has those that begin with its 32 bits
 abbrev pub numbers_each : IpAddr → ℕ
 numbers_each (V4 n) = 2 ^ 96
 numbers_each (V6 n) = 1
 
--- the least and the greatest of the numbers that stand for the prefix's addresses
+-- the lowest and the highest of the numbers of the prefix's addresses
 abbrev pub prefix_numbers : FamilyPrefix → ℕ × ℕ
 prefix_numbers p = ((interval p).first * numbers_each p.addr, (last_of (width p.addr) (interval p) + 1) * numbers_each p.addr - 1)
 
@@ -24,7 +24,7 @@ prefix_numbers p = ((interval p).first * numbers_each p.addr, (last_of (width p.
 abbrev pub IsPrefixInside : Triple → FamilyPrefix → Type 0
 IsPrefixInside set p = (n : ℕ) → IsWithin (prefix_numbers p) n → Holds (set_of_family (family_of p.addr) set) n
 
--- the least place whose prefix isn't inside, or none where all are
+-- the lowest index whose prefix isn't inside, or None if all are inside
 abbrev pub IsFirstOutside : Triple → List MaxLenValue → Option ℕ → Type 0
 IsFirstOutside set entries found =
     MatchOption found (All (λ e. IsPrefixInside set e.prefix) entries)

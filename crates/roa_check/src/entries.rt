@@ -1,4 +1,4 @@
-//! The prefixes of a route origin authorization that its certificate's resources don't have (RFC 9582, 5).
+//! The prefixes of a ROA that its certificate's resources don't include (RFC 9582, 5).
 ghost use Rattle.std.specs.Prelude.{◌≡◌, ◌↔◌, IsTrue};
 ghost use Rattle.roa_check.specs.Inside.{IsFirstOutside, IsPrefixInside, prefix_numbers};
 ghost use Rattle.rpki_ip.specs.Ranges.{range_bounds};
@@ -8,7 +8,7 @@ use rpki_prefix::{MaxLenPrefix, Prefix};
 use rpki_resources::repository::resources::{Addr, ResourceSet};
 use std::alloc::Allocator;
 
-/// The addresses of a prefix, as sets of resources number them.
+/// Returns the addresses of a prefix, as the numbers in sets of resources.
 fn addresses(prefix: Prefix) -> AddressRange
     ensures { range_bounds result ≡ prefix_numbers prefix }
 {
@@ -21,7 +21,7 @@ fn addresses(prefix: Prefix) -> AddressRange
     }
 }
 
-/// Whether the set of the prefix's family has each of its addresses.
+/// Returns whether the set of the prefix's family has each of its addresses.
 fn is_inside<A: Allocator>(set: &ResourceSet<A>, prefix: Prefix) -> bool
     ensures { IsTrue result ↔ IsPrefixInside set.now prefix }
 {
@@ -33,8 +33,10 @@ fn is_inside<A: Allocator>(set: &ResourceSet<A>, prefix: Prefix) -> bool
     set.contains_roa_address(family, addresses(prefix))
 }
 
-/// The place of the first entry whose prefix isn't inside its family's set, counted from 0, or None where each one is.
-/// A greatest length isn't looked at, since it allows no address more. It takes no memory (RFC 9582, 5).
+/// Returns the index of the first entry whose prefix isn't inside the set of its family (RFC 9582, 5).
+///
+/// Indices are counted from 0. The call returns None if each prefix is inside. It ignores maximum lengths, because they
+/// add no addresses. It allocates nothing.
 pub fn outside<A: Allocator>(set: &ResourceSet<A>, entries: &[MaxLenPrefix]) -> Option<usize>
     ensures { IsFirstOutside set.now entries.now result }
 {

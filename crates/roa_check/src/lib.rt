@@ -1,7 +1,6 @@
-//! Route origin authorizations checked against the resources of their certificate, and routes against what was
-//! validated (RFC 6811; RFC 9582).
+//! Checks of ROAs against the resources of their certificate, and of routes against VRPs (RFC 6811; RFC 9582).
 //!
-//! What an authorization lists and its certificate doesn't have is found by [`outside`], as in
+//! [`outside`] finds the first prefix that a ROA lists and its certificate doesn't have, as in
 //! `example_calls::routes::excess`:
 //!
 //! ```rust
@@ -11,7 +10,7 @@
 //! }
 //! ```
 //!
-//! The validity of a route by a list is [`origin`]; a router that asks for many makes an `OriginTable` (crate
+//! [`origin`] returns the validity of a route by a list of VRPs. For many routes, make an `OriginTable` (crate
 //! `roa_origin`).
 #![tactic(auto)]
 

@@ -9,16 +9,16 @@ use rpki_der::sequences::encode_sequence;
 use rpki_der::{Cursor, DerError};
 use std::alloc::{AllocError, Global};
 
-/// How far the blocks stand apart.
+/// The distance between the beginnings of neighbouring blocks.
 const STEP: u32 = 8;
 
-/// How far the one set begins before the other.
+/// The distance between the beginnings of the two sets.
 const OFFSET: u32 = 2;
 
 impl Set for AsBlocks {
     type Block = AsBlock;
 
-    /// Blocks of four AS numbers each; fewer, where they pass the last AS number.
+    /// Returns blocks of four AS numbers each. There are fewer than `count` if they would pass the last AS number.
     fn blocks(alloc: Global, count: usize, is_other: bool) -> Result<Vec<AsBlock>, AllocError> {
         let mut blocks = Vec::new(alloc);
         let mut next = Some(if is_other { OFFSET } else { 0 });

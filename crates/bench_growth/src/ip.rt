@@ -9,16 +9,16 @@ use rpki_ipres::block::IpBlock;
 use rpki_ipres::blocks::IpBlocks;
 use std::alloc::{AllocError, Global};
 
-/// How far the blocks stand apart.
+/// The distance between the beginnings of neighbouring blocks.
 const STEP: u128 = 1 << 64;
 
-/// How far the one set begins before the other.
+/// The distance between the beginnings of the two sets.
 const OFFSET: u128 = 1 << 32;
 
 impl Set for IpBlocks {
     type Block = IpBlock;
 
-    /// Blocks of three addresses each.
+    /// Returns blocks of three addresses each.
     fn blocks(alloc: Global, count: usize, is_other: bool) -> Result<Vec<IpBlock>, AllocError> {
         let mut blocks = Vec::new(alloc);
         let mut next = Some(if is_other { OFFSET } else { 0 });

@@ -1,10 +1,10 @@
-//! Payloads and routes, made of numbers that follow from one another.
+//! VRPs and routes, made from pseudorandom numbers.
 use rpki_base::Asn;
 use rpki_base::addr::{IpAddr, Ipv4Addr, Ipv6Addr};
 use rpki_prefix::{MaxLenPrefix, Prefix};
 use std::alloc::{AllocError, Global};
 
-/// Lengths of prefixes of IPv4 and of IPv6, each as often as it is taken of 16 times.
+/// Prefix lengths of IPv4 and IPv6. Each is repeated in proportion to its share of 16 draws.
 const V4: [u8; 16] = [
     24, 24, 24, 24, 24, 24, 24, 24, 24, 23, 22, 22, 21, 20, 19, 18,
 ];
@@ -13,12 +13,12 @@ const V6: [u8; 16] = [
     48, 48, 48, 48, 48, 48, 48, 44, 40, 40, 36, 32, 32, 32, 32, 29,
 ];
 
-/// Numbers of 64 bits that seem to have no order (splitmix64).
+/// A generator of pseudorandom numbers of 64 bits (splitmix64).
 #[derive(Drop)]
 pub struct Numbers(u64);
 
 impl Numbers {
-    /// Those that follow a number.
+    /// Returns the generator of the numbers that follow a seed.
     pub fn after(seed: u64) -> Numbers {
         Numbers(seed)
     }
@@ -30,7 +30,7 @@ impl Numbers {
         second ^ (second >> 31)
     }
 
-    /// A number below the limit; 0 where the limit is.
+    /// Returns a number below the limit, or 0 if the limit is 0.
     fn below(&mut self, limit: u64) -> u64 {
         self.next().checked_rem(limit).unwrap_or(0)
     }
@@ -56,7 +56,7 @@ impl Numbers {
         }
     }
 
-    /// A payload; a quarter of them allow longer routes than their prefix.
+    /// Returns a VRP. A quarter of the VRPs have a maximum length, which is 24 in IPv4 and 48 in IPv6.
     fn payload(&mut self) -> Option<(MaxLenPrefix, Asn)> {
         let prefix = self.prefix()?;
         let longest = if prefix.is_v4() { 24 } else { 48 };
@@ -66,7 +66,7 @@ impl Numbers {
         Some((MaxLenPrefix::saturating_new(prefix, max_len), asn))
     }
 
-    /// A route of a payload: as long as it allows, or one bit longer, some by another AS.
+    /// Returns a route of a VRP: as long as the VRP allows, or one bit longer; some routes are by another AS.
     fn route_of(&mut self, payload: &(MaxLenPrefix, Asn)) -> Option<(Prefix, Asn)> {
         let longest = payload.0.resolved_max_len();
         let is_longer = self.below(64) == 0;
@@ -81,7 +81,7 @@ impl Numbers {
         Some((prefix, asn))
     }
 
-    /// A route of any prefix, or of one of the payloads.
+    /// Returns a route of any prefix, or of one of the VRPs.
     fn route(&mut self, payloads: &[(MaxLenPrefix, Asn)]) -> Option<(Prefix, Asn)> {
         let at = self.below(payloads.len() as u64);
         match payloads.get(at as usize) {
@@ -94,12 +94,12 @@ impl Numbers {
     }
 }
 
-/// The last 32 bits of a number.
+/// Returns the last 32 bits of a number.
 fn low_half(number: u64) -> u32 {
     u32::try_from(number & 0xffff_ffff).unwrap_or(0)
 }
 
-/// So many payloads.
+/// Returns `count` VRPs.
 pub fn payloads(
     alloc: Global,
     numbers: &mut Numbers,
@@ -114,7 +114,7 @@ pub fn payloads(
     Ok(payloads)
 }
 
-/// So many routes.
+/// Returns `count` routes.
 pub fn routes(
     alloc: Global,
     numbers: &mut Numbers,

@@ -1,17 +1,20 @@
-//! How calls grow with what they are asked: what they give on the standard output, and their times on standard error.
+//! Measures how calls grow with their input. Results go to the standard output, and times to standard error.
 //!
-//! For each N that an argument names: two sets of N blocks of AS numbers that interleave, of which each block of the
-//! one overlaps one of the other, and no two touch; two such sets of addresses, whose blocks lie apart; then N blocks
-//! of AS numbers and N blocks of addresses, which are read from a SEQUENCE where they stand in another order, and
-//! written as a set, and which are read in either mode where they ascend.
+//! For each argument that is a number N the program makes and measures:
 //!
-//! Behind the word `origins` the numbers are pairs: of how many payloads a table is made, and for the origins of how
-//! many routes it is asked. They are made like those of a full table: four of five are of IPv4, most of them of 24
-//! bits; half of the routes are those of payloads, some longer or by another AS. The same numbers make the same
-//! payloads and routes.
+//! - two sets of N blocks of AS numbers that interleave: each block of one overlaps a block of the other, and no two
+//!   touch;
+//! - two such sets of addresses, whose blocks are disjoint;
+//! - N blocks of AS numbers and N blocks of addresses: read from an unordered SEQUENCE and written as a set, and read
+//!   in either mode from an ascending SEQUENCE.
 //!
-//! Behind the words `one` and `chain` each number is how many payloads a table is made of: of one prefix, each of
-//! another AS, or of prefixes of all lengths, one in the other. It is asked for three routes a thousand times each.
+//! After the word `origins` the numbers are pairs: how many VRPs a table has, and for how many routes the program looks
+//! up the origin. VRPs are made like those of a full table: four of five are of IPv4, most of them of 24 bits. Half of
+//! the routes are those of VRPs, some of them longer or by another AS. The same numbers give the same VRPs and routes.
+//!
+//! After the words `one` and `chain` each number is how many VRPs a table has. With `one` they have one prefix, each
+//! with another AS. With `chain` they have prefixes of all lengths, each inside the next shorter one. The program looks
+//! up three routes, a thousand times each.
 #![tactic(auto)]
 
 mod asn;
@@ -35,7 +38,7 @@ fn main(rt: HostRuntime) -> io::Result<()> {
     Ok(())
 }
 
-/// Measures what a word asks for where it is a number, and tells what the next number is.
+/// Measures for a word that is a number, and returns the meaning of the next number.
 fn asked_next(rt: &HostRuntime, asked: Asked, word: &str) -> io::Result<Asked> {
     match word.parse::<usize>() {
         Ok(count) => measure_asked(rt, asked, count),
@@ -43,21 +46,21 @@ fn asked_next(rt: &HostRuntime, asked: Asked, word: &str) -> io::Result<Asked> {
     }
 }
 
-/// What the next number is.
+/// The meaning of the next number.
 #[derive(Clone, Copy)]
 enum Asked {
-    /// How many blocks.
+    /// The number of blocks.
     Sets,
-    /// How many payloads.
+    /// The number of VRPs.
     Origins,
-    /// How many routes, of a table of so many payloads.
+    /// The number of routes, for a table with this many VRPs.
     Routes(usize),
-    /// How many payloads, of prefixes of these lengths.
+    /// The number of VRPs, with prefixes of these lengths.
     Worst(Lengths),
 }
 
 impl Asked {
-    /// What the numbers behind a word are.
+    /// Returns the meaning of the numbers after a word.
     fn named(word: &str) -> Asked {
         match word {
             "one" => Asked::Worst(Lengths::ONE),
@@ -67,7 +70,7 @@ impl Asked {
     }
 }
 
-/// Measures what a number asks for, and tells what the next one is.
+/// Measures for a number, and returns the meaning of the next one.
 fn measure_asked(rt: &HostRuntime, asked: Asked, count: usize) -> io::Result<Asked> {
     match asked {
         Asked::Sets => {

@@ -1,18 +1,18 @@
-//! What is measured of sets, whatever their kind.
+//! Measurements of sets of any kind.
 use rpki_base::memory::OrMemory;
 use rpki_der::{Cursor, DerError};
 use std::alloc::{AllocError, Global};
 use std::io;
 use std::time::Instant;
 
-/// How far blocks that stand side by side are apart in the other order: a prime, so that each is met once.
+/// The distance in the other order between neighbouring blocks: a prime, so that each block comes once.
 const STRIDE: usize = 7919;
 
 /// A set of blocks of a kind.
 pub trait Set: Sized + Drop {
     type Block: Copy;
 
-    /// So many blocks, which ascend; those of the other set begin at an offset.
+    /// Returns `count` ascending blocks. The blocks of the other set begin at an offset.
     fn blocks(alloc: Global, count: usize, is_other: bool) -> Result<Vec<Self::Block>, AllocError>;
 
     fn from_blocks(alloc: Global, blocks: &[Self::Block]) -> Result<Self, AllocError>;
@@ -25,20 +25,20 @@ pub trait Set: Sized + Drop {
 
     fn contains(&self, other: &Self) -> bool;
 
-    /// How many blocks the set has.
+    /// Returns how many blocks the set has.
     fn count(&self) -> usize;
 
-    /// A SEQUENCE of blocks in their order.
+    /// Returns a SEQUENCE of blocks in their order.
     fn octets(alloc: Global, blocks: &[Self::Block]) -> Result<Vec<u8>, AllocError>;
 
-    /// The set of the blocks of a SEQUENCE.
+    /// Reads the set of the blocks of a SEQUENCE.
     fn take(alloc: Global, cursor: &mut Cursor<'_>) -> Result<Self, OrMemory<DerError>>;
 
     /// Appends the set's octets.
     fn append(&self, octets: &mut Vec<u8>) -> Result<(), AllocError>;
 }
 
-/// What is measured: calls of sets of so many blocks of a kind, which stands before the names of the calls.
+/// The subject of a measurement: calls on sets of `count` blocks. `kind` is printed before the names of the calls.
 #[derive(Clone, Copy)]
 pub struct Measured<'a> {
     pub rt: &'a HostRuntime,
@@ -47,7 +47,7 @@ pub struct Measured<'a> {
 }
 
 impl Measured<'_> {
-    /// Prints how long a call took since the start, and how much it gave.
+    /// Prints the time of a call since the start, and the size of its result.
     fn tell(self, name: &str, start: Instant, given: usize, unit: &str) -> io::Result<()> {
         self.tell_time(name, start)?;
         println!(self.rt;
@@ -62,7 +62,7 @@ impl Measured<'_> {
     }
 }
 
-/// A call that makes a set of two.
+/// A call that makes a set from two sets.
 enum Call {
     Union,
     Intersection,
@@ -89,14 +89,14 @@ impl Call {
     }
 }
 
-/// Builds two sets, the first of a list that it times, and times what they give.
+/// Builds two sets, and measures the building of the first one from a list and the calls on both.
 pub fn measure_operations<S: Set>(run: Measured<'_>) -> io::Result<()> {
     let blocks = S::blocks(run.rt.alloc(), run.count, false)?;
     let one: S = measure_building(run, &blocks)?;
     measure_with_other(run, &one)
 }
 
-/// How long it takes to make a set of blocks that ascend.
+/// Measures the time to make a set of ascending blocks.
 fn measure_building<S: Set>(run: Measured<'_>, blocks: &[S::Block]) -> io::Result<S> {
     let start = Instant::now(run.rt)?;
     let set = S::from_blocks(run.rt.alloc(), blocks)?;
@@ -121,14 +121,14 @@ fn other_set<S: Set>(alloc: Global, count: usize) -> Result<S, AllocError> {
     S::from_blocks(alloc, &blocks)
 }
 
-/// How long it takes to make a set of two.
+/// Measures the time to make a set from two sets.
 fn measure_call<S: Set>(run: Measured<'_>, call: &Call, one: &S, other: &S) -> io::Result<()> {
     let start = Instant::now(run.rt)?;
     let set = call.of(run.rt.alloc(), one, other)?;
     run.tell(call.name(), start, set.count(), "blocks")
 }
 
-/// How long it takes to find that the union of two sets contains the one.
+/// Measures the time to find that the union of two sets contains the first one.
 fn measure_contains<S: Set>(run: Measured<'_>, one: &S, other: &S) -> io::Result<()> {
     let union = one.union(run.rt.alloc(), other)?;
     measure_contained(run, one, &union)
@@ -163,13 +163,13 @@ fn measure_in_modes<S: Set>(run: Measured<'_>, octets: &[u8]) -> io::Result<()> 
     Ok(())
 }
 
-/// A SEQUENCE of blocks, which ascend.
+/// Returns a SEQUENCE of ascending blocks.
 fn canonical<S: Set>(alloc: Global, count: usize) -> Result<Vec<u8>, AllocError> {
     let blocks = S::blocks(alloc, count, false)?;
     S::octets(alloc, &blocks)
 }
 
-/// A SEQUENCE of blocks, which aren't ascending.
+/// Returns a SEQUENCE of blocks that aren't ascending.
 fn octets<S: Set>(alloc: Global, count: usize) -> Result<Vec<u8>, AllocError> {
     let blocks = S::blocks(alloc, count, false)?;
     octets_of::<S>(alloc, &blocks)
@@ -180,7 +180,7 @@ fn octets_of<S: Set>(alloc: Global, blocks: &[S::Block]) -> Result<Vec<u8>, Allo
     S::octets(alloc, &blocks)
 }
 
-/// The blocks in another order, in which neighbours lie far apart.
+/// Returns the blocks in another order, in which neighbours are far apart.
 fn reordered<T: Copy>(alloc: Global, blocks: &[T]) -> Result<Vec<T>, AllocError> {
     let mut taken = Vec::new(alloc);
     let mut at = 0;
@@ -193,7 +193,7 @@ fn reordered<T: Copy>(alloc: Global, blocks: &[T]) -> Result<Vec<T>, AllocError>
     Ok(taken)
 }
 
-/// The place that follows another in that order.
+/// Returns the index that follows another index in that order.
 fn behind(at: usize, count: usize) -> usize {
     at.wrapping_add(STRIDE).checked_rem(count).unwrap_or(0)
 }

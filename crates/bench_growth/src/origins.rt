@@ -1,4 +1,4 @@
-//! What is measured of a table.
+//! Measurements of a table.
 use crate::made_routes::{self, Numbers};
 use roa_origin::{OriginTable, Validity};
 use rpki_base::Asn;
@@ -6,13 +6,13 @@ use rpki_prefix::{MaxLenPrefix, Prefix};
 use std::io;
 use std::time::Instant;
 
-/// Where the numbers begin.
+/// The seed of the numbers.
 const SEED: u64 = 6811;
 
-/// How many payloads are announced, and at most withdrawn.
+/// How many VRPs are announced, and at most withdrawn.
 const CHANGED: usize = 150;
 
-/// Makes payloads, their table and routes, asks the table for each route, and changes it.
+/// Makes VRPs, their table and routes, looks up each route, and changes the table.
 pub fn measure(rt: &HostRuntime, payloads: usize, routes: usize) -> io::Result<()> {
     let mut numbers = Numbers::after(SEED);
     let listed = made_routes::payloads(rt.alloc(), &mut numbers, payloads)?;
@@ -38,7 +38,7 @@ fn measure_building(rt: &HostRuntime, listed: &[(MaxLenPrefix, Asn)]) -> io::Res
     Ok(table)
 }
 
-/// Announces payloads to the table, and withdraws the first of those that it was made of.
+/// Announces VRPs to the table, and withdraws the first of those that it was made of.
 fn measure_changes(
     rt: &HostRuntime,
     table: &OriginTable,
@@ -49,7 +49,7 @@ fn measure_changes(
     measure_next(rt, table, &announced, listed.get(..CHANGED).unwrap_or(&[]))
 }
 
-/// Makes the next table of changes.
+/// Makes the next table from changes.
 fn measure_next(
     rt: &HostRuntime,
     table: &OriginTable,
@@ -63,7 +63,7 @@ fn measure_next(
     }
 }
 
-/// Asks the table for each route.
+/// Looks up each route in the table.
 pub fn measure_routes(
     rt: &HostRuntime,
     table: &OriginTable,
@@ -82,7 +82,7 @@ pub fn measure_routes(
     )
 }
 
-/// How many routes have each validity, and a mark that tells apart lists of answers in which as many have it.
+/// How many routes have each validity, and a mark that distinguishes lists of results with equal counts.
 #[derive(Drop)]
 struct Counts {
     valid: u64,
@@ -92,7 +92,7 @@ struct Counts {
 }
 
 impl Counts {
-    /// Those of what the table answers for the routes.
+    /// Returns the counts of the table's results for the routes.
     fn of(table: &OriginTable, routes: &[(Prefix, Asn)]) -> Counts {
         let mut counts = Counts {
             valid: 0,
@@ -125,7 +125,7 @@ impl Counts {
     }
 }
 
-/// Prints how long it took since the start.
+/// Prints the time since the start.
 fn tell(rt: &HostRuntime, name: &str, count: usize, start: Instant) -> io::Result<()> {
     let micros = start.elapsed(rt)?.as_micros();
     eprintln!(rt; "{name} {count} {micros}")

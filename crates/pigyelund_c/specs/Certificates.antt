@@ -1,4 +1,4 @@
--- What a caller says of a certificate's extensions.
+-- Certificate extensions as a caller passes them.
 use Rattle.std.specs.Prelude.{◌≡◌, ◌≢◌, ◌⊎◌, ℕ, ◌+◌, ◌<◌, ◌≤◌, List, length, slice_range}
 use Rattle.rpki_chain.specs.declared.path.Overclaim.{Overclaim}
 use Rattle.rpki_extensions.specs.Claims.{octets_of_addresses, octets_of_numbers}
@@ -12,7 +12,7 @@ use Rattle.pigyelund_c.specs.declared.refusal.Misasked.TheVariants.{NoEncoding, 
 
 -- ---- as octets and numbers
 
--- the certificate has the octets of those extensions that are there
+-- The certificate has the octets of the extensions that are present.
 pub record IsCertificate (present : ℕ) (numbers addresses : List ℕ) (encoding : Encoding) (mode : ℕ) (certificate : Extensions) : Type 0 where
   pub there : Present
   pub is_there : present ≡ present_number there
@@ -21,7 +21,7 @@ pub record IsCertificate (present : ℕ) (numbers addresses : List ℕ) (encodin
   pub is_read : certificate.encoding ≡ encoding
   pub is_mode : mode ≡ mode_number certificate.mode
 
--- the number of the extensions is none, or else that of the mode
+-- The number of the extensions is invalid; if it is valid, the number of the mode is invalid.
 abbrev pub IsMisasked : ℕ → ℕ → Misasked → Type 0
 IsMisasked present mode NoPresence = (there : Present) → present ≢ present_number there
 IsMisasked present mode NoMode = ((there : Present) × (present ≡ present_number there)) × ((m : Overclaim) → mode ≢ mode_number m)
@@ -29,20 +29,20 @@ IsMisasked present mode NoEncoding = ⊥
 IsMisasked present mode NoFamily = ⊥
 IsMisasked present mode Outside = ⊥
 
--- ---- as places in a run of octets
+-- ---- as ranges of a run of octets
 
--- both places lie in the run
+-- Both ranges lie in the run.
 pub record LiesInRun (run : List ℕ) (c : Certificate) : Type 0 where
   pub numbers : c.as_at + c.as_len ≤ length run
   pub addresses : c.ip_at + c.ip_len ≤ length run
 
--- the certificate has the octets at the places
+-- The certificate has the octets of the two ranges.
 pub record IsCertificateAt (run : List ℕ) (encoding : Encoding) (c : Certificate) (certificate : Extensions) : Type 0 where
   pub inside : LiesInRun run c
   pub says : IsCertificate c.present (slice_range run c.as_at (c.as_at + c.as_len))
       (slice_range run c.ip_at (c.ip_at + c.ip_len)) encoding c.mode certificate
 
--- a place lies outside, or else a number is none
+-- A range lies outside of the run; if both lie in it, a number is invalid.
 abbrev pub IsMisaskedAt : List ℕ → Certificate → Misasked → Type 0
 IsMisaskedAt run c Outside = (length run < c.as_at + c.as_len) ⊎ (length run < c.ip_at + c.ip_len)
 IsMisaskedAt run c NoPresence = LiesInRun run c × IsMisasked c.present c.mode NoPresence

@@ -17,21 +17,21 @@ use Rattle.pigyelund_c.specs.declared.cover.Uncovered.{Uncovered}
 use Rattle.pigyelund_c.specs.declared.cover.Uncovered.TheVariants.{Asked, Unread}
 use Rattle.pigyelund_c.specs.declared.refusal.Misasked.TheVariants.{NoEncoding, NoFamily}
 
--- a prefix: the octets of its address, and its length; an IPv4 address is the first 32 of 128 bits
+-- A prefix: the octets of its address, and then its length. An IPv4 address is the first 32 of 128 bits.
 abbrev pub prefix_octets : AddressFamily → PrefixValue → List ℕ
 prefix_octets Ipv4 p = octets_of (p.first / 2 ^ 96) ++ p.len ∷ []
 prefix_octets Ipv6 p = to_be_bytes w128 p.first ++ p.len ∷ []
 
--- one after the other
+-- The prefixes one after the other.
 abbrev pub cover_octets : AddressFamily → List PrefixValue → List ℕ
 cover_octets family [] = []
 cover_octets family (p ∷ ps) = prefix_octets family p ++ cover_octets family ps
 
--- octets are the shortest cover of a set
+-- The octets are the shortest cover of a set.
 abbrev pub AreCoverOctets : AddressFamily → Runs → List ℕ → Type 0
 AreCoverOctets family set octets = (ps : List PrefixValue) × IsShortestCover 128 (Holds set) ps × (octets ≡ cover_octets family ps)
 
--- of the addresses of a family that octets of IP address blocks list
+-- The same for the addresses of one family in IP address blocks.
 abbrev pub IsCoverIn : Encoding → AddressFamily → List ℕ → List ℕ → Type 0
 IsCoverIn encoding family addresses octets =
     (set : Triple) × IsSet encoding [] addresses set × AreCoverOctets family (set_of_family family set) octets
@@ -40,7 +40,7 @@ abbrev pub IsCover : List ℕ → ℕ → ℕ → List ℕ → Type 0
 IsCover addresses encoding family octets =
     (way : Encoding) × (encoding ≡ encoding_number way) × ((kind : AddressFamily) × (family ≡ family_number kind) × IsCoverIn way kind addresses octets)
 
--- the number of the encoding is none, or else that of the family, or the octets list no set
+-- The number of the encoding is invalid, or else the number of the family is, or else the octets list no set.
 abbrev pub IsNoCover : List ℕ → ℕ → ℕ → Uncovered → Type 0
 IsNoCover addresses encoding family (Asked why) =
     ((why ≡ NoEncoding) × ((way : Encoding) → encoding ≢ encoding_number way))

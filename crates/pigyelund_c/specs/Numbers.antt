@@ -1,4 +1,4 @@
--- The numbers that choose (`foreign/pigyelund.h` names them), and what they choose.
+-- The numbers that select an option (`foreign/pigyelund.h` names them), and the options.
 use Rattle.std.specs.Prelude.{ℕ, List, Option, Some, None}
 use Rattle.rpki_chain.specs.declared.path.Overclaim.{Overclaim}
 use Rattle.rpki_chain.specs.declared.path.Overclaim.TheVariants.{Refuse, Trim}
@@ -15,21 +15,21 @@ abbrev pub mode_number : Overclaim → ℕ
 mode_number Refuse = 0
 mode_number Trim = 1
 
--- 1 for AS identifiers, 2 for IP address blocks, and the sum for both
+-- 1 for AS identifiers, 2 for IP address blocks, and the sum for both.
 abbrev pub present_number : Present → ℕ
 present_number Neither = 0
 present_number Numbers = 1
 present_number Addresses = 2
 present_number Both = 3
 
--- the octets of AS identifiers, where these are there
+-- The octets of AS identifiers, if these are present.
 abbrev pub numbers_there : Present → List ℕ → Option (List ℕ)
 numbers_there Neither octets = None
 numbers_there Numbers octets = Some octets
 numbers_there Addresses octets = None
 numbers_there Both octets = Some octets
 
--- so of IP address blocks
+-- The same for IP address blocks.
 abbrev pub addresses_there : Present → List ℕ → Option (List ℕ)
 addresses_there Neither octets = None
 addresses_there Numbers octets = None

@@ -1,4 +1,4 @@
--- The statuses that are told of two sets (they are numbered in `src/status.rt`), and the set that is told with them.
+-- The statuses of the calls on two sets (numbered in `src/status.rt`), and the set that is returned with each.
 use Rattle.std.specs.Prelude.{ℕ, ◌+◌, Bool, true, false, Result, Ok, Err}
 use Rattle.rpki_text.specs.declared.memory.OrMemory.{OrMemory}
 use Rattle.rpki_text.specs.declared.memory.OrMemory.TheVariants.{Refused, Memory}
@@ -12,19 +12,19 @@ unpaired_status NoEncoding = 9
 unpaired_status (First reason) = unread_status reason
 unpaired_status (Second reason) = 4096 + unread_status reason
 
--- the status of a set that was made of two
+-- The status of a set that was made of two.
 abbrev pub made_status : Result Triple (OrMemory Unpaired) → ℕ
 made_status (Ok set) = 0
 made_status (Err (Refused reason)) = unpaired_status reason
 made_status (Err (Memory error)) = 2
 
--- and the set that is told with it: none but with status 0
+-- The set that is returned with it; no resources unless the status is 0.
 abbrev pub made_set : Result Triple (OrMemory Unpaired) → Triple
 made_set (Ok set) = set
 made_set (Err (Refused reason)) = no_resources
 made_set (Err (Memory error)) = no_resources
 
--- the status of a test: 0 of yes, 8 of no
+-- The status of a test: 0 for yes, 8 for no.
 abbrev pub test_status : Result Bool (OrMemory Unpaired) → ℕ
 test_status (Ok true) = 0
 test_status (Ok false) = 8

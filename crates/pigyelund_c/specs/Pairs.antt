@@ -1,4 +1,4 @@
--- Two sets of resources that cross as octets, and what is asked of both.
+-- Two sets of resources that are passed as octets, and the questions about both.
 use Rattle.std.specs.Prelude.{◌≡◌, ◌≢◌, ◌⊎◌, ◌↔◌, ℕ, Bool, List, IsTrue}
 use Rattle.rpki_resources.specs.Triples.{IsDifferenceOf, IsIntersectionOf, IsUnionOf, Triple}
 use Rattle.rpki_extensions.specs.declared.encoding.Encoding.{Encoding}
@@ -12,43 +12,43 @@ use Rattle.pigyelund_c.specs.declared.pair.Unpaired.TheVariants.{NoEncoding, Fir
 
 -- ---- read
 
--- the two sets are what octets list
+-- The two sets are those that the octets list.
 abbrev pub AreTwo : Encoding → List ℕ → List ℕ → List ℕ → List ℕ → Pair → Type 0
 AreTwo encoding a_as a_ip b_as b_ip pair = IsSet encoding a_as a_ip pair.first × IsSet encoding b_as b_ip pair.second
 
--- the first octets list no set, or else the second
+-- The first octets list no set; if they do, the second octets list no set.
 abbrev pub AreNotTwo : Encoding → List ℕ → List ℕ → List ℕ → List ℕ → Unpaired → Type 0
 AreNotTwo encoding a_as a_ip b_as b_ip NoEncoding = ⊥
 AreNotTwo encoding a_as a_ip b_as b_ip (First reason) = IsNoSet encoding a_as a_ip reason
 AreNotTwo encoding a_as a_ip b_as b_ip (Second reason) = ((a : Triple) × IsSet encoding a_as a_ip a) × IsNoSet encoding b_as b_ip reason
 
--- so by the number of an encoding
+-- The same by the number of an encoding.
 abbrev pub AreRead : List ℕ → List ℕ → List ℕ → List ℕ → ℕ → Pair → Type 0
 AreRead a_as a_ip b_as b_ip encoding pair = (way : Encoding) × (encoding ≡ encoding_number way) × AreTwo way a_as a_ip b_as b_ip pair
 
--- the number is none, or there is such a reason
+-- The number is invalid, or there is such a reason.
 abbrev pub AreNotRead : List ℕ → List ℕ → List ℕ → List ℕ → ℕ → Unpaired → Type 0
 AreNotRead a_as a_ip b_as b_ip encoding reason =
     ((reason ≡ NoEncoding) × ((e : Encoding) → encoding ≢ encoding_number e))
     ⊎ ((way : Encoding) × (encoding ≡ encoding_number way) × AreNotTwo way a_as a_ip b_as b_ip reason)
 
--- ---- asked
+-- ---- computed
 
--- how the set that an operation makes stands to the two
+-- The relation of the set that an operation makes to the two.
 abbrev pub IsBy : Operation → Triple → Triple → Triple → Type 0
 IsBy Union = IsUnionOf
 IsBy Intersection = IsIntersectionOf
 IsBy Difference = IsDifferenceOf
 
--- the set stands in R to the two that were read
+-- The set is in the relation R to the two that were read.
 abbrev pub IsMade : (Triple → Triple → Triple → Type 0) → List ℕ → List ℕ → List ℕ → List ℕ → ℕ → Triple → Type 0
 IsMade R a_as a_ip b_as b_ip encoding set = (pair : Pair) × AreRead a_as a_ip b_as b_ip encoding pair × R pair.first pair.second set
 
--- the answer is yes exactly where R holds of the two that were read
+-- The answer is yes if and only if R holds for the two that were read.
 abbrev pub IsTested : (Triple → Triple → Type 0) → List ℕ → List ℕ → List ℕ → List ℕ → ℕ → Bool → Type 0
 IsTested R a_as a_ip b_as b_ip encoding answer =
     (pair : Pair) × AreRead a_as a_ip b_as b_ip encoding pair × (IsTrue answer ↔ R pair.first pair.second)
 
--- both are the same set
+-- Both are the same set.
 abbrev pub AreSame : Triple → Triple → Type 0
 AreSame a b = a ≡ b

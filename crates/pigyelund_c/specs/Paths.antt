@@ -1,4 +1,4 @@
--- What certificates on a path, whose extensions stand in a run of octets, leave of an anchor's set.
+-- The set that certificates on a path leave of an anchor's set. Their extensions are in a run of octets.
 use Rattle.std.specs.Prelude.{◌≡◌, ◌⊎◌, ℕ, ◌<◌, List, [], ◌∷◌, Result, Ok, Err, length, slice_index_or, take}
 use Rattle.rpki_text.specs.declared.memory.OrMemory.{OrMemory}
 use Rattle.rpki_text.specs.declared.memory.OrMemory.TheVariants.{Refused, Memory}
@@ -14,23 +14,23 @@ use Rattle.pigyelund_c.specs.declared.certificate.Certificate.{Certificate}
 use Rattle.pigyelund_c.specs.declared.path.Stopped.{Stopped}
 use Rattle.pigyelund_c.specs.declared.refusal.Refusal.{Refusal}
 
--- the set is what one certificate claims of its issuer's
+-- The set is what one certificate claims of its issuer's set.
 abbrev pub IsCertificateStep : List ℕ → Encoding → Triple → Certificate → Triple → Type 0
 IsCertificateStep run encoding issuer c set =
     (certificate : Extensions) × IsCertificateAt run encoding c certificate × IsVerified issuer certificate set
 
--- a place or a number of it is none, or its issuer's set doesn't verify it
+-- A range or a number of the certificate is invalid, or its issuer's set does not verify it.
 abbrev pub IsNoCertificateStep : List ℕ → Encoding → Triple → Certificate → Refusal → Type 0
 IsNoCertificateStep run encoding issuer c reason =
     OfMisasked (IsMisaskedAt run c) reason
     ⊎ ((certificate : Extensions) × IsCertificateAt run encoding c certificate × IsToldUnverified issuer certificate reason)
 
--- the set is what all leave of the anchor's, each verified by what the ones before it leave
+-- The set is what all certificates leave of the anchor's set. Each is verified by what the ones before it leave.
 abbrev pub IsLeftOnPath : List ℕ → Encoding → Triple → List Certificate → Triple → Type 0
 IsLeftOnPath run encoding anchor [] set = set ≡ anchor
 IsLeftOnPath run encoding anchor (c ∷ cs) set = (next : Triple) × IsCertificateStep run encoding anchor c next × IsLeftOnPath run encoding next cs set
 
--- so many are verified, and for the reason the next one isn't
+-- The number of verified certificates, and the reason why the next one is not verified.
 abbrev pub IsFirstRefused : List ℕ → Encoding → Triple → List Certificate → Stopped → Type 0
 IsFirstRefused run encoding anchor cs stopped =
     (c : Certificate) × (stopped.verified < length cs) × (slice_index_or cs stopped.verified c ≡ c)
@@ -42,7 +42,7 @@ abbrev pub IsPathOutcomeIn : List ℕ → List ℕ → List ℕ → List Certifi
 IsPathOutcomeIn anchor_as anchor_ip run cs encoding set =
     (anchor : Triple) × IsSet encoding anchor_as anchor_ip anchor × IsLeftOnPath run encoding anchor cs set
 
--- the anchor's octets list no set, or a certificate isn't verified
+-- The anchor's octets list no set, or a certificate is not verified.
 abbrev pub IsNoPathOutcomeIn : List ℕ → List ℕ → List ℕ → List Certificate → Encoding → Stopped → Type 0
 IsNoPathOutcomeIn anchor_as anchor_ip run cs encoding stopped =
     ((stopped.verified ≡ 0) × OfIssuer (IsNoSet encoding anchor_as anchor_ip) stopped.reason)
@@ -57,15 +57,15 @@ IsNoPathOutcome anchor_as anchor_ip run cs encoding stopped =
     ((stopped.verified ≡ 0) × HasNoEncoding encoding stopped.reason)
     ⊎ ((way : Encoding) × (encoding ≡ encoding_number way) × IsNoPathOutcomeIn anchor_as anchor_ip run cs way stopped)
 
--- ---- told
+-- ---- reported
 
--- how many certificates are verified: all of n with a set, and none for want of memory
+-- The number of verified certificates: all n with a set, and 0 if memory runs out.
 abbrev pub verified_count : ℕ → Result Triple (OrMemory Stopped) → ℕ
 verified_count n (Ok set) = n
 verified_count n (Err (Refused stopped)) = stopped.verified
 verified_count n (Err (Memory error)) = 0
 
--- the outcome without that
+-- The outcome without this number.
 abbrev pub outcome_alone : Result Triple (OrMemory Stopped) → Result Triple (OrMemory Refusal)
 outcome_alone (Ok set) = Ok set
 outcome_alone (Err (Refused stopped)) = Err (Refused stopped.reason)

@@ -1,4 +1,4 @@
--- Sets of resources that cross as the values of the two extensions of RFC 3779.
+-- Sets of resources that are passed as the values of the two extensions of RFC 3779.
 use Rattle.std.specs.Prelude.{◌≡◌, ◌⊎◌, ◌<◌, ℕ, List, [], ◌∷◌, Option, Some, None, length}
 use Rattle.rpki_chain.specs.Claims.{Claim}
 use Rattle.rpki_resources.specs.Triples.{AreListed, IsOneInherited, Triple}
@@ -11,12 +11,12 @@ use Rattle.pigyelund_c.specs.declared.refusal.Unread.TheVariants.{Numbers, Addre
 
 -- ---- read
 
--- a set without resources of a kind has no octets of its extension, as where that is absent
+-- A set without resources of a kind has no octets of that extension, as if the extension is absent.
 abbrev pub some_octets : List ℕ → Option (List ℕ)
 some_octets [] = None
 some_octets (octet ∷ octets) = Some (octet ∷ octets)
 
--- the set is what octets of both extensions list
+-- The set is the one that the octets of both extensions list.
 pub record IsSet (encoding : Encoding) (numbers addresses : List ℕ) (set : Triple) : Type 0 where
   pub asn : Claim
   pub ip : Claim × Claim
@@ -24,7 +24,7 @@ pub record IsSet (encoding : Encoding) (numbers addresses : List ℕ) (set : Tri
   pub are_addresses : AreAddressClaims encoding (some_octets addresses) ip
   pub listed : AreListed asn ip.0 ip.1 set
 
--- octets are claims of which one at least is inherited
+-- The octets are claims, and at least one of them is inherited.
 pub record AreInherited (encoding : Encoding) (numbers addresses : List ℕ) : Type 0 where
   pub asn : Claim
   pub ip : Claim × Claim
@@ -32,30 +32,30 @@ pub record AreInherited (encoding : Encoding) (numbers addresses : List ℕ) : T
   pub are_addresses : AreAddressClaims encoding (some_octets addresses) ip
   pub inherited : IsOneInherited asn ip.0 ip.1
 
--- the first reason why they list none
+-- The first reason why the octets list no set.
 abbrev pub IsNoSet : Encoding → List ℕ → List ℕ → Unread → Type 0
 IsNoSet encoding numbers addresses (Numbers fault) = HasNumbersFault encoding (some_octets numbers) fault
 IsNoSet encoding numbers addresses (Addresses fault) =
     ((asn : Claim) × IsNumbersClaim encoding (some_octets numbers) asn) × HasAddressesFault encoding (some_octets addresses) fault
 IsNoSet encoding numbers addresses Inherited = AreInherited encoding numbers addresses
 
--- ---- told
+-- ---- written
 
--- the octets of an extension, none where it is absent
+-- The octets of an extension; none if it is absent.
 abbrev pub octets_or_none : Option (List ℕ) → List ℕ
 octets_or_none None = []
 octets_or_none (Some octets) = octets
 
--- those of AS identifiers that list a set's AS numbers
+-- The octets of AS identifiers that list a set's AS numbers.
 abbrev pub as_value : Triple → List ℕ
 as_value t = octets_or_none (written_numbers t.asn)
 
--- those of IP address blocks that list its addresses
+-- The octets of IP address blocks that list a set's addresses.
 abbrev pub ip_value : Triple → List ℕ
 ip_value t = octets_or_none (written_addresses t.ipv4 t.ipv6)
 
--- a status and a set are told: written whole, or not at all, and then with status 1 and the lengths that are wanted, or
--- with status 2
+-- A status and a set are returned. The set is written whole, or the buffers are unchanged. If they are unchanged, the
+-- status is 1 and the lengths are the required ones, or the status is 2 and the lengths are 0.
 abbrev pub IsTold : ℕ → Triple → List ℕ → List ℕ → List ℕ → List ℕ → ℕ → ℕ → ℕ → Type 0
 IsTold status set as_before ip_before as_after ip_after as_len ip_len result =
     ((result ≡ 2) × (as_after ≡ as_before) × (ip_after ≡ ip_before) × (as_len ≡ 0) × (ip_len ≡ 0))

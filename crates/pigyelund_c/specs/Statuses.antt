@@ -1,4 +1,4 @@
--- The statuses that are told (they are numbered in `src/status.rt`), and the sets that are told with them.
+-- The statuses of outcomes (numbered in `src/status.rt`), and the set that is returned with each.
 use Rattle.std.specs.Prelude.{ℕ, ◌+◌, Result, Ok, Err}
 use Rattle.rpki_der.specs.Faults.{fault_number}
 use Rattle.rpki_text.specs.declared.memory.OrMemory.{OrMemory}
@@ -29,19 +29,19 @@ refusal_status (Asked why) = misasked_status why
 refusal_status (Issuer reason) = unread_status reason
 refusal_status (Unverified reason) = unverified_status reason
 
--- the excess, as a set; no resources where a number is none, or the issuer's octets
+-- The overclaimed resources as a set; no resources if a number or the issuer's octets are invalid.
 abbrev pub excess_of : Refusal → Triple
 excess_of (Asked why) = no_resources
 excess_of (Issuer reason) = no_resources
 excess_of (Unverified reason) = unverified_excess reason
 
--- the status of an outcome: 0 of a set, 2 of want of memory
+-- The status of an outcome: 0 for a set, 2 for out of memory.
 abbrev pub status_of : Result Triple (OrMemory Refusal) → ℕ
 status_of (Ok set) = 0
 status_of (Err (Refused reason)) = refusal_status reason
 status_of (Err (Memory error)) = 2
 
--- and the set that is told with it
+-- The set that is returned with it.
 abbrev pub told_set : Result Triple (OrMemory Refusal) → Triple
 told_set (Ok set) = set
 told_set (Err (Refused reason)) = excess_of reason

@@ -1,12 +1,12 @@
--- What is told of the reason why an issuer doesn't verify a certificate's extensions: its status (they are numbered in
--- `src/status.rt`), and the excess.
+-- The status (numbered in `src/status.rt`) and the overclaimed resources for the reason why an issuer does not verify a
+-- certificate's extensions.
 use Rattle.std.specs.Prelude.{ℕ, ◌+◌, []}
 use Rattle.rpki_der.specs.Faults.{fault_number}
 use Rattle.rpki_resources.specs.Triples.{Triple, no_resources}
 use Rattle.rpki_extensions.specs.declared.error.Unverified.{Unverified}
 use Rattle.rpki_extensions.specs.declared.error.Unverified.TheVariants.{Absent, AsOctets, AddressOctets, Inherited, Asn, Ipv4, Ipv6}
 
--- the first four are reasons why the extensions are no claims
+-- The first four are reasons why the extensions are no claims.
 abbrev pub unverified_status : {A : Type 0} → Unverified A → ℕ
 unverified_status Absent = 10
 unverified_status (AsOctets fault) = 4096 + 256 + fault_number fault
@@ -16,7 +16,7 @@ unverified_status (Asn excess) = 5
 unverified_status (Ipv4 excess) = 6
 unverified_status (Ipv6 excess) = 7
 
--- the excess as a set, and no resources for any other reason
+-- The overclaimed resources as a set; no resources for any other reason.
 abbrev pub unverified_excess : {A : Type 0} → Unverified A → Triple
 unverified_excess Absent = no_resources
 unverified_excess (AsOctets fault) = no_resources

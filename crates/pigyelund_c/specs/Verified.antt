@@ -1,5 +1,5 @@
--- What octets of a certificate's extensions claim of an issuer's resources (RFC 3779, 2.3 and 3.3; RFC 6487, 7.2;
--- RFC 8360, 4), and the reasons why an issuer doesn't verify them.
+-- The claims of a certificate's extensions on an issuer's resources (RFC 3779, 2.3 and 3.3; RFC 6487, 7.2; RFC 8360,
+-- 4), and the reasons why an issuer does not verify them.
 use Rattle.std.specs.Prelude.{◌≡◌, ◌≢◌, ◌⊎◌, ℕ, List}
 use Rattle.rpki_resources.specs.Triples.{Triple}
 use Rattle.rpki_extensions.specs.Issued.{IsUnverified, IsVerified}
@@ -16,7 +16,8 @@ use Rattle.pigyelund_c.specs.declared.refusal.Unread.{Unread}
 
 -- ---- a certificate
 
--- for the reason an issuer's set doesn't verify it: there are no claims, or they list more than the issuer has
+-- The issuer's set does not verify the certificate, for the given reason: there are no claims, or they list more than
+-- the issuer has.
 abbrev pub IsToldUnverified : Triple → Extensions → Refusal → Type 0
 IsToldUnverified issuer certificate (Asked why) = ⊥
 IsToldUnverified issuer certificate (Issuer reason) = ⊥
@@ -24,18 +25,18 @@ IsToldUnverified issuer certificate (Unverified reason) = IsUnverified issuer ce
 
 -- ---- of an issuer's set that is octets
 
--- the set is what the issuer's leaves of the claims
+-- The set is what the issuer's set leaves of the claims.
 abbrev pub IsLeftByOctets : List ℕ → List ℕ → Encoding → Extensions → Triple → Type 0
 IsLeftByOctets issuer_as issuer_ip encoding certificate set =
     (issuer : Triple) × IsSet encoding issuer_as issuer_ip issuer × IsVerified issuer certificate set
 
--- P of what is wrong with the issuer's octets
+-- P holds for the error in the issuer's octets.
 abbrev pub OfIssuer : (Unread → Type 0) → Refusal → Type 0
 OfIssuer P (Asked why) = ⊥
 OfIssuer P (Issuer reason) = P reason
 OfIssuer P (Unverified reason) = ⊥
 
--- the issuer's octets list no set, or their set doesn't verify the certificate
+-- The issuer's octets list no set, or their set does not verify the certificate.
 abbrev pub IsNotLeftByOctets : List ℕ → List ℕ → Encoding → Extensions → Refusal → Type 0
 IsNotLeftByOctets issuer_as issuer_ip encoding certificate reason =
     OfIssuer (IsNoSet encoding issuer_as issuer_ip) reason
@@ -43,7 +44,7 @@ IsNotLeftByOctets issuer_as issuer_ip encoding certificate reason =
 
 -- ---- and of a certificate that is octets and numbers
 
--- P of a number that is none
+-- P holds for an invalid number.
 abbrev pub OfMisasked : (Misasked → Type 0) → Refusal → Type 0
 OfMisasked P (Asked why) = P why
 OfMisasked P (Issuer reason) = ⊥
@@ -54,19 +55,19 @@ IsOutcomeIn issuer_as issuer_ip present cert_as cert_ip encoding mode set =
     (certificate : Extensions) × IsCertificate present cert_as cert_ip encoding mode certificate
     × IsLeftByOctets issuer_as issuer_ip encoding certificate set
 
--- a number is none, or there is such a reason
+-- A number is invalid, or there is such a reason.
 abbrev pub IsNoOutcomeIn : List ℕ → List ℕ → ℕ → List ℕ → List ℕ → Encoding → ℕ → Refusal → Type 0
 IsNoOutcomeIn issuer_as issuer_ip present cert_as cert_ip encoding mode reason =
     OfMisasked (IsMisasked present mode) reason
     ⊎ ((certificate : Extensions) × IsCertificate present cert_as cert_ip encoding mode certificate
     × IsNotLeftByOctets issuer_as issuer_ip encoding certificate reason)
 
--- so by the number of an encoding
+-- The same by the number of an encoding.
 abbrev pub IsOutcome : List ℕ → List ℕ → ℕ → List ℕ → List ℕ → ℕ → ℕ → Triple → Type 0
 IsOutcome issuer_as issuer_ip present cert_as cert_ip encoding mode set =
     (way : Encoding) × (encoding ≡ encoding_number way) × IsOutcomeIn issuer_as issuer_ip present cert_as cert_ip way mode set
 
--- the number is of no encoding
+-- The number selects no encoding.
 abbrev pub HasNoEncoding : ℕ → Refusal → Type 0
 HasNoEncoding encoding reason = (reason ≡ Asked NoEncoding) × ((way : Encoding) → encoding ≢ encoding_number way)
 

@@ -1,4 +1,4 @@
-//! What an issuer verifies of a certificate, from octets and numbers to an outcome.
+//! Verification of a certificate by its issuer, from octets and numbers to an outcome.
 ghost use Rattle.std.specs.Prelude.{MatchResult};
 ghost use Rattle.rpki_text.specs.Memory.{IfRefused};
 ghost use Rattle.rpki_extensions.specs.Issued.{IsVerified};
@@ -16,8 +16,10 @@ use rpki_resources::OrMemory;
 use rpki_resources::repository::resources::ResourceSet;
 use std::alloc::Global;
 
-/// What a certificate's extensions claim of an issuer's set. `Refused` where they are no claims, and else with the
-/// first excess; `Memory` where there is no memory for a set.
+/// Returns what a certificate's extensions claim of an issuer's set.
+///
+/// Returns `Refused` if they are no claims, or with the first overclaimed resources; `Memory` if memory for a set runs
+/// out.
 pub(crate) fn verified(
     alloc: Global,
     issuer: &ResourceSet,
@@ -33,7 +35,7 @@ pub(crate) fn verified(
     }
 }
 
-/// The same of an issuer's set that is read from octets first.
+/// Does the same with an issuer's set that is read from octets first.
 fn left_of(
     alloc: Global,
     issuer_as: &[u8],
@@ -51,7 +53,7 @@ fn left_of(
     }
 }
 
-/// The same of a certificate that is handed over as octets and numbers.
+/// Does the same with a certificate that is passed as octets and numbers.
 fn answered_in(
     alloc: Global,
     issuer_as: &[u8],
@@ -73,7 +75,7 @@ fn answered_in(
     }
 }
 
-/// The same by the number of an encoding.
+/// Does the same with the number of an encoding.
 pub(crate) fn answered(
     alloc: Global,
     issuer_as: &[u8],

@@ -1,4 +1,4 @@
-//! A certificate's extensions, as a caller hands them over.
+//! A certificate's extensions as a caller passes them.
 ghost use Rattle.std.specs.Prelude.{◌≡◌, ◌+◌, ◌<◌, ◌≤◌, length, slice_range, MatchOption, MatchResult};
 ghost use Rattle.pigyelund_c.specs.Certificates.{IsCertificate, IsCertificateAt, IsMisasked, IsMisaskedAt};
 
@@ -7,8 +7,9 @@ use crate::refusal::Misasked;
 use rpki_extensions::encoding::Encoding;
 use rpki_extensions::extensions::Extensions;
 
-/// The extensions whose octets are handed over. The number of those that are there is 0 to 3, that of the mode 0 or 1;
-/// else the first that is none is answered.
+/// Returns the extensions whose octets are passed.
+///
+/// Returns `NoPresence` if `present` is above 3, or else `NoMode` if `mode` is above 1.
 pub(crate) fn extensions_of<'a>(
     present: u32,
     numbers: &'a [u8],
@@ -33,27 +34,32 @@ pub(crate) fn extensions_of<'a>(
     })
 }
 
-/// Where the extensions of a certificate stand in a run of octets, and what else is said of it.
+/// A certificate of a path: the ranges of its extensions in a run of octets, and two numbers.
+///
+/// The ranges are `as_len` octets from `as_at` and `ip_len` octets from `ip_at`. Both lie in the run, also that of an
+/// absent extension.
 #[repr(C)]
 #[derive(Clone, Copy)]
 pub struct Certificate {
-    /// Where the octets of AS identifiers begin, counted from 0.
+    /// Index of the first octet of AS identifiers, from 0.
     pub as_at: usize,
-    /// How many they are.
+    /// Number of octets of AS identifiers.
     pub as_len: usize,
-    /// Where the octets of IP address blocks begin.
+    /// Index of the first octet of IP address blocks, from 0.
     pub ip_at: usize,
-    /// How many they are.
+    /// Number of octets of IP address blocks.
     pub ip_len: usize,
-    /// Which of the extensions are there: 1 for AS identifiers, 2 for IP address blocks, or the sum.
+    /// Extensions that are present: 1 for AS identifiers, 2 for IP address blocks, 3 for both, 0 for neither.
     pub present: u32,
-    /// What becomes of a claim that lists too much.
+    /// Mode for an overclaim: 0 refuses the certificate, 1 reduces the claim to what the issuer has.
     pub mode: u32,
 }
 
 impl Certificate {
-    /// The extensions, whose octets stand in a run. Both places lie in it, also that of an extension that isn't there;
-    /// else `Outside` is answered, and else the first number that is none.
+    /// Returns the extensions, whose octets are in a run.
+    ///
+    /// Returns `Outside` if a range does not lie in the run, also the range of an absent extension. Otherwise it
+    /// returns the first invalid number.
     pub(crate) fn extensions<'a>(
         &self,
         run: &'a [u8],
@@ -72,7 +78,7 @@ impl Certificate {
     }
 }
 
-/// The octets at a place of a run, None where it doesn't lie in the run.
+/// Returns the `len` octets from index `at`, or `None` if they do not lie in the run.
 fn octets_at(run: &[u8], at: usize, len: usize) -> Option<&[u8]>
     ensures { MatchOption result (length run.now < at + len)
         (λ octets. (at + len ≤ length run.now)

@@ -1,4 +1,4 @@
-//! The shortest cover of a set's addresses of a family, as octets.
+//! The shortest cover of one family of a set's addresses, as octets.
 ghost use Rattle.std.specs.Prelude.{◌≡◌, [], ◌++◌, IfOk, OnOk, MatchResult};
 ghost use Rattle.rpki_text.specs.Memory.{IfRefused};
 ghost use Rattle.rpki_der.specs.declared.family.AddressFamily.TheVariants.{Ipv4, Ipv6};
@@ -16,17 +16,17 @@ use rpki_resources::OrMemory;
 use rpki_resources::repository::resources::{AddressFamily, Prefix};
 use std::alloc::{AllocError, Global};
 
-/// Why there is no cover.
+/// Reason why there is no cover.
 #[derive(Drop)]
 pub(crate) enum Uncovered {
-    /// A number that is handed over is none.
+    /// A number that the caller passed is invalid.
     Asked(Misasked),
     /// The octets list no set.
     Unread(Unread),
 }
 
 impl Uncovered {
-    /// The status of a reason.
+    /// Returns the status of this reason.
     pub(crate) fn status(&self) -> u32
         ensures { result ≡ uncovered_status self.now }
     {
@@ -37,7 +37,7 @@ impl Uncovered {
     }
 }
 
-/// Puts a prefix of IPv4 behind others: the four octets of its address, and its length.
+/// Appends an IPv4 prefix: the four octets of its address, and its length.
 fn put_v4(prefix: Prefix, octets: &mut Vec<u8, Global>) -> Result<(), AllocError>
     ensures { OnOk result (octets.new.items ≡ octets.old.items ++ prefix_octets Ipv4 prefix) }
 {
@@ -46,7 +46,7 @@ fn put_v4(prefix: Prefix, octets: &mut Vec<u8, Global>) -> Result<(), AllocError
     Ok(())
 }
 
-/// Puts a prefix of IPv6 behind others: the sixteen octets of its address, and its length.
+/// Appends an IPv6 prefix: the sixteen octets of its address, and its length.
 fn put_v6(prefix: Prefix, octets: &mut Vec<u8, Global>) -> Result<(), AllocError>
     ensures { OnOk result (octets.new.items ≡ octets.old.items ++ prefix_octets Ipv6 prefix) }
 {
@@ -55,7 +55,7 @@ fn put_v6(prefix: Prefix, octets: &mut Vec<u8, Global>) -> Result<(), AllocError
     Ok(())
 }
 
-/// Puts a prefix of a family behind others.
+/// Appends a prefix of a family.
 fn put(
     family: AddressFamily,
     prefix: Prefix,
@@ -69,7 +69,7 @@ fn put(
     }
 }
 
-/// The prefixes of the shortest cover of a set of addresses of a family, one after the other.
+/// Returns the prefixes of the shortest cover of a set of addresses of one family, one after the other.
 fn ip_cover<F: Family>(alloc: Global, set: &FamilyBlocks<F>) -> Result<Vec<u8, Global>, AllocError>
     ensures { IfOk result (λ octets. AreCoverOctets F.FAMILY set.now octets.items) }
 {
@@ -80,7 +80,7 @@ fn ip_cover<F: Family>(alloc: Global, set: &FamilyBlocks<F>) -> Result<Vec<u8, G
     Ok(octets)
 }
 
-/// The cover of a family of the set that octets of IP address blocks list.
+/// Returns the cover of one family of the set that IP address blocks list.
 fn cover_in(
     alloc: Global,
     addresses: &[u8],
@@ -99,7 +99,7 @@ fn cover_in(
     Ok(octets)
 }
 
-/// The same by the numbers of an encoding and of a family.
+/// Does the same with the numbers of an encoding and of a family.
 pub(crate) fn cover(
     alloc: Global,
     addresses: &[u8],

@@ -9,11 +9,20 @@ use route_calls::tell::tell_items;
 use rpki_resources::OrMemory;
 use std::alloc::Global;
 
-/// Tells the shortest list of prefixes that has exactly the addresses of a family that octets of IP address blocks
-/// list, ascending. A prefix of IPv4, family 1, is five octets, those of its address and its length; one of IPv6,
-/// family 2, is seventeen. Encodings are those of `pg_verify`. The status is 0 where the prefixes are told; 1 where
-/// there is no room for them, and then the length is that which is wanted; 2 where there is no memory; and else that of
-/// the first reason: encoding, family, octets.
+/// Lists the fewest prefixes that have exactly the addresses of one family in IP address blocks, in ascending order.
+///
+/// Each prefix is its address and then its length, one octet: 5 octets for IPv4 (family 1), 17 for IPv6 (family 2).
+/// `encoding` is that of `pg_verify`. `len` receives the length in octets, written or required.
+///
+/// Returns the first status that applies:
+///
+/// - `PG_BAD_ENCODING`, `PG_BAD_FAMILY`.
+/// - `PG_BAD_IP` + n: the first error of the IP address blocks.
+/// - `PG_INHERITED`: the addresses of a family are inherited, also those of the other family.
+/// - `PG_TOO_SMALL`, then `PG_OK`.
+///
+/// `PG_MEMORY` can come instead of any of them. With an error other than `PG_TOO_SMALL` `len` is 0. With any error
+/// `out` is unchanged.
 #[unsafe(no_mangle)]
 pub extern "C" fn pg_cover(
     alloc: Global,

@@ -1,5 +1,4 @@
-//! Numbers that choose: how octets are read, what becomes of a claim that lists too much, and which extensions are
-//! there.
+//! Numbers that select an option: the encoding, the mode for an overclaim, and the extensions that are present.
 ghost use Rattle.std.specs.Prelude.{◌≡◌, ◌≢◌, MatchOption, option_map};
 ghost use Rattle.rpki_chain.specs.declared.path.Overclaim.{Overclaim as Mode};
 ghost use Rattle.rpki_extensions.specs.declared.encoding.Encoding.{Encoding as Way};
@@ -9,21 +8,21 @@ ghost use Rattle.pigyelund_c.specs.declared.encodings.Present.{Present as There}
 use rpki_extensions::encoding::Encoding;
 use rpki_resources::repository::resources::Overclaim;
 
-/// Which extensions a certificate has.
+/// The extensions that a certificate has.
 #[derive(Clone, Copy)]
 pub(crate) enum Present {
     /// Neither.
     Neither,
-    /// AS identifiers alone.
+    /// AS identifiers only.
     Numbers,
-    /// IP address blocks alone.
+    /// IP address blocks only.
     Addresses,
     /// Both.
     Both,
 }
 
 impl Present {
-    /// The octets of AS identifiers, None where that extension isn't there.
+    /// Returns the octets of AS identifiers, or `None` if that extension is absent.
     pub(crate) fn numbers(self, octets: &[u8]) -> Option<&[u8]>
         ensures { option_map (λ octets. octets.now) result ≡ numbers_there self octets.now }
     {
@@ -33,7 +32,7 @@ impl Present {
         }
     }
 
-    /// The octets of IP address blocks, None where that extension isn't there.
+    /// Returns the octets of IP address blocks, or `None` if that extension is absent.
     pub(crate) fn addresses(self, octets: &[u8]) -> Option<&[u8]>
         ensures { option_map (λ octets. octets.now) result ≡ addresses_there self octets.now }
     {
@@ -44,7 +43,7 @@ impl Present {
     }
 }
 
-/// The encoding that a number chooses, None where it is of none.
+/// Returns the encoding with this number, or `None` if no encoding has it.
 pub(crate) fn encoding_of(number: u32) -> Option<Encoding>
     ensures { MatchOption result ((encoding : Way) → number ≢ encoding_number encoding)
         (λ encoding. number ≡ encoding_number encoding) }
@@ -56,7 +55,7 @@ pub(crate) fn encoding_of(number: u32) -> Option<Encoding>
     }
 }
 
-/// The mode that a number chooses, None where it is of none.
+/// Returns the mode with this number, or `None` if no mode has it.
 pub(crate) fn mode_of(number: u32) -> Option<Overclaim>
     ensures { MatchOption result ((mode : Mode) → number ≢ mode_number mode)
         (λ mode. number ≡ mode_number mode) }
@@ -68,7 +67,7 @@ pub(crate) fn mode_of(number: u32) -> Option<Overclaim>
     }
 }
 
-/// The extensions that a number says are there, None where it says that of none.
+/// Returns the extensions with this number, 0 to 3, or `None` for any other number.
 pub(crate) fn present_of(number: u32) -> Option<Present>
     ensures { MatchOption result ((present : There) → number ≢ present_number present)
         (λ present. number ≡ present_number present) }

@@ -1,8 +1,11 @@
-//! The calls for C, and for what calls C: octets in, octets and a status out. `foreign/pigyelund.h` says what a caller
-//! owes; docs/FOREIGN.md is its guide.
+//! The calls for C and for languages that call C: octets in, octets and a status out.
 //!
-//! A set of resources crosses as the values of the two extensions of RFC 3779, AS identifiers (3.2.3) and IP address
-//! blocks (2.2.3), each of length 0 where nothing is listed. No call requires anything: what is none is refused.
+//! `foreign/pigyelund.h` lists the obligations of a caller, and docs/FOREIGN.md is its guide. The comments of the
+//! exports use the names of statuses in that header. A set of resources is passed as the values of the two extensions
+//! of RFC 3779: AS identifiers (3.2.3) and IP address blocks (2.2.3). Length 0 means that the set has no resources of
+//! that kind. No call has a precondition in its contract: invalid arguments are rejected.
+//!
+//! This is the body of `pg_verify_path`:
 //!
 //! ```rust
 //! let outcome = path_answered(alloc, anchor_as, anchor_ip, run, encoding, certificates);

@@ -8,9 +8,15 @@ use respath_lines::answer;
 use route_calls::tell::tell_items;
 use std::alloc::Global;
 
-/// Tells the answer of `respath` to a line, both without the end of a line. The status is 0 where the answer is told; 1
-/// where there is no room for it, and then the length is that which is wanted; and 2 where there is no memory, for what
-/// the line says or for its answer.
+/// Answers a line as the program `respath` does.
+///
+/// Neither text has the end of a line. `len` receives the length in octets, written or required.
+///
+/// Returns one of these statuses:
+///
+/// - `PG_OK`: the answer is written.
+/// - `PG_TOO_SMALL`: `len` is the required length, and `out` is unchanged.
+/// - `PG_MEMORY`: out of memory, for the content of the line or for its answer. `len` is 0 and `out` is unchanged.
 #[unsafe(no_mangle)]
 pub extern "C" fn pg_answer(alloc: Global, line: &[u8], out: &mut [u8], len: &mut usize) -> u32
     ensures { ((text : List ℕ) × IsAnswer line.now text

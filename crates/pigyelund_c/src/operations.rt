@@ -1,4 +1,4 @@
-//! What is asked of two sets: a third one that is made of both, or whether one has the other's resources.
+//! Operations on two sets: a third one is made of both, or a test compares them.
 ghost use Rattle.std.specs.Prelude.{IfOk, MatchResult};
 ghost use Rattle.rpki_text.specs.Memory.{IfRefused};
 ghost use Rattle.rpki_resources.specs.Triples.{HasEachOf};
@@ -9,19 +9,19 @@ use rpki_resources::OrMemory;
 use rpki_resources::repository::resources::ResourceSet;
 use std::alloc::{AllocError, Global};
 
-/// What is made of two sets.
+/// An operation that makes a set of two.
 #[derive(Clone, Copy)]
 pub(crate) enum Operation {
-    /// What one or the other has.
+    /// Resources that one or the other has.
     Union,
-    /// What both have.
+    /// Resources that both have.
     Intersection,
-    /// What the first has and the second hasn't.
+    /// Resources that the first has and the second does not.
     Difference,
 }
 
 impl Operation {
-    /// The set that is made of two. `AllocError` where there is no memory for it.
+    /// Returns the set that is made of two, or `AllocError` if memory for it runs out.
     fn on(self, alloc: Global, a: &ResourceSet, b: &ResourceSet) -> Result<ResourceSet, AllocError>
         ensures { IfOk result (IsBy self a.now b.now) }
     {
@@ -33,8 +33,9 @@ impl Operation {
     }
 }
 
-/// The set that is made of two that are read from octets. `Refused` with the first reason why there aren't two,
-/// `Memory` where there is no memory for a set.
+/// Returns the set that is made of two sets, which are read from octets.
+///
+/// Returns `Refused` with the first reason why there are not two sets, and `Memory` if memory for a set runs out.
 pub(crate) fn made(
     alloc: Global,
     operation: Operation,
@@ -55,7 +56,9 @@ pub(crate) fn made(
     }
 }
 
-/// Whether the first of two sets has each number and each address of the second. `Refused` and `Memory` as in [`made`].
+/// Returns whether the first of two sets has each number and each address of the second.
+///
+/// Returns `Refused` and `Memory` as [`made`] does.
 pub(crate) fn has_each(
     alloc: Global,
     a_as: &[u8],
@@ -72,7 +75,9 @@ pub(crate) fn has_each(
     Ok(pair.first.contains(&pair.second))
 }
 
-/// Whether two sets are the same. `Refused` and `Memory` as in [`made`].
+/// Returns whether two sets are the same.
+///
+/// Returns `Refused` and `Memory` as [`made`] does.
 pub(crate) fn are_same(
     alloc: Global,
     a_as: &[u8],

@@ -1,4 +1,4 @@
-//! The export of route origins.
+//! The export of route origin validation.
 ghost use Rattle.route_calls.specs.Origins.{AreOriginsTold};
 
 use crate::status;
@@ -8,12 +8,23 @@ use route_calls::tell::tell_items;
 use rpki_resources::OrMemory;
 use std::alloc::Global;
 
-/// Tells the validity of each route by validated payloads, an octet each: 0 valid, 1 not found, 2 invalid (RFC 6811, 2;
-/// RFC 8097, 2). Payloads may come in any order, and often; a table is made of them once. The status is 0 where the
-/// octets are told; 1 where there is no room for them, and then the length is that which is wanted; 2 where there is no
-/// memory; and else that of the first payload that is none, or of the first route, and the place is its place, counted
-/// from 0: of its family, of its prefix, of its greatest length. A route whose path has no single origin ('NONE' in RFC
-/// 6811, 2) is asked with AS 0, which no payload matches.
+/// Validates routes by VRPs (RFC 6811, 2).
+///
+/// Writes one octet for each route: 0 valid, 1 not found, 2 invalid (RFC 8097, 2). VRPs may be in any order, with
+/// duplicates. Each call makes a table of them once. Pass many routes to one call, or use `pg_table_new`. `len`
+/// receives the length in octets, written or required. `place` receives the index of the first invalid VRP or route,
+/// from 0; else 0.
+///
+/// If the path of a route has no single origin ("NONE" in RFC 6811, 2), pass AS 0. No VRP matches AS 0.
+///
+/// Returns the first status that applies:
+///
+/// - `PG_BAD_FAMILY`, `PG_BAD_PREFIX`, `PG_BAD_MAX_LEN`: the first invalid VRP.
+/// - `PG_SECOND` + `PG_BAD_FAMILY`, `PG_SECOND` + `PG_BAD_PREFIX`: the first invalid route.
+/// - `PG_TOO_SMALL`, then `PG_OK`.
+///
+/// `PG_MEMORY` can come instead of any of them. With an error other than `PG_TOO_SMALL` `len` is 0. With any error
+/// `out` is unchanged.
 #[unsafe(no_mangle)]
 pub extern "C" fn pg_origins(
     alloc: Global,

@@ -1,4 +1,4 @@
-//! What is told of what an issuer verifies.
+//! The report of an outcome to the caller.
 ghost use Rattle.std.specs.Prelude.{◌≡◌, IfOk};
 ghost use Rattle.pigyelund_c.specs.Sets.{IsTold};
 ghost use Rattle.pigyelund_c.specs.Statuses.{status_of, told_set};
@@ -10,7 +10,9 @@ use rpki_resources::OrMemory;
 use rpki_resources::repository::resources::ResourceSet;
 use std::alloc::{AllocError, Global};
 
-/// The status of an outcome, and the set that is told with it. `AllocError` where std refuses an owner of the excess.
+/// Returns the status of an outcome, and the set that is returned with it.
+///
+/// Returns `AllocError` if std cannot share the overclaimed resources.
 fn told(outcome: Result<ResourceSet, OrMemory<Refusal>>) -> Result<(u32, ResourceSet), AllocError>
     ensures { IfOk result (λ pair. pair ≡ (status_of outcome, told_set outcome)) }
 {
@@ -24,7 +26,7 @@ fn told(outcome: Result<ResourceSet, OrMemory<Refusal>>) -> Result<(u32, Resourc
     }
 }
 
-/// Tells the status of an outcome, and its set or the excess.
+/// Reports the status of an outcome, and its set or the overclaimed resources.
 pub(crate) fn tell_outcome(
     alloc: Global,
     outcome: Result<ResourceSet, OrMemory<Refusal>>,

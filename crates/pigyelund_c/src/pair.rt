@@ -1,4 +1,4 @@
-//! Two sets that cross as octets; or the first reason why there aren't two, and its status.
+//! Two sets that are passed as octets, or the first reason why there are not two, and its status.
 ghost use Rattle.std.specs.Prelude.{◌≡◌, MatchResult};
 ghost use Rattle.rpki_text.specs.Memory.{IfRefused};
 ghost use Rattle.pigyelund_c.specs.Pairs.{AreNotRead, AreNotTwo, AreRead, AreTwo};
@@ -20,19 +20,19 @@ pub(crate) struct Pair {
     pub(crate) second: ResourceSet,
 }
 
-/// Why octets of two sets aren't two.
+/// Reason why the octets of two sets are not two sets.
 #[derive(Drop)]
 pub(crate) enum Unpaired {
-    /// The number of an encoding is none.
+    /// The number of the encoding is invalid.
     NoEncoding,
-    /// Those of the first list no set.
+    /// The octets of the first list no set.
     First(Unread),
-    /// Those of the second list no set.
+    /// The octets of the second list no set.
     Second(Unread),
 }
 
 impl Unpaired {
-    /// The status of a reason.
+    /// Returns the status of this reason.
     fn status(&self) -> u32
         ensures { result ≡ unpaired_status self.now }
     {
@@ -44,8 +44,10 @@ impl Unpaired {
     }
 }
 
-/// The sets that octets list. `Refused` with the first reason where one lists none, the first set's before the
-/// second's; `Memory` where there is no memory for them.
+/// Returns the sets that the octets list.
+///
+/// Returns `Refused` with the first reason if one of them lists no set, and `Memory` if memory runs out. The first set
+/// is read before the second.
 fn two(
     alloc: Global,
     a_as: &[u8],
@@ -68,7 +70,7 @@ fn two(
     Ok(Pair { first, second })
 }
 
-/// The same by the number of an encoding.
+/// Does the same with the number of an encoding.
 pub(crate) fn pair_of(
     alloc: Global,
     a_as: &[u8],
@@ -86,7 +88,7 @@ pub(crate) fn pair_of(
     }
 }
 
-/// The status of a set that was made of two, and the set that is told with it.
+/// Returns the status of a set that was made of two, and the set that is returned with it.
 pub(crate) fn set_told(outcome: Result<ResourceSet, OrMemory<Unpaired>>) -> (u32, ResourceSet)
     ensures { result ≡ (made_status outcome, made_set outcome) }
 {
@@ -97,7 +99,7 @@ pub(crate) fn set_told(outcome: Result<ResourceSet, OrMemory<Unpaired>>) -> (u32
     }
 }
 
-/// The status of a test of two sets.
+/// Returns the status of a test of two sets.
 pub(crate) fn test_told(outcome: Result<bool, OrMemory<Unpaired>>) -> u32
     ensures { result ≡ test_status outcome }
 {

@@ -13,17 +13,17 @@ use rpki_resources::OrMemory;
 use rpki_resources::repository::resources::ResourceSet;
 use std::alloc::Global;
 
-/// Why a path isn't verified.
+/// Reason why a path is not verified.
 #[derive(Drop)]
 pub(crate) struct Stopped {
-    /// How many certificates are verified: the next one isn't.
+    /// Number of verified certificates: the next one is not verified.
     pub(crate) verified: usize,
     /// The reason.
     pub(crate) reason: Refusal,
 }
 
 impl Stopped {
-    /// The refusal for a reason that stands before the first certificate.
+    /// Returns the refusal for a reason that comes before the first certificate.
     fn at_first(reason: Refusal) -> Stopped
         ensures { result ≡ record { verified = 0; reason = reason } }
     {
@@ -34,7 +34,7 @@ impl Stopped {
     }
 }
 
-/// What one certificate claims of the set of the one before it.
+/// Returns what one certificate claims of the set of the one before it.
 fn step(
     alloc: Global,
     issuer: &ResourceSet,
@@ -51,8 +51,10 @@ fn step(
     }
 }
 
-/// What the certificates leave of an anchor's set, each verified by what the ones before it leave. `Refused` with the
-/// place of the first that isn't verified and the reason; `Memory` where there is no memory for a set on the way.
+/// Returns what the certificates leave of an anchor's set. Each is verified by what the ones before it leave.
+///
+/// Returns `Refused` with the index of the first certificate that is not verified and the reason; `Memory` if memory
+/// for a set on the way runs out.
 fn left_on_path(
     alloc: Global,
     anchor: ResourceSet,
@@ -79,7 +81,7 @@ fn left_on_path(
     Ok(issuer)
 }
 
-/// The same of an anchor's set that is read from octets first.
+/// Does the same with an anchor's set that is read from octets first.
 fn path_answered_in(
     alloc: Global,
     anchor_as: &[u8],
@@ -102,7 +104,7 @@ fn path_answered_in(
     }
 }
 
-/// The same by the number of an encoding.
+/// Does the same with the number of an encoding.
 pub(crate) fn path_answered(
     alloc: Global,
     anchor_as: &[u8],
@@ -129,7 +131,7 @@ pub(crate) fn path_answered(
     }
 }
 
-/// How many certificates of a path are verified, and its outcome without that.
+/// Returns the number of verified certificates of a path, and the outcome without this number.
 pub(crate) fn counted(
     certificates: &[Certificate],
     outcome: Result<ResourceSet, OrMemory<Stopped>>,

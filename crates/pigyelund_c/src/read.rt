@@ -1,4 +1,4 @@
-//! Octets of extensions become sets.
+//! Reading of sets from the octets of extensions.
 ghost use Rattle.std.specs.Prelude.{◌≡◌, MatchResult, option_map};
 ghost use Rattle.rpki_text.specs.Memory.{IfRefused};
 ghost use Rattle.pigyelund_c.specs.Sets.{IsNoSet, IsSet, some_octets};
@@ -10,7 +10,7 @@ use rpki_resources::OrMemory;
 use rpki_resources::repository::resources::ResourceSet;
 use std::alloc::Global;
 
-/// The octets, None where there are none: a set then has no resources of these kinds.
+/// Returns the octets, or `None` if the array is empty: the set then has no resources of these kinds.
 fn some_octets(octets: &[u8]) -> Option<&[u8]>
     ensures { option_map (λ octets. octets.now) result ≡ some_octets octets.now }
 {
@@ -20,8 +20,9 @@ fn some_octets(octets: &[u8]) -> Option<&[u8]>
     Some(octets)
 }
 
-/// The set that octets of both extensions list. `Refused` with the first reason where they list none, `Memory` where
-/// there is no memory for it.
+/// Returns the set that the octets of both extensions list.
+///
+/// Returns `Refused` with the first reason if they list no set, and `Memory` if memory for the set runs out.
 pub(crate) fn set_of(
     alloc: Global,
     numbers: &[u8],

@@ -1,4 +1,4 @@
-//! Why a call tells no set that was asked for, the status of each reason, and the set that is told in its place.
+//! Reasons why a call returns no requested set, the status of each, and the set that it returns instead.
 ghost use Rattle.std.specs.Prelude.{◌≡◌, ◌<◌, IfOk};
 ghost use Rattle.pigyelund_c.specs.Statuses.{excess_of, misasked_status, refusal_status, unread_status};
 ghost use Rattle.pigyelund_c.specs.Unverified.{unverified_excess, unverified_status};
@@ -9,23 +9,23 @@ use rpki_extensions::error::Unverified;
 use rpki_resources::repository::resources::{AsBlocks, Ipv4Blocks, Ipv6Blocks, ResourceSet};
 use std::alloc::AllocError;
 
-/// A number that a caller hands over is none.
+/// The number that a caller passed and that is invalid.
 #[derive(Clone, Copy)]
 pub(crate) enum Misasked {
-    /// That of an encoding.
+    /// The encoding.
     NoEncoding,
-    /// That of a mode.
+    /// The mode.
     NoMode,
-    /// That of the extensions that are there.
+    /// The number of the extensions that are present.
     NoPresence,
-    /// That of a family.
+    /// The family.
     NoFamily,
-    /// A place, which lies outside of the octets.
+    /// The range of an extension, which lies outside of the octets.
     Outside,
 }
 
 impl Misasked {
-    /// The status of a reason.
+    /// Returns the status of this reason.
     pub(crate) fn status(self) -> u32
         ensures { result ≡ misasked_status self }
     {
@@ -39,19 +39,19 @@ impl Misasked {
     }
 }
 
-/// Why octets of both extensions list no set.
+/// Reason why the octets of both extensions list no set.
 #[derive(Drop)]
 pub(crate) enum Unread {
-    /// Those of AS identifiers are none: their first fault.
+    /// The AS identifiers are invalid, with their first error.
     Numbers(DerError),
-    /// Those of IP address blocks are none: their first fault.
+    /// The IP address blocks are invalid, with their first error.
     Addresses(DerError),
     /// Some resources are inherited.
     Inherited,
 }
 
 impl Unread {
-    /// The status of a reason.
+    /// Returns the status of this reason, below 4096.
     pub(crate) fn status(&self) -> u32
         ensures value { result ≡ unread_status self.now }
         ensures small { result < 4096 }
@@ -64,7 +64,7 @@ impl Unread {
     }
 }
 
-/// The status of the reason why an issuer doesn't verify a certificate's extensions.
+/// Returns the status of the reason why an issuer does not verify a certificate's extensions.
 fn unverified_status(reason: &Unverified) -> u32
     ensures { result ≡ unverified_status reason.now }
 {
@@ -81,8 +81,9 @@ fn unverified_status(reason: &Unverified) -> u32
     }
 }
 
-/// What a certificate claims and its issuer hasn't, as a set; no resources for any other reason. `AllocError` where std
-/// refuses the owner that the excess gets.
+/// Returns the overclaimed resources as a set; no resources for any other reason.
+///
+/// Returns `AllocError` if std cannot share them.
 fn unverified_excess(reason: &Unverified) -> Result<ResourceSet, AllocError>
     ensures { IfOk result (λ set. set ≡ unverified_excess reason.now) }
 {
@@ -103,19 +104,19 @@ fn unverified_excess(reason: &Unverified) -> Result<ResourceSet, AllocError>
     }
 }
 
-/// Why an issuer verifies nothing of a certificate.
+/// Reason why an issuer verifies nothing of a certificate.
 #[derive(Drop)]
 pub(crate) enum Refusal {
-    /// A number that is handed over is none.
+    /// A number that the caller passed is invalid.
     Asked(Misasked),
     /// The issuer's octets list no set.
     Issuer(Unread),
-    /// The issuer's set doesn't verify the certificate's extensions.
+    /// The issuer's set does not verify the certificate's extensions.
     Unverified(Unverified),
 }
 
 impl Refusal {
-    /// The status of a reason.
+    /// Returns the status of this reason.
     pub(crate) fn status(&self) -> u32
         ensures { result ≡ refusal_status self.now }
     {
@@ -126,7 +127,9 @@ impl Refusal {
         }
     }
 
-    /// The excess as a set; no resources for any other reason. `AllocError` as of `unverified_excess`.
+    /// Returns the overclaimed resources as a set; no resources for any other reason.
+    ///
+    /// Returns `AllocError` as `unverified_excess` does.
     pub(crate) fn excess(&self) -> Result<ResourceSet, AllocError>
         ensures { IfOk result (λ set. set ≡ excess_of self.now) }
     {

@@ -13,9 +13,20 @@ use crate::pair::{set_told, test_told};
 use crate::tell::tell;
 use std::alloc::Global;
 
-/// Tells what one or the other of two sets has. Encodings are those of `pg_verify`. The status is 0 where the set is
-/// told; 1 where there is no room for it, and then the lengths are those that are wanted; 2 where there is no memory;
-/// and else that of the first reason: encoding, the first set's octets, the second's.
+/// Computes the union of two sets: what one or the other has.
+///
+/// `encoding` is that of `pg_verify`, for both sets. `as_len` and `ip_len` receive lengths in octets, written or
+/// required.
+///
+/// Returns the first status that applies:
+///
+/// - `PG_BAD_ENCODING`.
+/// - `PG_BAD_AS` + n, `PG_BAD_IP` + n, `PG_INHERITED`: the first set.
+/// - `PG_SECOND` + one of these: the second set.
+/// - `PG_TOO_SMALL`, then `PG_OK`.
+///
+/// `PG_MEMORY` can come instead of any of them. With an error other than `PG_TOO_SMALL` both lengths are 0. With any
+/// error the buffers are unchanged.
 #[unsafe(no_mangle)]
 pub extern "C" fn pg_union(
     alloc: Global,
@@ -41,7 +52,7 @@ pub extern "C" fn pg_union(
     tell(alloc, status, &set, as_out, ip_out, as_len, ip_len)
 }
 
-/// Tells what both of two sets have. Encodings and statuses are those of `pg_union`.
+/// Computes the intersection of two sets: what both have. Parameters and statuses are those of `pg_union`.
 #[unsafe(no_mangle)]
 pub extern "C" fn pg_intersection(
     alloc: Global,
@@ -75,7 +86,7 @@ pub extern "C" fn pg_intersection(
     tell(alloc, status, &set, as_out, ip_out, as_len, ip_len)
 }
 
-/// Tells what the first set has and the second hasn't. Encodings and statuses are those of `pg_union`.
+/// Computes what the first set has and the second does not. Parameters and statuses are those of `pg_union`.
 #[unsafe(no_mangle)]
 pub extern "C" fn pg_difference(
     alloc: Global,
@@ -109,9 +120,11 @@ pub extern "C" fn pg_difference(
     tell(alloc, status, &set, as_out, ip_out, as_len, ip_len)
 }
 
-/// Whether the first set has each number and each address of the second. Encodings are those of `pg_verify`. The status
-/// is 0 where it has, 8 where it hasn't, 2 where there is no memory, and else that of the first reason, as of
-/// `pg_union`.
+/// Says whether the first set has each AS number and each address of the second.
+///
+/// `encoding` is that of `pg_verify`, for both sets. Returns `PG_OK` for yes and `PG_NO` for no. Before that come the
+/// statuses of `pg_union` for the encoding, the first set and the second set. `PG_MEMORY` can come instead of any of
+/// them.
 #[unsafe(no_mangle)]
 pub extern "C" fn pg_contains(
     alloc: Global,
@@ -130,7 +143,7 @@ pub extern "C" fn pg_contains(
     test_told(has_each(alloc, a_as, a_ip, b_as, b_ip, encoding))
 }
 
-/// Whether two sets are the same. Encodings and statuses are those of `pg_contains`.
+/// Says whether both sets are the same. Parameters and statuses are those of `pg_contains`.
 #[unsafe(no_mangle)]
 pub extern "C" fn pg_equal(
     alloc: Global,

@@ -1,4 +1,4 @@
-//! The exports of tables that stay.
+//! The exports on tables of VRPs.
 ghost use Rattle.route_calls.specs.Tables.{AreCoveringsTold, ArePayloadsTold, AreTableOriginsTold, IsChangedTableTold, IsCountTold, IsMadeTableTold};
 
 use crate::status;
@@ -10,10 +10,14 @@ use route_calls::tell::tell_items;
 use rpki_resources::OrMemory;
 use std::alloc::Global;
 
-/// Makes a table of validated payloads, in any order and often or not, and tells its handle, which is given back by
-/// `pg_table_free`. The status is 0 where it is told; 2 where there is no memory; and else that of the first payload
-/// that is none, as of `pg_origins`, and the place is its place, counted from 0. With any status but 0 the handle is
-/// null.
+/// Makes a table of VRPs.
+///
+/// VRPs may be in any order. Duplicates are kept: a VRP that comes twice is listed and reported twice. `table` receives
+/// the handle, which the caller passes to `pg_table_free` in the end. `place` receives the index of the first invalid
+/// VRP, from 0; else 0.
+///
+/// Returns `PG_BAD_FAMILY`, `PG_BAD_PREFIX` or `PG_BAD_MAX_LEN` for the first invalid VRP; else `PG_OK`. `PG_MEMORY`
+/// can come instead. With any error the handle is null.
 #[unsafe(no_mangle)]
 pub extern "C" fn pg_table_new(
     alloc: Global,
@@ -41,9 +45,19 @@ pub extern "C" fn pg_table_new(
     }
 }
 
-/// Tells the validity of each route by a table, an octet each, as `pg_origins` does. The status is 0 where the octets
-/// are told; 16 where the handle is null; 1 where there is no room for them, and then the length is that which is
-/// wanted; 2 where there is no memory; and else that of the first route that is none, and the place is its place.
+/// Validates routes by a table, one octet each, as `pg_origins` does. It makes no table.
+///
+/// `len` receives the length in octets, written or required. `place` receives the index of the first invalid route,
+/// from 0; else 0.
+///
+/// Returns the first status that applies:
+///
+/// - `PG_NO_TABLE`.
+/// - `PG_SECOND` + `PG_BAD_FAMILY`, `PG_SECOND` + `PG_BAD_PREFIX`: the first invalid route.
+/// - `PG_TOO_SMALL`, then `PG_OK`.
+///
+/// `PG_MEMORY` can come instead of any of them except `PG_NO_TABLE`. With an error other than `PG_TOO_SMALL` `len` is
+/// 0. With any error `out` is unchanged.
 #[unsafe(no_mangle)]
 pub extern "C" fn pg_table_origins(
     alloc: Global,
@@ -71,12 +85,26 @@ pub extern "C" fn pg_table_origins(
     }
 }
 
-/// Tells the handle of the table that a table is after payloads are withdrawn and others announced (RFC 8210, 5.6); the
-/// table that is asked stays as it is. The status is 0 where it is told; 16 where the handle is null; 2 where there is
-/// no memory; and else that of the first payload that is none, of those that are announced and then, with 4096 more, of
-/// those that are withdrawn; then 17 of the first that is withdrawn and not there, or twice, and 18 of the first that
-/// is announced and there, or twice: with its place in its array, counted from 0. With any status but 0 the handle that
-/// is told is null.
+/// Makes the next table: `table` without the withdrawn VRPs, and then with the announced ones (RFC 8210, 5.6).
+///
+/// The next table has a handle of its own, and `table` does not change. A withdrawal removes all copies of a VRP. Each
+/// array lists a VRP once, also one that the table lists more than once. A VRP in both arrays has to be in the table,
+/// and is listed once afterwards. `next` receives the handle. `place` receives the index of the VRP at fault, from 0;
+/// else 0.
+///
+/// Returns the first status that applies:
+///
+/// 1. `PG_NO_TABLE`.
+/// 2. `PG_BAD_FAMILY`, `PG_BAD_PREFIX`, `PG_BAD_MAX_LEN`: the first invalid VRP in `announced`.
+/// 3. `PG_SECOND` + one of these: the first invalid VRP in `withdrawn`.
+/// 4. `PG_UNKNOWN_WITHDRAWAL`: the first VRP in `withdrawn` that is not in the table, or is a repetition in
+///    `withdrawn`.
+/// 5. `PG_DUPLICATE_ANNOUNCEMENT`: the first VRP in `announced` that is in the table and not withdrawn, or is a
+///    repetition in `announced`.
+/// 6. `PG_OK`.
+///
+/// `PG_MEMORY` can come instead of any of them except `PG_NO_TABLE`. `place` is an index of `withdrawn` with 3 and 4,
+/// and of `announced` with 2 and 5. With any error the handle in `next` is null.
 #[unsafe(no_mangle)]
 pub extern "C" fn pg_table_changed(
     alloc: Global,
@@ -111,10 +139,19 @@ pub extern "C" fn pg_table_changed(
     }
 }
 
-/// Tells the payloads of a table that cover a route, the longest prefix first, by one prefix the least AS number, and
-/// by one AS the longest greatest length; and of each why it doesn't match the route. The status is 0 where they are
-/// told; 16 where the handle is null; 1 where there is no room for them, and then the length is that which is wanted; 2
-/// where there is no memory; and else that of the route, which is none: its family, its prefix.
+/// Lists the VRPs of a table that cover a route, each with the reason why it does not match.
+///
+/// The longest prefix comes first. VRPs with the same prefix come with the least AS number first. VRPs with the same AS
+/// too come with the longest maximum length first. `len` receives the length, written or required, in VRPs.
+///
+/// Returns the first status that applies:
+///
+/// - `PG_NO_TABLE`.
+/// - `PG_SECOND` + `PG_BAD_FAMILY`, `PG_SECOND` + `PG_BAD_PREFIX`: the route is invalid.
+/// - `PG_TOO_SMALL`, then `PG_OK`.
+///
+/// `PG_MEMORY` can come instead of any of them except `PG_NO_TABLE`. With an error other than `PG_TOO_SMALL` `len` is
+/// 0. With any error `out` is unchanged.
 #[unsafe(no_mangle)]
 pub extern "C" fn pg_table_covering(
     alloc: Global,
@@ -136,7 +173,9 @@ pub extern "C" fn pg_table_covering(
     }
 }
 
-/// Tells how many payloads a table lists. The status is 0, or 16 where the handle is null.
+/// Counts the VRPs of a table.
+///
+/// Returns `PG_NO_TABLE` if the handle is null, or else `PG_OK`. `len` receives the number of VRPs; 0 with an error.
 #[unsafe(no_mangle)]
 pub extern "C" fn pg_table_len(table: TableRef, len: &mut usize) -> u32
     ensures { IsCountTold table.at table.payloads len.new result }
@@ -149,10 +188,14 @@ pub extern "C" fn pg_table_len(table: TableRef, len: &mut usize) -> u32
     status::OK
 }
 
-/// Tells all payloads of a table: IPv4 before IPv6, then by the first address, the shorter prefix first, by one prefix
-/// the greatest AS number, and by one AS the shortest greatest length. The status is 0 where they are told; 16 where
-/// the handle is null; 1 where there is no room for them, and then the length is that which is wanted; and 2 where
-/// there is no memory.
+/// Lists all VRPs of a table.
+///
+/// IPv4 comes before IPv6. Then the order is by address, and then by prefix length, the shorter first. VRPs with the
+/// same prefix come with the greatest AS number first. VRPs with the same AS too come with the shortest maximum length
+/// first. `len` receives the length, written or required, in VRPs.
+///
+/// Returns `PG_NO_TABLE`, `PG_TOO_SMALL` or `PG_OK`: the first that applies. `PG_MEMORY` can come instead of the last
+/// two. With `PG_NO_TABLE` and `PG_MEMORY` `len` is 0. With any error `out` is unchanged.
 #[unsafe(no_mangle)]
 pub extern "C" fn pg_table_payloads(
     alloc: Global,
@@ -172,7 +215,7 @@ pub extern "C" fn pg_table_payloads(
     }
 }
 
-/// Gives a table back, whose memory is freed. Null is given back too, and nothing is freed.
+/// Frees a table. A null handle is accepted, and then the call does nothing.
 #[unsafe(no_mangle)]
 pub extern "C" fn pg_table_free(alloc: Global, table: TableOwner) {
     if let Some(parts) = table.into_parts(alloc) {

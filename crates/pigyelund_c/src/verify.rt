@@ -1,4 +1,4 @@
-//! The exports: the version, and what an issuer verifies of a certificate, or an anchor of a path of certificates.
+//! The exports on certificates: the version, and verification by an issuer or along a path from an anchor.
 ghost use Rattle.std.specs.Prelude.{◌≡◌, length, MatchResult, Result};
 ghost use Rattle.rpki_text.specs.Memory.{IfRefused};
 ghost use Rattle.rpki_text.specs.declared.memory.OrMemory.{OrMemory as Refusing};
@@ -16,7 +16,9 @@ use crate::outcome::tell_outcome;
 use crate::path::{counted, path_answered};
 use std::alloc::Global;
 
-/// The version of the calls: it grows where one is added, and no call that was released ever changes its meaning.
+/// Returns the version of the calls.
+///
+/// It grows if a call is added. A released call never changes its meaning.
 #[unsafe(no_mangle)]
 pub extern "C" fn pg_version() -> u32
     ensures { result ≡ 4 }
@@ -24,14 +26,30 @@ pub extern "C" fn pg_version() -> u32
     4
 }
 
-/// Tells what an issuer's set leaves of the claims of a certificate, or why it doesn't verify them, with the excess
-/// where more is claimed than the issuer has. The number of the extensions that are there is 1 for AS identifiers, 2
-/// for IP address blocks, 3 for both; of one that isn't there the octets aren't looked at, and it claims nothing.
-/// Encoding 0 takes blocks in any order that the syntax allows, 1 canonical octets alone; mode 0 refuses an excess (RFC
-/// 6487, 7.2), mode 1 trims it (RFC 8360, 4). The status is 0 where the set is told; 1 where there is no room for it,
-/// and then the lengths are those that are wanted; 2 where there is no memory; and else that of the first reason:
-/// encoding, the number of the extensions, mode, the issuer's octets, absence of both extensions, the octets of AS
-/// identifiers and of IP address blocks, and then an excess of AS numbers, IPv4 and IPv6 addresses.
+/// Verifies the resources of a certificate against those of its issuer.
+///
+/// The outputs are what the issuer's set leaves of the claims, for AS numbers, IPv4 and IPv6 each. They are nothing for
+/// an absent extension or an absent family, all of the issuer's for "inherit", and otherwise what both have. The octets
+/// of an absent extension are not read.
+///
+/// - `present`: 1 for AS identifiers, 2 for IP address blocks, 3 for both, 0 for neither.
+/// - `encoding`: 0 accepts blocks in any order that the syntax allows, 1 accepts canonical DER only. It holds for the
+///   issuer's octets too.
+/// - `mode`: 0 refuses an overclaim (RFC 6487, 7.2), 1 reduces the claim to what the issuer has of it (RFC 8360, 4).
+/// - `as_len`, `ip_len`: receive the lengths in octets, written or required.
+///
+/// Returns the first status that applies:
+///
+/// 1. `PG_BAD_ENCODING`, `PG_BAD_PRESENT`, `PG_BAD_MODE`.
+/// 2. `PG_BAD_AS` + n, `PG_BAD_IP` + n, `PG_INHERITED`: the issuer's set.
+/// 3. `PG_ABSENT`.
+/// 4. `PG_SECOND` + `PG_BAD_AS` + n, `PG_SECOND` + `PG_BAD_IP` + n: the certificate's extensions.
+/// 5. `PG_OVERCLAIM_AS`, `PG_OVERCLAIM_V4`, `PG_OVERCLAIM_V6`, with mode 0 only. The outputs are exactly the
+///    overclaimed resources of that kind, as a set. If these do not fit, the status is `PG_TOO_SMALL`.
+/// 6. `PG_TOO_SMALL`, then `PG_OK`.
+///
+/// `PG_MEMORY` can come instead of any of them. With 1 to 4 and with `PG_MEMORY` both lengths are 0 and the buffers are
+/// unchanged. With `PG_TOO_SMALL` the buffers are unchanged.
 #[unsafe(no_mangle)]
 pub extern "C" fn pg_verify(
     alloc: Global,
@@ -61,11 +79,27 @@ pub extern "C" fn pg_verify(
     tell_outcome(alloc, outcome, as_out, ip_out, as_len, ip_len)
 }
 
-/// Tells what certificates on a path leave of an anchor's set, the first verified by the anchor's and each other by
-/// what the ones before it leave; and how many are verified. Their octets stand in a run. Where one isn't verified, its
-/// place is that number, counted from 0, and the status and the excess are those of `pg_verify`, with 11 before all
-/// where a place of its octets lies outside of the run. What is said of the encoding and of the anchor's octets comes
-/// before the first certificate.
+/// Verifies the resources of certificates on a path, from an anchor down.
+///
+/// The anchor's set verifies the first certificate. Each other certificate is verified by what the ones before it
+/// leave. The outputs are what all certificates leave. If there are no certificates, they are the anchor's set.
+///
+/// The octets of all extensions are in `run`. `encoding` is that of `pg_verify`, and holds for the anchor's octets too.
+/// `as_len` and `ip_len` receive lengths in octets, written or required. `verified` receives the number of verified
+/// certificates.
+///
+/// Returns the first status that applies:
+///
+/// 1. `PG_BAD_ENCODING`; `verified` is 0.
+/// 2. `PG_BAD_AS` + n, `PG_BAD_IP` + n, `PG_INHERITED`: the anchor's set. `verified` is 0.
+/// 3. For each certificate in turn: `PG_OUTSIDE`, `PG_BAD_PRESENT`, `PG_BAD_MODE`, and then 3 to 5 of `pg_verify`.
+///    `verified` is the index of this certificate, from 0.
+/// 4. `PG_TOO_SMALL`, then `PG_OK`.
+///
+/// With `PG_OVERCLAIM_AS`, `PG_OVERCLAIM_V4` and `PG_OVERCLAIM_V6` the outputs are the overclaimed resources.
+/// `PG_MEMORY` can come instead of any other status, and `verified` is then unspecified. With any status except these
+/// three, `PG_OK` and `PG_TOO_SMALL` both lengths are 0 and the buffers are unchanged. With `PG_TOO_SMALL` the buffers
+/// are unchanged.
 #[unsafe(no_mangle)]
 pub extern "C" fn pg_verify_path(
     alloc: Global,

@@ -1,4 +1,4 @@
--- What a handle owns, or lends.
+-- The table that a handle owns or lends.
 use Rattle.std.specs.Prelude.{List, Option, Some, None}
 use Rattle.std.specs.Box.Ownership.{box_owns}
 use Rattle.std.specs.Ptr.{if_non_null, static_ref_at}
@@ -11,27 +11,27 @@ use base.Fml.{Fml, ftrue, fex, fsep}
 use denote.RattleType.{RattleType}
 use denote.RawPtr.{Ptr, Testable}
 
--- a table in memory
+-- A table in memory.
 abbrev pub table_row : RattleType
 table_row = origin_table.the_row heap.the_row ghosts
 
--- at a pointer lies a table with these payloads, in a block of malloc's that whoever has this may free
+-- A table with these VRPs is at the pointer, in a block of malloc. The owner of this may free the block.
 abbrev pub boxed_table : Ptr → List Payload → Fml
 boxed_table p table = fex Global (λ alloc. box_owns (ghosts.dealloc_token alloc) table_row p table)
 
--- a pointer that C may compare with null
+-- A pointer that C may compare with null.
 abbrev pub testable : Ptr → Fml
 testable p = fex (Testable p) (λ _. ftrue)
 
--- of a place: nothing, or a table that was given
+-- For a place: nothing, or a table that was given.
 abbrev pub may_own_table : Ptr → Option (List Payload) → Fml
 may_own_table p None = ftrue
 may_own_table p (Some table) = boxed_table p table
 
--- of a handle that is given back: null, or a table
+-- For a handle that is returned to be freed: null, or a table.
 abbrev pub owns_table : Ptr → List Payload → Fml
 owns_table p table = fsep (testable p) (if_non_null p (boxed_table p table))
 
--- of a handle that is asked: null, or a table that is lent, to as many as ask
+-- For a handle that is only read: null, or a borrowed table. Any number of readers may borrow it.
 abbrev pub lends_table : Ptr → List Payload → Fml
 lends_table p table = fsep (testable p) (if_non_null p (static_ref_at table_row p table))

@@ -1,4 +1,4 @@
--- What a caller says of validated payloads and of routes (RFC 6811, 2).
+-- VRPs and routes as a caller passes them (RFC 6811, 2).
 use Rattle.std.specs.Prelude.{◌≡◌, ◌≢◌, ℕ, List, Some, slice_range}
 use Rattle.std.specs.Int.{from_be_bytes, w32, w128}
 use Rattle.rpki_addr.specs.declared.addr.IpAddr.{IpAddr}
@@ -16,27 +16,27 @@ use Rattle.route_calls.specs.declared.route.Route.{Route}
 use Rattle.route_calls.specs.declared.route.Unrouted.{Unrouted}
 use Rattle.route_calls.specs.declared.route.Unrouted.TheVariants.{NoFamily, NoPrefix, NoMaxLen}
 
--- the address that octets are, the highest first; an IPv4 address is the first four of sixteen
+-- The address with these octets, the highest first. An IPv4 address is the first four of sixteen.
 abbrev pub address_in : AddressFamily → List ℕ → IpAddr
 address_in Ipv4 octets = V4 (from_be_bytes w32 (slice_range octets 0 4))
 address_in Ipv6 octets = V6 (from_be_bytes w128 octets)
 
 -- ---- a prefix
 
--- the numbers of a family and of a length and the octets of an address are a prefix
+-- The numbers of a family and of a length and the octets of an address are a prefix.
 pub record HasPrefix (family : ℕ) (address : List ℕ) (len : ℕ) (p : FamilyPrefix) : Type 0 where
   pub kind : AddressFamily
   pub is_kind : family ≡ family_number kind
   pub is : IsPrefixOf (address_in kind address) len p
 
--- the number of the family is none, or else the address and the length are no prefix
+-- The number of the family is invalid; if it is valid, the address and the length are no prefix.
 abbrev pub HasNoPrefix : ℕ → List ℕ → ℕ → Unrouted → Type 0
 HasNoPrefix family address len NoFamily = (kind : AddressFamily) → family ≢ family_number kind
 HasNoPrefix family address len NoPrefix =
     (kind : AddressFamily) × (family ≡ family_number kind) × ((why : PrefixError) × HasPrefixError (address_in kind address) len why)
 HasNoPrefix family address len NoMaxLen = ⊥
 
--- ---- a route, and a payload
+-- ---- a route, and a VRP
 
 abbrev pub IsRoute : Route → FamilyPrefix → Type 0
 IsRoute r p = HasPrefix r.family r.address r.len p
@@ -44,14 +44,14 @@ IsRoute r p = HasPrefix r.family r.address r.len p
 abbrev pub IsNoRoute : Route → Unrouted → Type 0
 IsNoRoute r why = HasNoPrefix r.family r.address r.len why
 
--- the prefix, a greatest length of it, and the AS
+-- The prefix, a maximum length of it, and the AS.
 pub record IsPayload (handed : Handed) (payload : Payload) : Type 0 where
   pub prefix : HasPrefix handed.family handed.address handed.len payload.0.prefix
   pub max_len : payload.0.max_len ≡ Some handed.max_len
   pub is_max_len : IsMaxLenOf payload.0.prefix (Some handed.max_len)
   pub asn : payload.1 ≡ handed.asn
 
--- the prefix is none, or else the greatest length
+-- The prefix is invalid; if it is valid, the maximum length is invalid.
 abbrev pub IsNoPayload : Handed → Unrouted → Type 0
 IsNoPayload handed NoFamily = HasNoPrefix handed.family handed.address handed.len NoFamily
 IsNoPayload handed NoPrefix = HasNoPrefix handed.family handed.address handed.len NoPrefix

@@ -1,4 +1,4 @@
--- Payloads that are told: those of a table, and those that cover a route, each with why it doesn't match it.
+-- VRPs that are returned: those of a table, and those that cover a route, each with the reason why it does not match.
 use Rattle.std.specs.Prelude.{◌≡◌, ◌⊎◌, ℕ, ◌+◌, ◌≤◌, List, [], ◌∷◌, ◌++◌, reverse}
 use Rattle.std.specs.Int.{to_be_bytes, w128}
 use Rattle.std.specs.List.Sorted.{IsNonDecreasingBy}
@@ -16,19 +16,19 @@ use Rattle.route_calls.specs.declared.route.Payload.{Payload as Handed}
 use Rattle.route_calls.specs.declared.route.Route.{Route}
 use Rattle.route_calls.specs.declared.route.Unrouted.{Unrouted}
 
--- ---- a payload
+-- ---- a VRP
 
--- the octets of an address, the highest first; behind the four of IPv4 stand zeros
+-- The octets of an address, the highest first. Zeros follow the four of IPv4.
 abbrev pub address_octets : IpAddr → List ℕ
 address_octets (V4 n) = octets_of n ++ 0 ∷ 0 ∷ 0 ∷ 0 ∷ 0 ∷ 0 ∷ 0 ∷ 0 ∷ 0 ∷ 0 ∷ 0 ∷ 0 ∷ []
 address_octets (V6 n) = to_be_bytes w128 n
 
--- as in IP address blocks (RFC 3779, 2.2.3.3)
+-- The number is that of IP address blocks (RFC 3779, 2.2.3.3).
 abbrev pub address_family : IpAddr → ℕ
 address_family (V4 n) = 1
 address_family (V6 n) = 2
 
--- its prefix, its greatest length, that of the prefix where it has none, and its AS
+-- The prefix, the maximum length, and the AS. The maximum length is that of the prefix if the VRP has none.
 abbrev pub handed_of : Payload → Handed
 handed_of payload = record {
   address = address_octets payload.0.prefix.addr;
@@ -40,8 +40,8 @@ handed_of payload = record {
 
 -- ---- one that covers a route
 
--- why it doesn't match the route: 1 for its AS, 2 because the route is longer than it allows, the sum for both; and 0
--- where it matches
+-- The reason why a VRP does not match the route, or 0 if it does. 1: its AS. 2: the route is longer than the VRP
+-- allows. 3: both.
 abbrev pub IsMismatch : FamilyPrefix → ℕ → Payload → ℕ → Type 0
 IsMismatch route asn payload why =
     ((why ≡ 0) × HasAs asn payload × (route.len ≤ longest payload))
@@ -54,8 +54,8 @@ pub record IsCovering (route : FamilyPrefix) (asn : ℕ) (payload : Payload) (to
       ≡ record { address = told.address; asn = told.asn; family = told.family; len = told.len; max_len = told.max_len }
   pub why : IsMismatch route asn payload told.mismatch
 
--- those of a table that cover a route, the longest prefix first, by one prefix the least AS number, and by one AS the
--- longest greatest length
+-- The VRPs of a table that cover a route. The longest prefix comes first, then the least AS number, and then the
+-- longest maximum length.
 pub record AreCoveringsTo (table : List Payload) (route : FamilyPrefix) (asn : ℕ) (told : List Covering) : Type 0 where
   pub payloads : List Payload
   pub those : AreThose (CoversRoute route) table (reverse payloads)
@@ -65,6 +65,6 @@ pub record AreCoveringsTo (table : List Payload) (route : FamilyPrefix) (asn : �
 abbrev pub AreCoveringsOf : List Payload → Route → List Covering → Type 0
 AreCoveringsOf table r told = (route : FamilyPrefix) × IsRoute r route × AreCoveringsTo table route r.asn told
 
--- the status of a route that is none
+-- The status of an invalid route.
 abbrev pub route_status : Unrouted → ℕ
 route_status why = 4096 + unrouted_status why

@@ -1,4 +1,4 @@
-//! The validity of many routes by a table, whose reads go on beside each other.
+//! Validation of many routes by a table. Their memory reads overlap.
 ghost use Rattle.std.specs.Prelude.{◌≡◌, ◌++◌, List, ℕ, [], IfOk, OnOk};
 ghost use Rattle.route_calls.specs.Origins.{AreEach};
 ghost use Rattle.route_calls.specs.Soughts.{AreBegun, TellsSought};
@@ -9,10 +9,14 @@ use roa_origin::{OriginTable, Sought};
 use rpki_base::Asn;
 use std::alloc::{AllocError, Global};
 
-/// How many routes are sought beside each other. Their list has less than a KiB, which malloc hands out again at once.
+/// Number of routes that are looked up at the same time. Their list has less than a KiB, which malloc reuses at once.
 pub(crate) const BESIDE: usize = 12;
 
-/// Takes the first step of each route of an array in a table, up to the first that is none, and says why that is none.
+/// Takes the first step for each route up to the first invalid one, and returns the reason why that is invalid.
+///
+/// # Preconditions
+///
+/// `sought` is empty.
 pub(crate) fn begin<'a>(
     table: &'a OriginTable<Global>,
     routes: &[Route],
@@ -30,7 +34,7 @@ pub(crate) fn begin<'a>(
     Ok(None)
 }
 
-/// Takes the next step of each.
+/// Takes the next step for each lookup.
 pub(crate) fn come_nearer(sought: &mut Vec<Sought<'_>, Global>)
     ensures { sought.new.items ≡ sought.old.items }
 {
@@ -39,7 +43,7 @@ pub(crate) fn come_nearer(sought: &mut Vec<Sought<'_>, Global>)
     }
 }
 
-/// Puts the validity of each behind octets, as a number.
+/// Appends the validity of each lookup as a number.
 pub(crate) fn end(sought: &[Sought<'_>], octets: &mut Vec<u8, Global>) -> Result<(), AllocError>
     ensures { OnOk result ((told : List ℕ) × (octets.new.items ≡ octets.old.items ++ told)
         × AreEach TellsSought sought.now told) }

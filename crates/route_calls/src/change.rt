@@ -1,4 +1,4 @@
-//! A table after changes of its payloads (RFC 8210, 5.6).
+//! A table after changes of its VRPs (RFC 8210, 5.6).
 ghost use Rattle.std.specs.Prelude.{◌≡◌, MatchResult};
 ghost use Rattle.rpki_text.specs.Memory.{IfRefused};
 ghost use Rattle.route_calls.specs.Tables.{IsChangedTable, IsNoChange, fault_place, fault_status, no_change_place, no_change_status};
@@ -11,18 +11,18 @@ use roa_origin::{ChangeFault, OriginTable};
 use rpki_text::memory::OrMemory;
 use std::alloc::{AllocError, Global};
 
-/// Why there is no table after changes.
+/// Reason why there is no table after changes.
 #[derive(Clone, Copy)]
 pub enum NoChange {
-    /// A payload that is announced is none.
+    /// An announced VRP is invalid.
     Announced(FirstNone),
-    /// A payload that is withdrawn is none.
+    /// A withdrawn VRP is invalid.
     Withdrawn(FirstNone),
-    /// They are no changes of the table.
+    /// A change is impossible for the table.
     Fault(ChangeFault),
 }
 
-/// The status of a fault of changes.
+/// Returns the status of a change that is impossible.
 fn fault_status(fault: ChangeFault) -> u32
     ensures { result ≡ fault_status fault }
 {
@@ -32,7 +32,7 @@ fn fault_status(fault: ChangeFault) -> u32
     }
 }
 
-/// The place of a fault of changes.
+/// Returns the index of a change that is impossible.
 fn fault_place(fault: ChangeFault) -> usize
     ensures { result ≡ fault_place fault }
 {
@@ -43,7 +43,7 @@ fn fault_place(fault: ChangeFault) -> usize
 }
 
 impl NoChange {
-    /// The status of a reason.
+    /// Returns the status of this reason.
     pub fn status(self) -> u32
         ensures { result ≡ no_change_status self }
     {
@@ -54,7 +54,7 @@ impl NoChange {
         }
     }
 
-    /// The place of what is none.
+    /// Returns the index of the VRP at fault, in its array.
     pub fn place(self) -> usize
         ensures { result ≡ no_change_place self }
     {
@@ -66,9 +66,12 @@ impl NoChange {
     }
 }
 
-/// The boxed table after payloads are withdrawn and others announced. `Refused` with the first payload that is none, of
-/// those that are announced and then of those that are withdrawn, and else with the first fault of the changes;
-/// `Memory` where there is no memory for them, for the table or for its box.
+/// Returns the boxed table without the withdrawn VRPs and with the announced ones.
+///
+/// # Errors
+///
+/// - `Refused`: the first invalid VRP in `announced`; or else in `withdrawn`; or else the first impossible change.
+/// - `Memory`: memory for the VRPs, the table or its box runs out.
 pub fn changed_table(
     alloc: Global,
     table: &OriginTable<Global>,

@@ -5,8 +5,7 @@ ghost use Rattle.route_calls.specs.Families.{family_number};
 
 use rpki_der::family::AddressFamily;
 
-/// The family that a number chooses, as it is numbered in IP address blocks (RFC 3779, 2.2.3.3). None where it is of
-/// none.
+/// Returns the family with this number in IP address blocks (RFC 3779, 2.2.3.3), or `None` if no family has it.
 pub fn family_of(number: u32) -> Option<AddressFamily>
     ensures { MatchOption result ((family : Family) → number ≢ family_number family)
         (λ family. number ≡ family_number family) }

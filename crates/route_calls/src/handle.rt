@@ -1,8 +1,11 @@
-//! Handles: a table in a block of its own, whose pointer a caller keeps.
+//! Handles: a table in a block of its own, whose pointer the caller keeps.
 //!
-//! To C each is a pointer, `pg_table *`. The type of a parameter says what the caller has of the table then, and no
-//! clause of an export repeats it: a place where nothing is looked at, an owner, or a table that is lent and that
-//! nobody frees before the call returns.
+//! In C each handle is a pointer, `pg_table *`. The type of a parameter says what the caller has of the table, and no
+//! clause of an export repeats it:
+//!
+//! - [`TablePlace`]: a place whose old value is not read.
+//! - [`TableOwner`]: the owner of a table.
+//! - [`TableRef`]: a borrowed table, which nobody frees before the call returns.
 ghost use Rattle.std.specs.Prelude.{◌≡◌, List, Option, Some, None, MatchOption};
 ghost use Rattle.std.specs.Ptr.{null_ptr};
 ghost use denote.RawPtr.{InBlock};
@@ -14,20 +17,22 @@ use roa_origin::OriginTable;
 use std::alloc::Global;
 use std::marker::Model;
 
-/// What a handle points to, as callers see it.
+/// The target of a handle, as callers see it.
 #[repr(C)]
 pub struct Table {
     inside: u8,
 }
 
-/// A place for a handle. What stands there before a call is nothing to the library; what a call puts there owns a
-/// table, where it is told.
+/// A place for a handle.
+///
+/// The library does not read what a place has before a call. If a call writes a handle into it, that handle owns a
+/// table.
 #[repr(C)]
 #[derive(Drop)]
 pub struct TablePlace {
     /// The pointer.
     pub at: *mut Table,
-    /// The payloads of the table that it owns.
+    /// The VRPs of the table that it owns.
     pub ghost given: { Option (List RoaPayload) },
 }
 
@@ -36,7 +41,7 @@ impl Model for TablePlace {
 }
 
 impl TablePlace {
-    /// The handle of a boxed table.
+    /// Returns the handle of a boxed table.
     pub fn of(parts: BoxPointer<OriginTable<Global>, Global>) -> TablePlace
         ensures { (result.given ≡ Some parts.value) × InBlock result.at }
     {
@@ -46,7 +51,7 @@ impl TablePlace {
         }
     }
 
-    /// Null, where no table is told.
+    /// Returns the null handle, for a call that returns no table.
     pub fn null() -> TablePlace
         ensures { (result.given ≡ None) × (result.at ≡ null_ptr) }
     {
@@ -56,12 +61,12 @@ impl TablePlace {
     }
 }
 
-/// A handle that a caller gives back, or null.
+/// A handle that a caller returns to be freed, or null.
 #[repr(C)]
 pub struct TableOwner {
     /// The pointer.
     pub at: *mut Table,
-    /// The table's payloads.
+    /// The VRPs of the table.
     pub ghost payloads: { List RoaPayload },
 }
 
@@ -70,7 +75,7 @@ impl Model for TableOwner {
 }
 
 impl TableOwner {
-    /// The boxed table, None at null.
+    /// Returns the boxed table, or `None` if the handle is null.
     pub fn into_parts(self, alloc: Global) -> Option<BoxPointer<OriginTable<Global>, Global>>
         ensures { MatchOption result (self.at ≡ null_ptr) (λ parts. parts.value ≡ self.payloads) }
     {
@@ -83,13 +88,13 @@ impl TableOwner {
     }
 }
 
-/// A handle whose table is asked, or null. As many as there are may be asked at once.
+/// A handle of a table that a call reads, or null. Any number of calls may read a table at the same time.
 #[repr(C)]
 #[derive(Drop)]
 pub struct TableRef {
     /// The pointer.
     pub at: *const Table,
-    /// The table's payloads, in its order.
+    /// The VRPs of the table, in its order.
     pub ghost payloads: { List RoaPayload },
 }
 
@@ -98,7 +103,7 @@ impl Model for TableRef {
 }
 
 impl TableRef {
-    /// The table, None at null.
+    /// Returns the table, or `None` if the handle is null.
     pub fn table<'a>(self) -> Option<&'a OriginTable<Global>>
         ensures { MatchOption result (self.at ≡ null_ptr)
             (λ table. (table.now ≡ self.payloads) × InBlock self.at) }

@@ -1,7 +1,7 @@
-//! Payloads, routes and tables as callers in C hand them over and are told them: what the exports of `pigyelund_c` on
-//! route origins are made of (RFC 6811, 2; RFC 8210, 5.6).
+//! VRPs, routes and tables as callers in C pass and receive them (RFC 6811, 2; RFC 8210, 5.6).
 //!
-//! The exports tell what these answer, as `pigyelund_c::tables` does:
+//! The exports of `pigyelund_c` on route origins are made of these. They report the results, as `pigyelund_c::tables`
+//! does:
 //!
 //! ```rust
 //! match made_table(alloc, payloads) {

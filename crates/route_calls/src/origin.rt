@@ -1,4 +1,4 @@
-//! The validity of many routes by an array of payloads.
+//! The validity of many routes by an array of VRPs.
 ghost use Rattle.std.specs.Prelude.{◌≡◌, MatchResult};
 ghost use Rattle.rpki_text.specs.Memory.{IfRefused};
 ghost use Rattle.route_calls.specs.Origins.{AreEach, AreNoOrigins, AreOrigins, IsFirstNone, IsOrigin, no_origins_place, no_origins_status, validity_number};
@@ -13,26 +13,26 @@ use rpki_prefix::MaxLenPrefix;
 use rpki_text::memory::{OrMemory, refused_as};
 use std::alloc::Global;
 
-/// Which of an array is the first that is none, counted from 0, and why.
+/// The first invalid element of an array, and the reason.
 #[derive(Clone, Copy)]
 pub struct FirstNone {
-    /// The place.
+    /// The index, from 0.
     pub at: usize,
     /// The reason.
     pub reason: Unrouted,
 }
 
-/// Why no origins are told.
+/// Reason why no validities are returned.
 #[derive(Clone, Copy)]
 pub enum NoOrigins {
-    /// A payload is none.
+    /// A VRP is invalid.
     Payload(FirstNone),
-    /// A route is none.
+    /// A route is invalid.
     Route(FirstNone),
 }
 
 impl NoOrigins {
-    /// The status of a reason.
+    /// Returns the status of this reason.
     pub fn status(self) -> u32
         ensures { result ≡ no_origins_status self }
     {
@@ -42,7 +42,7 @@ impl NoOrigins {
         }
     }
 
-    /// The place of what is none.
+    /// Returns the index of the invalid VRP or route.
     pub fn place(self) -> usize
         ensures { result ≡ no_origins_place self }
     {
@@ -53,7 +53,7 @@ impl NoOrigins {
     }
 }
 
-/// The number of a validity, as routers tell it one another (RFC 8097, 2).
+/// Returns the number of a validity in messages between routers (RFC 8097, 2).
 pub(crate) fn number_of(validity: Validity) -> u8
     ensures { result ≡ validity_number validity }
 {
@@ -64,7 +64,12 @@ pub(crate) fn number_of(validity: Validity) -> u8
     }
 }
 
-/// The payloads of an array. `Refused` with the first that is none, `Memory` where there is no memory for them.
+/// Returns the VRPs of an array.
+///
+/// # Errors
+///
+/// - `Refused`: the first invalid VRP.
+/// - `Memory`: memory for the VRPs runs out.
 pub fn payloads_of(
     alloc: Global,
     payloads: &[Payload],
@@ -82,8 +87,12 @@ pub fn payloads_of(
     Ok(read)
 }
 
-/// The validity of each route of an array by a table, as numbers. `Refused` with the first that is none, `Memory` where
-/// there is no memory for the numbers, or for what is sought beside each other.
+/// Returns the validity of each route by a table, as numbers.
+///
+/// # Errors
+///
+/// - `Refused`: the first invalid route.
+/// - `Memory`: memory for the numbers or the lookups runs out.
 pub fn origins_in(
     alloc: Global,
     table: &OriginTable<Global>,
@@ -111,7 +120,7 @@ pub fn origins_in(
     Ok(octets)
 }
 
-/// The same by payloads, of which a table is made first. `Memory` too where there is no memory for it.
+/// Does the same with VRPs, of which it makes a table first. `Memory` also if memory for the table runs out.
 fn origins_of(
     alloc: Global,
     payloads: &[(MaxLenPrefix, Asn)],
@@ -125,8 +134,12 @@ fn origins_of(
     origins_in(alloc, &table, routes)
 }
 
-/// The validity of each route by payloads, as numbers. `Refused` with the first payload that is none, or else the first
-/// route; `Memory` where there is no memory for a table or for the numbers.
+/// Returns the validity of each route by VRPs, as numbers.
+///
+/// # Errors
+///
+/// - `Refused`: the first invalid VRP, or else the first invalid route.
+/// - `Memory`: memory for the VRPs, a table or the numbers runs out.
 pub fn origins(
     alloc: Global,
     payloads: &[Payload],

@@ -1,4 +1,4 @@
-//! Validated payloads and routes, as a caller hands them over (RFC 6811, 2).
+//! VRPs and routes as a caller passes them (RFC 6811, 2).
 ghost use Rattle.std.specs.Prelude.{◌≡◌, slice_range, MatchResult};
 ghost use Rattle.std.specs.Int.{from_be_bytes, w32};
 ghost use Rattle.route_calls.specs.Routes.{IsNoPayload, IsNoRoute, IsPayload, IsRoute, HasNoPrefix, HasPrefix, address_in, unrouted_status};
@@ -10,19 +10,19 @@ use rpki_base::{Asn, IpAddr, Ipv4Addr, Ipv6Addr};
 use rpki_der::family::AddressFamily;
 use rpki_prefix::{MaxLenPrefix, Prefix};
 
-/// Why octets and numbers are no payload, or no route.
+/// Reason why octets and numbers are no VRP, or no route.
 #[derive(Clone, Copy)]
 pub enum Unrouted {
-    /// The number of the family is none.
+    /// The number of the family is unknown.
     NoFamily,
-    /// The length is above the family's, or bits behind it are set.
+    /// The length is above the family's, or bits of the address after it are set.
     NoPrefix,
-    /// The greatest length is below the prefix's, or above the family's.
+    /// The maximum length is below the prefix's length, or above the family's.
     NoMaxLen,
 }
 
 impl Unrouted {
-    /// The status of a reason.
+    /// Returns the status of this reason.
     pub fn status(self) -> u32
         ensures { result ≡ unrouted_status self }
     {
@@ -33,7 +33,7 @@ impl Unrouted {
         }
     }
 
-    /// The status of a reason that is said of a route.
+    /// Returns the status of this reason for a route.
     pub fn route_status(self) -> u32
         ensures { result ≡ route_status self }
     {
@@ -41,66 +41,69 @@ impl Unrouted {
     }
 }
 
-/// A prefix with a greatest length, and the AS that may originate it.
+/// A VRP: a prefix with a maximum length, and the AS that may originate it.
+///
+/// This is a struct for C, with numbers that are not checked yet.
 #[repr(C)]
 #[derive(Clone, Copy)]
 pub struct Payload {
-    /// The octets of the prefix's address, of which an IPv4 address has the first four.
+    /// The octets of the prefix's address, the highest first. An IPv4 address is the first four.
     pub address: [u8; 16],
-    /// The number of the AS.
+    /// The AS number.
     pub asn: u32,
-    /// The number of the family.
+    /// The number of the family: 1 for IPv4, 2 for IPv6.
     pub family: u8,
-    /// The prefix's length.
+    /// The length of the prefix, in bits.
     pub len: u8,
-    /// The greatest length.
+    /// The maximum length, in bits.
     pub max_len: u8,
 }
 
 /// A route: the prefix that it leads to, and the AS that originates it.
 ///
-/// This is a struct for C, with numbers that are not checked yet. `origin_lines::Route` is a route that a line writes.
+/// This is a struct for C, with numbers that are not checked yet. `origin_lines::Route` is a route in a line of text.
 #[repr(C)]
 #[derive(Clone, Copy)]
 pub struct Route {
-    /// The octets of the prefix's address, of which an IPv4 address has the first four.
+    /// The octets of the prefix's address, the highest first. An IPv4 address is the first four.
     pub address: [u8; 16],
-    /// The number of the AS.
+    /// The AS number.
     pub asn: u32,
-    /// The number of the family.
+    /// The number of the family: 1 for IPv4, 2 for IPv6.
     pub family: u8,
-    /// The prefix's length.
+    /// The length of the prefix, in bits.
     pub len: u8,
 }
 
-/// A payload that covers a route, and why it doesn't match it.
+/// A VRP that covers a route, and the reason why it does not match the route.
 ///
-/// This is a struct for C. `roa_origin::Covering` is an iterator over such payloads.
+/// This is a struct for C. `roa_origin::Covering` is an iterator over such VRPs.
 #[repr(C)]
 #[derive(Clone, Copy)]
 pub struct Covering {
-    /// The octets of the prefix's address, of which an IPv4 address has the first four; those behind are 0.
+    /// The octets of the prefix's address, the highest first. An IPv4 address is the first four, and the others are 0.
     pub address: [u8; 16],
-    /// The number of the AS.
+    /// The AS number.
     pub asn: u32,
-    /// The number of the family.
+    /// The number of the family: 1 for IPv4, 2 for IPv6.
     pub family: u8,
-    /// The prefix's length.
+    /// The length of the prefix, in bits.
     pub len: u8,
-    /// The greatest length.
+    /// The maximum length, in bits.
     pub max_len: u8,
-    /// 0 where it matches the route; else 1 where its AS isn't the route's, 2 where the route is too long, or the sum.
+    /// 0 if the VRP matches the route; 1 if its AS is not the route's or is AS 0, 2 if the route is too long, 3 for
+    /// both.
     pub mismatch: u8,
 }
 
-/// The number that the first four octets write.
+/// Returns the number that the first four octets write.
 fn first_four(octets: [u8; 16]) -> u32
     ensures { result ≡ from_be_bytes w32 (slice_range octets 0 4) }
 {
     u32::from_be_bytes([octets[0], octets[1], octets[2], octets[3]])
 }
 
-/// The address of a family whose octets these are.
+/// Returns the address of a family with these octets.
 fn address_of(family: AddressFamily, octets: [u8; 16]) -> IpAddr
     ensures { result ≡ address_in family octets }
 {
@@ -110,7 +113,7 @@ fn address_of(family: AddressFamily, octets: [u8; 16]) -> IpAddr
     }
 }
 
-/// The prefix that octets and numbers say.
+/// Returns the prefix with these numbers and octets, or the reason why they are no prefix.
 fn prefix_of(family: u8, address: [u8; 16], len: u8) -> Result<Prefix, Unrouted>
     ensures { MatchResult result (HasPrefix family address len) (HasNoPrefix family address len) }
 {
@@ -123,7 +126,7 @@ fn prefix_of(family: u8, address: [u8; 16], len: u8) -> Result<Prefix, Unrouted>
     }
 }
 
-/// The octets of an address, the highest first.
+/// Returns the octets of an address, the highest first.
 fn octets_of(addr: IpAddr) -> [u8; 16]
     ensures { result ≡ address_octets addr }
 {
@@ -136,7 +139,7 @@ fn octets_of(addr: IpAddr) -> [u8; 16]
     }
 }
 
-/// The number of an address's family.
+/// Returns the number of an address's family.
 fn family_number(addr: IpAddr) -> u8
     ensures { result ≡ address_family addr }
 {
@@ -146,7 +149,7 @@ fn family_number(addr: IpAddr) -> u8
     }
 }
 
-/// Why a payload that covers a route doesn't match it, 0 where it does.
+/// Returns the reason why a VRP that covers a route does not match it, or 0 if it does.
 fn mismatch(route: Prefix, asn: Asn, payload: &(MaxLenPrefix, Asn)) -> u8
     ensures { IsMismatch route asn payload.now result }
 {
@@ -162,7 +165,7 @@ fn mismatch(route: Prefix, asn: Asn, payload: &(MaxLenPrefix, Asn)) -> u8
 }
 
 impl Payload {
-    /// The payload as it is handed over.
+    /// Returns the VRP in the form for C. `max_len` is the length of the prefix if the VRP has no maximum length.
     pub fn of(payload: &(MaxLenPrefix, Asn)) -> Payload
         ensures { result ≡ handed_of payload.now }
     {
@@ -176,7 +179,7 @@ impl Payload {
         }
     }
 
-    /// The payload.
+    /// Returns the checked VRP, or the first reason why it is invalid: family, prefix, maximum length.
     pub fn read(&self) -> Result<(MaxLenPrefix, Asn), Unrouted>
         ensures { MatchResult result (IsPayload self.now) (IsNoPayload self.now) }
     {
@@ -189,7 +192,7 @@ impl Payload {
 }
 
 impl Route {
-    /// The prefix that it leads to.
+    /// Returns the prefix that the route leads to, or the reason why it is invalid.
     pub fn prefix(&self) -> Result<Prefix, Unrouted>
         ensures { MatchResult result (IsRoute self.now) (IsNoRoute self.now) }
     {
@@ -198,7 +201,7 @@ impl Route {
 }
 
 impl Covering {
-    /// What is told of a payload that covers the route to a prefix that an AS originates.
+    /// Returns the form for C of a VRP that covers the route to `route` from `asn`, with the mismatch.
     pub fn of(route: Prefix, asn: Asn, payload: &(MaxLenPrefix, Asn)) -> Covering
         ensures { IsCovering route asn payload.now result }
     {

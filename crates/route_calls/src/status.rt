@@ -1,19 +1,20 @@
-//! What calls on routes and tables answer. A number, once it is given out, never changes its meaning; the others stand
-//! in `pigyelund_c`.
+//! Statuses of calls on routes and tables. A number, once it is given out, never changes its meaning.
+//!
+//! The other statuses are in `pigyelund_c`.
 
-/// It is done.
+/// Success.
 pub const OK: u32 = 0;
-/// There is no room for the answer: nothing was written, and the length says how much room is wanted.
+/// A buffer is too small. No buffer is changed, and the length is the required one.
 pub const TOO_SMALL: u32 = 1;
-/// The number of a family is none.
+/// The family is unknown.
 pub const BAD_FAMILY: u32 = 13;
 /// An address and a length are no prefix.
 pub const BAD_PREFIX: u32 = 14;
-/// A greatest length is none of its prefix.
+/// The maximum length is invalid for its prefix.
 pub const BAD_MAX_LEN: u32 = 15;
-/// A payload is withdrawn that the table hasn't.
+/// A withdrawn VRP is not in the table, or is listed twice (RFC 8210, 12: 6).
 pub const UNKNOWN_WITHDRAWAL: u32 = 17;
-/// A payload is announced that the table has.
+/// An announced VRP is in the table, or is listed twice (RFC 8210, 12: 7).
 pub const DUPLICATE_ANNOUNCEMENT: u32 = 18;
-/// What is added to a status that speaks of a route, or of a payload that is withdrawn.
+/// Added to a status if the error is in a route or in a withdrawn VRP.
 pub const SECOND: u32 = 4096;

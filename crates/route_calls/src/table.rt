@@ -1,5 +1,6 @@
-//! Tables that stay: made of payloads that are handed over, and asked for the validity of routes, for what covers one,
-//! and for all payloads.
+//! Tables that stay: made of VRPs that a caller passes.
+//!
+//! They return the validity of routes, the VRPs that cover a route, and all VRPs.
 ghost use Rattle.std.specs.Prelude.{◌≡◌, IfOk, MatchResult, map};
 ghost use Rattle.rpki_text.specs.Memory.{IfRefused};
 ghost use Rattle.route_calls.specs.Origins.{AreEach, IsOrigin};
@@ -16,8 +17,12 @@ use rpki_prefix::Prefix;
 use rpki_text::memory::{OrMemory, refused_as};
 use std::alloc::{AllocError, Global};
 
-/// The boxed table of payloads. `Refused` with the first that is none, `Memory` where there is no memory for them, for
-/// the table or for its box.
+/// Returns the boxed table of VRPs.
+///
+/// # Errors
+///
+/// - `Refused`: the first invalid VRP.
+/// - `Memory`: memory for the VRPs, the table or its box runs out.
 pub fn made_table(
     alloc: Global,
     payloads: &[Payload],
@@ -36,8 +41,12 @@ pub fn made_table(
     }
 }
 
-/// The validity of each route by a table, as numbers. `Refused` with the first route that is none, `Memory` where there
-/// is no memory for the numbers.
+/// Returns the validity of each route by a table, as numbers.
+///
+/// # Errors
+///
+/// - `Refused`: the first invalid route.
+/// - `Memory`: memory for the numbers runs out, or for the lookups.
 pub fn table_origins(
     alloc: Global,
     table: &OriginTable<Global>,
@@ -53,8 +62,9 @@ pub fn table_origins(
     )
 }
 
-/// The payloads of a table that cover the route to a prefix that an AS originates, each with why it doesn't match it.
-/// `AllocError` where there is no memory for them.
+/// Returns the VRPs of a table that cover the route to `route` from `asn`, each with its mismatch.
+///
+/// Returns `AllocError` if memory for them runs out.
 fn coverings_to(
     alloc: Global,
     table: &OriginTable<Global>,
@@ -70,7 +80,12 @@ fn coverings_to(
     Ok(told)
 }
 
-/// The same of a route that is handed over. `Refused` where it is none, `Memory` as `coverings_to`.
+/// Returns the VRPs of a table that cover a route, each with its mismatch.
+///
+/// # Errors
+///
+/// - `Refused`: the route is invalid.
+/// - `Memory`: memory for the VRPs runs out.
 pub fn coverings(
     alloc: Global,
     table: &OriginTable<Global>,
@@ -87,7 +102,7 @@ pub fn coverings(
     Ok(told)
 }
 
-/// All payloads of a table, in its order. `AllocError` where there is no memory for them.
+/// Returns all VRPs of a table, in its order, or `AllocError` if memory for them runs out.
 pub fn all_payloads(
     alloc: Global,
     table: &OriginTable<Global>,

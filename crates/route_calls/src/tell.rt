@@ -1,10 +1,14 @@
-//! Octets, or other elements of an array, in a caller's room.
+//! Writing of octets, or other elements of an array, into a caller's buffer.
 ghost use Rattle.std.specs.Prelude.{◌≡◌, ◌≤◌, ◌++◌, length, drop};
 ghost use Rattle.route_calls.specs.Told.{AreTold};
 
 use crate::status;
 
-/// Writes elements at the front of a room that has place for them.
+/// Writes elements at the front of a buffer. The rest of the buffer is unchanged.
+///
+/// # Preconditions
+///
+/// The buffer is at least as long as `items`.
 pub fn put<T: Copy>(items: &[T], room: &mut [T])
     requires { length items.now ≤ length room.old }
     ensures { room.new ≡ items.now ++ drop (length items.now) room.old }
@@ -12,7 +16,10 @@ pub fn put<T: Copy>(items: &[T], room: &mut [T])
     room[..items.len()].copy_from_slice(items);
 }
 
-/// Tells octets, or other elements, where there is room for them.
+/// Writes octets, or other elements, if the buffer is large enough, and returns the status.
+///
+/// `len` receives their number. If `room` is too short, the status is `TOO_SMALL` and `room` is unchanged. Otherwise
+/// the status is `OK`.
 pub fn tell_items<T: Copy>(items: &[T], room: &mut [T], len: &mut usize) -> u32
     ensures { AreTold items.now room.old room.new len.new result }
 {

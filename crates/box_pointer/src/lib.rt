@@ -1,7 +1,7 @@
-//! A box taken apart into its pointer and its allocator, and put together again: what hands a value to code that isn't
-//! Rattle keeps the pointer alone.
+//! A box as two parts, its pointer and its allocator, which can become the box again.
 //!
-//! A handle is made of the one, as in `route_calls::table::made_table`:
+//! A program that hands a value to code outside of Rattle needs this: that code keeps only the pointer.
+//! `route_calls::table::made_table` makes a handle from it:
 //!
 //! ```rust
 //! Ok(boxed) => Ok(BoxPointer::of(boxed)),
@@ -14,12 +14,14 @@ ghost use Rattle.std.specs.Box.Ownership.{box_owns};
 use std::alloc::Allocator;
 use std::marker::Model;
 
-/// A box as its pointer and its allocator. It owns what the box owned, and is never let go: it becomes the box again,
-/// or its owner takes it apart and answers for the memory.
+/// A box as its pointer and its allocator. It owns what the box owned.
+///
+/// A value of this type is never dropped. It becomes the box again, or its owner takes it apart and is then responsible
+/// for the memory.
 pub struct BoxPointer<T, A: Allocator> {
-    /// Where the value lies.
+    /// The pointer to the value.
     pub at: *mut T,
-    /// The allocator of its block.
+    /// The allocator of the value's block.
     pub alloc: A,
     /// The value.
     pub ghost value: { T },
@@ -38,7 +40,7 @@ impl<T: Drop, A: Allocator> BoxPointer<T, A> {
         BoxPointer { at, alloc }
     }
 
-    /// The box again.
+    /// Returns the box again, with the same value.
     pub fn into_box(self) -> Box<T, A>
         ensures { result.value ≡ self.value }
     {

@@ -1,17 +1,17 @@
-//! What tests ask of a value of any type, and of a run that is refused memory.
+//! Checks of a value of any type, and of a run that is refused memory.
 use crate::{Outcome, Refusing, refuse_in_turn};
 use std::alloc::{AllocError, Allocator, Global};
 use std::fmt;
 use std::hash::{FoldHasher, Hash, Hasher};
 
-/// The hash of a value.
+/// Returns the hash of a value.
 pub fn hash_of<T: Hash>(value: &T) -> u64 {
     let mut hasher = FoldHasher::default();
     value.hash(&mut hasher);
     hasher.finish()
 }
 
-/// Whether this is what is printed of a value. `AllocError` where there is no memory for it.
+/// Returns whether `{}` prints this text for a value, or `AllocError` if memory runs out.
 pub fn prints<A: Allocator, T: fmt::Display>(
     alloc: A,
     value: &T,
@@ -21,7 +21,7 @@ pub fn prints<A: Allocator, T: fmt::Display>(
     Ok(printed.as_str() == text)
 }
 
-/// Whether this is what `{:?}` writes of a value. `AllocError` where there is no memory for it.
+/// Returns whether `{:?}` prints this text for a value, or `AllocError` if memory runs out.
 pub fn shows<A: Allocator, T: fmt::Debug>(
     alloc: A,
     value: &T,
@@ -31,7 +31,7 @@ pub fn shows<A: Allocator, T: fmt::Debug>(
     Ok(shown.as_str() == text)
 }
 
-/// Whether each value is printed as the text beside it. `AllocError` where there is no memory for it.
+/// Returns whether `{}` prints for each value the text of its row, or `AllocError` if memory runs out.
 pub fn all_print<A: Allocator + Copy, T: fmt::Display>(
     alloc: A,
     rows: &[(T, &str)],
@@ -44,8 +44,14 @@ pub fn all_print<A: Allocator + Copy, T: fmt::Display>(
     Ok(true)
 }
 
-/// Whether a run is out of memory wherever one of its requests is refused, and true where none is. It makes one at
-/// least.
+/// Returns whether a run returns true if no request is refused, and `AllocError` for each request that is refused in
+/// turn.
+///
+/// It also returns false if the run makes no request.
+///
+/// # Preconditions
+///
+/// `run` can be called at any time.
 pub fn holds_where_refused<F: Fn(&Refusing) -> Result<bool, AllocError>>(
     alloc: Global,
     run: F,

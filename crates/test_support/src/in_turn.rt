@@ -8,22 +8,29 @@ use crate::Refusing;
 use crate::plan::Plan;
 use std::alloc::Allocator;
 
-/// How a run ended.
+/// The way in which a run ended.
 #[derive(Clone, Copy, Debug, PartialEq, Eq)]
 pub enum Outcome {
-    /// With the answer that it has where there is memory.
+    /// With the result that it has if memory suffices.
     Expected,
-    /// With the answer that memory is wanting, and everything else as it was.
+    /// With an out-of-memory error, and everything else unchanged.
     OutOfMemory,
     /// In any other way.
     Unexpected,
 }
 
-/// Calls `run` with an allocator that refuses request 0, then with one that refuses request 1, and so on up to a run
-/// that met no refusal. At most `limit` runs are made.
+/// Calls `run` with an allocator that refuses request 0, then request 1, and so on, until a run meets no refusal.
 ///
-/// `Ok` tells how many runs met a refusal: each of them was out of memory, and the one after them ended as expected.
-/// `Err` tells the number of the first run that ended otherwise, or the limit where there was none.
+/// It makes at most `limit` runs. `Ok` is the number of runs that met a refusal. Each of them was out of memory, and
+/// the next one ended as expected.
+///
+/// # Errors
+///
+/// The number of the first run that ended otherwise, or `limit` if no run did. All runs before it were out of memory.
+///
+/// # Preconditions
+///
+/// `run` can be called at any time.
 pub fn refuse_in_turn<A: Allocator + Copy, F: Fn(&Refusing<A>) -> Outcome>(
     alloc: A,
     limit: u64,

@@ -1,8 +1,9 @@
-//! An allocator for tests: it passes requests for memory on to another, and refuses those that it
-//! is told to; and what tests ask of a value of any type: its hash, what it prints.
+//! An allocator for tests, and checks of a value of any type: its hash and its printed form.
 //!
-//! [`refuse_in_turn`] runs something with request 0 refused, then with request 1, and so on up to a
-//! run that met no refusal, and looks at how each run ended, as `rows_support::refusals` does:
+//! The allocator passes requests for memory on to another one, and refuses those that its plan selects.
+//!
+//! [`refuse_in_turn`] runs something with request 0 refused, then request 1, and so on, until a run meets no refusal.
+//! It checks how each run ended, as `rows_support::refusals` does:
 //!
 //! ```rust
 //! let refused = refuse_in_turn(alloc, limit(line), |refusing: &Refusing| {
@@ -10,8 +11,8 @@
 //! });
 //! ```
 //!
-//! A test that wants one plan makes a [`Refusing`] round the allocator that it was given, and hands
-//! out `&refusing`: a `&` to an allocator is an allocator too, and is `Copy`.
+//! A test of one plan makes a [`Refusing`] around its allocator, and passes `&refusing` on. A `&` to an allocator is an
+//! allocator too, and is `Copy`.
 #![tactic(auto)]
 
 ghost use Rattle.std.specs.Prelude.{◌≡◌, IsTrue};
@@ -29,12 +30,14 @@ pub use in_turn::{Outcome, refuse_in_turn};
 pub use plan::Plan;
 use requests::Requests;
 
-/// An allocator that refuses the requests that its plan names, and passes the others on.
+/// An allocator that refuses the requests that its plan selects, and passes the others on.
 ///
-/// A request is a call for a new block, counted from 0 by its order in time. It is counted whether
-/// it is refused, granted, or fails in the allocator inside. A collection that grows or shrinks asks
-/// for its new block, which is one request; giving a block back is none. A refused request answers
-/// `AllocError` and changes nothing but the count, which stays at `u64::MAX` once it is there.
+/// A request is a call for a new block. Requests are counted from 0 in their order in time. Each counts, whether it is
+/// refused, granted, or fails in the inner allocator. A collection that grows or shrinks makes one request, for its new
+/// block. A deallocation is not a request.
+///
+/// A refused request returns `AllocError`, and changes nothing except the counts. These stay at `u64::MAX` once they
+/// reach it.
 #[derive(Drop)]
 pub struct Refusing<A: Allocator = Global> {
     inner: A,
@@ -42,7 +45,7 @@ pub struct Refusing<A: Allocator = Global> {
 }
 
 impl<A: Allocator> Refusing<A> {
-    /// An allocator that had no request yet, with the one that it passes requests on to.
+    /// Returns an allocator with no requests yet, which passes requests on to `inner`.
     pub fn new(inner: A, plan: Plan) -> Refusing<A>
         ensures inner { inner_of result ≡ inner }
         ensures plan { plan_of result ≡ plan }
@@ -53,33 +56,33 @@ impl<A: Allocator> Refusing<A> {
         }
     }
 
-    /// Which requests are refused.
+    /// Returns the plan that selects the refused requests.
     pub fn plan(&self) -> Plan
         ensures { result ≡ plan_of self.now }
     {
         self.requests.plan()
     }
 
-    /// How many requests there were, the refused ones too.
-    // No clause can say what the count is, since no clause sees what a cell holds.
+    /// Returns the number of requests so far, with the refused ones.
+    // No clause can state the count, because no clause sees the contents of a cell.
     pub fn asked(&self) -> u64 {
         self.requests.asked()
     }
 
-    /// How many octets the requests asked for together, those of the refused ones too.
-    // As of `asked`, no clause can say it.
+    /// Returns the number of octets that all requests asked for, with the refused ones.
+    // No clause can state it, as for `asked`.
     pub fn octets(&self) -> u64 {
         self.requests.octets()
     }
 
-    /// How many of the requests so far were refused.
+    /// Returns the number of requests so far that were refused.
     pub fn refused(&self) -> u64
         ensures { IsSomeRefusedCount (plan_of self.now) result }
     {
         self.requests.refused()
     }
 
-    /// Whether some request so far was refused. A run after which this is false met no refusal.
+    /// Returns whether some request so far was refused. A run after which this is false met no refusal.
     #[tactic(auto, using(crate::proofs::Counts::refuses_some))]
     pub fn has_refused(&self) -> bool
         ensures { IsTrue result → RefusesSome (plan_of self.now) }

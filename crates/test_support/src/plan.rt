@@ -1,8 +1,8 @@
-// Which requests for memory are refused.
+// The selection of requests for memory to refuse.
 ghost use Rattle.std.specs.Prelude.{◌≡◌};
 ghost use Rattle.test_support.specs.Plans.{refuses, refused_among};
 
-/// Which requests for memory are refused. The first request has the number 0.
+/// The requests for memory that are refused. The first request has the number 0.
 #[derive(Clone, Copy, Debug, PartialEq, Eq)]
 pub enum Plan {
     /// Refuses no request.
@@ -14,7 +14,7 @@ pub enum Plan {
 }
 
 impl Plan {
-    /// Whether the request with this number is refused.
+    /// Returns whether the request with this number is refused.
     pub fn refuses(self, number: u64) -> bool
         ensures { result ≡ refuses self number }
     {
@@ -25,7 +25,7 @@ impl Plan {
         }
     }
 
-    /// How many of the first `asked` requests are refused.
+    /// Returns the number of refusals among the first `asked` requests.
     #[tactic(auto, using(crate::proofs::Counts::among_none, crate::proofs::Counts::among_only, crate::proofs::Counts::among_all))]
     pub fn refused_among(self, asked: u64) -> u64
         ensures { result ≡ refused_among self asked }

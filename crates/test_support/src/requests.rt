@@ -1,4 +1,4 @@
-// The count of the requests for memory and of their octets, and which of them are refused.
+// The counts of the requests for memory and of their octets, and the plan.
 ghost use Rattle.std.specs.Prelude.{◌≡◌};
 ghost use Rattle.test_support.specs.Plans.{IsSomeAnswer, IsSomeRefusedCount};
 
@@ -43,7 +43,7 @@ impl Requests {
         self.plan.refused_among(self.asked())
     }
 
-    // Counts a request of so many octets, and tells whether it is refused.
+    // Counts a request of `size` octets, and returns whether it is refused.
     pub(crate) fn next_is_refused(&self, size: usize) -> bool
         ensures { IsSomeAnswer self.now.plan result }
     {

@@ -1,7 +1,9 @@
-//! Operands that a call leaves, whatever comes of it.
+//! A check that a call leaves its operands unchanged, with any result.
 use std::alloc::{AllocError, Allocator};
 
-/// What a call answered, where it has left its operands.
+/// Returns the answer of a call if its operands are unchanged, and else a text that says that they are not.
+///
+/// Returns `AllocError` if the call or the comparison ran out of memory.
 pub fn kept<A: Allocator + Copy>(
     alloc: A,
     found: Result<String<A>, AllocError>,

@@ -1,5 +1,7 @@
-//! What the programs of rows share: how a line is cut, how an answer is printed, how a call is made again with each of
-//! its requests for memory refused, and how its requests are counted.
+//! Code that the programs `rows_values`, `rows_sets`, `rows_claims` and `rows_calls` share.
+//!
+//! It splits lines and prints answers. It repeats a call with each of its requests for memory refused, and counts the
+//! requests of a call.
 #![tactic(auto)]
 
 pub mod kept;

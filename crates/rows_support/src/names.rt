@@ -1,10 +1,10 @@
-//! Words and what they stand for.
+//! Words and their meanings.
 ghost use Rattle.std.specs.Prelude.{◌≡◌, ◌≢◌, IfSome, IfNone};
 ghost use Rattle.std.specs.List.{All, Any};
 
 use std::cmp::Ordering;
 
-/// What a word stands for in a table.
+/// Returns the meaning of a word in a table, or `None` if the table does not have it.
 pub fn named<T: Copy>(words: &[(&str, T)], name: &str) -> Option<T>
     ensures some { IfSome result (λ meaning. Any (λ row. (row.0.now ≡ name.now) × (row.1 ≡ meaning))
         words.now) }
@@ -18,7 +18,7 @@ pub fn named<T: Copy>(words: &[(&str, T)], name: &str) -> Option<T>
     None
 }
 
-/// The word for an order.
+/// Returns the word for an order.
 pub fn order_word(order: Ordering) -> &'static str {
     match order {
         Ordering::Less => "less",

@@ -1,4 +1,4 @@
-//! How lines are cut and answers printed.
+//! Splitting of lines and printing of answers.
 ghost use Rattle.std.specs.Prelude.{◌≡◌, ◌<◌, ◌==◌, ◌∷◌, ℕ, List, IfOk, IsOk, cond, codes};
 ghost use Rattle.std.specs.List.{before_first, after_first};
 ghost use Rattle.std.specs.String.{string_bytes};
@@ -11,8 +11,7 @@ use rpki_ipres::blocks::IpBlocks;
 use std::alloc::{AllocError, Allocator};
 use std::fmt;
 
-/// What stands before the first such mark of a text, and what behind it: all of the text and nothing, where there is
-/// none.
+/// Returns the parts of a text before and after the first `mark`: all of it and an empty text if it has no `mark`.
 pub fn cut(text: &str, mark: char) -> (&str, &str)
     ensures left { mark < 128 → result.0.now ≡ before_first (λ c. c == mark) text.now }
     ensures right { mark < 128 → result.1.now ≡ after_first (λ c. c == mark) text.now }
@@ -23,14 +22,14 @@ pub fn cut(text: &str, mark: char) -> (&str, &str)
     }
 }
 
-/// An answer of yes or no.
+/// Prints an answer of yes or no.
 pub fn boolean<A: Allocator + Copy>(alloc: A, answer: bool) -> Result<String<A>, AllocError>
     ensures { IfOk result (λ word. string_bytes word ≡ cond answer (codes "true") (codes "false")) }
 {
     String::from_str(alloc, if answer { "true" } else { "false" })
 }
 
-/// A value.
+/// Prints a value.
 pub fn value<T: fmt::Display + Drop, A: Allocator + Copy>(
     alloc: A,
     value: T,
@@ -38,7 +37,7 @@ pub fn value<T: fmt::Display + Drop, A: Allocator + Copy>(
     format!(in alloc; "{value}")
 }
 
-/// A value, where there was memory for it.
+/// Prints a value, or returns the `AllocError` that came instead of it.
 pub fn made<T: fmt::Display + Drop, A: Allocator + Copy>(
     alloc: A,
     made: Result<T, AllocError>,
@@ -49,7 +48,7 @@ pub fn made<T: fmt::Display + Drop, A: Allocator + Copy>(
     }
 }
 
-/// A value, or `error: ` and the fault.
+/// Prints a value, or `error: ` and the fault.
 pub fn result<T: fmt::Display + Drop, E: fmt::Display + Drop, A: Allocator + Copy>(
     alloc: A,
     found: Result<T, E>,
@@ -60,7 +59,7 @@ pub fn result<T: fmt::Display + Drop, E: fmt::Display + Drop, A: Allocator + Cop
     }
 }
 
-/// `error: ` and the fault. `AllocError` where memory was wanting.
+/// Prints `error: ` and the fault, or returns the `AllocError` if memory ran out.
 pub fn refused<E: fmt::Display + Drop, A: Allocator + Copy>(
     alloc: A,
     found: OrMemory<E>,
@@ -71,7 +70,7 @@ pub fn refused<E: fmt::Display + Drop, A: Allocator + Copy>(
     }
 }
 
-/// `error: ` and the fault.
+/// Prints `error: ` and the fault.
 pub fn error<E: fmt::Display + Drop, A: Allocator + Copy>(
     alloc: A,
     fault: E,
@@ -79,7 +78,7 @@ pub fn error<E: fmt::Display + Drop, A: Allocator + Copy>(
     format!(in alloc; "error: {fault}")
 }
 
-/// Appends an item to a list, behind the separator where one stands before it.
+/// Appends an item to a list, after the separator if the list is not empty.
 pub fn append<T: fmt::Display + Drop, A: Allocator>(
     list: &mut String<A>,
     separator: &str,
@@ -91,7 +90,7 @@ pub fn append<T: fmt::Display + Drop, A: Allocator>(
     write!(list, "{item}")
 }
 
-/// Appends a text, behind a space where another stands before it.
+/// Appends a text, after a space if the list is not empty.
 pub fn append_text<A: Allocator>(
     list: &mut String<A>,
     text: Result<String<A>, AllocError>,
@@ -102,16 +101,18 @@ pub fn append_text<A: Allocator>(
     }
 }
 
-/// What stands in an output before something is written to it.
+/// The octets of an output before a call writes to it.
 const KEPT: [u8; 1] = [0x7f];
 
-/// An output that is full, so that each write to it asks for memory.
+/// Returns a full output, so that each write to it requests memory.
 pub fn output<A: Allocator>(alloc: A) -> Result<Vec<u8, A>, AllocError> {
     KEPT.to_vec(alloc)
 }
 
-/// The octets that a call has written to an output. `AllocError` where it was refused memory and has left the output as
-/// it was.
+/// Returns the octets that a call has written to an output, in hexadecimal.
+///
+/// Returns `AllocError` if the call ran out of memory and has left the output unchanged. Otherwise, if the call has
+/// changed the first octet or an error has changed the output, it returns a text that says so.
 pub fn written<A: Allocator + Copy>(
     alloc: A,
     output: &[u8],
@@ -127,7 +128,7 @@ pub fn written<A: Allocator + Copy>(
     }
 }
 
-/// A block of addresses, printed in a family.
+/// Prints a block of addresses in the notation of a family.
 pub fn ip_block<A: Allocator + Copy>(
     alloc: A,
     family: AddressFamily,
@@ -145,7 +146,7 @@ pub fn ip_block<A: Allocator + Copy>(
     }
 }
 
-/// A set of addresses, printed in a family.
+/// Prints a set of addresses in the notation of a family.
 pub fn ip_set<A: Allocator + Copy>(
     alloc: A,
     family: AddressFamily,

@@ -1,17 +1,17 @@
-//! A call with each of its requests for memory refused in turn.
+//! Calls with each request for memory refused in turn.
 use std::alloc::{AllocError, Allocator, Global};
 use test_support::{Outcome, Refusing, refuse_in_turn};
 
 /// A line that is a call.
 pub trait Call: Drop {
-    /// The line.
+    /// Returns the line.
     fn text(&self) -> &str;
 
-    /// Its answer. `AllocError` where there is no memory for it.
+    /// Returns the answer to the line, or `AllocError` if memory runs out.
     fn answer<A: Allocator + Copy>(&self, alloc: A) -> Result<String<A>, AllocError>;
 }
 
-/// The answer to a line, or which of its runs went wrong.
+/// Returns the answer to a line, or the first of its runs that went wrong.
 pub fn answer<C: Call>(alloc: Global, line: &C) -> Result<String, AllocError> {
     match line.answer(alloc) {
         Ok(answer) => answer_where_refused(alloc, line, answer),
@@ -19,7 +19,7 @@ pub fn answer<C: Call>(alloc: Global, line: &C) -> Result<String, AllocError> {
     }
 }
 
-/// The answer, where each run that is refused memory tells only that.
+/// Returns the answer if each run that is refused memory reports only that.
 fn answer_where_refused<C: Call>(
     alloc: Global,
     line: &C,
@@ -35,7 +35,7 @@ fn answer_where_refused<C: Call>(
     }
 }
 
-/// How many requests for memory a line may make.
+/// Returns the maximum number of requests for memory of a line.
 fn limit<C: Call>(line: &C) -> u64 {
     64 + line.text().len() as u64
 }

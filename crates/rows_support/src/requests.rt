@@ -1,8 +1,8 @@
-//! How much memory a call asks for.
+//! The memory that a call requests.
 use std::alloc::{AllocError, Global};
 use test_support::Refusing;
 
-/// What an allocator was asked for before a call.
+/// The requests to an allocator before a call.
 #[derive(Clone, Copy)]
 pub struct Asked {
     requests: u64,
@@ -10,7 +10,7 @@ pub struct Asked {
 }
 
 impl Asked {
-    /// What it was asked for so far.
+    /// Returns the requests so far.
     pub fn of(counting: &Refusing) -> Asked {
         Asked {
             requests: counting.asked(),
@@ -18,14 +18,14 @@ impl Asked {
         }
     }
 
-    /// How many requests came since then, and how many octets they asked for together.
+    /// Prints the number of requests since then, and the number of octets that they asked for.
     pub fn since(self, alloc: Global, counting: &Refusing) -> Result<String, AllocError> {
         let requests = counting.asked().saturating_sub(self.requests);
         let octets = counting.octets().saturating_sub(self.octets);
         format!(in alloc; "requests {requests}, octets {octets}")
     }
 
-    /// The same, where the call was made that has ended since then.
+    /// Does the same, or returns the error of the call that has ended since then.
     pub fn told<T: Drop>(
         self,
         alloc: Global,

@@ -1,4 +1,4 @@
-//! DER values that are cut and altered, through one reader.
+//! DER values that are truncated and altered, for one reader.
 ghost use Rattle.std.specs.Prelude.{◌<◌, length};
 
 use crate::claims::Families;
@@ -15,23 +15,27 @@ use rpki_ipres::resources::IpResources;
 use std::alloc::{AllocError, Allocator, Global};
 use test_support::{Outcome, Refusing, refuse_in_turn};
 
-/// How many requests for memory one reading may make.
+/// Maximum number of requests for memory of one read.
 const REQUESTS: u64 = 64;
 
-/// How often each fault was met, at its number; and at 0, how often none.
+/// Number of reads for each fault, at the index of its number, and at 0 without fault.
 type Counts = [u64; 16];
 
-/// What a reader makes of some octets: the number of its fault, with the cursor where it was; 0 for a value that is
-/// read back from the octets that are written of it, which strictly are those that were taken, and for one that is
-/// skipped; and `None` for anything else.
+/// The result of one read of some octets, as a number, or `None` if the read is wrong.
+///
+/// - The number of the fault, if the cursor is where it was.
+/// - 0 for a value that is read back from its encoding. In strict mode this encoding is also the octets that were
+///   taken.
+/// - 0 for a value that is skipped.
 type Reading = Option<u8>;
 
-/// A reader, and the mode of the cursors that it is given.
+/// A reader, and the mode of its cursors.
 type ModalReader = (Mode, Reader);
 
-/// The answer to `altered READER HEX` and `alteredstrict READER HEX`: of the proper beginnings of these octets, and
-/// apart from them of the octets with each of the 256 values at each place, how many are read, and how many are refused
-/// by each fault.
+/// Answers `altered READER HEX` and `alteredstrict READER HEX`.
+///
+/// It reads these octets truncated at each octet, and the octets with each octet replaced by each of the 256 values.
+/// For both series it prints how many are read, and how many are refused with each fault.
 pub fn answer(alloc: Global, mode: Mode, operands: &str) -> Result<String, AllocError> {
     let (name, text) = cut(operands, ' ');
     let Some(reader) = Reader::named(name) else {
@@ -56,7 +60,7 @@ fn count_all(alloc: Global, reader: ModalReader, octets: &mut [u8]) -> Result<St
     text(alloc, &beginnings, &replaced)
 }
 
-/// Counts the readings of octets with each octet at a place. False where one of them is wrong.
+/// Counts the reads with each value of the octet at an index. Returns false if one of them is wrong.
 fn count_place(
     alloc: Global,
     reader: ModalReader,
@@ -76,7 +80,7 @@ fn count_place(
     Ok(is_right)
 }
 
-/// Counts a reading. False where it is wrong, also where memory is refused.
+/// Counts a read. Returns false if it is wrong, also with memory refused.
 fn count(
     alloc: Global,
     reader: ModalReader,
@@ -90,7 +94,7 @@ fn count(
     Ok(count_one(reading, counts) && refused.is_ok())
 }
 
-/// Counts a reading at its number. False where it has none.
+/// Counts a read at the index of its number. Returns false if it has no number.
 fn count_one(reading: Reading, counts: &mut Counts) -> bool {
     let Some(number) = reading else {
         return false;
@@ -141,7 +145,7 @@ fn read_value<A: Allocator + Copy, V: Value<A>>(
     }
 }
 
-/// A value that is skipped isn't read back. One that isn't there is skipped in no octets too.
+/// Skips a value, which is not read back. If the value is absent, skipping it in no octets finds none too.
 fn read_skipped(skip: Skip, cursor: Cursor<'_>) -> Result<Reading, AllocError> {
     let mut ahead = cursor;
     match skip.skip(&mut ahead) {
@@ -154,7 +158,7 @@ fn read_skipped(skip: Skip, cursor: Cursor<'_>) -> Result<Reading, AllocError> {
     }
 }
 
-/// What a refusal is, which must leave the cursor where it was.
+/// Returns the number of a fault. The refusal must leave the cursor where it was.
 fn refused(error: OrMemory<DerError>, is_in_place: bool) -> Result<Reading, AllocError> {
     if !is_in_place {
         return Ok(None);
@@ -165,7 +169,7 @@ fn refused(error: OrMemory<DerError>, is_in_place: bool) -> Result<Reading, Allo
     }
 }
 
-/// Writes a value that was read, of what stood at a cursor, and reads it again.
+/// Writes a value that was read at a cursor, and reads it again.
 fn read_back<A: Allocator + Copy, V: Value<A>>(
     alloc: A,
     reader: V::Reader,
@@ -180,7 +184,7 @@ fn read_back<A: Allocator + Copy, V: Value<A>>(
     read_again(alloc, reader, value, &octets)
 }
 
-/// Whether octets are the first ones and, behind them, the last ones.
+/// Returns whether octets are the first ones followed by the last ones.
 fn is_in_two(octets: &[u8], first: &[u8], last: &[u8]) -> bool {
     octets.strip_prefix(first) == Some(last)
 }
@@ -199,7 +203,7 @@ fn read_again<A: Allocator + Copy, V: Value<A>>(
     }
 }
 
-/// The reading of a value that is read back, or isn't.
+/// Returns the result of a read for a value that is read back, or is not.
 fn same(is_same: bool) -> Reading {
     if is_same { Some(0) } else { None }
 }
@@ -221,7 +225,7 @@ fn append_all(text: &mut String, counts: &Counts) -> Result<(), AllocError> {
     Ok(())
 }
 
-/// Appends how often a fault was met, where it was.
+/// Appends the number of reads with a fault, if there are any.
 fn append(text: &mut String, number: usize, count: u64) -> Result<(), AllocError> {
     if count > 0 {
         write!(text, ", {number}: {count}")?;

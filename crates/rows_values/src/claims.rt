@@ -1,4 +1,4 @@
-//! Resources in DER: how they are read, written and printed.
+//! Resources in DER: reading, writing and printing.
 use crate::values::Value;
 use rows_support::print;
 use rpki_as::resources::AsResources;
@@ -19,7 +19,7 @@ impl<A: Allocator + Copy> Value<A> for AsResources<A> {
         AsResources::take_from(alloc, cursor)
     }
 
-    /// Appends their octets, where they are present.
+    /// Appends the octets of the resources, if these are present.
     fn encode(&self, output: &mut Vec<u8, A>) -> Result<(), AllocError> {
         if self.is_present() {
             AsResources::encode(self, output)?;
@@ -31,7 +31,7 @@ impl<A: Allocator + Copy> Value<A> for AsResources<A> {
         self == other
     }
 
-    /// `inherit`, or what is listed, in brackets.
+    /// Prints `inherit`, or the listed resources in brackets.
     fn text(&self, alloc: A, _: AddressFamily) -> Result<String<A>, AllocError> {
         if self.is_inherited() {
             return String::from_str(alloc, "inherit");
@@ -51,7 +51,7 @@ impl<A: Allocator + Copy> Value<A> for IpResources<A> {
         IpResources::take_from(alloc, cursor, family)
     }
 
-    /// Appends their octets, where they are present.
+    /// Appends the octets of the resources, if these are present.
     fn encode(&self, output: &mut Vec<u8, A>) -> Result<(), AllocError> {
         if self.is_present() {
             IpResources::encode(self, output)?;
@@ -63,7 +63,7 @@ impl<A: Allocator + Copy> Value<A> for IpResources<A> {
         self == other
     }
 
-    /// `inherit`, or the addresses that are listed, in brackets.
+    /// Prints `inherit`, or the listed addresses in brackets.
     fn text(&self, alloc: A, family: AddressFamily) -> Result<String<A>, AllocError> {
         match self.to_blocks() {
             Ok(set) => bracketed(alloc, print::ip_set(alloc, family, &set)),
@@ -81,7 +81,7 @@ fn bracketed<A: Allocator + Copy>(
     format!(in alloc; "[{text}]")
 }
 
-/// The resources of each family, where they are there.
+/// The resources of each family, if they are present.
 #[derive(Drop)]
 pub struct Families<A: Allocator> {
     v4: Option<IpResources<A>>,
@@ -96,7 +96,7 @@ impl<A: Allocator + Copy> Value<A> for Families<A> {
         Ok(Families { v4, v6 })
     }
 
-    /// Appends their octets, where one of them is there.
+    /// Appends the octets of the resources, if one of the families is present.
     fn encode(&self, output: &mut Vec<u8, A>) -> Result<(), AllocError> {
         let missing = IpResources::missing();
         encode_present(
@@ -110,7 +110,7 @@ impl<A: Allocator + Copy> Value<A> for Families<A> {
         self.v4 == other.v4 && self.v6 == other.v6
     }
 
-    /// Both, each in its own form, and `-` where it isn't there.
+    /// Prints both families, each in its own form, and `-` for an absent one.
     fn text(&self, alloc: A, _: AddressFamily) -> Result<String<A>, AllocError> {
         let v4 = family_text(alloc, AddressFamily::Ipv4, &self.v4)?;
         let v6 = family_text(alloc, AddressFamily::Ipv6, &self.v6)?;

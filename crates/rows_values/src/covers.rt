@@ -7,8 +7,9 @@ use rpki_ip::prefix::Prefix;
 use rpki_ip::range::AddressRange;
 use std::alloc::{AllocError, Allocator};
 
-/// The answer to `prefixes v4 MIN-MAX` and `prefixes v6 MIN-MAX`: each prefix that the range between two IPv6 addresses
-/// gives for the family, with its length.
+/// Answers `prefixes v4 MIN-MAX` and `prefixes v6 MIN-MAX`.
+///
+/// It prints the prefixes of the range between two IPv6 addresses for the family, each with its length.
 pub fn answer<A: Allocator + Copy>(
     alloc: A,
     kind: &str,
@@ -36,7 +37,7 @@ fn list<A: Allocator + Copy, I: Iterator<Item = Prefix>>(
     Ok(list)
 }
 
-/// Appends a prefix, behind a separator where another stands before it.
+/// Appends a prefix, after a separator if the list is not empty.
 fn append<A: Allocator>(
     list: &mut String<A>,
     family: AddressFamily,

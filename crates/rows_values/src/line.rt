@@ -1,4 +1,4 @@
-//! The answer to a line, by its command.
+//! Answers to lines, by their commands.
 use crate::modes::Mode;
 use crate::takes::Form;
 use crate::{covers, orders, takes, texts};

@@ -1,7 +1,10 @@
-//! The program `rows_values`: each line of the standard input is a call of the libraries that reads one value from a
-//! text or from octets, orders prefixes, or covers a range with them, and is answered with one line on the standard
-//! output. Each call is made again with each of its requests for memory refused; where such a run does anything but
-//! tell that memory is wanting, the line's answer says so.
+//! The program `rows_values`.
+//!
+//! Each line of the standard input is a call of the libraries. The call reads one value from a text or from octets,
+//! orders prefixes, or covers a range with prefixes. The answer is one line on the standard output.
+//!
+//! The program repeats each call with each of its requests for memory refused. If such a run does anything except
+//! report out of memory, the line's answer says so.
 #![tactic(auto)]
 
 mod altered;
@@ -30,8 +33,10 @@ fn main(rt: HostRuntime) -> io::Result<()> {
     Ok(())
 }
 
-/// The answer to a line. `altered` and `alteredstrict` read many values, and have memory refused for each; `requests`
-/// counts what a call asks for, and refuses none of it.
+/// Answers a line.
+///
+/// `altered` and `alteredstrict` read many values, and refuse memory for each. `requests` counts the requests of a
+/// call, and refuses none.
 fn answer(alloc: Global, line: &str) -> Result<String, AllocError> {
     match cut(line, ' ') {
         ("altered", operands) => altered::answer(alloc, Mode::Lenient, operands),

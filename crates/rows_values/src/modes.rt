@@ -1,7 +1,7 @@
 //! The mode in which octets are read.
 use rpki_der::Cursor;
 
-/// Whether a cursor takes canonical octets alone.
+/// Whether a cursor takes canonical octets only.
 #[derive(Clone, Copy)]
 pub enum Mode {
     Lenient,
@@ -9,7 +9,7 @@ pub enum Mode {
 }
 
 impl Mode {
-    /// A cursor of this mode at the first of the octets.
+    /// Returns a cursor of this mode at the first octet.
     pub fn cursor(self, octets: &[u8]) -> Cursor<'_> {
         match self {
             Mode::Lenient => Cursor::new(octets),

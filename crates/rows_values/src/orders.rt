@@ -1,4 +1,4 @@
-//! How prefixes stand to one another.
+//! Comparisons of prefixes.
 use rows_support::names::order_word;
 use rows_support::print::{self, cut};
 use rpki_prefix::max_len::MaxLenPrefix;
@@ -6,7 +6,7 @@ use rpki_prefix::prefix::Prefix;
 use std::alloc::{AllocError, Allocator};
 use std::str::FromStr;
 
-/// The answer to `order P | Q`.
+/// Answers `order P | Q`.
 pub fn order<A: Allocator + Copy>(alloc: A, rest: &str) -> Result<String<A>, AllocError> {
     let (left, right) = cut(rest, '|');
     let left = MaxLenPrefix::from_str(left.trim_matches(' '));
@@ -17,7 +17,7 @@ pub fn order<A: Allocator + Copy>(alloc: A, rest: &str) -> Result<String<A>, All
     }
 }
 
-/// The answer to `covers P | Q`.
+/// Answers `covers P | Q`.
 pub fn covers<A: Allocator + Copy>(alloc: A, rest: &str) -> Result<String<A>, AllocError> {
     let (left, right) = cut(rest, '|');
     let left = Prefix::from_str(left.trim_matches(' '));

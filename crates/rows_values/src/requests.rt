@@ -1,4 +1,4 @@
-//! How much memory the readers and writers of DER ask for.
+//! The memory that the readers and writers of DER request.
 use crate::claims::Families;
 use crate::values::{Reader, Value};
 use hex::FromHexError;
@@ -12,7 +12,9 @@ use rpki_ipres::resources::IpResources;
 use std::alloc::{AllocError, Global};
 use test_support::{Plan, Refusing};
 
-/// The answer to `requests take READER HEX` and `requests written READER HEX`. What is read is held until it is asked.
+/// Answers `requests take READER HEX` and `requests written READER HEX`.
+///
+/// A value that was read is alive until the counts are read.
 pub fn answer(alloc: Global, operands: &str) -> Result<String, AllocError> {
     let (call, rest) = cut(operands, ' ');
     let (name, text) = cut(rest, ' ');

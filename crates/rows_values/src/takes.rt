@@ -1,4 +1,4 @@
-//! What the readers of DER answer.
+//! Answers of the readers of DER.
 use crate::claims::Families;
 use crate::modes::Mode;
 use crate::values::{Item, Reader, Skip, Value, octets as octets_of};
@@ -13,16 +13,16 @@ use rpki_ipres::blocks::IpBlocks;
 use rpki_ipres::resources::IpResources;
 use std::alloc::{AllocError, Allocator};
 
-/// What is asked of what was read.
+/// The answer to give about a value that was read.
 #[derive(Clone, Copy)]
 pub enum Form {
-    /// What is printed of it, and the octets that are left.
+    /// Its printed form, and the remaining octets.
     Printed,
-    /// The octets that are written of it.
+    /// The octets that are written for it.
     Written,
 }
 
-/// The answer to `take READER HEX`, `strict READER HEX` and `written READER HEX`.
+/// Answers `take READER HEX`, `strict READER HEX` and `written READER HEX`.
 pub fn answer<A: Allocator + Copy>(
     alloc: A,
     (mode, form): (Mode, Form),
@@ -82,7 +82,7 @@ fn read_value<A: Allocator + Copy, V: Value<A>>(
     }
 }
 
-/// What is asked of a value, printed in a family, and behind it the octets that are left.
+/// Prints a value in the notation of a family and the remaining octets, or the octets of the value.
 fn value_text<A: Allocator + Copy, V: Value<A>>(
     alloc: A,
     asked: (Form, AddressFamily),
@@ -95,7 +95,7 @@ fn value_text<A: Allocator + Copy, V: Value<A>>(
     }
 }
 
-/// Whether a value was skipped. It is written as no octets.
+/// Prints whether a value was skipped. A skipped value is written as no octets.
 fn skipped<A: Allocator + Copy>(
     alloc: A,
     form: Form,
@@ -125,7 +125,7 @@ fn skipped_text<A: Allocator + Copy>(
     }
 }
 
-/// A fault. A reader that refuses must leave the cursor where it was.
+/// Prints a fault. A reader that refuses must leave the cursor where it was.
 fn refused<A: Allocator + Copy>(
     alloc: A,
     error: OrMemory<DerError>,
@@ -138,7 +138,7 @@ fn refused<A: Allocator + Copy>(
     }
 }
 
-/// One value of any tag: its tag and its content.
+/// Reads one value of any tag, and prints its tag and its content.
 fn content<A: Allocator + Copy>(alloc: A, cursor: Cursor<'_>) -> Result<String<A>, AllocError> {
     let mut ahead = cursor;
     match ahead.take_value() {
@@ -159,7 +159,7 @@ fn content_text<A: Allocator + Copy>(
     format!(in alloc; "{tag:02x} {octets}")
 }
 
-/// The text, and behind it the octets that are left.
+/// Prints the text, and then the remaining octets.
 fn with_rest<A: Allocator + Copy>(
     alloc: A,
     text: Result<String<A>, AllocError>,

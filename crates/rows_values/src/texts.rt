@@ -1,4 +1,4 @@
-//! What the readers of texts answer.
+//! Answers of the readers of texts.
 use crate::values::{Item, Value, octets};
 use rows_support::print;
 use rpki_as::block::AsBlock;
@@ -16,7 +16,7 @@ use rpki_prefix::prefix::Prefix;
 use std::alloc::{AllocError, Allocator};
 use std::str::FromStr;
 
-/// The answer to `text READER TEXT`.
+/// Answers `text READER TEXT`.
 pub fn answer<A: Allocator + Copy>(
     alloc: A,
     reader: &str,
@@ -33,7 +33,7 @@ pub fn answer<A: Allocator + Copy>(
     }
 }
 
-/// The answer of the readers of prefixes, of AS blocks and of sets of addresses.
+/// Answers for the readers of prefixes, AS blocks and sets of addresses.
 fn prefix_answer<A: Allocator + Copy>(
     alloc: A,
     reader: &str,
@@ -49,7 +49,7 @@ fn prefix_answer<A: Allocator + Copy>(
     }
 }
 
-/// The answer of the readers of one block of addresses.
+/// Answers for the readers of one block of addresses.
 fn ip_block_answer<A: Allocator + Copy>(
     alloc: A,
     reader: &str,
@@ -62,7 +62,7 @@ fn ip_block_answer<A: Allocator + Copy>(
     }
 }
 
-/// What a reader of one block of addresses makes of a text.
+/// Reads one block of addresses from a text with a reader, or returns `None` if no reader has this name.
 fn ip_block(reader: &str, text: &str) -> Option<Result<IpBlock, FromStrError>> {
     match reader {
         "v4block" => Some(IpBlock::from_v4_str(text)),
@@ -78,7 +78,7 @@ fn ip_block(reader: &str, text: &str) -> Option<Result<IpBlock, FromStrError>> {
     }
 }
 
-/// A prefix or a range printed in the family of its text; any other block in each family, and its octets.
+/// Prints a prefix or a range in the family of its text, and any other block in each family, with its octets.
 fn ip_block_text<A: Allocator + Copy>(
     alloc: A,
     reader: &str,
@@ -94,7 +94,7 @@ fn ip_block_text<A: Allocator + Copy>(
     }
 }
 
-/// A block in its own form and its octets, or the fault.
+/// Prints a block in its own form and its octets, or the fault.
 fn as_block<A: Allocator + Copy>(
     alloc: A,
     block: Result<AsBlock, rpki_as::error::FromStrError>,
@@ -105,7 +105,7 @@ fn as_block<A: Allocator + Copy>(
     }
 }
 
-/// A value printed in families, and its octets.
+/// Prints a value in the notation of each family, and its octets.
 fn item<A: Allocator + Copy>(
     alloc: A,
     item: Item,
@@ -119,7 +119,7 @@ fn item<A: Allocator + Copy>(
     Ok(answer)
 }
 
-/// The family of a text: IPv6 has colons.
+/// Returns the family of a text: IPv6 has colons.
 fn family(text: &str) -> AddressFamily {
     if text.contains(':') {
         AddressFamily::Ipv6
@@ -128,7 +128,7 @@ fn family(text: &str) -> AddressFamily {
     }
 }
 
-/// A set printed in the family of its text and its octets, or the fault.
+/// Prints a set in the family of its text and its octets, or the fault.
 fn ip_blocks<A: Allocator + Copy>(alloc: A, text: &str) -> Result<String<A>, AllocError> {
     match IpBlocks::from_str(alloc, text) {
         Ok(set) => set_with_octets(alloc, family(text), &set),

@@ -1,4 +1,4 @@
-//! DER values of each kind: how they are read, written and printed.
+//! DER values of each kind: reading, writing and printing.
 use crate::claims::Families;
 use rows_support::names::named;
 use rows_support::print;
@@ -18,27 +18,27 @@ use std::alloc::{AllocError, Allocator};
 
 /// A value that is read from DER, written and printed.
 pub trait Value<A: Allocator + Copy>: Sized + Drop {
-    /// What tells how it is read.
+    /// The parameter of its reader.
     type Reader: Copy;
 
-    /// Takes what stands at the cursor.
+    /// Takes the value at the cursor.
     fn take(
         alloc: A,
         reader: Self::Reader,
         cursor: &mut Cursor<'_>,
     ) -> Result<Self, OrMemory<DerError>>;
 
-    /// Appends the octets of the value, a set as a SEQUENCE.
+    /// Appends the octets of the value. A set is a SEQUENCE.
     fn encode(&self, output: &mut Vec<u8, A>) -> Result<(), AllocError>;
 
-    /// Whether the two are the same value.
+    /// Returns whether the two are the same value.
     fn is(&self, other: &Self) -> bool;
 
-    /// The value in its own form, addresses in a family.
+    /// Prints the value in its own form, with addresses in the notation of a family.
     fn text(&self, alloc: A, family: AddressFamily) -> Result<String<A>, AllocError>;
 }
 
-/// The octets of a value.
+/// Prints the octets of a value.
 pub fn octets<A: Allocator + Copy, V: Value<A>>(
     alloc: A,
     value: &V,
@@ -48,21 +48,21 @@ pub fn octets<A: Allocator + Copy, V: Value<A>>(
     print::written(alloc, &output, write)
 }
 
-/// What reads a value, or skips one.
+/// A reader of a value, or a skipper.
 #[derive(Clone, Copy)]
 pub enum Reader {
     Item(ItemReader),
     Skip(Skip),
     AsBlocks,
-    /// A set of addresses, of any family where none is named.
+    /// A set of addresses, of any family if none is given.
     IpBlocks(Option<AddressFamily>),
     AsResources,
     IpResources(AddressFamily),
-    /// The resources of addresses, by families.
+    /// The resources of addresses, by family.
     Families,
 }
 
-/// What reads a value that takes no memory.
+/// A reader of a value that takes no memory.
 #[derive(Clone, Copy)]
 pub enum ItemReader {
     Asn,
@@ -74,7 +74,7 @@ pub enum ItemReader {
     IpBlock(Option<AddressFamily>),
 }
 
-/// What skips a value.
+/// A skipper of a value.
 #[derive(Clone, Copy)]
 pub enum Skip {
     Asn,
@@ -82,7 +82,7 @@ pub enum Skip {
     AsBlock,
 }
 
-/// A value that takes no memory, or what an optional reader answers in place of one.
+/// A value that takes no memory, or the result of an optional reader without one.
 #[derive(Clone, Copy, PartialEq)]
 pub enum Item {
     Asn(Asn),
@@ -131,12 +131,12 @@ const READERS: [(&str, Reader); 22] = [
 ];
 
 impl Reader {
-    /// The reader of this name.
+    /// Returns the reader with this name.
     pub fn named(name: &str) -> Option<Reader> {
         named(&READERS, name)
     }
 
-    /// The family in which what is read is printed.
+    /// Returns the family in whose notation the value is printed.
     pub fn printed_family(self) -> AddressFamily {
         match self {
             Reader::IpBlocks(Some(family))
@@ -149,7 +149,7 @@ impl Reader {
 }
 
 impl Skip {
-    /// Skips what stands at the cursor. None where it isn't there.
+    /// Skips the value at the cursor. Returns `None` if it is absent.
     pub fn skip(self, cursor: &mut Cursor<'_>) -> Result<Option<()>, DerError> {
         match self {
             Skip::Asn => Asn::skip_in(cursor).map(Some),

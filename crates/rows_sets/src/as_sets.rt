@@ -1,4 +1,4 @@
-//! What sets of AS numbers answer.
+//! Answers about sets of AS numbers.
 use crate::question::{Operation, Question};
 use rows_chains::lists::Lists;
 use rows_chains::small_sets::numbers;
@@ -12,7 +12,7 @@ use rpki_base::memory::OrMemory;
 use std::alloc::{AllocError, Allocator};
 use std::str::FromStr;
 
-/// The answer to `QUESTION as A` and `QUESTION as A|B`.
+/// Answers `QUESTION as A` and `QUESTION as A|B`.
 pub fn answer<A: Allocator + Copy>(
     alloc: A,
     question: Question,
@@ -27,7 +27,7 @@ pub fn answer<A: Allocator + Copy>(
     }
 }
 
-/// The set that is made of blocks.
+/// Prints the set that is made of blocks.
 fn of_lists<A: Allocator + Copy>(
     alloc: A,
     question: Question,
@@ -62,7 +62,7 @@ fn from_vec<A: Allocator + Copy>(
     }
 }
 
-/// The set of blocks that are pushed one by one, and of more that come at once.
+/// Prints the set of blocks that are pushed one by one, and of more that are appended at once.
 fn build<A: Allocator + Copy>(
     alloc: A,
     blocks: &[AsBlock],
@@ -76,7 +76,9 @@ fn build<A: Allocator + Copy>(
     }
 }
 
-/// Pushes the blocks one by one, and more at once. `Err` has those that came before the one that was refused memory.
+/// Pushes blocks one by one, and appends more at once.
+///
+/// If memory runs out, `Err` has the blocks that were pushed before.
 fn push<'a, A: Allocator + Copy>(
     builder: &mut AsBlocksBuilder<A>,
     blocks: &'a [AsBlock],
@@ -93,7 +95,7 @@ fn push<'a, A: Allocator + Copy>(
     }
 }
 
-/// The set of a builder. `AllocError` where it refused a block and holds those that came before.
+/// Prints the set of a builder, or returns `AllocError` if the builder refused a block and still has those before it.
 fn built<A: Allocator + Copy>(
     alloc: A,
     set: &AsBlocks<A>,
@@ -126,7 +128,7 @@ fn of_operands<A: Allocator + Copy>(
     }
 }
 
-/// What is answered of a set, whether or not memory was refused, where it has left the set.
+/// Answers a question about a set, and checks that the set is unchanged, also if memory was refused.
 fn of_kept<A: Allocator + Copy>(
     alloc: A,
     question: Question,
@@ -138,7 +140,7 @@ fn of_kept<A: Allocator + Copy>(
     kept(alloc, found, is_list(alloc, set, left))
 }
 
-/// Whether a set is still the one that a list writes.
+/// Returns whether a set is still the one that a list denotes.
 fn is_list<A: Allocator + Copy>(
     alloc: A,
     set: &AsBlocks<A>,
@@ -180,7 +182,7 @@ fn of_both<A: Allocator + Copy>(
     }
 }
 
-/// What comes of two sets, whether or not memory was refused, where it has left the second one too.
+/// Answers a question about two sets, and checks that the second one is unchanged too, also if memory was refused.
 fn of_both_kept<A: Allocator + Copy>(
     alloc: A,
     operation: Operation,
@@ -208,7 +210,7 @@ fn of_two<A: Allocator + Copy>(
     }
 }
 
-/// The intersection, taken in place.
+/// Prints the intersection, which is computed in place.
 fn assign<A: Allocator + Copy>(
     alloc: A,
     set: &AsBlocks<A>,
@@ -219,7 +221,7 @@ fn assign<A: Allocator + Copy>(
     assigned_text(alloc, set, &common, assigned)
 }
 
-/// The set that an assignment gave. `AllocError` where it was refused memory and has left the set as it was.
+/// Prints the set after an assignment, or returns `AllocError` if memory ran out and the set is unchanged.
 fn assigned_text<A: Allocator + Copy>(
     alloc: A,
     before: &AsBlocks<A>,

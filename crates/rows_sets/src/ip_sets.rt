@@ -1,4 +1,4 @@
-//! What sets of addresses of one family answer.
+//! Answers about sets of addresses of one family.
 use crate::question::{Operation, Question};
 use rows_chains::lists::Lists;
 use rows_support::kept::kept;
@@ -13,7 +13,7 @@ use rpki_ipres::blocks::IpBlocks;
 use rpki_ipres::builder::IpBlocksBuilder;
 use std::alloc::{AllocError, Allocator};
 
-/// The answer to `QUESTION v4 A` and `QUESTION v4 A|B`, and the same of `v6`.
+/// Answers `QUESTION v4 A` and `QUESTION v4 A|B`, and the same for `v6`.
 pub fn answer<A: Allocator + Copy>(
     alloc: A,
     family: AddressFamily,
@@ -29,7 +29,7 @@ pub fn answer<A: Allocator + Copy>(
     }
 }
 
-/// The set that is made of blocks.
+/// Prints the set that is made of blocks.
 fn of_lists<A: Allocator + Copy>(
     alloc: A,
     family: AddressFamily,
@@ -67,7 +67,7 @@ fn from_vec<A: Allocator + Copy>(
     }
 }
 
-/// The set of blocks that are pushed one by one, and of more that come at once.
+/// Prints the set of blocks that are pushed one by one, and of more that are appended at once.
 fn build<A: Allocator + Copy>(
     alloc: A,
     family: AddressFamily,
@@ -82,7 +82,9 @@ fn build<A: Allocator + Copy>(
     }
 }
 
-/// Pushes the blocks one by one, and more at once. `Err` has those that came before the one that was refused memory.
+/// Pushes blocks one by one, and appends more at once.
+///
+/// If memory runs out, `Err` has the blocks that were pushed before.
 fn push<'a, A: Allocator + Copy>(
     builder: &mut IpBlocksBuilder<A>,
     blocks: &'a [IpBlock],
@@ -99,7 +101,7 @@ fn push<'a, A: Allocator + Copy>(
     }
 }
 
-/// The set of a builder. `AllocError` where it refused a block and holds those that came before.
+/// Prints the set of a builder, or returns `AllocError` if the builder refused a block and still has those before it.
 fn built<A: Allocator + Copy>(
     alloc: A,
     family: AddressFamily,
@@ -134,7 +136,7 @@ fn of_operands<A: Allocator + Copy>(
     }
 }
 
-/// What is answered of a set, whether or not memory was refused, where it has left the set.
+/// Answers a question about a set, and checks that the set is unchanged, also if memory was refused.
 fn of_kept<A: Allocator + Copy>(
     alloc: A,
     family: AddressFamily,
@@ -147,7 +149,7 @@ fn of_kept<A: Allocator + Copy>(
     kept(alloc, found, is_list(alloc, family, set, left))
 }
 
-/// Whether a set is still the one that a list writes.
+/// Returns whether a set is still the one that a list denotes.
 fn is_list<A: Allocator + Copy>(
     alloc: A,
     family: AddressFamily,
@@ -177,7 +179,7 @@ fn of_set<A: Allocator + Copy>(
     }
 }
 
-/// The set that a list of the family writes.
+/// Returns the set that a list of the family denotes.
 fn read<A: Allocator + Copy>(
     alloc: A,
     family: AddressFamily,
@@ -205,7 +207,7 @@ fn read_v6<A: Allocator + Copy>(
     Ok(set.ip_blocks().clone()?)
 }
 
-/// Whether a set has each address of the block that a text writes in the family, or some address of it.
+/// Prints whether a set has each address of a block, or some address of it. The text is in the notation of the family.
 fn has<A: Allocator + Copy>(
     alloc: A,
     family: AddressFamily,
@@ -240,7 +242,7 @@ fn of_both<A: Allocator + Copy>(
     }
 }
 
-/// What comes of two sets, whether or not memory was refused, where it has left the second one too.
+/// Answers a question about two sets, and checks that the second one is unchanged too, also if memory was refused.
 fn of_both_kept<A: Allocator + Copy>(
     alloc: A,
     family: AddressFamily,
@@ -270,7 +272,7 @@ fn of_two<A: Allocator + Copy>(
     }
 }
 
-/// The intersection, taken in place.
+/// Prints the intersection, which is computed in place.
 fn assign<A: Allocator + Copy>(
     alloc: A,
     family: AddressFamily,
@@ -282,7 +284,7 @@ fn assign<A: Allocator + Copy>(
     assigned_text(alloc, family, set, &common, assigned)
 }
 
-/// The set that an assignment gave. `AllocError` where it was refused memory and has left the set as it was.
+/// Prints the set after an assignment, or returns `AllocError` if memory ran out and the set is unchanged.
 fn assigned_text<A: Allocator + Copy>(
     alloc: A,
     family: AddressFamily,

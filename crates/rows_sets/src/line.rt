@@ -1,4 +1,4 @@
-//! The answer to a line, by its command.
+//! Answers to lines, by their commands.
 use crate::question::Question;
 use crate::{as_sets, ip_sets, long};
 use rows_chains::{chains, small_sets};
@@ -16,7 +16,7 @@ impl Call for Line<'_> {
         self.0
     }
 
-    /// One with another command than these goes, as it is, to the library that answers the lines of `respath`.
+    /// Answers the line. A line with another command goes unchanged to the library that answers the lines of `respath`.
     fn answer<A: Allocator + Copy>(&self, alloc: A) -> Result<String<A>, AllocError> {
         let (command, rest) = cut(self.0, ' ');
         let (kind, operands) = cut(rest, ' ');
@@ -33,7 +33,7 @@ impl Call for Line<'_> {
     }
 }
 
-/// The answer to a question of sets of a kind.
+/// Answers a question about sets of a kind.
 fn set_answer<A: Allocator + Copy>(
     alloc: A,
     question: Question,

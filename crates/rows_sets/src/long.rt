@@ -1,4 +1,4 @@
-//! Sets of many blocks: one has each fourth number from 0 on, the other the numbers two above.
+//! Sets of many blocks. The first has each fourth number from 0 on, the second the numbers greater by 2.
 use rows_chains::long;
 use rows_support::print;
 use rpki_as::block::AsBlock;
@@ -13,7 +13,7 @@ use rpki_ipres::blocks::IpBlocks;
 use rpki_ipres::resources::IpResources;
 use std::alloc::{AllocError, Allocator};
 
-/// The answer to `long QUESTION N`, of two chains or sets of N blocks each.
+/// Answers `long QUESTION N`, about two chains or sets of N blocks each.
 pub fn answer<A: Allocator + Copy>(
     alloc: A,
     question: &str,
@@ -53,7 +53,7 @@ fn every_fourth_asn<A: Allocator + Copy>(
     AsBlocks::from_blocks(alloc, &blocks)
 }
 
-/// How many numbers the union of the two sets has.
+/// Prints the number of AS numbers in the union of the two sets.
 fn as_union<A: Allocator + Copy>(alloc: A, count: u32) -> Result<String<A>, AllocError> {
     let set = every_fourth_asn(alloc, count, 0)?;
     union_with_others(alloc, &set, count)
@@ -76,7 +76,9 @@ fn size_of<A: Allocator + Copy>(
     format!(in alloc; "{size} numbers")
 }
 
-/// How many numbers a builder's set has, of those of a set and of as many that are pushed before them one by one.
+/// Prints the number of AS numbers in the set of a builder.
+///
+/// The builder gets the blocks of one set one by one, and then those of the other at once.
 fn built<A: Allocator + Copy>(alloc: A, count: u32) -> Result<String<A>, AllocError> {
     let others = every_fourth_asn(alloc, count, 2)?;
     size_of(alloc, built_before(alloc, others.iter().as_slice()))
@@ -115,7 +117,7 @@ fn every_fourth_address<A: Allocator + Copy>(
     IpBlocks::from_blocks(alloc, &blocks)
 }
 
-/// How many blocks the union of the two sets has.
+/// Prints the number of blocks in the union of the two sets.
 fn ip_union<A: Allocator + Copy>(alloc: A, count: u32) -> Result<String<A>, AllocError> {
     let set = every_fourth_address(alloc, count, 0)?;
     union_with_more(alloc, &set, count)
@@ -138,8 +140,9 @@ fn len_of<A: Allocator + Copy>(
     format!(in alloc; "{len} blocks")
 }
 
-/// How many octets answer a line that asks for the cover of so many ranges, each of all addresses that begin with the
-/// same 16 bits but the first and the last.
+/// Prints the length of the answer to a line that asks for the cover of `count` ranges.
+///
+/// Each range has the addresses that begin with the same 16 bits, except the first and the last of them.
 fn cover<A: Allocator + Copy>(alloc: A, count: u32) -> Result<String<A>, AllocError> {
     let mut line = String::from_str(alloc, "cover v6 ")?;
     for at in 0..count {
@@ -149,7 +152,7 @@ fn cover<A: Allocator + Copy>(alloc: A, count: u32) -> Result<String<A>, AllocEr
     format!(in alloc; "{len} octets")
 }
 
-/// How many octets write the set of IPv6.
+/// Prints the number of octets that encode the set of IPv6.
 fn families<A: Allocator + Copy>(alloc: A, count: u32) -> Result<String<A>, AllocError> {
     let set = every_fourth_address(alloc, count, 0)?;
     encoded_len(alloc, &IpResources::blocks(set))
@@ -167,7 +170,7 @@ fn encoded_len<A: Allocator + Copy>(
     octets_of(alloc, print::written(alloc, &output, write))
 }
 
-/// How many octets these digits are.
+/// Prints the number of octets that these hexadecimal digits are.
 fn octets_of<A: Allocator + Copy>(
     alloc: A,
     digits: Result<String<A>, AllocError>,

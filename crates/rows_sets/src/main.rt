@@ -1,7 +1,10 @@
-//! The program `rows_sets`: each line of the standard input is a call of the libraries that makes chains or sets and
-//! asks them, or is a line of `respath`, and is answered with one line on the standard output. Each call is made again
-//! with each of its requests for memory refused; where such a run does anything but tell that memory is wanting, the
-//! line's answer says so.
+//! The program `rows_sets`.
+//!
+//! Each line of the standard input is a call of the libraries that makes chains or sets and reads them, or is a line of
+//! `respath`. The answer is one line on the standard output.
+//!
+//! The program repeats each call with each of its requests for memory refused. If such a run does anything except
+//! report out of memory, the line's answer says so.
 #![tactic(auto)]
 
 mod as_sets;
@@ -25,7 +28,7 @@ fn main(rt: HostRuntime) -> io::Result<()> {
     Ok(())
 }
 
-/// The answer to a line. `requests` counts what a call asks for, and refuses none of it.
+/// Answers a line. `requests` counts the requests of a call, and refuses none.
 fn answer(alloc: Global, line: &str) -> Result<String, AllocError> {
     match cut(line, ' ') {
         ("requests", operands) => requests::answer(alloc, operands),

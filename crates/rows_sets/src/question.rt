@@ -1,6 +1,6 @@
-//! What a line asks of sets.
+//! Questions of lines about sets.
 
-/// What is asked of a set.
+/// A question about a set.
 #[derive(Clone, Copy)]
 pub enum Question {
     /// The set of all numbers.
@@ -15,7 +15,7 @@ pub enum Question {
     Copy,
     /// Its octets.
     Octets,
-    /// How many numbers it has.
+    /// The number of its numbers.
     Count,
     /// Its numbers, one by one.
     Numbers,
@@ -23,16 +23,16 @@ pub enum Question {
     Has,
     /// Whether it has an address of a block.
     Meets,
-    /// What is asked of it and another set.
+    /// An operation on it and another set.
     Both(Operation),
 }
 
-/// What is asked of two sets.
+/// An operation on two sets.
 #[derive(Clone, Copy)]
 pub enum Operation {
     Union,
     Intersection,
-    /// An intersection that takes the place of the first set.
+    /// An intersection that replaces the first set.
     Assign,
     Difference,
     Contains,
@@ -40,7 +40,7 @@ pub enum Operation {
 }
 
 impl Question {
-    /// The question of this name.
+    /// Returns the question with this name.
     pub fn named(name: &str) -> Option<Question> {
         match name {
             "all" => Some(Question::All),

@@ -1,4 +1,4 @@
-//! How much memory the calls that make sets ask for.
+//! The memory that calls which make sets request.
 mod as_sets;
 mod ip_sets;
 
@@ -11,7 +11,9 @@ use rpki_family::v4::{Ipv4Block, Ipv4Blocks};
 use std::alloc::{AllocError, Global};
 use test_support::{Plan, Refusing};
 
-/// The answer to `requests KIND CALL A` and `requests KIND CALL A|B`. What a call makes is held until it has ended.
+/// Answers `requests KIND CALL A` and `requests KIND CALL A|B`.
+///
+/// The result of a call is kept until the call has ended.
 pub fn answer(alloc: Global, operands: &str) -> Result<String, AllocError> {
     let (kind, rest) = cut(operands, ' ');
     let (call, lists) = cut(rest, ' ');

@@ -1,4 +1,4 @@
-//! How much memory the calls that make sets of AS numbers ask for.
+//! The memory that calls which make sets of AS numbers request.
 use rows_chains::lists::Lists;
 use rows_support::print;
 use rows_support::requests::Asked;
@@ -11,7 +11,7 @@ use rpki_chain::path::Overclaim;
 use std::alloc::{AllocError, Allocator, Global};
 use test_support::Refusing;
 
-/// The answer to `requests as CALL A` and `requests as CALL A|B`.
+/// Answers `requests as CALL A` and `requests as CALL A|B`.
 pub fn answer(
     alloc: Global,
     counting: &Refusing,
@@ -66,7 +66,7 @@ fn built<A: Allocator + Copy>(
     builder.finalize()
 }
 
-/// Pushes blocks one by one, and more at once.
+/// Pushes blocks one by one, and appends more at once.
 fn push<A: Allocator + Copy>(
     builder: &mut AsBlocksBuilder<A>,
     blocks: &[AsBlock],
@@ -78,7 +78,7 @@ fn push<A: Allocator + Copy>(
     builder.extend_from(more)
 }
 
-/// Of a set and that of more blocks.
+/// Counts the requests of a call on a set and the set of more blocks.
 fn with<'a>(
     alloc: Global,
     counting: &'a Refusing,
@@ -130,7 +130,7 @@ fn of_sets<'a>(
     }
 }
 
-/// The set that a call makes, or None where there is no such call.
+/// Returns the set that a call makes, or `None` if no call has this name.
 fn made<A: Allocator + Copy>(
     alloc: A,
     call: &str,
@@ -164,7 +164,7 @@ fn octets<A: Allocator + Copy>(alloc: A, set: &AsBlocks<A>) -> Result<Vec<u8, A>
     Ok(octets)
 }
 
-/// A path of two steps: one that claims what the anchor has, and one that claims another set.
+/// Counts the requests for a path of two steps: one claims what the anchor has, and one claims another set.
 fn path<'a>(
     alloc: Global,
     counting: &'a Refusing,

@@ -1,4 +1,4 @@
-//! What claims answer: what they list, their copies, and what they leave of an issuer's set.
+//! Answers about claims: the resources that they list, their copies, and what they leave of an issuer's set.
 use rows_support::print::{self, cut};
 use rpki_as::blocks::AsBlocks;
 use rpki_as::resources::AsResources;
@@ -12,7 +12,7 @@ use rpki_ipres::resources::IpResources;
 use std::alloc::{AllocError, Allocator};
 use std::fmt;
 
-/// The answer to `claim QUESTION A` and `claim QUESTION A|B`.
+/// Answers `claim QUESTION A` and `claim QUESTION A|B`.
 pub fn answer<A: Allocator + Copy>(
     alloc: A,
     question: &str,
@@ -29,7 +29,7 @@ pub fn answer<A: Allocator + Copy>(
     }
 }
 
-/// A value, or the fault that there is in place of it.
+/// Prints a value, or the fault that was returned instead.
 pub fn told<T: fmt::Display + Drop, E: fmt::Display + Drop, A: Allocator + Copy>(
     alloc: A,
     found: Result<T, OrMemory<E>>,
@@ -51,7 +51,7 @@ fn of_as<A: Allocator + Copy>(
     }
 }
 
-/// What a claim lists, or its copy.
+/// Prints the resources that a claim lists, or the copy of the claim.
 fn of_as_claim<A: Allocator + Copy>(
     alloc: A,
     question: &str,
@@ -74,7 +74,7 @@ fn of_ip<A: Allocator + Copy>(
     }
 }
 
-/// What a claim lists, or its copy lists.
+/// Prints the resources that a claim lists, or that its copy lists.
 fn of_ip_claim<A: Allocator + Copy>(
     alloc: A,
     question: &str,
@@ -96,7 +96,7 @@ fn copy_listed<A: Allocator + Copy>(
     }
 }
 
-/// The addresses that a claim lists.
+/// Prints the addresses that a claim lists.
 fn listed<A: Allocator + Copy>(alloc: A, claim: &IpResources<A>) -> Result<String<A>, AllocError> {
     match claim.to_blocks() {
         Ok(set) => print::ip_set(alloc, AddressFamily::Ipv6, &set),
@@ -106,7 +106,7 @@ fn listed<A: Allocator + Copy>(alloc: A, claim: &IpResources<A>) -> Result<Strin
 
 // ---- what claims leave of an issuer's set
 
-/// What becomes of a claim that lists too much.
+/// Returns the mode for an overclaim with this name.
 fn mode_named(word: &str) -> Overclaim {
     match word {
         "trim" => Overclaim::Trim,
@@ -114,7 +114,7 @@ fn mode_named(word: &str) -> Overclaim {
     }
 }
 
-/// `issued_as MODE ISSUER|CLAIM`
+/// Answers `issued_as MODE ISSUER|CLAIM`.
 fn as_issued<A: Allocator + Copy>(alloc: A, operands: &str) -> Result<String<A>, AllocError> {
     let (mode, lists) = cut(operands, ' ');
     let (issuer, claim) = cut(lists, '|');
@@ -145,7 +145,7 @@ fn as_left<A: Allocator + Copy>(
     told(alloc, issuer.verify_issued(alloc, claim, mode))
 }
 
-/// `issued_ip MODE ISSUER|CLAIM`
+/// Answers `issued_ip MODE ISSUER|CLAIM`.
 fn ip_issued<A: Allocator + Copy>(alloc: A, operands: &str) -> Result<String<A>, AllocError> {
     let (mode, lists) = cut(operands, ' ');
     let (issuer, claim) = cut(lists, '|');
@@ -191,7 +191,7 @@ fn ip_refused<A: Allocator + Copy>(
 
 // ---- faults
 
-/// The copy of the fault of a set whose issuer has nothing.
+/// Prints the copy of the fault of a set whose issuer has nothing.
 fn as_fault<A: Allocator + Copy>(alloc: A, list: &str) -> Result<String<A>, AllocError> {
     match AsBlocks::from_str(alloc, list) {
         Ok(set) => as_fault_below(alloc, &set, &AsResources::missing()),
@@ -220,7 +220,7 @@ fn as_copy<A: Allocator + Copy>(
     }
 }
 
-/// The copy of the fault of a set whose issuer has nothing, as one of a family where the question names it.
+/// Prints the copy of the fault of a set whose issuer has nothing, as one of a family if the question names it.
 fn ip_fault<A: Allocator + Copy>(
     alloc: A,
     question: &str,

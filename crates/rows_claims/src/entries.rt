@@ -1,13 +1,13 @@
-//! The entries behind a line's question.
+//! The entries after a line's question.
 use rows_support::print::cut;
 use rpki_base::Asn;
 use rpki_prefix::{MaxLenPrefix, Prefix};
 use std::alloc::{AllocError, Allocator};
 use std::str::FromStr;
 
-/// What a text between `|` writes.
+/// The value of a text between `|`.
 pub trait Entry: Sized + Drop {
-    /// The entry, or None where the text writes none.
+    /// Returns the entry, or `None` if the text is no entry.
     fn read(text: &str) -> Option<Self>;
 }
 
@@ -34,7 +34,9 @@ impl Entry for (Prefix, Asn) {
     }
 }
 
-/// What the texts between `|` write, or None where one writes no entry. `AllocError` where there is no memory for them.
+/// Returns the entries between `|`, or `None` if a text is no entry.
+///
+/// Returns `AllocError` if memory for them runs out.
 pub fn read<T: Entry, A: Allocator>(alloc: A, list: &str) -> Result<Option<Vec<T, A>>, AllocError> {
     let mut entries = Vec::new(alloc);
     for text in list.split('|') {
@@ -45,7 +47,7 @@ pub fn read<T: Entry, A: Allocator>(alloc: A, list: &str) -> Result<Option<Vec<T
     Ok(Some(entries))
 }
 
-/// Pushes the entry that a text writes, or none where it is empty. False where it writes no entry.
+/// Pushes the entry of a text. Pushes nothing if the text is empty. Returns false if the text is no entry.
 fn push_read<T: Entry, A: Allocator>(
     entries: &mut Vec<T, A>,
     text: &str,

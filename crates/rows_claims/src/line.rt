@@ -1,4 +1,4 @@
-//! The answer to a line, by its command.
+//! Answers to lines, by their commands.
 use crate::{claims, long, outside, payloads, route_lines, routes, triples};
 use rows_support::print::cut;
 use rows_support::refusals::Call;

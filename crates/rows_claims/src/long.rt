@@ -1,5 +1,5 @@
-//! Lists of many payloads and routes: one has each fourth IPv4 address from 0.0.0.0 on, the other the addresses two
-//! above.
+//! Lists of many VRPs and routes. The first has each fourth IPv4 address from 0.0.0.0 on, the second the addresses
+//! greater by 2.
 use roa_origin::{OriginTable, PayloadChanges, PayloadTable, changed};
 use rows_support::print;
 use rpki_base::Asn;
@@ -8,8 +8,10 @@ use rpki_base::number::parse_u32;
 use rpki_prefix::{MaxLenPrefix, Prefix};
 use std::alloc::{AllocError, Allocator};
 
-/// The answer to `long changes N`: how many payloads are announced and withdrawn from one list of N to the other; and
-/// to `long changed N`: how many of N routes have another validity by the other.
+/// Answers `long changes N` and `long changed N`.
+///
+/// - `long changes N` prints how many VRPs are announced and withdrawn from one list of N to the other.
+/// - `long changed N` prints how many of N routes have another validity by the other list.
 pub fn answer<A: Allocator + Copy>(
     alloc: A,
     question: &str,
@@ -73,7 +75,7 @@ fn changed_from<A: Allocator + Copy>(
     changed_by(alloc, &table, payloads, count)
 }
 
-/// How many routes of payloads have another validity by the table of the other addresses.
+/// Prints how many routes of VRPs have another validity by the table of the other addresses.
 fn changed_by<A: Allocator + Copy>(
     alloc: A,
     table: &OriginTable<A>,
@@ -104,7 +106,7 @@ fn origin_table<A: Allocator + Copy>(
     OriginTable::new(alloc, &payloads)
 }
 
-/// The route of each payload.
+/// Returns the route of each VRP.
 fn routes_of<A: Allocator + Copy>(
     alloc: A,
     payloads: &[(MaxLenPrefix, Asn)],
@@ -116,7 +118,7 @@ fn routes_of<A: Allocator + Copy>(
     Ok(routes)
 }
 
-/// Payloads of single addresses, the AS numbers from 0 on.
+/// Returns VRPs of single addresses, with AS numbers from 0 on.
 pub fn every_fourth<A: Allocator + Copy>(
     alloc: A,
     count: u32,
@@ -131,7 +133,7 @@ pub fn every_fourth<A: Allocator + Copy>(
     Ok(payloads)
 }
 
-/// The address four times so far behind the first one.
+/// Returns the single address `first` + 4 * `at`, as a prefix.
 fn fourth(at: u32, first: u32) -> Option<MaxLenPrefix> {
     let address = Ipv4Addr::from_bits(at.saturating_mul(4).saturating_add(first));
     let prefix = Prefix::new(IpAddr::V4(address), 32).ok()?;

@@ -1,8 +1,16 @@
-//! The program `rows_claims`: each line of the standard input is a call of the libraries about what claims list and
-//! leave, about sets of the three kinds, about the validity of a route and the answer to its line, about the first
-//! prefix that a set of resources doesn't have, or about a file of payloads, and is answered with one line on the
-//! standard output. Each call is made again with each of its requests for memory refused; where such a run does
-//! anything but tell that memory is wanting, the line's answer says so.
+//! The program `rows_claims`.
+//!
+//! Each line of the standard input is a call of the libraries. The answer is one line on the standard output. The calls
+//! are about these:
+//!
+//! - the resources that claims list and leave
+//! - sets of the three kinds
+//! - the validity of a route, and the answer to its line
+//! - the first prefix that a set of resources does not have
+//! - a VRP file
+//!
+//! The program repeats each call with each of its requests for memory refused. If such a run does anything except
+//! report out of memory, the line's answer says so.
 #![tactic(auto)]
 
 mod claims;
@@ -30,7 +38,7 @@ fn main(rt: HostRuntime) -> io::Result<()> {
     Ok(())
 }
 
-/// The answer to a line. `requests` counts what a call asks for, and refuses none of it.
+/// Answers a line. `requests` counts the requests of a call, and refuses none.
 fn answer(alloc: Global, line: &str) -> Result<String, AllocError> {
     match cut(line, ' ') {
         ("requests", operands) => requests::answer(alloc, operands),

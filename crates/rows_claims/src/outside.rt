@@ -1,4 +1,4 @@
-//! The first prefix that isn't inside a set of resources.
+//! The first prefix that is not inside a set of resources.
 use crate::entries;
 use roa_check::outside;
 use rows_support::print::{cut, refused};
@@ -8,7 +8,7 @@ use rpki_resources::repository::resources::ResourceSet;
 use rpki_resources::repository::resources::set::FromStrError;
 use std::alloc::{AllocError, Allocator};
 
-/// The answer to `outside A ; B ; C | PREFIX[-MAX] | ..`.
+/// Answers `outside A ; B ; C | PREFIX[-MAX] | ..`.
 pub fn answer<A: Allocator + Copy>(alloc: A, operands: &str) -> Result<String<A>, AllocError> {
     let (lists, prefixes) = cut(operands, '|');
     match entries::read::<MaxLenPrefix, A>(alloc, prefixes)? {
@@ -28,7 +28,7 @@ fn of_entries<A: Allocator + Copy>(
     }
 }
 
-/// The place of the first entry that isn't inside the set that three lists write.
+/// Returns the index of the first entry that is not inside the set that three lists denote.
 fn first_outside<A: Allocator + Copy>(
     alloc: A,
     lists: &str,

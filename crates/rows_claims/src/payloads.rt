@@ -1,4 +1,4 @@
-//! What a file of validated payloads writes.
+//! The VRPs of a file.
 use hex::FromHexError;
 use payload_texts::read_payloads;
 use rows_support::print::{append, refused};
@@ -6,7 +6,7 @@ use rpki_base::Asn;
 use rpki_prefix::MaxLenPrefix;
 use std::alloc::{AllocError, Allocator};
 
-/// The answer to `payloads TEXT`, in which `|` stands for the end of a line.
+/// Answers `payloads TEXT`, in which `|` is the end of a line.
 pub fn of_text<A: Allocator + Copy>(alloc: A, text: &str) -> Result<String<A>, AllocError> {
     let mut octets = Vec::new(alloc);
     for octet in text.as_bytes() {
@@ -15,7 +15,7 @@ pub fn of_text<A: Allocator + Copy>(alloc: A, text: &str) -> Result<String<A>, A
     answer(alloc, &octets)
 }
 
-/// The answer to `octets HEX`.
+/// Answers `octets HEX`.
 pub fn of_octets<A: Allocator + Copy>(alloc: A, text: &str) -> Result<String<A>, AllocError> {
     match hex::decode(alloc, text) {
         Ok(octets) => answer(alloc, &octets),

@@ -1,4 +1,4 @@
-//! How much memory tables of payloads and sets of three kinds ask for.
+//! The memory that tables of VRPs and sets of three kinds request.
 use crate::long::every_fourth;
 use crate::{entries, triples};
 use roa_origin::{OriginTable, PayloadTable};
@@ -12,7 +12,7 @@ use rpki_resources::repository::resources::set::{FromStrError, ResourceSet};
 use std::alloc::{AllocError, Allocator, Global};
 use test_support::{Plan, Refusing};
 
-/// The answer to `requests CALL ..`. What a call makes is held until it has ended.
+/// Answers `requests CALL ..`. The result of a call is kept until the call has ended.
 pub fn answer(alloc: Global, operands: &str) -> Result<String, AllocError> {
     let (call, rest) = cut(operands, ' ');
     let counting = &Refusing::new(alloc, Plan::RefuseNone);
@@ -24,8 +24,8 @@ pub fn answer(alloc: Global, operands: &str) -> Result<String, AllocError> {
     }
 }
 
-/// `requests table PREFIX[-MAX] AS | ..` of a table that is asked for routes, `requests payloads ..` of a list that is
-/// sent to routers.
+/// Answers `requests table PREFIX[-MAX] AS | ..`, for a table that validates routes, and `requests payloads ..`, for a
+/// list that is sent to routers.
 fn of_list(
     alloc: Global,
     counting: &Refusing,
@@ -48,7 +48,7 @@ fn of_table(
     before.told(alloc, counting, OriginTable::new(counting, payloads))
 }
 
-/// `requests many N` of a table of N payloads.
+/// Answers `requests many N`, for a table of N VRPs.
 fn of_many(alloc: Global, counting: &Refusing, count: &str) -> Result<String, AllocError> {
     match parse_u32(count) {
         Ok(count) => of_table(alloc, counting, &every_fourth(alloc, count, 0)?),
@@ -65,7 +65,7 @@ fn of_payloads(
     before.told(alloc, counting, PayloadTable::new(counting, payloads))
 }
 
-/// `requests changes LIST ; LIST` of what is sent from the one list to the other.
+/// Answers `requests changes LIST ; LIST`, for the changes to send from one list to the other.
 fn of_lists(alloc: Global, counting: &Refusing, lists: &str) -> Result<String, AllocError> {
     let (list, next) = cut(lists, ';');
     match entries::read::<(MaxLenPrefix, Asn), Global>(alloc, list)? {
@@ -107,7 +107,7 @@ fn changes_to<'a>(
     before.told(alloc, counting, table.changes_to(counting, &next))
 }
 
-/// `requests OPERATION A ; B ; C | D ; E ; F`, and `requests lists A ; B ; C` of the reading.
+/// Answers `requests OPERATION A ; B ; C | D ; E ; F`, and `requests lists A ; B ; C` for the reading.
 fn of_triples(
     alloc: Global,
     counting: &Refusing,
@@ -136,7 +136,7 @@ fn of_reading<T: Drop>(
     }
 }
 
-/// Of two sets, whose own allocator is the one that counts.
+/// Counts the requests of an operation on two sets, whose own allocator is the one that counts.
 fn of_sets<A: Allocator + Copy>(
     alloc: Global,
     counting: &Refusing,

@@ -1,4 +1,4 @@
-//! What a table of payloads answers to the line of a route.
+//! Answers of a table of VRPs to the line of a route.
 use crate::entries;
 use lines_engine::answers::Answers;
 use origin_lines::Routes;
@@ -8,7 +8,7 @@ use rpki_base::Asn;
 use rpki_prefix::MaxLenPrefix;
 use std::alloc::{AllocError, Allocator};
 
-/// The answer to `route PREFIX[-MAX] AS | .. ; LINE`, and with what explains it to `why` in the place of `route`.
+/// Answers `route PREFIX[-MAX] AS | .. ; LINE`. If the command is `why`, the answer has the VRPs that explain it.
 pub fn answer_to_line<A: Allocator + Copy>(
     alloc: A,
     operands: &str,

@@ -1,4 +1,4 @@
-//! What a list of payloads, and a table of them, say of a route; a table after changes, and the routes that change.
+//! The validity of a route by a list of VRPs and by a table of them; a table after changes; the routes that change.
 use crate::entries::{self, Entry};
 use roa_check::{Validity, origin};
 use roa_origin::OriginTable;
@@ -7,7 +7,7 @@ use rpki_base::Asn;
 use rpki_prefix::{MaxLenPrefix, Prefix};
 use std::alloc::{AllocError, Allocator};
 
-/// The answer to `origin ROUTE AS | PREFIX[-MAX] AS | ..`.
+/// Answers `origin ROUTE AS | PREFIX[-MAX] AS | ..`.
 pub fn answer<A: Allocator + Copy>(alloc: A, operands: &str) -> Result<String<A>, AllocError> {
     let (route, list) = cut(operands, '|');
     let Some((prefix, asn)) = <(Prefix, Asn)>::read(route.trim()) else {
@@ -19,7 +19,7 @@ pub fn answer<A: Allocator + Copy>(alloc: A, operands: &str) -> Result<String<A>
     }
 }
 
-/// The validity by the list, and by a table of it where that differs.
+/// Prints the validity by the list, and by a table of it if that differs.
 fn by_list_and_table<A: Allocator + Copy>(
     alloc: A,
     route: Prefix,
@@ -45,8 +45,9 @@ fn by_table<A: Allocator + Copy>(
     Ok(table.origin(route, asn))
 }
 
-/// The answer to `changes PREFIX[-MAX] AS | .. ; ANNOUNCED | .. ; WITHDRAWN | ..`: the payloads of the table of the
-/// first after the changes.
+/// Answers `changes PREFIX[-MAX] AS | .. ; ANNOUNCED | .. ; WITHDRAWN | ..`.
+///
+/// It prints the VRPs of the table of the first list after the changes.
 pub fn changes<A: Allocator + Copy>(alloc: A, operands: &str) -> Result<String<A>, AllocError> {
     let (listed, changes) = cut(operands, ';');
     match entries::read::<(MaxLenPrefix, Asn), A>(alloc, listed)? {
@@ -92,7 +93,7 @@ fn changed_table<A: Allocator + Copy>(
     }
 }
 
-/// The payloads of a table.
+/// Prints the VRPs of a table.
 fn listed<A: Allocator + Copy>(alloc: A, table: &OriginTable<A>) -> Result<String<A>, AllocError> {
     let mut text = String::new(alloc);
     for (prefix, asn) in table.payloads() {
@@ -102,8 +103,9 @@ fn listed<A: Allocator + Copy>(alloc: A, table: &OriginTable<A>) -> Result<Strin
     Ok(text)
 }
 
-/// The answer to `changed PREFIX[-MAX] AS | .. ; PREFIX[-MAX] AS | .. ; ROUTE AS | ..`: the places of the routes whose
-/// validity differs by tables of the two lists.
+/// Answers `changed PREFIX[-MAX] AS | .. ; PREFIX[-MAX] AS | .. ; ROUTE AS | ..`.
+///
+/// It prints the indexes of the routes whose validity differs between tables of the two lists.
 pub fn changed<A: Allocator + Copy>(alloc: A, operands: &str) -> Result<String<A>, AllocError> {
     let (listed, others) = cut(operands, ';');
     match entries::read::<(MaxLenPrefix, Asn), A>(alloc, listed)? {
@@ -166,7 +168,7 @@ fn told<A: Allocator + Copy>(
     }
 }
 
-/// The places, or that there is none.
+/// Prints the indexes, or `none` if there are no indexes.
 fn told_of<A: Allocator + Copy>(alloc: A, places: &[usize]) -> Result<String<A>, AllocError> {
     if places.is_empty() {
         return String::from_str(alloc, "none");

@@ -1,4 +1,4 @@
-//! What sets of all three kinds of resources answer.
+//! Answers about sets of all three kinds of resources.
 use crate::claims::told;
 use rows_support::kept::kept;
 use rows_support::names::named;
@@ -10,7 +10,7 @@ use rpki_resources::repository::resources::ResourceDiff;
 use rpki_resources::repository::resources::set::{FromStrError, ResourceSet};
 use std::alloc::{AllocError, Allocator};
 
-/// The answer to `set A ; B ; C`.
+/// Answers `set A ; B ; C`.
 pub fn set<A: Allocator + Copy>(alloc: A, lists: &str) -> Result<String<A>, AllocError> {
     match read(alloc, lists) {
         Ok(set) => value(alloc, set),
@@ -18,12 +18,12 @@ pub fn set<A: Allocator + Copy>(alloc: A, lists: &str) -> Result<String<A>, Allo
     }
 }
 
-/// The answer to `diff A ; B ; C | D ; E ; F`.
+/// Answers `diff A ; B ; C | D ; E ; F`.
 pub fn difference<A: Allocator + Copy>(alloc: A, operands: &str) -> Result<String<A>, AllocError> {
     of_operands(alloc, Operation::Difference, operands)
 }
 
-/// The set that three lists write.
+/// Returns the set that three lists denote.
 pub fn read<A: Allocator + Copy>(
     alloc: A,
     lists: &str,
@@ -33,20 +33,20 @@ pub fn read<A: Allocator + Copy>(
     ResourceSet::from_strs(alloc, asn, ipv4, ipv6)
 }
 
-/// What is asked of two sets.
+/// An operation on two sets.
 #[derive(Clone, Copy)]
 enum Operation {
     Union,
     Intersection,
-    /// How they differ.
+    /// Their difference.
     Difference,
-    /// What the first set has beyond the second.
+    /// The resources that the first set has and the second does not.
     Added,
-    /// A copy of how they differ.
+    /// A copy of their difference.
     Changes,
     /// A copy of the first.
     Copy,
-    /// The first again, from the claims that list it.
+    /// The first set, made again from the claims that list it.
     Claims,
     /// The set of all numbers.
     All,
@@ -62,7 +62,7 @@ const OPERATIONS: [(&str, Operation); 7] = [
     ("all", Operation::All),
 ];
 
-/// The answer to `triple OPERATION A ; B ; C | D ; E ; F`.
+/// Answers `triple OPERATION A ; B ; C | D ; E ; F`.
 pub fn answer<A: Allocator + Copy>(
     alloc: A,
     name: &str,
@@ -99,7 +99,7 @@ fn of_left<A: Allocator + Copy>(
     }
 }
 
-/// What comes of an operation, whether or not it was refused memory, where it has left both sets.
+/// Prints the result of an operation, and checks that both sets are unchanged, also if memory was refused.
 fn of_both<A: Allocator + Copy>(
     alloc: A,
     operation: Operation,
@@ -111,7 +111,7 @@ fn of_both<A: Allocator + Copy>(
     kept(alloc, found, are_sets_of(alloc, set, other, operands))
 }
 
-/// Whether two sets are still those that the operands write.
+/// Returns whether two sets are still those that the operands denote.
 fn are_sets_of<A: Allocator + Copy>(
     alloc: A,
     set: &ResourceSet<A>,
@@ -122,7 +122,7 @@ fn are_sets_of<A: Allocator + Copy>(
     Ok(is_set_of(alloc, set, left)? && is_set_of(alloc, other, right)?)
 }
 
-/// Whether a set is still the one that three lists write.
+/// Returns whether a set is still the one that three lists denote.
 fn is_set_of<A: Allocator + Copy>(
     alloc: A,
     set: &ResourceSet<A>,
@@ -176,7 +176,7 @@ fn copy_of<A: Allocator + Copy>(
     }
 }
 
-/// The set of the claims that list a set.
+/// Prints the set of the claims that list a set.
 fn of_claims<A: Allocator + Copy>(alloc: A, set: &ResourceSet<A>) -> Result<String<A>, AllocError> {
     match set.to_as_resources() {
         Ok(asn) => with_asn(alloc, set, &asn),

@@ -1,4 +1,5 @@
-//! Certificates: what their extensions are, and what an issuer verifies of them. An extension that is absent is `-`.
+//! Certificates: the contents of their extensions, and the resources that an issuer verifies. An absent extension is
+//! `-`.
 use crate::print::{self, cut};
 use crate::sets::from_lists;
 use rpki_extensions::anchor::anchor_set;
@@ -11,21 +12,21 @@ use rpki_extensions::{issued, read};
 use rpki_resources::repository::resources::{Overclaim, ResourceSet};
 use std::alloc::{AllocError, Global};
 
-/// `read_as HEX`, and `read_canonical_as HEX`
+/// Answers `read_as HEX` and `read_canonical_as HEX`.
 pub fn read_as(alloc: Global, hex: &str, encoding: Encoding) -> anyhow::Result<String> {
     let octets = hex::decode(alloc, hex)?;
     let resources = read::read_as(alloc, octets.as_slice(), encoding)?;
     print::value(alloc, &resources)
 }
 
-/// `read_families HEX`, and `read_canonical_families HEX`
+/// Answers `read_families HEX` and `read_canonical_families HEX`.
 pub fn read_families(alloc: Global, hex: &str, encoding: Encoding) -> anyhow::Result<String> {
     let octets = hex::decode(alloc, hex)?;
     let (v4, v6) = read::read_families(alloc, octets.as_slice(), encoding)?;
     print::families(alloc, &v4, &v6)
 }
 
-/// The octets of a certificate's extensions, and how they are read.
+/// The octets of a certificate's extensions, their encoding and the mode for an overclaim.
 #[derive(Drop)]
 pub struct Certificate {
     numbers: Option<Vec<u8>>,
@@ -35,7 +36,7 @@ pub struct Certificate {
 }
 
 impl Certificate {
-    /// A certificate of `WORD HEX HEX`: AS identifiers and address blocks behind a word of [`reading_named`].
+    /// Reads a certificate from `WORD HEX HEX`: a word of [`reading_named`], AS identifiers and IP address blocks.
     pub fn read(alloc: Global, text: &str) -> anyhow::Result<Certificate> {
         let (word, extensions) = cut(text, ' ');
         let (numbers, addresses) = cut(extensions, ' ');
@@ -50,7 +51,7 @@ impl Certificate {
         })
     }
 
-    /// What it has, as the library reads it.
+    /// Returns its extensions for the library.
     pub fn extensions(&self) -> Extensions<'_> {
         Extensions {
             numbers: self.numbers.as_deref(),
@@ -61,7 +62,7 @@ impl Certificate {
     }
 }
 
-/// The octets of an extension, or None where it is absent.
+/// Returns the octets of an extension, or `None` if it is absent.
 fn value(alloc: Global, text: &str) -> anyhow::Result<Option<Vec<u8>>> {
     if text == "-" {
         return Ok(None);
@@ -69,8 +70,9 @@ fn value(alloc: Global, text: &str) -> anyhow::Result<Option<Vec<u8>>> {
     Ok(Some(hex::decode(alloc, text)?))
 }
 
-/// Which octets are read, and what becomes of a claim that lists too much: `refuse` or `trim`, and `canonical-refuse`
-/// or `canonical-trim` where canonical octets alone are read.
+/// Returns the encoding and the mode for an overclaim with this name.
+///
+/// The name is `refuse` or `trim`. If only canonical octets are accepted, it is `canonical-refuse` or `canonical-trim`.
 fn reading_named(name: &str) -> (Encoding, Overclaim) {
     match name {
         "trim" => (Encoding::Any, Overclaim::Trim),
@@ -80,7 +82,7 @@ fn reading_named(name: &str) -> (Encoding, Overclaim) {
     }
 }
 
-/// `verified_octets A ; B ; C | refuse HEX HEX`: the resources of an issuer, and a certificate.
+/// Answers `verified_octets A ; B ; C | refuse HEX HEX`: the resources of an issuer, and a certificate.
 pub fn verified_octets(alloc: Global, operands: &str) -> anyhow::Result<String> {
     let (issuer, certificate) = cut(operands, '|');
     let issuer = from_lists(alloc, issuer)?;
@@ -100,7 +102,7 @@ fn left_by(
     print::verified(alloc, issued::verified_octets(alloc, issuer, certificate))
 }
 
-/// `anchor_set refuse HEX HEX`
+/// Answers `anchor_set refuse HEX HEX`.
 pub fn anchor_listed(alloc: Global, text: &str) -> anyhow::Result<String> {
     let certificate = Certificate::read(alloc, text)?;
     listed_by(alloc, &certificate.extensions())
@@ -110,7 +112,7 @@ fn listed_by(alloc: Global, certificate: &Extensions<'_>) -> anyhow::Result<Stri
     print::verified(alloc, anchor_set(alloc, certificate))
 }
 
-/// `written A ; B ; C`: the octets of both extensions.
+/// Answers `written A ; B ; C` with the octets of both extensions.
 pub fn written(alloc: Global, lists: &str) -> anyhow::Result<String> {
     let set = from_lists(alloc, lists)?;
     written_of(alloc, &set)
@@ -129,7 +131,7 @@ fn octets_of(alloc: Global, set: &ResourceSet) -> Result<String, AllocError> {
     Ok(text)
 }
 
-/// `rewritten refuse HEX HEX`: what a certificate claims, written again.
+/// Answers `rewritten refuse HEX HEX`: the claims of a certificate, written again.
 pub fn rewritten(alloc: Global, text: &str) -> anyhow::Result<String> {
     let certificate = Certificate::read(alloc, text)?;
     rewritten_of(alloc, &certificate.extensions())
@@ -159,7 +161,7 @@ fn claimed(alloc: Global, claims: &Claims) -> Result<String, AllocError> {
     Ok(text)
 }
 
-/// Appends the octets of an extension in hexadecimal, and `-` where it is absent.
+/// Appends the octets of an extension in hexadecimal, and `-` if it is absent.
 fn push_octets(
     alloc: Global,
     text: &mut String,

@@ -1,6 +1,7 @@
-//! The program `rows_calls`: each line of the standard input names a function of `example_calls`, `rpki_extensions` or
-//! `roa_origin` and what it is called with, and is answered with one line on the standard output: what the function
-//! answers, or `error: ` and the fault.
+//! The program `rows_calls`.
+//!
+//! Each line of the standard input names a function of `example_calls`, `rpki_extensions` or `roa_origin`, and has its
+//! arguments. The answer is one line on the standard output: the result of the function, or `error: ` and the fault.
 #![tactic(auto)]
 
 mod certificates;
@@ -31,7 +32,7 @@ fn answer(rt: &HostRuntime, line: &str) -> io::Result<()> {
     }
 }
 
-/// What the function that a line names answers.
+/// Calls the function that a line names, and prints its result.
 fn call(alloc: Global, line: &str) -> anyhow::Result<String> {
     let (name, operands) = cut(line, ' ');
     match name {

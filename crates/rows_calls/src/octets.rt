@@ -6,13 +6,13 @@ use rpki_resources::repository::resources::{
 };
 use std::alloc::Global;
 
-/// `written_and_read LIST` of addresses of either family.
+/// Answers `written_and_read LIST` of addresses of either family.
 pub fn written_and_read(alloc: Global, list: &str) -> anyhow::Result<String> {
     let set = IpBlocks::from_str(alloc, list)?;
     as_v6(alloc, example_calls::octets::written_and_read(alloc, &set))
 }
 
-/// `as_written_and_read LIST` of AS numbers.
+/// Answers `as_written_and_read LIST` of AS numbers.
 pub fn as_written_and_read(alloc: Global, list: &str) -> anyhow::Result<String> {
     let set = AsBlocks::from_str(alloc, list)?;
     print::made(
@@ -21,7 +21,7 @@ pub fn as_written_and_read(alloc: Global, list: &str) -> anyhow::Result<String> 
     )
 }
 
-/// `resources_written_and_read LIST` of AS numbers, or `inherit`.
+/// Answers `resources_written_and_read LIST` of AS numbers, or `inherit`.
 pub fn resources_written_and_read(alloc: Global, list: &str) -> anyhow::Result<String> {
     let resources = AsResources::from_str(alloc, list)?;
     if resources.is_missing() {
@@ -33,7 +33,7 @@ pub fn resources_written_and_read(alloc: Global, list: &str) -> anyhow::Result<S
     )
 }
 
-/// `families_written_and_read A | B` of IPv4 and of IPv6.
+/// Answers `families_written_and_read A | B` of IPv4 and of IPv6.
 pub fn families_written_and_read(alloc: Global, lists: &str) -> anyhow::Result<String> {
     let (v4, v6) = cut(lists, '|');
     let v4 = Ipv4Blocks::from_str(alloc, v4)?;
@@ -67,7 +67,7 @@ fn v6_claim(alloc: Global, list: &str) -> anyhow::Result<IpResources> {
     Ok(resources)
 }
 
-/// `append LIST` of AS numbers, or `inherit`: the octets, of which missing resources have none.
+/// Answers `append LIST` of AS numbers, or `inherit`, with the octets. Missing resources have no octets.
 pub fn append(alloc: Global, list: &str) -> anyhow::Result<String> {
     let resources = AsResources::from_str(alloc, list)?;
     let mut octets = Vec::new(alloc);

@@ -1,4 +1,4 @@
-//! Paths of certificates: what is verified of them one below the other, and kind by kind.
+//! Paths of certificates: verification of each by the one above it, and verification of each kind.
 ghost use Rattle.std.specs.Prelude.{All, IfOk, OnOk};
 ghost use Rattle.rpki_ipres.specs.Resources.{IsWholeClaim};
 
@@ -12,7 +12,8 @@ use rpki_resources::repository::resources::{AsStep, IpStep, Overclaim, ResourceS
 use std::alloc::{AllocError, Global};
 use std::fmt;
 
-/// `verified_path A ; B ; C | refuse HEX HEX | ..`: the resources of a trust anchor, and the certificates on a path.
+/// Answers `verified_path A ; B ; C | refuse HEX HEX | ..`: the resources of a trust anchor, and the certificates on a
+/// path.
 pub fn verified_path(alloc: Global, operands: &str) -> anyhow::Result<String> {
     let (anchor, path) = cut(operands, '|');
     let anchor = from_lists(alloc, anchor)?;
@@ -36,7 +37,7 @@ fn left_of(
     )
 }
 
-/// `verified_below refuse HEX HEX | refuse HEX HEX | ..`: a trust anchor, and the certificates on a path.
+/// Answers `verified_below refuse HEX HEX | refuse HEX HEX | ..`: a trust anchor, and the certificates on a path.
 pub fn verified_below(alloc: Global, operands: &str) -> anyhow::Result<String> {
     let (anchor, path) = cut(operands, '|');
     let anchor = Certificate::read(alloc, anchor)?;
@@ -60,7 +61,7 @@ fn below(
     )
 }
 
-/// The certificates between the marks of a path.
+/// Returns the certificates between the `|` of a path.
 fn path_of(alloc: Global, path: &str) -> anyhow::Result<Vec<Certificate>> {
     let mut certificates = Vec::new(alloc);
     if path.is_empty() {
@@ -88,7 +89,7 @@ fn at_step<T: fmt::Display>(alloc: Global, step: usize, fault: &T) -> anyhow::Re
     Ok(text)
 }
 
-/// The claims of the certificates on a path, kind by kind.
+/// The claims of the certificates on a path, one list for each kind.
 #[derive(Drop)]
 struct Steps {
     asn: Vec<AsStep>,
@@ -96,7 +97,7 @@ struct Steps {
     ipv6: Vec<IpStep>,
 }
 
-/// `verified A ; B ; C | refuse HEX HEX | ..`, the operands of [`verified_path`].
+/// Answers `verified A ; B ; C | refuse HEX HEX | ..`, with the operands of [`verified_path`].
 pub fn verified(alloc: Global, operands: &str) -> anyhow::Result<String> {
     let (root, path) = cut(operands, '|');
     let steps = read_steps(alloc, path)?;

@@ -6,7 +6,7 @@ use rpki_resources::resources::addr::Prefix as FamilyPrefix;
 use std::alloc::{AllocError, Global};
 use std::fmt;
 
-/// `v4_filter LIST`
+/// Answers `v4_filter LIST`.
 pub fn v4_filter(alloc: Global, list: &str) -> anyhow::Result<String> {
     let set = Ipv4Blocks::from_str(alloc, list)?;
     let prefixes = filters::v4_filter(alloc, &set)?;
@@ -31,7 +31,7 @@ fn append_prefix<T: fmt::Display>(
     write!(text, "/{length}")
 }
 
-/// `v6_filter LIST`
+/// Answers `v6_filter LIST`.
 pub fn v6_filter(alloc: Global, list: &str) -> anyhow::Result<String> {
     let set = Ipv6Blocks::from_str(alloc, list)?;
     let prefixes = filters::v6_filter(alloc, &set)?;
@@ -47,13 +47,13 @@ fn v6_text(alloc: Global, prefixes: &[Prefix]) -> anyhow::Result<String> {
     Ok(text)
 }
 
-/// `table PREFIX, ..`
+/// Answers `table PREFIX, ..`.
 pub fn table(alloc: Global, list: &str) -> anyhow::Result<String> {
     let table = sorted(alloc, list)?;
     joined(alloc, &table)
 }
 
-/// `covering PREFIX, .. | PREFIX`: those of the table that cover the route.
+/// Answers `covering PREFIX, .. | PREFIX` with the prefixes of the table that cover the route.
 pub fn covering(alloc: Global, operands: &str) -> anyhow::Result<String> {
     let (list, route) = cut(operands, '|');
     let route = route.parse::<FamilyPrefix>()?;
@@ -70,7 +70,7 @@ fn covering_in(
     joined(alloc, &prefixes)
 }
 
-/// The table of a list of prefixes.
+/// Returns the table of a list of prefixes.
 fn sorted(alloc: Global, list: &str) -> anyhow::Result<Vec<FamilyPrefix>> {
     let prefixes = listed(alloc, list)?;
     let table = cache::table(alloc, &prefixes)?;

@@ -1,11 +1,11 @@
-//! How lines are cut and answers printed.
+//! Splitting of lines and printing of answers.
 use rpki_resources::OrMemory;
 use rpki_resources::repository::resources::{IpBlocks, IpResources};
 use std::alloc::{AllocError, Global};
 use std::fmt;
 
-/// What stands before the first such mark of a text, and what behind it: all of the text and nothing, where there is
-/// none.
+/// Returns the trimmed parts of a text before and after the first `mark`. If the text has no `mark`, they are all of
+/// it, untrimmed, and an empty text.
 pub fn cut(text: &str, mark: char) -> (&str, &str) {
     match text.split_once(mark) {
         Some((left, right)) => (left.trim(), right.trim()),
@@ -13,19 +13,19 @@ pub fn cut(text: &str, mark: char) -> (&str, &str) {
     }
 }
 
-/// A text as it is.
+/// Prints a text unchanged.
 pub fn text(alloc: Global, text: &str) -> anyhow::Result<String> {
     let text = String::from_str(alloc, text)?;
     Ok(text)
 }
 
-/// A value.
+/// Prints a value.
 pub fn value<T: fmt::Display>(alloc: Global, value: &T) -> anyhow::Result<String> {
     let text = format!(in alloc; "{value}")?;
     Ok(text)
 }
 
-/// A value, where there was memory for it.
+/// Prints a value, or returns the `AllocError` that came instead of it.
 pub fn made<T: fmt::Display + Drop>(
     alloc: Global,
     made: Result<T, AllocError>,
@@ -36,7 +36,7 @@ pub fn made<T: fmt::Display + Drop>(
     }
 }
 
-/// A value, or the reason why there is none.
+/// Prints a value, or the reason of a refusal.
 pub fn verified<T: fmt::Display + Drop, E: fmt::Display + Drop>(
     alloc: Global,
     found: Result<T, OrMemory<E>>,
@@ -47,7 +47,7 @@ pub fn verified<T: fmt::Display + Drop, E: fmt::Display + Drop>(
     }
 }
 
-/// The reason of a refusal. `Err` where memory was wanting.
+/// Prints the reason of a refusal. Returns `Err` if memory ran out.
 pub fn refused<E: fmt::Display + Drop>(
     alloc: Global,
     error: OrMemory<E>,
@@ -58,7 +58,7 @@ pub fn refused<E: fmt::Display + Drop>(
     }
 }
 
-/// A value, or `none`.
+/// Prints a value, or `none`.
 pub fn option<T: fmt::Display>(alloc: Global, found: &Option<T>) -> anyhow::Result<String> {
     match found {
         Some(found) => value(alloc, found),
@@ -66,7 +66,7 @@ pub fn option<T: fmt::Display>(alloc: Global, found: &Option<T>) -> anyhow::Resu
     }
 }
 
-/// Appends an item to a list, behind a comma where another stands before it.
+/// Appends an item to a list, after a comma if the list is not empty.
 pub fn append<T: fmt::Display>(list: &mut String, item: &T) -> Result<(), AllocError> {
     if !list.is_empty() {
         list.push_str(", ")?;
@@ -74,7 +74,7 @@ pub fn append<T: fmt::Display>(list: &mut String, item: &T) -> Result<(), AllocE
     write!(list, "{item}")
 }
 
-/// The resources of both families.
+/// Prints the resources of both families.
 pub fn families(
     alloc: Global,
     v4: &Option<IpResources>,
@@ -86,7 +86,7 @@ pub fn families(
     Ok(text)
 }
 
-/// Appends the resources of a family, and `-` where it isn't there.
+/// Appends the resources of a family, and `-` if it is absent.
 fn append_family(
     text: &mut String,
     name: &str,
@@ -100,7 +100,7 @@ fn append_family(
     }
 }
 
-/// Appends `inherit`, or the addresses that are listed.
+/// Appends `inherit`, or the listed addresses.
 fn append_listed(
     text: &mut String,
     resources: &IpResources,

@@ -1,4 +1,4 @@
-//! Route origins. A payload is `PREFIX[-MAX] AS`, a route `PREFIX AS`.
+//! Route origins. A VRP is `PREFIX[-MAX] AS`, a route `PREFIX AS`.
 use crate::print::{self, cut};
 use crate::sets::from_lists;
 use roa_check::Validity;
@@ -8,7 +8,7 @@ use rpki_resources::resources::addr::{MaxLenPrefix, Prefix};
 use rpki_resources::resources::asn::Asn;
 use std::alloc::Global;
 
-/// What a text between commas writes.
+/// The value of a text between commas.
 trait Entry: Sized + Drop {
     fn read(text: &str) -> anyhow::Result<Self>;
 }
@@ -38,7 +38,7 @@ impl Entry for (Prefix, Asn) {
     }
 }
 
-/// The entries of a list, which may be empty.
+/// Returns the entries of a list, which may be empty.
 fn entries<T: Entry>(alloc: Global, list: &str) -> anyhow::Result<Vec<T>> {
     let mut entries = Vec::new(alloc);
     for text in list.split(',') {
@@ -50,7 +50,7 @@ fn entries<T: Entry>(alloc: Global, list: &str) -> anyhow::Result<Vec<T>> {
     Ok(entries)
 }
 
-/// `by_list PAYLOAD, .. | ROUTE`
+/// Answers `by_list PAYLOAD, .. | ROUTE`.
 pub fn by_list(alloc: Global, operands: &str) -> anyhow::Result<String> {
     let (list, route) = cut(operands, '|');
     let payloads = entries::<(MaxLenPrefix, Asn)>(alloc, list)?;
@@ -69,7 +69,7 @@ fn by_payloads(
     )
 }
 
-/// `by_table PAYLOAD, .. | ROUTE`
+/// Answers `by_table PAYLOAD, .. | ROUTE`.
 pub fn by_table(alloc: Global, operands: &str) -> anyhow::Result<String> {
     let (list, route) = cut(operands, '|');
     let payloads = entries::<(MaxLenPrefix, Asn)>(alloc, list)?;
@@ -94,14 +94,14 @@ fn name(validity: Validity) -> &'static str {
     }
 }
 
-/// The table of a list of payloads.
+/// Returns the table of a list of VRPs.
 fn table(alloc: Global, list: &str) -> anyhow::Result<OriginTable> {
     let payloads = entries::<(MaxLenPrefix, Asn)>(alloc, list)?;
     let table = OriginTable::new(alloc, &payloads)?;
     Ok(table)
 }
 
-/// `count_invalid PAYLOAD, .. | ROUTE, ..`
+/// Answers `count_invalid PAYLOAD, .. | ROUTE, ..`.
 pub fn count_invalid(alloc: Global, operands: &str) -> anyhow::Result<String> {
     let (list, routes) = cut(operands, '|');
     let table = table(alloc, list)?;
@@ -113,7 +113,7 @@ fn invalid_of(alloc: Global, table: &OriginTable, routes: &str) -> anyhow::Resul
     print::value(alloc, &example_calls::routes::count_invalid(table, &routes))
 }
 
-/// `explanation PAYLOAD, .. | PREFIX`
+/// Answers `explanation PAYLOAD, .. | PREFIX`.
 pub fn explanation(alloc: Global, operands: &str) -> anyhow::Result<String> {
     let (list, route) = cut(operands, '|');
     let table = table(alloc, list)?;
@@ -135,7 +135,7 @@ fn joined(alloc: Global, payloads: &[(MaxLenPrefix, Asn)]) -> anyhow::Result<Str
     Ok(text)
 }
 
-/// `excess A ; B ; C | PREFIX[-MAX], ..`
+/// Answers `excess A ; B ; C | PREFIX[-MAX], ..`.
 pub fn excess(alloc: Global, operands: &str) -> anyhow::Result<String> {
     let (lists, prefixes) = cut(operands, '|');
     let resources = from_lists(alloc, lists)?;
@@ -147,7 +147,8 @@ fn excess_of(alloc: Global, resources: &ResourceSet, prefixes: &str) -> anyhow::
     print::option(alloc, &example_calls::routes::excess(resources, &entries))
 }
 
-/// `changes PAYLOAD, .. | PAYLOAD, ..`: what a router is told so that it gets from the one table to the other.
+/// Answers `changes PAYLOAD, .. | PAYLOAD, ..` with the changes that a router has to receive to get from one table to
+/// the other.
 pub fn changes(alloc: Global, operands: &str) -> anyhow::Result<String> {
     let (sent, next) = cut(operands, '|');
     let sent = sent_table(alloc, sent)?;
@@ -191,7 +192,7 @@ fn with_withdrawn(
     Ok(text)
 }
 
-/// The table that routers get of a list of payloads.
+/// Returns the table of a list of VRPs that routers receive.
 fn sent_table(alloc: Global, list: &str) -> anyhow::Result<PayloadTable> {
     let payloads = entries::<(MaxLenPrefix, Asn)>(alloc, list)?;
     let table = PayloadTable::new(alloc, &payloads)?;

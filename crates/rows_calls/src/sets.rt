@@ -5,14 +5,14 @@ use rpki_resources::repository::resources::set::FromStrError;
 use rpki_resources::repository::resources::{AsBlock, AsBlocks, IpBlocks, Ipv4Blocks, ResourceSet};
 use std::alloc::{AllocError, Global};
 
-/// The set that `A ; B ; C` writes.
+/// Returns the set that `A ; B ; C` denotes.
 pub fn from_lists(alloc: Global, lists: &str) -> Result<ResourceSet, OrMemory<FromStrError>> {
     let (asn, addresses) = cut(lists, ';');
     let (ipv4, ipv6) = cut(addresses, ';');
     ResourceSet::from_strs(alloc, asn, ipv4, ipv6)
 }
 
-/// `union_of_three A | B | C` of IPv4.
+/// Answers `union_of_three A | B | C` of IPv4.
 pub fn union_of_three(alloc: Global, lists: &str) -> anyhow::Result<String> {
     let (one, others) = cut(lists, '|');
     let one = Ipv4Blocks::from_str(alloc, one)?;
@@ -38,14 +38,14 @@ fn union_with_third(
     )
 }
 
-/// `blocks_of LIST` of AS numbers.
+/// Answers `blocks_of LIST` of AS numbers.
 pub fn blocks_of(alloc: Global, list: &str) -> anyhow::Result<String> {
     let set = AsBlocks::from_str(alloc, list)?;
     let blocks = example_calls::sets::blocks_of(alloc, &set)?;
     joined(alloc, &blocks)
 }
 
-/// `made_again LIST` of AS numbers.
+/// Answers `made_again LIST` of AS numbers.
 pub fn made_again(alloc: Global, list: &str) -> anyhow::Result<String> {
     let set = AsBlocks::from_str(alloc, list)?;
     print::made(alloc, example_calls::sets::made_again(alloc, &set))
@@ -59,13 +59,13 @@ fn joined(alloc: Global, blocks: &[AsBlock]) -> anyhow::Result<String> {
     Ok(text)
 }
 
-/// `printed_and_read LIST` of addresses of either family.
+/// Answers `printed_and_read LIST` of addresses of either family.
 pub fn printed_and_read(alloc: Global, list: &str) -> anyhow::Result<String> {
     let set = IpBlocks::from_str(alloc, list)?;
     as_v6(alloc, example_calls::texts::printed_and_read(alloc, &set))
 }
 
-/// A set of addresses, printed as one of IPv6.
+/// Prints a set of addresses in the notation of IPv6.
 pub fn as_v6(alloc: Global, set: Result<IpBlocks, AllocError>) -> anyhow::Result<String> {
     match set {
         Ok(set) => print::value(alloc, &set.as_v6()),
@@ -73,7 +73,7 @@ pub fn as_v6(alloc: Global, set: Result<IpBlocks, AllocError>) -> anyhow::Result
     }
 }
 
-/// `resources_printed_and_read A ; B ; C`
+/// Answers `resources_printed_and_read A ; B ; C`.
 pub fn resources_printed_and_read(alloc: Global, lists: &str) -> anyhow::Result<String> {
     let set = from_lists(alloc, lists)?;
     printed_and_read_again(alloc, &set)

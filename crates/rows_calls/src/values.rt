@@ -1,10 +1,10 @@
-//! Conditions that are met, refusals that are told apart, and resources that are built block by block.
+//! Preconditions that hold, errors that are distinguished, and resources that are built block by block.
 use crate::print::{self, cut};
 use example_calls::{builders, conditions, errors};
 use rpki_resources::repository::resources::{AsBlock, AsResources, Asn, IpBlocks, IpResources};
 use std::alloc::Global;
 
-/// `between ASN ASN`
+/// Answers `between ASN ASN`.
 pub fn between(alloc: Global, operands: &str) -> anyhow::Result<String> {
     let (one, other) = cut(operands, ' ');
     let one = one.parse::<Asn>()?;
@@ -13,18 +13,18 @@ pub fn between(alloc: Global, operands: &str) -> anyhow::Result<String> {
     print::value(alloc, &range)
 }
 
-/// `behind ASN`
+/// Answers `behind ASN`.
 pub fn behind(alloc: Global, asn: &str) -> anyhow::Result<String> {
     print::option(alloc, &conditions::behind(asn.parse::<Asn>()?))
 }
 
-/// `whole_v4 LIST` of addresses of either family.
+/// Answers `whole_v4 LIST` of addresses of either family.
 pub fn whole_v4(alloc: Global, list: &str) -> anyhow::Result<String> {
     let blocks = IpBlocks::from_str(alloc, list)?;
     print::option(alloc, &conditions::whole_v4(blocks))
 }
 
-/// `listed_set A ; B ; C` of AS numbers and of addresses of either family, each a list or `inherit`.
+/// Answers `listed_set A ; B ; C` of AS numbers and of addresses of either family, each a list or `inherit`.
 pub fn listed_set(alloc: Global, lists: &str) -> anyhow::Result<String> {
     let (asn, addresses) = cut(lists, ';');
     let asn = AsResources::from_str(alloc, asn)?;
@@ -52,25 +52,25 @@ fn ip_claim(alloc: Global, list: &str) -> anyhow::Result<IpResources> {
     Ok(IpResources::blocks(set))
 }
 
-/// `listed_in_the_end BLOCK` of AS numbers.
+/// Answers `listed_in_the_end BLOCK` of AS numbers.
 pub fn listed_in_the_end(alloc: Global, block: &str) -> anyhow::Result<String> {
     let block = block.parse::<AsBlock>()?;
     print::made(alloc, builders::listed_in_the_end(alloc, block))
 }
 
-/// `any_error LIST` of AS numbers.
+/// Answers `any_error LIST` of AS numbers.
 pub fn any_error(alloc: Global, list: &str) -> anyhow::Result<String> {
     let set = errors::any_error(alloc, list)?;
     print::value(alloc, &set)
 }
 
-/// `fault_of LIST` of AS numbers.
+/// Answers `fault_of LIST` of AS numbers.
 pub fn fault_of(alloc: Global, list: &str) -> anyhow::Result<String> {
     let fault = errors::fault_of(alloc, list)?;
     print::option(alloc, &fault)
 }
 
-/// `is_read_without_memory LIST` of AS numbers.
+/// Answers `is_read_without_memory LIST` of AS numbers.
 pub fn is_read_without_memory(alloc: Global, list: &str) -> anyhow::Result<String> {
     print::value(alloc, &errors::is_read_without_memory(alloc, list))
 }

@@ -1,4 +1,4 @@
-//! What chains over pairs of `u64` answer.
+//! Answers about chains over pairs of `u64`.
 use crate::lists::Lists;
 use crate::pairs::Pair;
 use rows_support::names::named;
@@ -11,7 +11,7 @@ use rpki_chain::shared::SharedChain;
 use std::alloc::{AllocError, Allocator};
 use std::str::FromStr;
 
-/// What is asked of the chain of a list.
+/// A question about the chain of a list.
 #[derive(Clone, Copy)]
 enum Question {
     FromBlocks,
@@ -24,11 +24,11 @@ enum Question {
     Has,
     /// Whether it has some number of a pair.
     Meets,
-    /// What is asked of it and the chain of another list.
+    /// An operation on it and the chain of another list.
     Both(Operation),
 }
 
-/// What is asked of two chains.
+/// An operation on two chains.
 #[derive(Clone, Copy)]
 enum Operation {
     Difference,
@@ -52,16 +52,16 @@ const QUESTIONS: [(&str, Question); 11] = [
     ("equal", Question::Both(Operation::Equal)),
 ];
 
-/// What is printed of a chain.
+/// The printed form of a chain.
 #[derive(Clone, Copy)]
 pub enum Shown {
     /// Its blocks.
     Blocks,
-    /// How many blocks it has.
+    /// The number of its blocks.
     Count,
 }
 
-/// The answer to `chain QUESTION A` and `chain QUESTION A|B`.
+/// Answers `chain QUESTION A` and `chain QUESTION A|B`.
 pub fn answer<A: Allocator + Copy>(
     alloc: A,
     name: &str,
@@ -182,7 +182,7 @@ fn shared<A: Allocator + Copy>(alloc: A, blocks: &[Pair]) -> Result<String<A>, A
     text(alloc, Shown::Blocks, other.as_chain())
 }
 
-/// `ok` where the first chain is within the other, and else what is shown of their common blocks.
+/// Prints `ok` if the first chain is within the other, and else their common blocks or the number of these.
 pub fn trim<A: Allocator + Copy>(
     alloc: A,
     shown: Shown,
@@ -196,7 +196,7 @@ pub fn trim<A: Allocator + Copy>(
     }
 }
 
-/// What is shown of a chain, where there was memory for it.
+/// Prints a chain, or returns the `AllocError` that came instead of it.
 pub fn owned_text<A: Allocator + Copy>(
     alloc: A,
     shown: Shown,
@@ -222,7 +222,7 @@ fn text<A: Allocator + Copy>(
     }
 }
 
-/// The blocks of a chain, joined by commas.
+/// Prints the blocks of a chain, joined by commas.
 fn list<A: Allocator + Copy>(alloc: A, chain: Chain<'_, Pair>) -> Result<String<A>, AllocError> {
     let mut list = String::new(alloc);
     for block in chain.iter() {
@@ -231,7 +231,7 @@ fn list<A: Allocator + Copy>(alloc: A, chain: Chain<'_, Pair>) -> Result<String<
     Ok(list)
 }
 
-/// The answer to `pair QUESTION P|Q`.
+/// Answers `pair QUESTION P|Q`.
 pub fn pair_answer<A: Allocator + Copy>(
     alloc: A,
     question: &str,

@@ -1,5 +1,7 @@
-//! What `rows_sets` asks below the sets of a kind: of chains over a kind of block of its own, and of small sets; and
-//! how the two lists of a line are read.
+//! Code of `rows_sets` below the sets of one kind.
+//!
+//! It answers questions about chains over a kind of block of its own, and about small sets. It also reads the two lists
+//! of a line.
 #![tactic(auto)]
 
 pub mod chains;

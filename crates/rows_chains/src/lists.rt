@@ -5,7 +5,7 @@ use rpki_base::memory::OrMemory;
 use std::alloc::Allocator;
 use std::str::FromStr;
 
-/// What the lists `A` and `B` of `A|B` have: of `A` alone, the second is empty.
+/// The values of the lists `A` and `B` in `A|B`. If there is only `A`, the second is empty.
 #[derive(Drop)]
 pub struct Lists<T: Drop, A: Allocator> {
     pub left: Vec<T, A>,

@@ -1,4 +1,4 @@
-//! Chains of many blocks: one has each fourth number from 0 on, the other the numbers two above.
+//! Chains of many blocks. The first has each fourth number from 0 on, the second the numbers greater by 2.
 use crate::chains::{Shown, owned_text, trim};
 use crate::pairs::Pair;
 use rows_support::print;
@@ -7,7 +7,7 @@ use rpki_chain::chain::Chain;
 use rpki_chain::owned::OwnedChain;
 use std::alloc::{AllocError, Allocator};
 
-/// What two chains of so many blocks each answer.
+/// Answers a question about two chains of `count` blocks each.
 pub fn answer<A: Allocator + Copy>(
     alloc: A,
     question: &str,
@@ -27,7 +27,7 @@ fn of_fourths<A: Allocator + Copy>(
     of_chains(alloc, question, count, chain, others.as_chain())
 }
 
-/// The chain of so many numbers, each four above the one before it.
+/// Returns the chain of `count` numbers from `first` on, each greater by 4 than the one before it.
 fn every_fourth<A: Allocator + Copy>(
     alloc: A,
     count: u64,
@@ -41,7 +41,7 @@ fn every_fourth<A: Allocator + Copy>(
     Ok(OwnedChain::from_vec(blocks))
 }
 
-/// Whether the chain has each fourth number, and none that comes right behind one.
+/// Returns whether the chain has each fourth number, and no number that directly follows one of these.
 fn has_fourths(chain: Chain<'_, Pair>, count: u64) -> bool {
     for at in 0..count {
         let number = at.saturating_mul(4);
@@ -76,7 +76,7 @@ fn of_chains<A: Allocator + Copy>(
     }
 }
 
-/// Whether the difference of two chains is the first of them.
+/// Prints whether the difference of two chains is the first of them.
 fn difference<A: Allocator + Copy>(
     alloc: A,
     chain: Chain<'_, Pair>,

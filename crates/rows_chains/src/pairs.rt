@@ -71,7 +71,7 @@ impl Block for Pair {
     }
 }
 
-/// A text that is neither a number nor two numbers in order with a dash between them.
+/// The error for a text that is neither a number nor two numbers in order with a dash between them.
 #[derive(Clone, Copy, Drop)]
 pub struct ParsePairError;
 

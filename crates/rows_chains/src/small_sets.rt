@@ -1,4 +1,4 @@
-//! What small sets of AS numbers answer.
+//! Answers about small sets of AS numbers.
 ghost use Rattle.std.specs.Iterator.{IsFinite};
 
 use crate::lists::Lists;
@@ -9,7 +9,7 @@ use rpki_base::asn::Asn;
 use rpki_base::small_set::SmallAsnSet;
 use std::alloc::{AllocError, Allocator};
 
-/// The answer to `small OPERATION X|Y`.
+/// Answers `small OPERATION X|Y`.
 pub fn answer<A: Allocator + Copy>(
     alloc: A,
     operation: &str,
@@ -33,7 +33,7 @@ fn of_list<A: Allocator + Copy>(
     }
 }
 
-/// What is answered of a set, whether or not memory was refused, where it has left the set.
+/// Answers a question about a set, and checks that the set is unchanged, also if memory was refused.
 fn of_kept<A: Allocator + Copy>(
     alloc: A,
     operation: &str,
@@ -86,7 +86,7 @@ fn copy<A: Allocator + Copy>(alloc: A, set: &SmallAsnSet<A>) -> Result<String<A>
     numbers(alloc, copy.iter())
 }
 
-/// Numbers, one by one.
+/// Prints numbers one by one.
 pub fn numbers<A: Allocator + Copy, I: Iterator<Item = Asn>>(
     alloc: A,
     asns: I,

@@ -9,7 +9,7 @@ use std::str::FromStr;
 use std::test::Fail;
 use test_support::prints;
 
-/// An address, displayed in a family.
+/// An address with the family in whose notation it is printed.
 #[derive(Clone, Copy)]
 struct Shown {
     addr: Addr,
@@ -66,7 +66,7 @@ fn texts_of_addresses(rt: HostRuntime) {
     same(&rt, Addr::from_str("10.1.2"), Err(AddrParseError::Ip));
 }
 
-// A length, and the least and the greatest address that 10.1.2.3 has the first so many bits with.
+// A length, and the least and the greatest address with that many first bits of 10.1.2.3.
 const BOUNDS: [(u8, &str, &str); 6] = [
     (0, "::", "ffff:ffff:ffff:ffff:ffff:ffff:ffff:ffff"),
     (16, "a01::", "a01:ffff:ffff:ffff:ffff:ffff:ffff:ffff"),

@@ -6,7 +6,7 @@ use rpki_base::asn::Asn;
 use rpki_chain::block::Block;
 use std::str::FromStr;
 
-/// The block with these bounds, in the form that `new` gives.
+/// Returns the block with these bounds, in the form that `new` gives.
 fn block(one: u32, other: u32) -> AsBlock {
     <AsBlock as Block>::new(Asn::from_u32(one.min(other)), Asn::from_u32(one.max(other)))
 }

@@ -1,4 +1,4 @@
-// Blocks of addresses, of either family and of one: their forms and bounds, and what they are made from.
+// Blocks of addresses, of either family and of one family: their forms, their bounds, and their sources.
 use crate::checks::{holds, same};
 use rpki_base::addr::{AddrParseError, Ipv4Addr, Ipv6Addr};
 use rpki_base::number::ParseIntError;
@@ -15,19 +15,19 @@ use std::alloc::Global;
 use std::str::FromStr;
 use test_support::prints;
 
-/// The block with these bounds, in the form that `new` gives.
+/// Returns the block with these bounds, in the form that `new` gives.
 fn block(one: u128, other: u128) -> IpBlock {
     let (min, max) = (one.min(other), one.max(other));
     <IpBlock as Block>::new(Addr::from_bits(min), Addr::from_bits(max))
 }
 
-/// The Range with these bounds.
+/// Returns the `Range` with these bounds.
 fn range(one: u128, other: u128) -> IpBlock {
     let (min, max) = (one.min(other), one.max(other));
     IpBlock::Range(AddressRange::new(Addr::from_bits(min), Addr::from_bits(max)))
 }
 
-/// The length of a block that is a Prefix.
+/// Returns the length of a block that is a `Prefix`.
 fn len_of(block: &IpBlock) -> Option<u8> {
     match block {
         IpBlock::Prefix(prefix) => Some(prefix.addr_len()),
@@ -41,7 +41,7 @@ fn has_bounds(block: &IpBlock, min: u128, max: u128) -> bool {
 
 const FIRST: u128 = 0x0a00_0000_u128 << 96;
 
-// The bounds of a block, and its length where it is a Prefix.
+// The bounds of a block, and its length if it is a `Prefix`.
 const FORMS: [(u128, u128, Option<u8>); 10] = [
     (0, u128::MAX, Some(0)),
     (FIRST, FIRST + (1 << 104) - 1, Some(24)),
@@ -95,7 +95,7 @@ const SLASH_ZERO: [(&str, bool); 6] = [
     ("0.0.0.0-255.255.255.255", false),
 ];
 
-/// Whether a text is a block, and all addresses as a prefix or not.
+/// Returns whether a text is a block for which the check for all addresses as a prefix gives `wanted`.
 fn is_slash_zero(text: &str, wanted: bool) -> bool {
     match IpBlock::from_str(text) {
         Ok(block) => block.is_slash_zero() == wanted,
@@ -110,7 +110,7 @@ fn texts_of_all_addresses(rt: HostRuntime) {
     }
 }
 
-/// Whether a block is this Prefix.
+/// Returns whether a block is this `Prefix`.
 fn is_prefix(block: &IpBlock, prefix: Prefix) -> bool {
     match block {
         IpBlock::Prefix(same) => *same == prefix,
@@ -118,7 +118,7 @@ fn is_prefix(block: &IpBlock, prefix: Prefix) -> bool {
     }
 }
 
-/// Whether a block is this Range.
+/// Returns whether a block is this `Range`.
 fn is_range(block: &IpBlock, range: AddressRange) -> bool {
     match block {
         IpBlock::Prefix(_) => false,
@@ -135,7 +135,7 @@ fn blocks_of_prefixes_and_ranges(rt: HostRuntime) {
     same(&rt, IpBlock::from(prefix), IpBlock::from(span));
 }
 
-/// Whether a text is a prefix of one family, and its block a Prefix with this length and these bounds.
+/// Returns whether a text is a prefix of one family, and its block a `Prefix` with this length and these bounds.
 fn is_block_of(text: &str, len: u8, min: u128, max: u128) -> bool {
     match FamilyPrefix::from_str(text) {
         Ok(prefix) => {
@@ -193,7 +193,7 @@ fn neighbours(rt: HostRuntime) {
 
 // ---- blocks of one family
 
-// A text, its bounds, and what is printed of the block.
+// A text, its bounds, and the printed form of the block.
 const V4_BLOCKS: [(&str, u32, u32, &str); 5] = [
     ("10.0.0.1/8", 0x0a00_0000, 0x0aff_ffff, "10.0.0.0/8"),
     ("10.0.0.7", 0x0a00_0007, 0x0a00_0007, "10.0.0.7"),
@@ -214,7 +214,7 @@ fn v4_block_is(alloc: Global, block: Ipv4Block, row: &(&str, u32, u32, &str)) ->
         && prints(alloc, &block, row.3) == Ok(true)
 }
 
-/// Whether both texts are the block, in whichever form.
+/// Returns whether both texts are the block, in either form.
 fn is_v4_block(alloc: Global, row: &(&str, u32, u32, &str)) -> bool {
     match (Ipv4Block::from_str(row.0), Ipv4Block::from_str(row.3)) {
         (Ok(block), Ok(printed)) => block == printed && v4_block_is(alloc, block, row),
@@ -250,7 +250,7 @@ fn v6_block_is(alloc: Global, block: Ipv6Block, row: &(&str, u128, u128, &str)) 
         && prints(alloc, &block, row.3) == Ok(true)
 }
 
-/// Whether both texts are the block, in whichever form.
+/// Returns whether both texts are the block, in either form.
 fn is_v6_block(alloc: Global, row: &(&str, u128, u128, &str)) -> bool {
     match (Ipv6Block::from_str(row.0), Ipv6Block::from_str(row.3)) {
         (Ok(block), Ok(printed)) => block == printed && v6_block_is(alloc, block, row),
@@ -265,7 +265,9 @@ fn blocks_of_ipv6(rt: HostRuntime) {
     }
 }
 
-/// Whether a text is a block, all addresses as a prefix or not, and equal to that or not.
+/// Returns whether a text is a block for which both checks give the expected results.
+///
+/// The checks are for all addresses as a prefix, and for equality with all addresses.
 fn v4_block_stands(text: &str, is_slash_zero: bool, is_all: bool) -> bool {
     match Ipv4Block::from_str(text) {
         Ok(block) => {
@@ -283,7 +285,7 @@ fn blocks_of_all_ipv4_addresses(rt: HostRuntime) {
     holds(&rt, v4_block_stands("0.0.0.0/1", false, false));
 }
 
-/// The same of IPv6.
+/// Does the same for IPv6.
 fn v6_block_stands(text: &str, is_slash_zero: bool, is_all: bool) -> bool {
     match Ipv6Block::from_str(text) {
         Ok(block) => {

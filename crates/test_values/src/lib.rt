@@ -1,5 +1,7 @@
-//! What no clause says of numbers, addresses, prefixes, ranges and blocks, and what no line of the program
-//! `rows_values` can say of them: values and their parts, conversions, forms of blocks.
+//! Tests of numbers, addresses, prefixes, ranges and blocks.
+//!
+//! They show what no clause states and no line of the program `rows_values` can show: values and their parts,
+//! conversions, and forms of blocks.
 #![tactic(auto)]
 
 #[cfg(test)]

@@ -1,4 +1,4 @@
-// Prefixes of one family: their parts, constructors and greatest lengths.
+// Prefixes of one family: their parts, constructors and maximum lengths.
 use crate::checks::{holds, same};
 use rpki_base::addr::{IpAddr, Ipv4Addr, Ipv6Addr};
 use rpki_prefix::error::{MaxLenError, PrefixError};
@@ -57,7 +57,7 @@ fn prefixes_in_order(rt: HostRuntime) {
     holds(&rt, are_in_order("192.168.10.0/24", "192.0.0.0/8"));
 }
 
-/// 127.0.0.1 and ::1.
+/// Returns 127.0.0.1 and ::1.
 fn addresses() -> (Ipv4Addr, Ipv6Addr) {
     (Ipv4Addr::from_bits(0x7f00_0001), Ipv6Addr::from_bits(1))
 }
@@ -110,7 +110,7 @@ fn relaxed_constructors(rt: HostRuntime) {
     holds(&rt, is(Prefix::new_relaxed(IpAddr::V6(v6), 0), "::/0"));
 }
 
-// A prefix, a greatest length, what is wrong with it, and the nearest one that isn't.
+// A prefix, a maximum length, the error of that length, and the nearest valid one.
 const MAX_LENGTHS: [(&str, Option<u8>, Option<MaxLenError>, Option<u8>); 9] = [
     (
         "192.168.0.0/16",

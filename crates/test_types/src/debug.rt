@@ -1,4 +1,4 @@
-// What `{:?}` writes of a value of each type: by derive the name and the fields as they stand, as std does.
+// The output of `{:?}` for a value of each type. A derived one is the name and the fields in their order, as in std.
 use crate::checks::{holds, is_shown};
 use roa_origin::{OriginTable, PayloadTable};
 use rpki_as::block::AsBlock;
@@ -68,7 +68,7 @@ fn debug_of_addresses(rt: HostRuntime) {
     holds(&rt, is_shown(alloc, &Addr::from_bits(9), "Addr(9)"));
 }
 
-/// What is shown of a value that was made, which is let go.
+/// Returns whether `{:?}` prints this text for a value that was made. It drops the value.
 fn made_is_shown<T: Debug + Drop, E: Drop>(alloc: Global, made: Result<T, E>, text: &str) -> bool {
     match made {
         Ok(value) => is_shown(alloc, &value, text),
@@ -158,7 +158,7 @@ fn debug_of_blocks_of_addresses(rt: HostRuntime) {
     holds(&rt, is_shown(alloc, &Ipv6Block::all(), v6));
 }
 
-/// What is said of a set by a claim that has none of it.
+/// Returns whether the error for a set that a claim has none of prints the set.
 fn shows_excess(alloc: Global, set: &AsBlocks) -> bool {
     match set.verify_covered(alloc, &AsResources::missing()) {
         Err(OrMemory::Refused(fault)) => let_go_is_shown(alloc, fault, "{Id(Asn(7))}"),
@@ -253,7 +253,7 @@ fn shows_in_v6(alloc: Global, set: &IpBlocks) -> bool {
     is_shown(alloc, &set.as_v6(), of_v6)
 }
 
-/// What is said of a set by a claim that has none of it, as it is and in IPv6.
+/// Returns whether the error for a set of addresses that a claim has none of prints all addresses, also as one of IPv6.
 fn shows_all_beyond(alloc: Global, set: &IpBlocks) -> bool {
     match set.verify_covered(alloc, &IpResources::missing()) {
         Err(OrMemory::Refused(fault)) => shows_fault(alloc, fault),
@@ -282,7 +282,7 @@ fn shows_all_v4(alloc: Global) -> bool {
     made_is_shown(alloc, Ipv4Blocks::all(alloc), v4)
 }
 
-/// The iterator over a set's blocks, before its first block.
+/// Returns whether the iterator over a set's blocks is printed, before its first block.
 fn shows_blocks(alloc: Global) -> bool {
     let left = "BlockIter(Iter([Prefix(Prefix { addr: Addr(0), len: 0 })]))";
     match Ipv4Blocks::all(alloc) {
@@ -310,7 +310,7 @@ fn debug_of_sets_of_a_family(rt: HostRuntime) {
     );
 }
 
-/// What a set has beyond itself.
+/// Returns whether the difference of a set and itself is printed.
 fn shows_changes(alloc: Global, set: &ResourceSet) -> bool {
     let changes = "ResourceDiff { added: ResourceSet { asn: {}, ipv4: {}, ipv6: {} }, \
         removed: ResourceSet { asn: {}, ipv4: {}, ipv6: {} } }";
@@ -354,7 +354,7 @@ fn debug_of_certificates(rt: HostRuntime) {
     holds(&rt, shows_certificates(rt.alloc()));
 }
 
-/// Of a table, and of what it is asked.
+/// Returns whether a table and its iterators and lookups are printed.
 fn shows_table(alloc: Global, table: &OriginTable, prefix: Prefix) -> bool {
     let listed =
         "[(MaxLenPrefix { prefix: Prefix { addr: V4(Ipv4Addr(0)), len: 0 }, max_len: None }, Asn(7))]";
@@ -371,7 +371,7 @@ fn shows_changes_of(alloc: Global, table: &PayloadTable) -> bool {
     made_is_shown(alloc, table.changes_to(alloc, table), none)
 }
 
-/// The tables of one payload.
+/// Returns whether the tables of one VRP are printed.
 fn shows_tables(alloc: Global, prefix: Prefix) -> Result<bool, AllocError> {
     let payloads = [(MaxLenPrefix::from(prefix), Asn::from_u32(7))];
     let sent =

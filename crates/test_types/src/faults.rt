@@ -1,4 +1,4 @@
-// The text of each fault, and faults that are made of others.
+// The text of each error, and errors that are made of others.
 use crate::checks::{holds, same};
 use rpki_as::block::AsBlock;
 use rpki_as::blocks::AsBlocks;
@@ -92,7 +92,7 @@ const IP_BLOCKS: [(FromStrError, &str); 10] = [
     (FromStrError::BadRange, "invalid address range"),
 ];
 
-/// The same of whichever error it is.
+/// Returns whether each error of any type prints the text of its row, or `AllocError` if memory runs out.
 fn errors_print<E: Error>(alloc: Global, rows: &[(E, &str)]) -> Result<bool, AllocError> {
     all_print(alloc, rows)
 }
@@ -186,7 +186,7 @@ fn faults_of_inherited_resources(rt: HostRuntime) {
     holds(&rt, errors_print(rt.alloc(), &INHERITED) == Ok(true));
 }
 
-// A fault prints as it does alone.
+// In an `OrMemory` an error prints as it does alone.
 const OR_MEMORY: [(OrMemory<ParseAsnError>, &str); 2] = [
     (OrMemory::Memory(AllocError), "out of memory"),
     (OrMemory::Refused(ParseAsnError), "invalid AS number"),
@@ -205,13 +205,13 @@ const PATH_REFUSALS: [(PathRefusal<InheritedAsResources>, &str); 1] = [(
     "refused at step 1: inherited AS resources",
 )];
 
-/// What a path leaves of a set, or its refusal as an error of any kind.
+/// Returns what a path leaves of a set, or its refusal as an error of any kind.
 fn left_on_path(alloc: Global, root: &AsBlocks, steps: &[AsStep]) -> anyhow::Result<AsBlocks> {
     let left = root.verify_path(alloc, steps)?;
     Ok(left)
 }
 
-/// A step that claims AS7.
+/// Returns a step that claims AS7.
 fn step_of_seven(alloc: Global) -> Result<AsStep, AllocError> {
     let set = AsBlocks::from_blocks(alloc, &[AsBlock::Id(Asn::from_u32(7))])?;
     Ok(AsStep {
@@ -220,7 +220,7 @@ fn step_of_seven(alloc: Global) -> Result<AsStep, AllocError> {
     })
 }
 
-/// Whether the refusal of that step by the empty set prints as `respath` answers it.
+/// Returns whether the refusal of that step by the empty set prints as in an answer of `respath`.
 fn refusal_of_seven_prints(alloc: Global, steps: &[AsStep]) -> bool {
     let text = "refused at step 0: overclaimed AS resources: AS7";
     match left_on_path(alloc, &AsBlocks::empty(), steps) {
@@ -239,7 +239,7 @@ fn refusals_of_paths(rt: HostRuntime) {
     holds(&rt, is_so);
 }
 
-/// The fault of a claim of a set whose issuer has nothing.
+/// Returns the error for a set whose issuer has nothing.
 fn fault_of(alloc: Global, set: &IpBlocks) -> Option<OverclaimedIpResources> {
     match set.verify_covered(alloc, &IpResources::missing()) {
         Err(OrMemory::Refused(fault)) => Some(fault),
@@ -247,7 +247,7 @@ fn fault_of(alloc: Global, set: &IpBlocks) -> Option<OverclaimedIpResources> {
     }
 }
 
-/// The fault of a claim of a list whose issuer has nothing.
+/// Returns the error for the set of a list whose issuer has nothing.
 fn overclaim(alloc: Global, list: &str) -> Option<OverclaimedIpResources> {
     match IpBlocks::from_str(alloc, list) {
         Ok(set) => fault_of(alloc, &set),

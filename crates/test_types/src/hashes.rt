@@ -29,7 +29,7 @@ fn numbers_and_addresses(rt: HostRuntime) {
     );
 }
 
-/// Whether both are there, equal, and have equal hashes.
+/// Returns whether both are present, equal, and have equal hashes.
 fn are_same<T: Hash + PartialEq + Drop>(one: Option<T>, other: Option<T>) -> bool {
     match (one, other) {
         (Some(one), Some(other)) => one == other && hash_of(&one) == hash_of(&other),
@@ -46,7 +46,7 @@ fn prefixes_and_ranges(rt: HostRuntime) {
     holds(&rt, are_same(range, Some(AddressRange::from(prefix))));
 }
 
-/// A text's prefix with no greatest length.
+/// Returns the prefix of a text with no maximum length.
 fn least(text: &str) -> Option<MaxLenPrefix> {
     match FamilyPrefix::from_str(text) {
         Ok(prefix) => Some(MaxLenPrefix::from(prefix)),

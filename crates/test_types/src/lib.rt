@@ -1,5 +1,9 @@
-//! What no clause and no row says of types: what `{:?}` writes of them, their hashes, the texts of faults, and the
-//! paths under which the Rust crate's users find them.
+//! Tests of types. They show what no clause states and no stored line shows:
+//!
+//! - the output of `{:?}`
+//! - hashes
+//! - the texts of errors
+//! - the paths under which users of the Rust crate find the types
 #![tactic(auto)]
 
 #[cfg(test)]

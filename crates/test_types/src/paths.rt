@@ -1,5 +1,5 @@
-// Each type that a user of the Rust crate `rpki` looks for, by each path under which it stands. A constant is well
-// typed where its paths are names of one type, and nothing else is asked of it.
+// Each type that a user of the Rust crate `rpki` looks for, by each of its paths. A constant is well typed if its paths
+// are names of one type. Nothing else is checked.
 use std::marker::PhantomData;
 
 mod addr;

@@ -1,4 +1,4 @@
-// The calls of `repository::resources::chain` whose reads are counted.
+// The calls of `repository::resources::chain` that count their reads.
 use rpki_as::AsBlock;
 use rpki_base::asn::Asn;
 use rpki_base::memory::OrMemory;
@@ -14,7 +14,7 @@ fn holds(rt: &impl Abort, is_so: bool) {
     assert!(rt; is_so);
 }
 
-/// The block of the numbers from the lesser to the greater.
+/// Returns the block of the numbers from the lesser to the greater.
 fn block(one: u32, other: u32) -> AsBlock {
     <AsBlock as Block>::new(Asn::from_u32(one.min(other)), Asn::from_u32(one.max(other)))
 }
@@ -23,7 +23,7 @@ fn is(chain: &OwnedChain<AsBlock>, blocks: &[AsBlock]) -> bool {
     chain.as_chain().as_slice() == blocks
 }
 
-/// What is asked of two chains.
+/// An operation on two chains.
 #[derive(Clone, Copy)]
 enum Operation {
     Union,
@@ -31,7 +31,7 @@ enum Operation {
     Trim,
 }
 
-/// What a call with counted reads answers, and the blocks of a refused trim.
+/// Returns the result of a call that counts its reads. For a refused trim these are the common blocks.
 fn answer(
     alloc: Global,
     operation: Operation,

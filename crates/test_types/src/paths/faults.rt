@@ -1,4 +1,4 @@
-// The three errors that are called `FromStrError`, by what they print of one text.
+// The three errors that are called `FromStrError`, by their output for one text.
 use rpki_base::memory::OrMemory;
 use rpki_resources::repository::resources::{AsBlock, IpBlock, ResourceSet, asres, ipres, set};
 use std::alloc::Global;

@@ -1,4 +1,4 @@
-//! A refusal or want of memory, by each of its names.
+//! A refusal or an out-of-memory error, by each of its names.
 use crate::paths::Names;
 use std::marker::PhantomData;
 

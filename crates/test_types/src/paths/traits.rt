@@ -1,4 +1,4 @@
-//! Traits by each of their names: what is one by the first name is one by the second.
+//! Traits by each of their names: a type that has the first has the second.
 use rpki_resources::repository::resources::{chain, choice};
 use std::alloc::AllocError;
 
@@ -6,7 +6,7 @@ fn is_itself<T: rpki_chain::Block>(block: &T) -> bool {
     block.is_equivalent(block)
 }
 
-/// A block.
+/// Accepts a block.
 pub fn block<T: chain::Block>(one: &T) -> bool {
     is_itself(one)
 }
@@ -15,7 +15,7 @@ fn len<T: rpki_chain::Block, R: rpki_chain::Reads<T>>(reads: &R) -> usize {
     reads.len()
 }
 
-/// What is read block by block.
+/// Accepts blocks that are read one by one.
 pub fn reads<T: chain::Block, R: chain::Reads<T>>(one: &R) -> usize {
     len(one)
 }
@@ -24,7 +24,7 @@ fn copy<T: rpki_chain::Listed>(listed: &T) -> Result<T, AllocError> {
     listed.copy()
 }
 
-/// What a choice lists.
+/// Accepts a list in a choice.
 pub fn listed<T: choice::Listed>(one: &T) -> Result<T, AllocError> {
     copy(one)
 }

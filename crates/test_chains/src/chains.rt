@@ -11,17 +11,17 @@ use rpki_ip::range::AddressRange;
 use std::alloc::{AllocError, Allocator, Global};
 use test_support::{Plan, Refusing};
 
-/// The block with these bounds.
+/// Returns the block with these bounds.
 fn block(one: u32, other: u32) -> AsBlock {
     <AsBlock as Block>::new(Asn::from_u32(one.min(other)), Asn::from_u32(one.max(other)))
 }
 
-/// The chain of the numbers 1 to 4 and 23 to 48.
+/// Returns the chain of the numbers 1 to 4 and 23 to 48.
 fn chain<A: Allocator + Copy>(alloc: A) -> Result<OwnedChain<AsBlock, A>, AllocError> {
     OwnedChain::from_blocks(alloc, &[block(23, 48), block(1, 2), block(3, 4)])
 }
 
-/// Whether a chain is that one.
+/// Returns whether a chain is that one.
 fn is_chain(chain: Chain<'_, AsBlock>) -> bool {
     let is_listed = chain.as_slice() == [block(1, 4), block(23, 48)].as_slice();
     is_listed && chain.len() == 2 && chain.iter().count() == 2
@@ -66,12 +66,12 @@ fn is_shared<A: Allocator>(shared: &SharedChain<AsBlock, A>) -> bool {
     }
 }
 
-/// Whether a chain is another than a shared one, and of the numbers 1 to 8.
+/// Returns whether a chain differs from a shared one, and has the numbers 1 to 8.
 fn is_other(joined: &SharedChain<AsBlock>, shared: &SharedChain<AsBlock>) -> bool {
     *joined != *shared && joined.as_chain().as_slice() == [block(1, 8)].as_slice()
 }
 
-/// Whether the chain of other blocks differs from a shared one.
+/// Returns whether the chain of other blocks differs from a shared one.
 fn differs(alloc: Global, shared: &SharedChain<AsBlock>) -> bool {
     match SharedChain::from_blocks(alloc, &[block(5, 8), block(1, 4)]) {
         Ok(joined) => is_other(&joined, shared),
@@ -97,12 +97,12 @@ fn shared_is_right(alloc: Global) -> bool {
     }
 }
 
-/// Whether a chain is that of the number 7.
+/// Returns whether a chain has only the number 7.
 fn is_seven(chain: Chain<'_, AsBlock>) -> bool {
     chain.as_slice() == [block(7, 7)].as_slice()
 }
 
-/// Whether the vector of one block is its chain.
+/// Returns whether the vector of one block is its chain.
 fn one_is_kept(alloc: Global) -> bool {
     match Vec::from_array(alloc, [AsBlock::Id(Asn::from_u32(7))]) {
         Ok(one) => is_seven(OwnedChain::from_vec_unchecked(one).as_chain()),
@@ -115,13 +115,13 @@ fn none_is_kept(alloc: Global) -> bool {
     none.as_chain().is_empty()
 }
 
-/// The range of the addresses from the lesser to the greater.
+/// Returns the range of the addresses from the lesser to the greater.
 fn range(one: u128, other: u128) -> AddressRange {
     let (min, max) = (one.min(other), one.max(other));
     <AddressRange as Block>::new(Addr::from_bits(min), Addr::from_bits(max))
 }
 
-/// Whether a chain is that of all addresses.
+/// Returns whether a chain has all addresses.
 fn is_whole(chain: Chain<'_, AddressRange>) -> bool {
     chain.as_slice() == [range(0, u128::MAX)].as_slice()
 }
@@ -146,7 +146,7 @@ fn chains(rt: HostRuntime) {
 
 // ---- calls that take no memory
 
-/// Whether a chain lies in another, by both calls.
+/// Returns whether a chain is within another, by both calls.
 fn is_trimmed<A: Allocator + Copy>(
     alloc: A,
     own: Chain<'_, AsBlock>,
@@ -155,7 +155,7 @@ fn is_trimmed<A: Allocator + Copy>(
     matches!(own.trim(alloc, other), Ok(())) && own.is_encompassed(other)
 }
 
-/// Whether a chain lies in the chain of the numbers 0 to 17 and 19 to 50.
+/// Returns whether a chain is within the chain of the numbers 0 to 17 and 19 to 50.
 fn lies_in_other(alloc: Global, refusing: &Refusing, own: Chain<'_, AsBlock>) -> bool {
     match OwnedChain::from_blocks(alloc, &[block(0, 17), block(19, 50)]) {
         Ok(other) => is_trimmed(refusing, own, other.as_chain()),
@@ -177,7 +177,7 @@ fn a_trim_that_is_ok_takes_no_memory(rt: HostRuntime) {
     holds(&rt, refusing.asked() == 0);
 }
 
-/// Whether a chain is made of blocks with no request.
+/// Returns whether a chain is made of blocks without a request.
 fn is_made_of<A: Allocator>(refusing: &Refusing, blocks: Vec<AsBlock, A>) -> bool {
     let asked = refusing.asked();
     let chain = OwnedChain::from_vec(blocks);

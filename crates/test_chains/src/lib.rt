@@ -1,5 +1,7 @@
-//! What no clause says of chains and of small sets, and what no line of the program `rows_sets` can say of them: blocks
-//! of their own, empty ones, and calls that take no memory.
+//! Tests of chains and of small sets.
+//!
+//! They show what no clause states and no line of the program `rows_sets` can show: other kinds of blocks, empty sets,
+//! and calls that take no memory.
 #![tactic(auto)]
 
 #[cfg(test)]

@@ -7,13 +7,13 @@ use rpki_base::small_set::SmallAsnSet;
 use std::alloc::{AllocError, Allocator, Global};
 use test_support::{Plan, Refusing, hash_of};
 
-/// The set of the numbers 1, 2 and 3.
+/// Returns the set of the numbers 1, 2 and 3.
 fn three<A: Allocator>(alloc: A) -> Result<SmallAsnSet<A>, AllocError> {
     let (one, two, three) = (Asn::from_u32(1), Asn::from_u32(2), Asn::from_u32(3));
     SmallAsnSet::from_list(alloc, &[three, one, three, two])
 }
 
-/// How many numbers an iterator gives.
+/// Returns how many numbers an iterator gives.
 fn size<I: Iterator<Item = Asn>>(asns: I) -> u64
     requires can { I.can_next asns }
     requires ends { IsFinite (I.remaining asns) }
@@ -25,7 +25,7 @@ fn size<I: Iterator<Item = Asn>>(asns: I) -> u64
     size
 }
 
-/// How many numbers each iterator over two sets gives.
+/// Returns how many numbers each iterator over two sets gives.
 fn sizes<A: Allocator>(set: &SmallAsnSet<A>, other: &SmallAsnSet<A>) -> [u64; 5] {
     [
         size(set.iter()),
@@ -44,7 +44,7 @@ fn sum<A: Allocator>(set: &SmallAsnSet<A>) -> u64 {
     sum
 }
 
-/// Whether a set of three numbers has them, and 0 not.
+/// Returns whether a set of three numbers has them, and does not have 0.
 fn is_three<A: Allocator>(set: &SmallAsnSet<A>) -> bool {
     let ends = (set.contains(Asn::MIN), set.contains(Asn::from_u32(3)));
     set.len() == 3 && !set.is_empty() && ends == (false, true) && sum(set) == 6
@@ -54,7 +54,7 @@ fn is_none<A: Allocator>(set: &SmallAsnSet<A>) -> bool {
     set.len() == 0 && set.is_empty() && !set.contains(Asn::MIN)
 }
 
-/// Whether a set of three numbers stands to the empty one as it should.
+/// Returns whether the operations and orders of a set of three numbers and the empty one are right.
 fn stand_so<A: Allocator>(set: &SmallAsnSet<A>, none: &SmallAsnSet<A>) -> bool {
     sizes(set, none) == [3, 3, 3, 3, 0] && *none < *set && *none != *set
 }
@@ -90,7 +90,7 @@ fn is_same(one: &SmallAsnSet, other: &SmallAsnSet) -> bool {
     *one == *other && hash_of(one) == hash_of(other)
 }
 
-/// Whether a set equals the one of the same numbers without repeats.
+/// Returns whether a set equals the one of the same numbers without repeats.
 fn is_same_without_repeats(alloc: Global, set: &SmallAsnSet) -> bool {
     let asns = [Asn::from_u32(1), Asn::from_u32(2), Asn::from_u32(3)];
     match SmallAsnSet::from_list(alloc, &asns) {

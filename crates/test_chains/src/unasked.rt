@@ -1,4 +1,4 @@
-// Calls that take no memory. The allocator counts the requests, refused ones too, and there is none.
+// Calls that take no memory. The allocator counts all requests, also refused ones, and there are no requests.
 use crate::checks::holds;
 use rpki_as::AsResourcesBuilder;
 use rpki_as::block::AsBlock;
@@ -25,9 +25,9 @@ use rpki_resources::repository::resources::set::{FromStrError, ResourceSet};
 use std::alloc::Allocator;
 use test_support::{Plan, Refusing};
 
-// ---- what sets are asked
+// ---- questions about sets
 
-/// Of the numbers 1 and 3 to 5.
+/// Checks the set of the numbers 1 and 3 to 5.
 fn as_set_answers<A: Allocator>(set: &AsBlocks<A>) -> bool {
     let has_numbers = set.contains_asn(Asn::from_u32(4)) && !set.contains_asn(Asn::MIN);
     let is_itself = set.contains(set) && set == set && !set.is_empty();
@@ -35,7 +35,7 @@ fn as_set_answers<A: Allocator>(set: &AsBlocks<A>) -> bool {
     has_numbers && is_itself && sizes == (4, 2) && set.iter_asns().next() == Some(Asn::from_u32(1))
 }
 
-/// Of 10.0.0.0/8 and 12.0.0.0.
+/// Checks the set of 10.0.0.0/8 and 12.0.0.0.
 fn ip_set_answers<A: Allocator>(set: &IpBlocks<A>) -> bool {
     let all = AddressRange::from(Prefix::all());
     let has_all = set.contains_roa(all) || set.contains_block(IpBlock::all());
@@ -52,7 +52,7 @@ fn v4_set_answers<A: Allocator>(set: &Ipv4Blocks<A>) -> bool {
     is_itself && meets && has_two && prefixes.next().is_none() && ip_set_answers(set.ip_blocks())
 }
 
-/// Of ::1 and ::2.
+/// Checks the set of ::1 and ::2.
 fn v6_set_answers<A: Allocator>(set: &Ipv6Blocks<A>) -> bool {
     let is_itself = set.contains(set) && set == set && !set.is_empty();
     let meets = set.intersects_block(Ipv6Block::all()) && !set.contains_block(Ipv6Block::all());
@@ -79,7 +79,7 @@ fn asks_nothing<A: Allocator>(refusing: &Refusing, set: &ResourceSet<A>) -> bool
 
 type Made<T> = Result<T, OrMemory<FromStrError>>;
 
-/// The set that is asked.
+/// Returns the set to check.
 fn set_of_all_kinds<A: Allocator + Copy>(alloc: A) -> Made<ResourceSet<A>> {
     ResourceSet::from_strs(alloc, "AS1, AS3-AS5", "10.0.0.0/8, 12.0.0.0", "::1-::2")
 }
@@ -91,7 +91,7 @@ fn questions(refusing: &Refusing) -> bool {
     }
 }
 
-/// Printing into a text that has room.
+/// Prints into a text with enough capacity.
 fn is_printed_again<A: Allocator>(
     refusing: &Refusing,
     set: &ResourceSet<A>,
@@ -128,7 +128,7 @@ fn questions_and_printing(rt: HostRuntime) {
     holds(&rt, printing(&refusing));
 }
 
-// ---- what is made of sets that are given away
+// ---- values that are made of sets which are moved
 
 fn is_as_set_again<A: Allocator>(refusing: &Refusing, set: AsBlocks<A>) -> bool {
     let asked = refusing.asked();
@@ -144,7 +144,7 @@ fn is_counted<A: Allocator>(refusing: &Refusing, set: AsBlocks<A>) -> bool {
     size == ResourcesChoice::Blocks(4) && refusing.asked() == asked
 }
 
-/// Takes all kinds out of a set.
+/// Empties all kinds of a set.
 fn clear<A: Allocator>(set: &mut ResourceSet<A>) {
     set.set_asn(AsBlocks::empty());
     set.set_ipv4(Ipv4Blocks::empty());
@@ -158,14 +158,14 @@ fn is_cleared<A: Allocator>(refusing: &Refusing, asn: AsBlocks<A>) -> bool {
     set.is_empty() && refusing.asked() == asked
 }
 
-/// What becomes of a set of AS numbers.
+/// The use of a set of AS numbers that is moved.
 #[derive(Clone, Copy)]
 enum Given {
     /// It is read out of a claim again.
     Again,
-    /// It is counted by a function on what is chosen.
+    /// It is counted by a function that is applied to the blocks of a choice.
     Counted,
-    /// It is put into a set of all kinds, which is cleared.
+    /// It is put into a set of all kinds, which is emptied.
     Cleared,
 }
 
@@ -186,7 +186,7 @@ fn as_set_is_given(refusing: &Refusing, given: Given) -> bool {
     }
 }
 
-/// Whether a set of IPv6 has two blocks.
+/// Returns whether a set of IPv6 has two blocks.
 fn is_of_two<A: Allocator>(refusing: &Refusing, set: IpBlocks<A>) -> bool {
     let asked = refusing.asked();
     Ipv6Blocks::from_ip_blocks(set).iter().count() == 2 && refusing.asked() == asked
@@ -213,7 +213,7 @@ fn addresses_again(refusing: &Refusing) -> bool {
     }
 }
 
-/// Whether an excess is told as one of IPv4 without a request.
+/// Returns whether overclaimed resources become an error of IPv4 without a request.
 fn is_of_v4<A: Allocator>(refusing: &Refusing, fault: OverclaimedIpResources<A>) -> bool {
     if !fault.excess().is_whole_v4() {
         return false;
@@ -223,7 +223,7 @@ fn is_of_v4<A: Allocator>(refusing: &Refusing, fault: OverclaimedIpResources<A>)
     refusing.asked() == asked
 }
 
-/// Whether an excess is told as one of IPv6 without a request.
+/// Returns whether overclaimed resources become an error of IPv6 without a request.
 fn is_of_v6<A: Allocator>(refusing: &Refusing, fault: OverclaimedIpResources<A>) -> bool {
     let asked = refusing.asked();
     let _fault = fault.v6();
@@ -261,7 +261,7 @@ fn excess_of_family(refusing: &Refusing, v4: bool) -> bool {
     }
 }
 
-/// Whether a vector of one block is its chain without a request.
+/// Returns whether a vector of one block becomes its chain without a request.
 fn full_chain(refusing: &Refusing) -> bool {
     match Vec::from_array(refusing, [AsBlock::Id(Asn::MIN)]) {
         Ok(blocks) => {
@@ -273,7 +273,7 @@ fn full_chain(refusing: &Refusing) -> bool {
     }
 }
 
-/// Whether a vector of one number is its small set without a request.
+/// Returns whether a vector of one number becomes its small set without a request.
 fn full_small_set(refusing: &Refusing) -> bool {
     match Vec::from_array(refusing, [Asn::MIN]) {
         Ok(asns) => {
@@ -298,7 +298,7 @@ fn sets_given_away(rt: HostRuntime) {
     holds(&rt, full_small_set(&refusing));
 }
 
-// ---- what is made of nothing, where each request is refused
+// ---- values that are made of nothing, with each request refused
 
 fn is_no_claim<A: Allocator>(claim: &AsResources<A>, inherited: &AsResources<A>) -> bool {
     *claim != *inherited && claim.is_missing()
@@ -337,7 +337,7 @@ fn empty_sets_of_all_kinds<A: Allocator>(_: A) -> bool {
     is_empty_set(&ResourceSet::<A>::default())
 }
 
-/// Takes what is made, and drops it.
+/// Takes a value and drops it.
 fn is_made<T: Drop>(_: T) {}
 
 fn new_builders<A: Allocator + Copy>(alloc: A) {

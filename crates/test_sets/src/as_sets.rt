@@ -9,7 +9,9 @@ use rpki_base::memory::OrMemory;
 use rpki_chain::block::Block;
 use std::alloc::{AllocError, Allocator, Global};
 
-/// A set as it is read again from what is printed of it: the same set. `AllocError` where there is no memory for it.
+/// Prints a set and reads it again, which gives the same set.
+///
+/// Returns `AllocError` if memory runs out.
 pub fn printed_and_read<A: Allocator + Copy>(
     alloc: A,
     set: &AsBlocks<A>,
@@ -25,12 +27,12 @@ pub fn printed_and_read<A: Allocator + Copy>(
     }
 }
 
-/// The block of the numbers from the lesser to the greater.
+/// Returns the block of the numbers from the lesser to the greater.
 fn block(one: u32, other: u32) -> AsBlock {
     <AsBlock as Block>::new(Asn::from_u32(one.min(other)), Asn::from_u32(one.max(other)))
 }
 
-/// The set of the numbers 1, 3 to 5 and 4294967295.
+/// Returns the set of the numbers 1, 3 to 5 and 4294967295.
 fn five(alloc: Global) -> Result<AsBlocks, AllocError> {
     AsBlocks::from_blocks(
         alloc,
@@ -52,7 +54,7 @@ fn is_printed_and_read(alloc: Global, set: &AsBlocks) -> bool {
     }
 }
 
-/// Whether a set of five numbers gives five, and then none.
+/// Returns whether a set of five numbers gives five, and then `None` twice.
 fn gives_five(set: &AsBlocks) -> bool {
     let mut numbers = set.iter_asns();
     for _ in 0..5 {
@@ -75,7 +77,7 @@ fn five_is_right(alloc: Global) -> bool {
     }
 }
 
-/// Whether a set has all numbers.
+/// Returns whether a set has all numbers.
 fn is_whole(all: &AsBlocks) -> bool {
     let empty = AsBlocks::empty();
     all.asn_count() == 4294967296 && *all != empty && all.contains(&empty) && !empty.contains(all)

@@ -1,4 +1,4 @@
-// Sets whose issuer should have them whole. Where it has them, no request for memory is made.
+// Sets that are checked against their issuer. If the issuer has all of a set, no request for memory is made.
 use crate::checks::holds;
 use rpki_as::blocks::AsBlocks;
 use rpki_as::resources::AsResources;
@@ -7,7 +7,7 @@ use rpki_ipres::blocks::IpBlocks;
 use rpki_ipres::resources::IpResources;
 use test_support::{Plan, Refusing, prints};
 
-/// What a list or a claim is read as; nothing where it is none.
+/// Returns the claim of a list, or `None` if the list is invalid.
 fn listed<'a>(refusing: &'a Refusing, list: &str) -> Option<AsResources<&'a Refusing>> {
     match AsBlocks::from_str(refusing, list) {
         Ok(set) => Some(AsResources::blocks(set)),
@@ -23,7 +23,7 @@ fn claim<'a>(refusing: &'a Refusing, text: &str) -> Option<AsResources<&'a Refus
     }
 }
 
-// A set, the claim of an issuer, and what is printed of the fault; nothing where there is none.
+// A set, the claim of an issuer, and the printed error, which is empty if there is no error.
 const COVERED: [(&str, &str, &str); 6] = [
     ("AS5", "inherit", ""),
     ("AS5", "missing", "overclaimed AS resources: AS5"),
@@ -92,7 +92,7 @@ fn ip_claim<'a>(refusing: &'a Refusing, text: &str) -> Option<IpResources<&'a Re
     }
 }
 
-// A set of addresses, the claim of an issuer, and what it doesn't have.
+// A set of addresses, the claim of an issuer, and the overclaimed addresses.
 const IP_COVERED: [(&str, &str, &str); 6] = [
     ("10.0.0.0/24", "inherit", ""),
     ("10.0.0.0/24", "missing", "10.0.0.0/24"),

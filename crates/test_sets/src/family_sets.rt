@@ -74,7 +74,7 @@ pub fn makes_v4_set<A: Allocator + Copy>(alloc: A) -> Result<bool, AllocError> {
     prints(alloc, &set, "9.0.0.0, 10.0.0.0/23")
 }
 
-/// Whether the copy of a set is the same; the set stands, whatever comes of the copy.
+/// Returns whether the copy of a set is the same. The set is unchanged, with any result of the copy.
 fn v4_set_is_copied<A: Allocator + Copy>(all: &Ipv4Blocks<A>) -> Result<bool, AllocError> {
     let is_same = v4_copy_is_same(all);
     if all.contains_block(Ipv4Block::all()) {
@@ -154,7 +154,7 @@ pub fn makes_v6_set<A: Allocator + Copy>(alloc: A) -> Result<bool, AllocError> {
     prints(alloc, &set, "::1, ::4/126")
 }
 
-/// Whether the copy of a set is the same; the set stands, whatever comes of the copy.
+/// Returns whether the copy of a set is the same. The set is unchanged, with any result of the copy.
 fn v6_set_is_copied<A: Allocator + Copy>(all: &Ipv6Blocks<A>) -> Result<bool, AllocError> {
     let is_same = v6_copy_is_same(all);
     if all.contains_block(Ipv6Block::all()) {

@@ -18,7 +18,7 @@ fn copy_is_same(set: &IpBlocks) -> bool {
     }
 }
 
-/// Whether a set has all addresses.
+/// Returns whether a set has all addresses.
 fn is_whole(all: &IpBlocks) -> bool {
     let empty = IpBlocks::empty();
     !all.is_empty()
@@ -45,13 +45,13 @@ fn empty_is_right() -> bool {
     is_none(&empty) && is_none(&IpBlocks::default()) && copy_is_same(&empty)
 }
 
-/// The block of the addresses from the lesser to the greater.
+/// Returns the block of the addresses from the lesser to the greater.
 fn block(one: u128, other: u128) -> IpBlock {
     let (min, max) = (one.min(other), one.max(other));
     <IpBlock as Block>::new(Addr::from_bits(min), Addr::from_bits(max))
 }
 
-/// Whether each block of a set of three is a Prefix.
+/// Returns whether a set has three blocks, and each is a `Prefix`.
 fn are_prefixes(set: &IpBlocks) -> bool {
     matches!(
         set.iter().as_slice(),
@@ -68,7 +68,7 @@ fn is_shown_as_v4(alloc: Global, set: &IpBlocks) -> bool {
     prints(alloc, &IpBlocksForFamily::v4(set), text) == Ok(true)
 }
 
-/// The set of the addresses 1, 4 to 7 and 9.
+/// Returns the set of the addresses 1, 4 to 7 and 9.
 fn three(alloc: Global) -> Result<IpBlocks, AllocError> {
     IpBlocks::from_blocks(alloc, &[block(4, 7), block(9, 9), block(1, 1)])
 }
@@ -109,7 +109,7 @@ const WHOLE: [(&str, bool); 11] = [
     ("a00::/8, c00::/33", false),
 ];
 
-/// Whether a list's set is one of whole IPv4 addresses; None where the list is none.
+/// Returns whether a list's set is one of whole IPv4 addresses, or `None` if the list is invalid.
 fn list_is_whole(alloc: Global, list: &str) -> Option<bool> {
     match IpBlocks::from_str(alloc, list) {
         Ok(set) => Some(set.is_whole_v4()),
@@ -143,7 +143,7 @@ fn range(text: &str) -> Result<AddressRange, FromStrError> {
     Ok(AddressRange::new(IpBlock::min(&block), IpBlock::max(&block)))
 }
 
-/// Whether a set has the ranges that it should.
+/// Returns whether a set contains each range of `IN_SET` if and only if its row says so.
 fn has_ranges(set: &IpBlocks) -> bool {
     for (text, within) in &IN_SET {
         match range(text) {

@@ -1,5 +1,7 @@
-//! What no clause says of lists and sets of resources, and what no line of the program `rows_sets` can say of them:
-//! iterators to their end, copies, and sets of all and of no numbers.
+//! Tests of lists and sets of resources.
+//!
+//! They show what no clause states and no line of the program `rows_sets` can show: iterators to their end, copies, and
+//! sets of all and of no numbers.
 #![tactic(auto)]
 
 #[cfg(test)]

@@ -21,7 +21,7 @@ fn joined_print(alloc: Global, items: &[Asn], text: &str) -> bool {
     prints(alloc, &Joined { items }, text) == Ok(true)
 }
 
-/// Whether what is read of a list is printed so.
+/// Returns whether the values of a list print this text.
 fn list_prints(alloc: Global, list: &str, text: &str) -> bool {
     match read_list::<Asn, Global>(alloc, list) {
         Ok(asns) => joined_print(alloc, &asns, text),

@@ -1,10 +1,10 @@
-// Runs where each request for memory is refused in turn.
+// Runs with each request for memory refused in turn.
 use crate::checks::holds;
 use crate::family_sets;
 use std::alloc::{AllocError, Global};
 use test_support::{Refusing, holds_where_refused};
 
-/// What is run.
+/// The code to run.
 #[derive(Clone, Copy)]
 enum Case {
     V4Set,
@@ -13,7 +13,7 @@ enum Case {
     V6Copy,
 }
 
-/// Whether a run does what it should.
+/// Returns whether a run has the right result.
 fn holds_so(case: Case, refusing: &Refusing) -> Result<bool, AllocError> {
     match case {
         Case::V4Set => family_sets::makes_v4_set(refusing),

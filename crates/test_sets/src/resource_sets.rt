@@ -8,7 +8,7 @@ use rpki_resources::repository::resources::{
 use std::alloc::{AllocError, Global};
 use std::str::FromStr;
 
-/// The set of one block of each kind.
+/// Returns the set of one block of each kind.
 fn one_of_each(alloc: Global) -> Result<ResourceSet, OrMemory<FromStrError>> {
     ResourceSet::from_strs(alloc, "AS65000", "10.0.0.0/8", "fd00::/8")
 }
@@ -18,7 +18,7 @@ fn has_in_common(alloc: Global, all: &ResourceSet, set: &ResourceSet) -> Result<
     Ok(common == *set)
 }
 
-/// Whether a set is what all resources have in common with it.
+/// Returns whether the intersection of all resources and a set is the set.
 fn lies_in_all(alloc: Global, set: &ResourceSet) -> Result<bool, AllocError> {
     let all = ResourceSet::all(alloc)?;
     has_in_common(alloc, &all, set)
@@ -32,14 +32,14 @@ fn all_resources_in_common_with_a_set(rt: HostRuntime) {
     }
 }
 
-// Lists that write the set of `one_of_each` but for one kind.
+// Lists of the set of `one_of_each`, with one kind changed.
 const OTHERS: [(&str, &str, &str); 3] = [
     ("AS65001", "10.0.0.0/8", "fd00::/8"),
     ("AS65000", "10.0.0.0/9", "fd00::/8"),
     ("AS65000", "10.0.0.0/8", "fd00::/9"),
 ];
 
-/// Whether three lists write another set.
+/// Returns whether three lists denote another set.
 fn differs(alloc: Global, set: &ResourceSet, lists: (&str, &str, &str)) -> bool {
     match ResourceSet::from_strs(alloc, lists.0, lists.1, lists.2) {
         Ok(other) => *set != other,

@@ -1,5 +1,5 @@
-// A dozen values, each taken by the reader of its tag and appended again: as they stand, cut, and with each octet in
-// place of each of theirs.
+// Thirteen values. Each is taken by the reader of its tag and appended again: unchanged, truncated, and with each of
+// its octets replaced by each value.
 use crate::checks::holds;
 use rpki_der::{
     BitString, Content, Cursor, DerError, put_bit_string, put_header, put_null, put_octets,
@@ -23,7 +23,7 @@ const VALUES: [&[u8]; 13] = [
     b"\xa0\x02\x05\x00",
 ];
 
-/// What the reader of a tag gives.
+/// The result of the reader of a tag.
 #[derive(Clone, Copy)]
 enum Taken<'a> {
     Number(u32),
@@ -70,14 +70,15 @@ fn put_content(content: Content<'_>, out: &mut Vec<u8>) -> Result<(), AllocError
     Ok(())
 }
 
-/// Whether these are the octets that are appended for a value.
+/// Returns whether these are the octets that are appended for a value.
 fn is_put_so(alloc: Global, taken: Taken<'_>, octets: &[u8]) -> bool {
     let mut out = Vec::new(alloc);
     put(taken, &mut out).is_ok() && out.as_slice() == octets
 }
 
-/// How the octets are read: the fault, with the cursor where it was, or how many octets are left behind a value that is
-/// appended as it stands. None where anything else is done.
+/// Returns the error, if the cursor is where it was, or the number of octets that remain after the value.
+///
+/// The value has to be appended with the octets that were taken. Returns `None` for any other behavior.
 fn left(alloc: Global, octets: &[u8]) -> Option<Result<usize, DerError>> {
     let mut cursor = Cursor::new(octets);
     let taken = take(&mut cursor);
@@ -89,7 +90,7 @@ fn left(alloc: Global, octets: &[u8]) -> Option<Result<usize, DerError>> {
     }
 }
 
-/// Whether each proper beginning of the octets is Truncated.
+/// Returns whether the octets, truncated at each octet, are refused as `Truncated`.
 fn are_truncated(alloc: Global, octets: &[u8]) -> bool {
     for len in 0..octets.len() {
         if left(alloc, &octets[..len]) != Some(Err(DerError::Truncated)) {
@@ -99,8 +100,9 @@ fn are_truncated(alloc: Global, octets: &[u8]) -> bool {
     true
 }
 
-/// Whether the octets are refused, or read as a value that is appended as it stands, with each octet in place of each
-/// of them.
+/// Returns whether the octets are right with each of them replaced by each value.
+///
+/// They have to be refused, or read as a value that is appended with the same octets.
 fn are_exact(alloc: Global, octets: &mut [u8]) -> bool {
     let mut is_exact = true;
     for at in 0..octets.len() {
@@ -114,7 +116,7 @@ fn are_exact(alloc: Global, octets: &mut [u8]) -> bool {
     is_exact
 }
 
-/// Whether an octet behind the value is left where it is, and all of the above.
+/// Returns whether an octet after the value is not taken, and all of the above holds.
 fn is_right(alloc: Global, value: &[u8]) -> Result<bool, AllocError> {
     let mut octets = value.to_vec(alloc)?;
     let is_exact = are_truncated(alloc, &octets) && are_exact(alloc, &mut octets);

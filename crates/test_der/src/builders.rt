@@ -11,7 +11,7 @@ fn id(number: u32) -> AsBlock {
     AsBlock::Id(Asn::from_u32(number))
 }
 
-/// Whether this is printed of what a builder gives.
+/// Returns whether the resources of a builder print this text.
 fn builds<A: Allocator + Copy>(
     alloc: A,
     builder: AsResourcesBuilder<A>,
@@ -21,7 +21,8 @@ fn builds<A: Allocator + Copy>(
     prints(alloc, &resources, text)
 }
 
-/// Want of memory, where a list was refused it and what was listed before it stands; and else whether that stands.
+/// Returns the `AllocError` of a list that was refused memory, if the earlier blocks are unchanged. Otherwise returns
+/// whether they are.
 fn listed(
     given: Result<(), AllocError>,
     stands: Result<bool, AllocError>,
@@ -32,8 +33,9 @@ fn listed(
     }
 }
 
-/// What is listed before resources are inherited is dropped, and what is listed after that stays: two calls add to one
-/// list. Of a call that is refused memory, what was pushed before stays.
+/// Blocks before `inherit` are dropped, and blocks after it are kept: two calls add to one list.
+///
+/// If a call is refused memory, the blocks that it pushed before are kept.
 fn lists_anew<A: Allocator + Copy>(alloc: A) -> Result<bool, AllocError> {
     let mut builder = AsResourcesBuilder::new(alloc);
     builder.blocks(|blocks| blocks.push(id(5)))?;
@@ -51,7 +53,7 @@ fn lists_anew<A: Allocator + Copy>(alloc: A) -> Result<bool, AllocError> {
     listed(given, builds(alloc, builder, text))
 }
 
-/// What a function pushed before it refused stays.
+/// Blocks that a function pushed before it refused are kept.
 fn keeps_what_was_pushed(alloc: Global) -> Result<bool, AllocError> {
     let mut builder = AsResourcesBuilder::new(alloc);
     let answer = builder.blocks(|blocks| {
@@ -61,7 +63,7 @@ fn keeps_what_was_pushed(alloc: Global) -> Result<bool, AllocError> {
     Ok(builds(alloc, builder, "AS9")? && answer.is_err())
 }
 
-/// A builder of which nothing is asked.
+/// A builder without any call gives missing resources.
 fn begins_as_missing(alloc: Global) -> Result<bool, AllocError> {
     let resources = AsResourcesBuilder::new(alloc).finalize()?;
     Ok(resources.is_missing())
@@ -81,7 +83,7 @@ fn addresses(text: &str) -> IpBlock {
     IpBlock::from_str(text).unwrap_or(IpBlock::all())
 }
 
-/// Whether this is printed of the addresses that a builder gives.
+/// Returns whether the addresses of a builder print this text.
 fn builds_addresses<A: Allocator + Copy>(
     alloc: A,
     builder: IpResourcesBuilder<A>,
@@ -93,8 +95,9 @@ fn builds_addresses<A: Allocator + Copy>(
     }
 }
 
-/// Addresses are listed in the place of resources that were inherited, in two calls. Of one that is refused memory,
-/// what was pushed before stays.
+/// Addresses replace inherited resources, in two calls.
+///
+/// If a call is refused memory, the blocks that it pushed before are kept.
 fn lists_addresses<A: Allocator + Copy>(alloc: A) -> Result<bool, AllocError> {
     let mut builder = IpResourcesBuilder::new(alloc);
     builder.inherit();

@@ -1,4 +1,4 @@
-// Contents, which are read whatever their tag is.
+// Contents, which are read with any tag.
 use crate::checks::{holds, same};
 use rpki_base::asn::Asn;
 use rpki_der::{Content, Cursor, DerError};
@@ -6,7 +6,7 @@ use rpki_ip::der::DecodeFamilyError;
 use rpki_ip::family::AddressFamily;
 use std::test::Fail;
 
-/// The tag and the octets of a content, by each call.
+/// Returns whether each call gives this tag and these octets of a content.
 fn parts(content: &Content<'_>, tag: u8, octets: &[u8]) -> bool {
     content.tag() == tag
         && content.bytes() == octets
@@ -14,7 +14,7 @@ fn parts(content: &Content<'_>, tag: u8, octets: &[u8]) -> bool {
         && content.cursor().rest() == octets
 }
 
-/// A content as a number and as NULL.
+/// Returns a content as a number and as NULL.
 fn readings(content: &Content<'_>) -> (Result<u32, DerError>, Result<(), DerError>) {
     (content.to_u32(), content.to_null())
 }
@@ -35,7 +35,7 @@ fn a_content_of_no_octets(rt: HostRuntime) -> Result<(), Fail> {
     Ok(())
 }
 
-/// The unused bits of a content that is a BIT STRING, its octets, and how many there are and how many bits they say.
+/// Returns the unused bits, the octets, their number and the number of bits of a content that is a BIT STRING.
 fn bit_string(octets: &[u8]) -> Result<(u8, &[u8], usize, u128), DerError> {
     let bits = Cursor::new(octets).take_value()?.to_bit_string()?;
     Ok((
@@ -53,7 +53,7 @@ fn a_bit_string_shows_its_octets_as_they_stand(rt: HostRuntime) {
     same(&rt, bit_string(b"\x80\x00"), Err(DerError::BadBitString));
 }
 
-/// Whether a content is this AS number, or none, and its skip answers the same.
+/// Returns whether a content is this AS number or has this error, and whether skipping it has the same error.
 fn is_number(content: &Content<'_>, number: Result<u32, DerError>) -> bool {
     Asn::parse_content(content).map(Asn::into_u32) == number
         && Asn::skip_content(content).err() == number.err()

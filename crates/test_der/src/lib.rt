@@ -1,5 +1,7 @@
-//! What no clause says of DER, and what no line of the program `rows_values` can say of it: single values, contents
-//! whatever their tag, lengths, and writers where memory is refused.
+//! Tests of DER.
+//!
+//! They show what no clause states and no line of the program `rows_values` can show: single values, contents with any
+//! tag, lengths, and writers with memory refused.
 #![tactic(auto)]
 
 #[cfg(test)]

@@ -4,7 +4,7 @@ use rpki_der::{Content, Cursor, DerError};
 use rpki_ip::family::AddressFamily;
 use rpki_ip::prefix::Prefix;
 
-/// Whether a BIT STRING says this prefix.
+/// Returns whether a BIT STRING encodes this prefix.
 fn says(octets: &[u8], text: &str) -> bool {
     match (
         Cursor::new(octets).take_bit_string(),
@@ -15,7 +15,7 @@ fn says(octets: &[u8], text: &str) -> bool {
     }
 }
 
-// DER, and the prefix that it says.
+// DER, and the prefix that it encodes.
 const PREFIXES: [(&[u8], &str); 9] = [
     (b"\x03\x01\x00", "::/0"),
     (b"\x03\x02\x00\x0a", "a00::/8"),
@@ -39,7 +39,7 @@ fn bit_strings_as_prefixes(rt: HostRuntime) {
     }
 }
 
-/// Whether 17 octets with so many unused bits are too many.
+/// Returns whether 17 octets with so many unused bits are refused as too many.
 fn are_too_many(unused: u8) -> bool {
     let mut octets = [0; 20];
     octets[0] = 0x03;
@@ -58,7 +58,7 @@ fn bits_that_are_too_many_for_a_prefix(rt: HostRuntime) {
     }
 }
 
-// A content whatever its tag is, and the prefix that it says in IPv4 and in IPv6.
+// A content with any tag, and the prefix that it encodes in IPv4 and in IPv6.
 const CONTENTS: [(&[u8], Result<&str, DerError>, Result<&str, DerError>); 6] = [
     (b"\x81\x02\x04\x0f", Ok("::/4"), Ok("::/4")),
     (
@@ -96,7 +96,7 @@ fn is(found: Result<Prefix, DerError>, wanted: Result<&str, DerError>) -> bool {
     }
 }
 
-/// What a content says in a family, and, where none is named, in either.
+/// Reads the prefix of a content in a family, or in either family if none is given.
 fn read(octets: &[u8], family: Option<AddressFamily>) -> Result<Prefix, DerError> {
     let content: Content<'_> = Cursor::new(octets).take_value()?;
     match family {

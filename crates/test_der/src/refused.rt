@@ -1,4 +1,5 @@
-// Writers where memory is refused: each asks once, for all that it writes, and a refused one leaves what is there.
+// Writers with memory refused. Each makes one request, for all that it writes, and a refused one leaves the output
+// unchanged.
 use crate::checks::holds;
 use rpki_as::block::AsBlock;
 use rpki_as::blocks::AsBlocks;
@@ -15,8 +16,9 @@ use std::alloc::{AllocError, Allocator, Global};
 use std::str::FromStr;
 use test_support::{Plan, Refusing};
 
-/// Whether a writer whose one request is refused leaves the octet that is there, and writes with one request when it is
-/// called again.
+/// Returns whether a writer makes one request, and whether the output is unchanged if this is refused.
+///
+/// The second call of the writer has to succeed, with one request.
 fn asks_once<F: Fn(&mut Vec<u8, &Refusing>) -> Result<(), AllocError>>(
     alloc: Global,
     put: F,
@@ -35,7 +37,7 @@ fn a_range() -> AddressRange {
     range.unwrap_or(AddressRange::from(Prefix::all()))
 }
 
-/// One of the writers of single values.
+/// Calls one of the writers of single values.
 fn put_value<A: Allocator>(writer: u32, out: &mut Vec<u8, A>) -> Result<(), AllocError> {
     match writer {
         0 => put_header(out, tag::SEQUENCE, 300),
@@ -63,7 +65,7 @@ fn values(rt: HostRuntime) {
     }
 }
 
-/// One of the writers of blocks of AS numbers.
+/// Calls one of the writers of blocks of AS numbers.
 fn put_as_blocks<A: Allocator>(
     writer: u32,
     set: &AsBlocks,
@@ -77,7 +79,7 @@ fn put_as_blocks<A: Allocator>(
     }
 }
 
-/// The even numbers AS0 to AS126, each a block of its own: their length takes two octets.
+/// Returns the even numbers AS0 to AS126, each a block of its own. Their length takes two octets.
 fn even_numbers() -> [AsBlock; 64] {
     let mut blocks = [AsBlock::Id(Asn::MIN); 64];
     for (half, block) in blocks.iter_mut().enumerate() {
@@ -108,7 +110,7 @@ fn blocks_of_as_numbers(rt: HostRuntime) {
     }
 }
 
-/// One of the writers of blocks of addresses, and of the resources that list them.
+/// Calls one of the writers of blocks of addresses, and of the resources that list them.
 fn put_ip_blocks<A: Allocator>(
     writer: u32,
     set: &IpBlocks,

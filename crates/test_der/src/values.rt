@@ -1,8 +1,8 @@
-// Single values: what a reader of one takes, and the number of the fault of what it refuses.
+// Single values: the value that a reader takes, and the number of the error of what it refuses.
 use crate::checks::{holds, same};
 use rpki_der::{Cursor, DerError};
 
-/// What takes a value.
+/// A reader of a value.
 #[derive(Clone, Copy)]
 enum Reader {
     BitString,
@@ -11,7 +11,7 @@ enum Reader {
     Sequence,
 }
 
-/// The number of the fault, and 0 where there is none.
+/// Returns the number of the error, and 0 without error.
 fn number_of<T: Drop>(taken: Result<T, DerError>) -> u8 {
     match taken {
         Ok(_) => 0,
@@ -29,7 +29,7 @@ fn fault(reader: Reader, octets: &[u8]) -> u8 {
     }
 }
 
-// Octets, and the number of their fault.
+// Octets, and the number of their error.
 const FAULTS: [(Reader, &[u8], u8); 22] = [
     (Reader::BitString, b"\x03\x00", 5),
     (Reader::BitString, b"\x03\x01\x01", 5),
@@ -62,7 +62,7 @@ fn faults_of_values(rt: HostRuntime) {
     }
 }
 
-// Octets, and how many bits are unused, how many octets there are and how many bits they say.
+// Octets, the number of unused bits, the number of octets, and the number of bits that they encode.
 const BIT_STRINGS: [(&[u8], (u8, usize, u128)); 5] = [
     (b"\x03\x01\x00", (0, 0, 0)),
     (b"\x03\x02\x00\x0a", (0, 1, 8)),
@@ -83,7 +83,7 @@ fn bit_strings(rt: HostRuntime) {
     }
 }
 
-/// The number in a SEQUENCE that holds nothing else.
+/// Returns the number in a SEQUENCE that has nothing else.
 fn number_within(octets: &[u8]) -> Result<u32, DerError> {
     let mut cursor = Cursor::new(octets);
     let mut inside = cursor.take_sequence()?;

@@ -1,4 +1,4 @@
-// What is written, and how long it is.
+// The octets that are written, and their lengths.
 use crate::checks::{holds, same};
 use rpki_as::block::AsBlock;
 use rpki_as::blocks::AsBlocks;
@@ -42,7 +42,7 @@ fn headers(rt: HostRuntime) {
     }
 }
 
-/// Whether the octets begin with an OCTET STRING of so many.
+/// Returns whether the octets begin with an OCTET STRING of `len` octets.
 fn begin_with(octets: &[u8], len: usize) -> bool {
     match Cursor::new(octets).take_octets() {
         Ok(content) => content.len() == len,
@@ -114,7 +114,7 @@ fn lengths_of_values(rt: HostRuntime) {
     same(&rt, octets_len(b"\x00\x02"), 4);
 }
 
-// ---- lengths of what is written of a block
+// ---- lengths of written blocks
 
 const AS_BLOCKS: [(&str, usize); 4] = [
     ("AS7", 3),
@@ -137,7 +137,7 @@ fn lengths_of_as_blocks(rt: HostRuntime) {
     }
 }
 
-// A prefix or a range, and how many octets are written of it.
+// A prefix or a range, and the number of octets that are written for it.
 const BLOCKS: [(&str, usize); 14] = [
     ("0.0.0.0/0", 3),
     ("0.0.0.0/4", 4),
@@ -179,7 +179,7 @@ fn lengths_of_blocks_of_addresses(rt: HostRuntime) {
     }
 }
 
-/// Whether the octets are read as a block that is a Prefix; None where they aren't read.
+/// Returns whether the octets are read as a block that is a `Prefix`, or `None` if they are not read.
 fn is_prefix(octets: &[u8]) -> Option<bool> {
     match IpBlock::take_opt_from(&mut Cursor::new(octets)) {
         Ok(Some(IpBlock::Prefix(_))) => Some(true),
@@ -202,7 +202,7 @@ fn forms_of_blocks(rt: HostRuntime) {
     );
 }
 
-// With the family and the set in a SEQUENCE; nothing for the empty set.
+// The family and the set in a SEQUENCE. Nothing is written for the empty set.
 const OF_FAMILIES: [(&str, AddressFamily, &[u8]); 4] = [
     (
         "10.0.0.0/8",
@@ -237,7 +237,7 @@ fn sets_with_their_families(rt: HostRuntime) {
     }
 }
 
-// The same of claims: with NULL where they are inherited, and nothing where they are missing.
+// The same for claims. Inherited resources are NULL, and nothing is written for missing ones.
 const CLAIMS: [(&str, AddressFamily, &[u8]); 4] = [
     (
         "2001:db8::/32",
@@ -305,7 +305,7 @@ fn all() -> AsBlock {
     AsBlock::from_pair((Asn::MIN, Asn::MAX))
 }
 
-// The values as they are given, whether or not they are the blocks of a set.
+// The values in the given order, even if they are not the blocks of a set.
 #[test]
 fn values_one_after_another(rt: HostRuntime) {
     let mut out = Vec::new(rt.alloc());

@@ -11,7 +11,7 @@ fn pass_on<E: Error>(ended: Result<(), E>) -> anyhow::Result<()> {
     Ok(())
 }
 
-/// Whether the `anyhow::Error` that `?` makes of an error prints this text.
+/// Returns whether the `anyhow::Error` that `?` makes of an error prints this text.
 fn is_passed_on<E: Error>(alloc: Global, error: E, text: &str) -> bool {
     match pass_on(Err(error)) {
         Ok(()) => false,

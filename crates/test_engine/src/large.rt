@@ -1,17 +1,17 @@
-//! Runs over more octets than any buffer between has: an input of more than 2^24, an answer of more than 2^16.
+//! Runs over more octets than any intermediate buffer has: an input of more than 2^24, an answer of more than 2^16.
 use crate::seen::Engine;
 use crate::slices::{Habits, SliceSink, SliceSource};
 use crate::streams::{SliceReader, SliceWriter};
 use lines_engine::adapters::{FromRead, IntoWrite};
 use std::alloc::{AllocError, Global};
 
-/// How many AS numbers a line lists: every second one from 0 on.
+/// Number of AS numbers in a line: every second one from 0 on.
 const LISTED: u32 = 20_000;
 
-/// How many spaces follow them.
+/// Number of spaces after them.
 const SPACES: usize = 17 * 1024 * 1024;
 
-/// The numbers, joined.
+/// Returns the numbers, joined.
 fn list(alloc: Global, joined_by: &str) -> Result<String, AllocError> {
     let mut list = String::from_str(alloc, "AS0")?;
     for half in 1..LISTED {
@@ -21,7 +21,7 @@ fn list(alloc: Global, joined_by: &str) -> Result<String, AllocError> {
     Ok(list)
 }
 
-/// A line of these numbers, of spaces and of one number more; and a line of one number.
+/// Returns a line of these numbers, of spaces and of one number more; and then a line of one number.
 fn input(alloc: Global) -> Result<Vec<u8>, AllocError> {
     let list = list(alloc, ",")?;
     let mut input = b"norm as ".to_vec(alloc)?;
@@ -31,7 +31,7 @@ fn input(alloc: Global) -> Result<Vec<u8>, AllocError> {
     Ok(input)
 }
 
-/// Whether this is what is written for an input, over a reader and a writer of std.
+/// Returns whether this is the output for an input, over a reader and a writer of std.
 fn is_answered(
     alloc: Global,
     engine: Engine,

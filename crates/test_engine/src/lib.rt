@@ -1,5 +1,7 @@
-//! Tests of what no clause says of the programs' engines. Each call of a device fails in turn, and each request for
-//! memory. The devices are this crate's own, and readers and writers of std.
+//! Tests of the programs' engines. They show what no clause states.
+//!
+//! Each call of a device fails in turn, and each request for memory. The devices are those of this crate, and readers
+//! and writers of std.
 #![tactic(auto)]
 
 #[cfg(test)]

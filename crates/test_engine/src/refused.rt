@@ -6,10 +6,10 @@ use std::alloc::Global;
 use std::process::Abort;
 use test_support::{Plan, Refusing};
 
-/// The lines of the input. Each needs memory for its set.
+/// The number of lines of the input. Each needs memory for its set.
 const LINES: usize = 4;
 
-/// The first 0, 1, 2, 3 and 4 of them, and their answers.
+/// The first 0, 1, 2, 3 and 4 of these lines, and their answers.
 const FIRST_LINES: [Row; 5] = [
     Row {
         input: b"",
@@ -33,20 +33,21 @@ const FIRST_LINES: [Row; 5] = [
     },
 ];
 
-/// The number of requests of a run in which none is refused.
+/// Returns the number of requests of a run in which no request is refused.
 fn requests(heap: Global, engine: Engine, row: &Row) -> u64 {
     let refusing = Refusing::new(heap, Plan::RefuseNone);
     let _seen = run_own(&refusing, engine, row, Habits::GOOD, Habits::GOOD);
     refusing.asked()
 }
 
-/// The number of requests of a run over the whole input.
+/// Returns the number of requests of a run over the whole input.
 fn all_requests(heap: Global, engine: Engine) -> u64 {
     requests(heap, engine, &FIRST_LINES[LINES])
 }
 
-/// The number of answers that a run over the whole input writes if this request is refused. `None` if the run ends in
-/// any other way than by `Memory`, or writes anything else than whole answers.
+/// Returns the number of answers that a run over the whole input writes if this request is refused.
+///
+/// Returns `None` if the run ends in any other way than by `Memory`, or writes anything else than whole answers.
 fn answered(heap: Global, engine: Engine, refused: u64) -> Option<usize> {
     let row = FIRST_LINES[LINES];
     let refusing = Refusing::new(heap, Plan::RefuseOnly(refused));
@@ -59,7 +60,9 @@ fn answered(heap: Global, engine: Engine, refused: u64) -> Option<usize> {
         .position(|row| row.output.len() == seen.written)
 }
 
-/// The number of lines that a run has answered before it makes this request: the lines whose requests come before it.
+/// Returns the number of lines that a run has answered before it makes this request.
+///
+/// These are the lines whose requests come before it.
 fn answered_before(heap: Global, engine: Engine, request: u64) -> usize {
     FIRST_LINES
         .iter()
@@ -68,7 +71,7 @@ fn answered_before(heap: Global, engine: Engine, request: u64) -> usize {
         .saturating_sub(1)
 }
 
-/// Stops the test if a run was not as it must be.
+/// Stops the test if a run was not right.
 fn check(rt: &impl Abort, is_right: bool, engine: Engine, request: u64) {
     assert!(rt; is_right, "{engine:?}, request {request}");
 }

@@ -1,4 +1,4 @@
-//! Reads that fail at first, by the adapters of `origins`, and what its errors are to code that passes errors up.
+//! Reads that fail at first, by the adapters of `origins`, and its errors in code that passes errors up.
 use crate::routes::{ANSWERS, FILES, ROUTES};
 use crate::seen::ROOM;
 use crate::slices::{Habits, SliceSink};
@@ -14,7 +14,7 @@ use std::io;
 use std::io::{ErrorKind, Read};
 use test_support::all_print;
 
-/// A reader of std over a slice, whose first reads fail, so many of them, with an error of a kind.
+/// A reader of std over a slice. Its first `failures` reads fail with an error of a kind.
 #[derive(Drop)]
 struct Failing<'a> {
     rest: &'a [u8],
@@ -32,7 +32,7 @@ impl Read for Failing<'_> {
     }
 }
 
-/// Wraps a reader that fails so often, as `origins` does.
+/// Wraps a reader that fails `failures` times, as `origins` does.
 fn as_read(rest: &[u8], kind: ErrorKind, failures: u64) -> Retrying<Failing<'_>> {
     Retrying::new(Failing {
         rest,
@@ -41,7 +41,7 @@ fn as_read(rest: &[u8], kind: ErrorKind, failures: u64) -> Retrying<Failing<'_>>
     })
 }
 
-/// Whether all routes are answered, where so many reads of the file, and of the routes, fail at first.
+/// Returns whether all routes are answered if so many first reads of the file, and of the routes, fail.
 fn answers(
     heap: Global,
     kind: ErrorKind,

@@ -1,4 +1,4 @@
-//! Runs of the engine of `origins` over memory that is refused.
+//! Runs of the engine of `origins` with memory refused.
 use crate::seen::ROOM;
 use crate::slices::{Habits, SliceSink, SliceSource};
 use lines_engine::error::RunError;
@@ -7,7 +7,7 @@ use origins_engine::routes::answer_routes;
 use std::alloc::Global;
 use test_support::{Outcome, Refusing, refuse_in_turn};
 
-/// The same two payloads in both forms.
+/// The same two VRPs in both forms.
 pub const FILES: [&[u8]; 2] = [
     b"ASN,IP Prefix,Max Length\nAS64496,192.0.2.0/24,24\nAS64497,2001:db8::/32,48\n",
     b"{\"roas\": [{\"asn\": 64496, \"prefix\": \"192.0.2.0/24\", \"maxLength\": 24}, \
@@ -19,8 +19,10 @@ pub const ROUTES: &[u8] =
 
 pub const ANSWERS: &[u8] = b"valid\ninvalid-length\ninvalid-as\nnot-found\n";
 
-/// How a run ended that may have been refused a request: before the payloads are there, no route was read and nothing
-/// written; behind them nothing was flushed.
+/// Returns the way in which a run ended that may have been refused a request.
+///
+/// If it was refused before the VRPs are read, no route was read and nothing written. If it was refused later, nothing
+/// was flushed.
 fn outcome(refusing: &Refusing<Global>, file: &'static [u8]) -> Outcome {
     let mut room = [0u8; ROOM];
     let mut payloads = SliceSource::new(file, Habits::GOOD);

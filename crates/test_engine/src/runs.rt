@@ -1,4 +1,4 @@
-//! Runs over devices that move few bytes, fail or fill up, and over memory that is refused.
+//! Runs over devices that move few bytes, fail or fill up, and runs with memory refused.
 use crate::seen::{Devices, Engine, ROOM, Row, Seen, run_own};
 use crate::slices::Habits;
 use lines_engine::error::RunError;
@@ -6,7 +6,7 @@ use std::alloc::Global;
 use std::process::Abort;
 use test_support::{Outcome, Refusing, refuse_in_turn};
 
-/// Inputs whose last line has an end, or has none.
+/// Inputs whose last line has an end, or has no end.
 const ENDS_OF_LINES: [Row; 4] = [
     Row {
         input: b"",
@@ -33,13 +33,13 @@ const LINES: Row = Row {
         error: Bad AS range. Expected format: AS#-AS#\nAS9\n",
 };
 
-/// The reads that it takes, one byte a call, and one for the end.
+/// The number of reads for this input: one for each byte, and one for the end.
 const READS: u64 = 45;
 
-/// The writes that its output takes, one byte a call, and the flush.
+/// The number of writer calls for its output: one for each byte, and the flush.
 const WRITES: u64 = 99;
 
-/// An input with more answers than there is room for.
+/// An input whose answers do not fit into the sink.
 const LONG: Row = Row {
     input: b"\n\n\n\n\n\n",
     output: b"error: unknown command\nerror: unknown command\nerror: unknown command\n\
@@ -54,19 +54,19 @@ const RUNS: [(Engine, Devices); 4] = [
     (Engine::AsRead, Devices::Std),
 ];
 
-/// Stops the test where a run wasn't as it must be.
+/// Stops the test if a run was not right.
 fn check(rt: &impl Abort, is_right: bool, run: (Engine, Devices), number: u64) {
     let (engine, devices) = run;
     assert!(rt; is_right, "{engine:?}, {devices:?} devices, {number}");
 }
 
-/// Whether all was read, answered and flushed.
+/// Returns whether all was read, answered and flushed.
 fn is_whole(seen: &Seen, row: &Row) -> bool {
     let all_written = seen.written == row.output.len() && seen.begins;
     seen.ended.is_ok() && seen.left == 0 && all_written && seen.flushed
 }
 
-/// What is seen of a run.
+/// Runs an input, and returns the observed result.
 fn seen_of(
     run: (Engine, Devices),
     heap: Global,
@@ -78,7 +78,7 @@ fn seen_of(
     devices.run(heap, engine, row, reading, writing)
 }
 
-/// Whether an input is answered over devices of these habits.
+/// Returns whether an input is answered over devices with these habits.
 fn is_answered(run: (Engine, Devices), heap: Global, row: &Row, habits: Habits) -> bool {
     is_whole(&seen_of(run, heap, row, habits, habits), row)
 }
@@ -104,12 +104,12 @@ fn a_run_in_steps_answers_the_same(rt: HostRuntime) {
     }
 }
 
-/// How many lines end in bytes.
+/// Returns how many lines end in the bytes.
 fn ends_in(bytes: &[u8]) -> usize {
     bytes.iter().filter(|byte| **byte == b'\n').count()
 }
 
-/// How many lines are answered before the read with this number, at a byte a read.
+/// Returns how many lines are answered before the read with this number, at one byte for each read.
 fn answered_before(engine: Engine, number: u64) -> usize {
     match engine {
         Engine::Whole => 0,
@@ -117,7 +117,8 @@ fn answered_before(engine: Engine, number: u64) -> usize {
     }
 }
 
-/// Whether the read with this number, which fails, is the last one, and its fault the answer. Nothing is flushed.
+/// Returns whether the read with this number, which fails, is the last one, and the result is its error. Nothing is
+/// flushed.
 fn ends_at_read(run: (Engine, Devices), heap: Global, number: u64) -> bool {
     let seen = seen_of(run, heap, &LINES, Habits::failing_at(number), Habits::GOOD);
     let is_last = seen.reads == number.saturating_add(1) && !seen.flushed;
@@ -136,8 +137,10 @@ fn each_read_fails_in_turn(rt: HostRuntime) {
     }
 }
 
-/// Whether the write or flush with this number, which fails, is the writer's last call, and its fault the answer. The
-/// bytes before it were written, one a call.
+/// Returns whether the write or flush with this number, which fails, is the writer's last call, and the result is its
+/// error.
+///
+/// The bytes before it were written, one for each call.
 fn ends_at_write(run: (Engine, Devices), heap: Global, number: u64, habits: Habits) -> bool {
     let seen = seen_of(run, heap, &LINES, Habits::GOOD, habits);
     let is_last = seen.writes == number.saturating_add(1) && !seen.flushed;
@@ -164,7 +167,7 @@ fn a_write_that_takes_nothing_is_a_fault(rt: HostRuntime) {
     }
 }
 
-/// Whether a run makes so many calls, where none of them fails.
+/// Returns whether a run makes so many calls if none of them fails.
 fn asks(run: (Engine, Devices), heap: Global, row: &Row, reads: u64, writes: u64) -> bool {
     let seen = seen_of(
         run,
@@ -181,13 +184,13 @@ fn no_other_call_is_made(rt: HostRuntime) {
     for run in &RUNS {
         let is_right = asks(*run, rt.alloc(), &LINES, READS, WRITES);
         check(&rt, is_right, *run, WRITES);
-        // Of an empty input the end is read, and it is flushed too.
+        // An empty input is read to its end, and its output is flushed too.
         let is_right = asks(*run, rt.alloc(), &ENDS_OF_LINES[0], 1, 1);
         check(&rt, is_right, *run, 1);
     }
 }
 
-/// Whether what there is room for was written, and then a write that took nothing was the fault.
+/// Returns whether the sink was filled, and the error was then that of a write that took nothing.
 fn ends_when_full(run: (Engine, Devices), heap: Global) -> bool {
     let seen = seen_of(run, heap, &LONG, Habits::GOOD, Habits::GOOD);
     let is_full = seen.written == ROOM && seen.begins && !seen.flushed;
@@ -208,7 +211,7 @@ const WORKED: Row = Row {
         error: unknown kind\n",
 };
 
-/// Whether the answers of some first lines were written, each whole.
+/// Returns whether the answers to some first lines were written, each whole.
 fn are_whole_lines(seen: &Seen, row: &Row) -> bool {
     let is_ended = match seen.written.checked_sub(1) {
         Some(last) => row.output.get(last) == Some(&b'\n'),
@@ -217,8 +220,9 @@ fn are_whole_lines(seen: &Seen, row: &Row) -> bool {
     seen.begins && is_ended
 }
 
-/// How a run ended that may have been refused a request: then only the answers of some first lines were written, and
-/// nothing was flushed.
+/// Returns the way in which a run ended that may have been refused a request.
+///
+/// If it was refused, only the answers to some first lines were written, and nothing was flushed.
 fn outcome(refusing: &Refusing<Global>, engine: Engine, row: &Row) -> Outcome {
     let seen = run_own(refusing, engine, row, Habits::GOOD, Habits::GOOD);
     match seen.ended {
@@ -230,7 +234,7 @@ fn outcome(refusing: &Refusing<Global>, engine: Engine, row: &Row) -> Outcome {
     }
 }
 
-/// How many requests were refused in turn, or the number of the one behind which a run wasn't as it must be.
+/// Returns how many requests were refused in turn, or the number of the first one whose run was not right.
 fn refused(heap: Global, engine: Engine, row: &Row) -> Result<u64, u64> {
     refuse_in_turn(
         heap,

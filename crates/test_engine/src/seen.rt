@@ -1,4 +1,4 @@
-//! A run, and what is seen of it as plain values.
+//! A run, and its observed result as plain values.
 ghost use Rattle.std.specs.Prelude.{◌≡◌, false};
 
 use crate::slices::{Habits, SliceSink, SliceSource};
@@ -10,35 +10,35 @@ use lines_engine::stream::answer_as_read;
 use respath_lines::lines::Commands;
 use std::alloc::{Allocator, Global};
 
-/// The bytes that a sink has room for.
+/// The capacity of a sink, in bytes.
 pub const ROOM: usize = 128;
 
-/// An input, and what is written for it.
+/// An input, and the output for it.
 #[derive(Clone, Copy)]
 pub struct Row {
     pub input: &'static [u8],
     pub output: &'static [u8],
 }
 
-/// What is seen of a run.
+/// The observed result of a run.
 #[derive(Clone, Copy)]
 pub struct Seen {
     pub ended: Result<(), RunError>,
-    /// How many bytes are left to be read.
+    /// Number of bytes that remain to be read.
     pub left: usize,
-    /// The calls of the reader.
+    /// Number of calls of the reader.
     pub reads: u64,
-    /// How many bytes were written.
+    /// Number of bytes that were written.
     pub written: usize,
-    /// Whether those are the first ones of the wanted output.
+    /// Whether those are the first ones of the expected output.
     pub begins: bool,
-    /// The calls of the writer, flushes too.
+    /// Number of calls of the writer, including flushes.
     pub writes: u64,
-    /// Whether the last call of the writer was a flush that was Ok.
+    /// Whether the last call of the writer was a flush that returned `Ok`.
     pub flushed: bool,
 }
 
-/// Which engine runs.
+/// The engine of a run.
 #[derive(Clone, Copy, Debug, PartialEq, Eq)]
 pub enum Engine {
     /// The run of `respath`, which reads all input before it answers.
@@ -67,12 +67,12 @@ impl Engine {
     }
 }
 
-/// Whose devices a run is over.
+/// The devices of a run.
 #[derive(Clone, Copy, Debug)]
 pub enum Devices {
-    /// The engine's own.
+    /// The devices of the engine.
     Own,
-    /// std's, by the adapters.
+    /// The devices of std, by the adapters.
     Std,
 }
 
@@ -125,7 +125,7 @@ fn run_std(heap: Global, engine: Engine, row: &Row, reading: Habits, writing: Ha
     look(ended, row, &reader.source, &writer.sink)
 }
 
-/// Looks at the devices after a run.
+/// Returns the state of the devices after a run.
 fn look(
     ended: Result<(), RunError>,
     row: &Row,

@@ -3,23 +3,23 @@ ghost use Rattle.std.specs.Prelude.{◌≡◌, ◌≤◌, Some, false, length, t
 
 use lines_engine::device::{DeviceFault, Sink, Source};
 
-/// How a device behaves.
+/// The behavior of a device.
 #[derive(Clone, Copy)]
 pub struct Habits {
-    /// The most bytes that one call moves.
+    /// Maximum number of bytes that one call moves.
     pub step: usize,
-    /// The number of the call that fails, counted from 0. No other fails, those behind it neither.
+    /// Number of the call that fails, from 0. No other call fails, not even a later one.
     pub fails_at: u64,
 }
 
 impl Habits {
-    /// Moves all that it can in one call, and never fails.
+    /// Moves all bytes that it can in one call, and never fails.
     pub const GOOD: Habits = Habits {
         step: usize::MAX,
         fails_at: u64::MAX,
     };
 
-    /// Moves at most so many bytes a call, and never fails.
+    /// Moves at most `step` bytes in one call, and never fails.
     pub fn in_steps(step: usize) -> Habits {
         Habits {
             step,
@@ -27,7 +27,7 @@ impl Habits {
         }
     }
 
-    /// Moves one byte a call, and the call with this number fails.
+    /// Moves one byte in one call, and the call with this number fails.
     pub fn failing_at(number: u64) -> Habits {
         Habits {
             step: 1,
@@ -57,24 +57,24 @@ impl<'a> SliceSource<'a> {
         }
     }
 
-    /// The bytes that are left.
+    /// Returns the bytes that remain.
     pub fn rest(&self) -> &[u8] {
         self.rest
     }
 
-    /// How often it was called.
+    /// Returns how many times it was called.
     pub fn calls(&self) -> u64 {
         self.calls
     }
 
-    /// Whether a call has failed.
+    /// Returns whether a call has failed.
     pub fn has_failed(&self) -> bool
         ensures { result ≡ self.now.failed }
     {
         self.failed
     }
 
-    /// Counts a call that isn't made.
+    /// Counts a call that is not made.
     pub fn count_call(&mut self) {
         self.calls = self.calls.saturating_add(1);
     }
@@ -92,7 +92,7 @@ impl Source for SliceSource<'_> {
             self.failed = true;
             return Err(DeviceFault);
         }
-        // A source may answer 0 only at its end.
+        // A source may return 0 only at its end.
         let step = self.habits.step.max(1);
         let count = step.min(piece.len()).min(self.rest.len());
         let (front, rest) = self.rest.split_at(count);
@@ -128,29 +128,29 @@ impl<'a> SliceSink<'a> {
         }
     }
 
-    /// The bytes that were written.
+    /// Returns the bytes that were written.
     pub fn written(&self) -> &[u8] {
         &self.room[..self.filled]
     }
 
-    /// How often it was called, to write or to flush.
+    /// Returns how many times it was called, to write or to flush.
     pub fn calls(&self) -> u64 {
         self.calls
     }
 
-    /// Whether a call has failed, or a write took nothing.
+    /// Returns whether a call has failed, or a write took nothing.
     pub fn has_failed(&self) -> bool
         ensures { result ≡ self.now.failed }
     {
         self.failed
     }
 
-    /// Counts a call that isn't made.
+    /// Counts a call that is not made.
     pub fn count_call(&mut self) {
         self.calls = self.calls.saturating_add(1);
     }
 
-    /// Whether its last call was a flush that was Ok.
+    /// Returns whether its last call was a flush that returned `Ok`.
     pub fn is_flushed(&self) -> bool {
         self.flushed
     }

@@ -1,5 +1,7 @@
-//! Readers and writers of std over those devices. Of a failed call they tell that it may be tried again, which nothing
-//! here does: a call behind one that failed is counted, so that a test sees it, and fails.
+//! Readers and writers of std over those devices.
+//!
+//! The error of a failed call says that the call may be tried again, which nothing here does. A call after a failed one
+//! is counted and fails, and therefore a test sees it.
 use crate::slices::{SliceSink, SliceSource};
 use lines_engine::device::{Sink, Source};
 use std::io;
@@ -45,7 +47,7 @@ impl Write for SliceWriter<'_> {
     }
 }
 
-/// The fault of a call that may be tried again.
+/// Returns the error of a call that may be tried again.
 fn again() -> io::Error {
     io::Error::from(io::ErrorKind::Interrupted)
 }

@@ -1,4 +1,4 @@
--- DER values of X.690: the octets of each, and what it means that they stand at the front of others.
+-- DER values of X.690: the octets of each, and the definition of a value at the front of octets.
 use Rattle.std.specs.Prelude.{◌≡◌, ℕ, zero, suc, ◌+◌, ◌-◌, ◌*◌, ◌≢◌, ◌⊎◌, ◌%◌, ◌^◌, ◌<◌, ◌≤◌, List, [], ◌∷◌, ◌++◌, length, slice_index, nat_lt, if◌then◌else◌}
 use Rattle.std.specs.Int.{w64, to_be_bytes}
 
@@ -19,7 +19,7 @@ without_zeros [] = []
 without_zeros (zero ∷ bs) = without_zeros bs
 without_zeros (suc b ∷ bs) = suc b ∷ bs
 
--- the fewest octets that spell a number below 2 ^ 64: none for 0
+-- the fewest octets that spell a number below 2 ^ 64: no octet for 0
 unfoldable pub octets : ℕ → List ℕ
 octets n = without_zeros (to_be_bytes w64 n)
 
@@ -34,19 +34,19 @@ IsTag tag = tag % 32 < 31
 abbrev pub tag_octet : ℕ → ℕ → ℕ → ℕ
 tag_octet class form number = class * 64 + form * 32 + number
 
--- a definite length in the fewest octets: one octet below 128; from 128 on, an octet that is 128 and the count of
--- the octets behind it, and those (X.690, 8.1.3.4, 8.1.3.5 and 10.1)
+-- a definite length in the fewest octets (X.690, 8.1.3.4, 8.1.3.5 and 10.1). Below 128, one octet. From 128 on, an
+-- octet that is 128 plus the count of the octets after it, and then these octets
 unfoldable pub length_octets : ℕ → List ℕ
 length_octets n = if nat_lt n 128 then n ∷ [] else (128 + length (octets n)) ∷ octets n
 
--- what stands in front of a content of n octets
+-- the octets before a content of n octets
 unfoldable pub header : ℕ → ℕ → List ℕ
 header tag n = tag ∷ length_octets n
 
 abbrev pub value : ℕ → List ℕ → List ℕ
 value tag content = header tag (length content) ++ content
 
--- a value, whatever its tag means
+-- a value with any tag
 pub record Tlv : Type 0 where
   pub tag : ℕ
   pub content : List ℕ
@@ -59,7 +59,8 @@ pub record IsValue (bytes : List ℕ) (tag : ℕ) (content : List ℕ) : Type 0 
 
 -- ---- contents
 
--- a zero octet in front where the first bit would be 1, which would make the number negative, or where no octet is
+-- A zero octet is put in front if there is no octet, or if the first bit would be 1, which would make the number
+-- negative.
 abbrev pub with_sign : List ℕ → List ℕ
 with_sign [] = 0 ∷ []
 with_sign (b ∷ bs) = if nat_lt b 128 then b ∷ bs else 0 ∷ b ∷ bs
@@ -68,12 +69,12 @@ with_sign (b ∷ bs) = if nat_lt b 128 then b ∷ bs else 0 ∷ b ∷ bs
 unfoldable pub integer : ℕ → List ℕ
 integer n = with_sign (octets n)
 
--- the value of a BIT STRING: how many bits of the last octet are unused, and the octets as they stand
+-- the value of a BIT STRING: the number of unused bits in the last octet, and the octets, unchanged
 pub record Bits : Type 0 where
   pub unused : ℕ
   pub octets : List ℕ
 
--- at most seven bits are unused, and none where there is no octet (X.690, 8.6.2.2 and 8.6.2.3)
+-- at most seven bits are unused, and no bit if there is no octet (X.690, 8.6.2.2 and 8.6.2.3)
 pub record IsBits (b : Bits) : Type 0 where
   pub below : b.unused < 8
   pub empty : length b.octets ≡ 0 → b.unused ≡ 0
@@ -84,7 +85,7 @@ bits_with unused octets = record { unused = unused; octets = octets }
 abbrev pub bit_content : Bits → List ℕ
 bit_content b = b.unused ∷ b.octets
 
--- the octet at the end, or 0 where none is
+-- the last octet, or 0 if there is no octet
 abbrev pub last_octet : List ℕ → ℕ
 last_octet octets = slice_index octets (length octets - 1)
 
@@ -92,11 +93,11 @@ last_octet octets = slice_index octets (length octets - 1)
 abbrev pub IsPadded : Bits → Type 0
 IsPadded b = last_octet b.octets % 2 ^ b.unused ≡ 0
 
--- how many bits are used
+-- the number of used bits
 abbrev pub bit_count : Bits → ℕ
 bit_count b = 8 * length b.octets - b.unused
 
--- ---- grammars: the octets are the value that x stands for, whole
+-- ---- grammars: the octets, all of them, are an encoding of x
 
 abbrev pub IsTlv : List ℕ → Tlv → Type 0
 IsTlv bytes v = IsValue bytes v.tag v.content
@@ -114,25 +115,25 @@ IsOctetString bytes content = IsValue bytes 4 content
 abbrev pub IsNull : List ℕ → Unit {0} → Type 0
 IsNull bytes u = IsValue bytes 5 []
 
--- of a SEQUENCE, the octets that are its content
+-- a SEQUENCE and the octets of its content
 abbrev pub IsSequence : List ℕ → List ℕ → Type 0
 IsSequence bytes content = IsValue bytes 48 content
 
 -- ---- grammars from grammars
 
--- a value of G that says y by the rule C, as a SEQUENCE does by what is in it
+-- a value of G that says y by the rule C, as a SEQUENCE does by its content
 abbrev pub Refines : {X Y : Type 0} → (List ℕ → X → Type 0) → (X → Y → Type 0) → List ℕ → Y → Type 0
 Refines {X} G C bytes y = (x : X) × G bytes x × C x y
 
--- a value of G that P holds of
+-- a value of G for which P holds
 abbrev pub Where : {X : Type 0} → (List ℕ → X → Type 0) → (X → Type 0) → List ℕ → X → Type 0
 Where G P bytes x = G bytes x × P x
 
--- what is written of x, which is one of those that P holds of
+-- the octets are the encoding of x, for which P holds
 abbrev pub Spells : {X : Type 0} → (X → Type 0) → (X → List ℕ) → List ℕ → X → Type 0
 Spells P octets bytes x = P x × (bytes ≡ octets x)
 
--- the octets begin with a value that stands for x, and rest follows it
+-- the octets begin with an encoding of x, and rest follows it
 abbrev pub Front : {X : Type 0} → (List ℕ → X → Type 0) → List ℕ → X → List ℕ → Type 0
 Front G bytes x rest = (front : List ℕ) × G front x × (bytes ≡ front ++ rest)
 
@@ -144,7 +145,7 @@ NoFront {X} G bytes = (x : X) (rest : List ℕ) → Front G bytes x rest → ⊥
 abbrev pub HasNone : {X : Type 0} → (List ℕ → X → Type 0) → List ℕ → Type 0
 HasNone {X} G bytes = (x : X) → ¬ G bytes x
 
--- octets begin with at most one value of G, which stands for one thing
+-- octets begin with at most one value of G, which stands for one x
 abbrev pub OneFront : {X : Type 0} → (List ℕ → X → Type 0) → Type 0
 OneFront {X} G = (a b : List ℕ) (x y : X) (r s : List ℕ) → G a x → G b y → a ++ r ≡ b ++ s → (a ≡ b) × (x ≡ y) × (r ≡ s)
 
@@ -152,8 +153,8 @@ OneFront {X} G = (a b : List ℕ) (x y : X) (r s : List ℕ) → G a x → G b y
 abbrev pub Both : {X Y : Type 0} → (List ℕ → X → Type 0) → (List ℕ → Y → Type 0) → List ℕ → X → Y → Type 0
 Both G H bytes x y = (rest : List ℕ) × Front G bytes x rest × H rest y
 
--- the octets are values one after another, and nothing else; each is of the grammar of the state that the values
--- before it led to
+-- the octets are values one after another, and nothing else; each is of the grammar of the state that follows from
+-- the values before
 abbrev pub EachFrom : {S X : Type 0} → (S → X → S) → (S → List ℕ → X → Type 0) → S → List ℕ → List X → Type 0
 EachFrom next G state bytes [] = bytes ≡ []
 EachFrom next G state bytes (x ∷ xs) = (rest : List ℕ) × Front (G state) bytes x rest × EachFrom next G (next state x) rest xs
@@ -162,7 +163,7 @@ EachFrom next G state bytes (x ∷ xs) = (rest : List ℕ) × Front (G state) by
 abbrev pub Each : {X : Type 0} → (List ℕ → X → Type 0) → List ℕ → List X → Type 0
 Each G = EachFrom (λ (state : Unit {0}) x. state) (λ state. G) tt
 
--- ---- what is written
+-- ---- encodings
 
 abbrev pub u32_value : ℕ → List ℕ
 u32_value n = value 2 (integer n)
@@ -179,7 +180,7 @@ null_value = value 5 []
 abbrev pub sequence_value : List ℕ → List ℕ
 sequence_value content = value 48 content
 
--- ---- the same by the standard's conditions
+-- ---- the same values by the conditions of the standard
 
 -- the first octet is 128 and the count of the others; these are at most eight, don't begin with zero, and spell
 -- 128 or more

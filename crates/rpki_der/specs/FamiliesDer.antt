@@ -7,11 +7,11 @@ use Rattle.rpki_der.specs.declared.family.AddressFamily.{AddressFamily}
 use Rattle.rpki_der.specs.declared.family.AddressFamily.TheVariants.{Ipv4, Ipv6}
 use Rattle.rpki_der.specs.FamilyDer.{IsFamilyDer, family_der}
 
--- what IPv4 has and what IPv6 has, if they have something
+-- a pair of optional values: the first is that of IPv4, the second that of IPv6
 abbrev pub ByFamily : Type 0 → Type 0
 ByFamily X = Option X × Option X
 
--- what a family has
+-- the value of a family, if it has one
 abbrev pub of_family : {X : Type 0} → AddressFamily → ByFamily X → Option X
 of_family Ipv4 fs = fs.0
 of_family Ipv6 fs = fs.1
@@ -39,16 +39,16 @@ claims_among family members = flat_map (claim_if family) members
 
 -- ---- families
 
--- what there is, as a list of one at most
+-- an optional value as a list of at most one item
 abbrev pub listed : {X : Type 0} → Option X → List X
 listed None = []
 listed (Some x) = x ∷ []
 
--- each family stands at most once among the members (2.2.3.3), and has what stands there
+-- each family occurs at most once among the members (2.2.3.3), and has the claim of its member
 abbrev pub AreGathered : {X : Type 0} → List (AddressFamily × X) → ByFamily X → Type 0
 AreGathered members fs = (family : AddressFamily) → claims_among family members ≡ listed (of_family family fs)
 
--- members one after another, in any order, one at least
+-- at least one member, in any order
 abbrev pub SaysFamilies : {X : Type 0} → (AddressFamily → List ℕ → X → Type 0) → List ℕ → ByFamily X → Type 0
 SaysFamilies {X} G content fs = (members : List (AddressFamily × X)) × Each (IsMember G) content members × (members ≢ []) × AreGathered members fs
 
@@ -56,26 +56,26 @@ SaysFamilies {X} G content fs = (members : List (AddressFamily × X)) × Each (I
 abbrev pub IsFamilies : {X : Type 0} → (AddressFamily → List ℕ → X → Type 0) → List ℕ → ByFamily X → Type 0
 IsFamilies G = Refines IsSequence (SaysFamilies G)
 
--- ---- what octets stand for
+-- ---- the meaning of octets
 
--- both have nothing, or what the one has stands for what the other has
+-- both have nothing, or both have something, and C relates them
 abbrev pub SaysOption : {X Y : Type 0} → (Y → X → Type 0) → Option Y → Option X → Type 0
 SaysOption C None None = Unit {0}
 SaysOption C None (Some x) = ⊥
 SaysOption C (Some y) None = ⊥
 SaysOption C (Some y) (Some x) = C y x
 
--- the same of each family
+-- SaysOption for each family
 abbrev pub SaysByFamily : {X Y : Type 0} → (Y → X → Type 0) → ByFamily Y → ByFamily X → Type 0
 SaysByFamily C found fs = SaysOption C found.0 fs.0 × SaysOption C found.1 fs.1
 
--- ---- what is written
+-- ---- encodings
 
 -- a family and its claim in one SEQUENCE
 abbrev pub member_der : {X : Type 0} → (X → List ℕ) → AddressFamily → X → List ℕ
 member_der octets family x = sequence_value (family_der family ++ octets x)
 
--- the same, if there is a claim
+-- the member of a family, or nothing if it has no claim
 abbrev pub option_der : {X : Type 0} → (X → List ℕ) → AddressFamily → Option X → List ℕ
 option_der octets family None = []
 option_der octets family (Some x) = member_der octets family x
@@ -86,13 +86,13 @@ families_der octets fs = sequence_value (option_der octets Ipv4 fs.0 ++ option_d
 
 -- ---- by the mode
 
--- members in order: that of IPv4, if there is one, and behind it that of IPv6; one at least
+-- at least one member, in order: IPv4, if it has one, and then IPv6, if it has one
 abbrev pub AreInOrder : {X : Type 0} → (AddressFamily → List ℕ → X → Type 0) → List ℕ → Option X → Option X → Type 0
 AreInOrder G content None None = ⊥
 AreInOrder G content (Some x) None = IsMember G content (Ipv4, x)
 AreInOrder G content None (Some y) = IsMember G content (Ipv6, y)
 AreInOrder G content (Some x) (Some y) = Both (λ bytes z. IsMember G bytes (Ipv4, z)) (λ bytes z. IsMember G bytes (Ipv6, z)) content x y
 
--- a SEQUENCE of them, and nothing else
+-- a SEQUENCE of such members, and nothing else
 abbrev pub IsFamiliesInOrder : {X : Type 0} → (AddressFamily → List ℕ → X → Type 0) → List ℕ → ByFamily X → Type 0
 IsFamiliesInOrder G = Refines IsSequence (λ content fs. AreInOrder G content fs.0 fs.1)

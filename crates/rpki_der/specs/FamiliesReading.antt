@@ -1,5 +1,5 @@
--- Reading families from left to right, with the first fault that is met: a family that was there
--- before is a fault before its claim is read, and none at all is one before whatever follows.
+-- Reading families from left to right, with the first fault. A repeated family is a fault before its claim is read.
+-- An empty content is a fault before anything that follows.
 use Rattle.std.specs.Prelude.{◌≡◌, ℕ, zero, suc, Bool, true, not, List, [], ◌∷◌, length, Some, None, is_some, Result, Ok, Err, ◌==◌, if◌then◌else◌}
 use Rattle.rpki_der.specs.declared.error.DerError.{DerError}
 use Rattle.rpki_der.specs.declared.error.DerError.TheVariants.{DuplicateFamily, NoFamily, Truncated}
@@ -9,21 +9,21 @@ use Rattle.rpki_der.specs.declared.family.AddressFamily.TheVariants.{Ipv4, Ipv6}
 use Rattle.rpki_der.specs.FamilyDer.{family_at}
 use Rattle.rpki_der.specs.FamiliesDer.{ByFamily}
 
--- whether IPv4 has something, and whether IPv6 has
+-- whether IPv4 has a value, and whether IPv6 has one
 abbrev pub seen : {X : Type 0} → ByFamily X → Bool × Bool
 seen fs = (is_some fs.0, is_some fs.1)
 
--- whether the family has
+-- whether the family has one
 abbrev pub was_seen : Bool × Bool → AddressFamily → Bool
 was_seen before Ipv4 = before.0
 was_seen before Ipv6 = before.1
 
--- the same, and for a family this
+-- fs with this claim for the family
 abbrev pub with_claim : {X : Type 0} → ByFamily X → AddressFamily → X → ByFamily X
 with_claim fs Ipv4 x = (Some x, fs.1)
 with_claim fs Ipv6 x = (fs.0, Some x)
 
--- a member of a family that wasn't there before
+-- a member of a family that did not occur before
 unfoldable pub member_in : {X : Type 0} → (AddressFamily → List ℕ → Result (X × List ℕ) DerError) → Bool × Bool → List ℕ
     → Result (AddressFamily × X) DerError
 member_in claim_at before content = do
@@ -34,8 +34,8 @@ abbrev pub member_at : {X : Type 0} → (AddressFamily → List ℕ → Result (
     → Result ((AddressFamily × X) × List ℕ) DerError
 member_at claim_at before = refined (tagged_at 48) (member_in claim_at before)
 
--- members to the end of the octets, beside what was found before; a member has an octet at least,
--- so the number of the octets is enough for steps
+-- the members to the end of the octets, added to those that were found before. A member has at least one octet, so
+-- the number of the octets is a sufficient number of steps
 unfoldable pub members_by : {X : Type 0} → (Bool × Bool → List ℕ → Result ((AddressFamily × X) × List ℕ) DerError) → ℕ
     → ByFamily X → List ℕ → Result (ByFamily X) DerError
 members_by member steps found [] = Ok found
@@ -59,7 +59,7 @@ abbrev pub families_at : {X : Type 0} → (AddressFamily → List ℕ → Result
     → Result (ByFamily X × List ℕ) DerError
 families_at claim_at = refined (tagged_at 48) (families_in claim_at)
 
--- ---- by the mode: strictly, IPv4 doesn't stand behind IPv6, which is looked at once its family was read
+-- ---- by the mode: strictly, IPv4 may not follow IPv6; this is checked once the family of a member was read
 
 abbrev pub is_in_order : Bool × Bool → AddressFamily → Bool
 is_in_order before Ipv4 = not before.1
@@ -83,8 +83,8 @@ abbrev pub families_by : {X : Type 0} → Bool → (AddressFamily → List ℕ �
     → Result (ByFamily X × List ℕ) DerError
 families_by strict claim_at = refined (tagged_at 48) (families_in_by strict claim_at)
 
--- ---- what is read says what is answered
+-- ---- from what the octets say to the result
 
--- of a member: its family, and what its claim says
+-- a member: the same family, and C relates the claims
 abbrev pub SaysClaim : {X Y : Type 0} → (Y → X → Type 0) → AddressFamily × Y → AddressFamily × X → Type 0
 SaysClaim C found member = (found.0 ≡ member.0) × C found.1 member.1

@@ -7,7 +7,7 @@ use Rattle.rpki_der.specs.Reading.{tagged_at, refined}
 use Rattle.rpki_der.specs.declared.family.AddressFamily.{AddressFamily}
 use Rattle.rpki_der.specs.declared.family.AddressFamily.TheVariants.{Ipv4, Ipv6}
 
--- the number of the family in two octets, and no subsequent family behind it
+-- the number of the family in two octets, without a subsequent address family identifier
 abbrev pub family_octets : AddressFamily → List ℕ
 family_octets Ipv4 = 0 ∷ 1 ∷ []
 family_octets Ipv6 = 0 ∷ 2 ∷ []
@@ -19,7 +19,7 @@ SaysFamily content family = content ≡ family_octets family
 abbrev pub IsFamilyDer : List ℕ → AddressFamily → Type 0
 IsFamilyDer bytes family = IsOctetString bytes (family_octets family)
 
--- what is written
+-- the encoding of a family
 abbrev pub family_der : AddressFamily → List ℕ
 family_der family = octet_string_value (family_octets family)
 

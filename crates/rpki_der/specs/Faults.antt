@@ -1,4 +1,4 @@
--- The faults of DER that a reader names, which are this layer's own: their numbers, names and texts.
+-- The faults of DER that a reader reports: their numbers, names and texts, which are this layer's own.
 use Rattle.std.specs.Prelude.{ℕ, List, ◌++◌, codes, decimal}
 use Rattle.rpki_der.specs.declared.error.DerError.{DerError}
 use Rattle.rpki_der.specs.declared.error.DerError.TheVariants.{Truncated, BadTag, BadLength, BadInteger, BadBitString, BadNull, TrailingData, BadPrefix, BadFamily, ReversedRange, EmptyBlocks, DuplicateFamily, NoFamily, NotCanonical}
@@ -36,6 +36,6 @@ fault_name DuplicateFamily = codes "DuplicateFamily"
 fault_name NoFamily = codes "NoFamily"
 fault_name NotCanonical = codes "NotCanonical"
 
--- what is printed of a fault, as `der error 3 (BadLength)`
+-- the printed text of a fault, as in `der error 3 (BadLength)`
 abbrev pub fault_text : DerError → List ℕ
 fault_text fault = codes "der error " ++ decimal (fault_number fault) ++ codes " (" ++ fault_name fault ++ codes ")"

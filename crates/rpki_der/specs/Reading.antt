@@ -1,4 +1,4 @@
--- Reading octets from left to right: the value at the front and what follows it, or the first fault that is met.
+-- Reading octets from left to right: the value at the front and the octets after it, or the first fault.
 use Rattle.std.specs.Prelude.{◌≡◌, ◌⊎◌, ℕ, zero, suc, ◌+◌, ◌-◌, ◌*◌, ◌%◌, ◌^◌, Bool, true, false, not, List, [], ◌∷◌, ◌++◌, length, take, drop, slice_index, ◌&&◌, ◌||◌, Option, Some, None, Result, Ok, Err, nat_lt, nat_le, ◌==◌, if◌then◌else◌}
 use Rattle.rpki_der.specs.declared.error.DerError.{DerError}
 use Rattle.rpki_der.specs.declared.error.DerError.TheVariants.{Truncated, BadTag, BadLength, BadInteger, BadBitString, BadNull, TrailingData, NotCanonical}
@@ -9,14 +9,14 @@ abbrev pub ◌>>=◌ : {A B : Type 0} → Result A DerError → (A → Result B 
 (Ok x) >>= f = f x
 (Err e) >>= f = Err e
 
--- what a call answered, seen by view, is what reading gives
+-- what a call returned, seen by view, is what reading gives
 abbrev pub Gives : {X Y : Type 0} → (X → Y) → Result X DerError → Result Y DerError → Type 0
 Gives view (Ok x) read = read ≡ Ok (view x)
 Gives view (Err e) read = read ≡ Err e
 
 -- ---- lengths and values
 
--- the length that count octets spell: no octet is the indefinite form, and eight are the most
+-- the length that count octets spell: a count of 0 is the indefinite form, and the highest count is eight
 unfoldable pub long_length_at : ℕ → List ℕ → Result (ℕ × List ℕ) DerError
 long_length_at count bytes =
     if (count == 0) || nat_lt 8 count then Err BadLength else
@@ -66,7 +66,7 @@ nothing (b ∷ bytes) = Err BadNull
 abbrev pub ended : List ℕ → Result (Unit {0}) DerError
 ended bytes = if length bytes == 0 then Ok tt else Err TrailingData
 
--- ---- by the mode: strictly, what isn't canonical is refused
+-- ---- by the mode: a strict reading refuses octets that are not canonical
 
 -- strictly, only what passes the test
 unfoldable pub passing : {X : Type 0} → Bool → (X → Bool) → X → Result X DerError
@@ -81,7 +81,7 @@ bits_by strict content = bits content >>= passing strict is_padded
 
 -- ---- readings from readings
 
--- what reading finds, looked at once more
+-- the value that reading finds, passed through a check
 unfoldable pub refined : {X Y : Type 0} → (List ℕ → Result (X × List ℕ) DerError) → (X → Result Y DerError) → List ℕ
     → Result (Y × List ℕ) DerError
 refined reading check bytes = do
@@ -97,8 +97,8 @@ optional reading (b ∷ bytes) = do
   x ← reading (b ∷ bytes)
   Ok (Some x.0, x.1)
 
--- what reading finds, again and again to the end of the octets, each time in the state that the values before led
--- to; a value has an octet at least, so the number of the octets is enough for steps
+-- the values that reading finds to the end of the octets, each in the state that follows from the values before. A
+-- value has at least one octet, so the number of the octets is a sufficient number of steps
 unfoldable pub each_from : {S X : Type 0} → (S → X → S) → ℕ → (S → List ℕ → Result (X × List ℕ) DerError) → S → List ℕ
     → Result (List X) DerError
 each_from next steps reading state [] = Ok []
@@ -108,7 +108,7 @@ each_from next (suc steps) reading state (b ∷ bytes) = do
   xs ← each_from next steps reading (next state x.0) x.1
   Ok (x.0 ∷ xs)
 
--- the same with nothing to remember
+-- the same without a state
 abbrev pub each : {X : Type 0} → ℕ → (List ℕ → Result (X × List ℕ) DerError) → List ℕ → Result (List X) DerError
 each steps reading = each_from (λ (state : Unit {0}) x. state) steps (λ state. reading) tt
 
@@ -128,17 +128,17 @@ null_at = refined (tagged_at 5) nothing
 
 -- ---- what readings find
 
--- reading finds the values of a grammar, whatever follows them, and no others
+-- reading finds the values of a grammar, with any octets after them, and no others
 pub record IsReading {X : Type 0} (G : List ℕ → X → Type 0) (reading : List ℕ → Result (X × List ℕ) DerError) : Type 0 where
   pub takes : (bytes : List ℕ) (x : X) (rest : List ℕ) → IsBytes bytes → reading bytes ≡ Ok (x, rest)
       → Front G bytes x rest
   pub again : (front : List ℕ) (x : X) (rest : List ℕ) → G front x → reading (front ++ rest) ≡ Ok (x, rest)
 
--- a reading by the mode finds what is found, or refuses it as not canonical, which is done strictly alone
+-- a reading by the mode gives the same result, or refuses it as not canonical; only a strict one refuses so
 abbrev pub Tightens : {X : Type 0} → Bool → Result X DerError → Result X DerError → Type 0
 Tightens strict by found = (by ≡ found) ⊎ ((strict ≡ true) × (by ≡ Err NotCanonical))
 
--- so of all octets, and strictly it finds the values of S
+-- the same for all octets; the strict reading finds the values of S
 pub record IsModal {X : Type 0} (S : List ℕ → X → Type 0) (reading : List ℕ → Result (X × List ℕ) DerError) (by : Bool → List ℕ → Result (X × List ℕ) DerError) : Type 0 where
   pub tight : IsReading S (by true)
   pub tightens : (strict : Bool) (bytes : List ℕ) → Tightens strict (by strict bytes) (reading bytes)

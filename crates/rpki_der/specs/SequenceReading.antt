@@ -1,5 +1,5 @@
--- What the readings of blocks and other values share: values of one of two tags, one or two in a content, a value that
--- is there if its tag is, values that are passed over, and a SEQUENCE of values (X.690, 8.9 and 8.10).
+-- Readings that blocks and other values share: values of one of two tags, one or two values in a content, optional
+-- values, skipped values, and a SEQUENCE of values (X.690, 8.9 and 8.10). An optional value is there if its tag is.
 use Rattle.std.specs.Prelude.{◌≡◌, ◌⊎◌, ℕ, Bool, false, List, [], ◌∷◌, length, Option, Some, None, Result, Ok, Err, ◌==◌, if◌then◌else◌}
 use Rattle.rpki_der.specs.declared.error.DerError.{DerError}
 use Rattle.rpki_der.specs.declared.error.DerError.TheVariants.{BadTag, EmptyBlocks}
@@ -25,7 +25,7 @@ by_tag tag one two v =
 abbrev pub SaysPair : {X Y : Type 0} → (List ℕ → X → Type 0) → (X → X → Y → Type 0) → List ℕ → Y → Type 0
 SaysPair {X} G C content y = (first : X) × (second : X) × Both G G content first second × C first second y
 
--- what two values say is looked at before the end of the content
+-- the two values are checked before the end of the content is
 unfoldable pub pair_in : {X Y : Type 0} → (List ℕ → Result (X × List ℕ) DerError) → (X → X → Result Y DerError) → List ℕ
     → Result Y DerError
 pair_in reading check content = do
@@ -35,7 +35,8 @@ pair_in reading check content = do
   end ← ended second.1
   Ok y
 
--- the same by the mode: strictly only where the two values pass a test, which is made behind the end of the content
+-- the same by the mode: strictly, only if the two values pass a test, which is made after the end of the content is
+-- checked
 unfoldable pub pair_by : {X Y : Type 0} → Bool → (List ℕ → Result (X × List ℕ) DerError) → (X → X → Result Y DerError)
     → (X → X → Bool) → List ℕ → Result Y DerError
 pair_by strict reading check test content = do
@@ -47,7 +48,7 @@ pair_by strict reading check test content = do
 
 -- ---- one value in a content
 
--- a value of the tag whose content is a value of G, and nothing else, as explicit tags have it (X.690, 8.14)
+-- a value of the tag whose content is a value of G, and nothing else, as with explicit tags (X.690, 8.14)
 abbrev pub Encloses : {X : Type 0} → ℕ → (List ℕ → X → Type 0) → List ℕ → X → Type 0
 Encloses tag G = Refines (λ bytes content. IsValue bytes tag content) G
 
@@ -62,9 +63,9 @@ abbrev pub enclosed_at : {X : Type 0} → ℕ → (List ℕ → Result (X × Lis
     → Result (X × List ℕ) DerError
 enclosed_at tag reading = refined (tagged_at tag) (only reading)
 
--- ---- passed over
+-- ---- skipped values
 
--- a value of G, whatever it stands for
+-- a value of G, for any x
 abbrev pub Skips : {X : Type 0} → (List ℕ → X → Type 0) → List ℕ → Unit {0} → Type 0
 Skips G = Refines G (λ x u. Unit {0})
 
@@ -79,7 +80,7 @@ abbrev pub begins_with : ℕ → List ℕ → Bool
 begins_with octet [] = false
 begins_with octet (b ∷ bytes) = b == octet
 
--- what reading finds where the next octet is the tag; elsewhere, and at the end, nothing, and no octet is taken
+-- what reading finds, if the next octet is the tag. Otherwise, and at the end, nothing, and no octet is taken
 unfoldable pub if_tagged : {X : Type 0} → ℕ → (List ℕ → Result (X × List ℕ) DerError) → List ℕ
     → Result (Option X × List ℕ) DerError
 if_tagged tag reading bytes =
@@ -87,7 +88,7 @@ if_tagged tag reading bytes =
 
 -- ---- a SEQUENCE of values
 
--- a SEQUENCE of values, each of the grammar of the state that the values before it led to, and nothing else
+-- a SEQUENCE of values, each of the grammar of the state that follows from the values before, and nothing else
 abbrev pub IsSequenceFrom : {S X : Type 0} → (S → X → S) → (S → List ℕ → X → Type 0) → S → List ℕ → List X → Type 0
 IsSequenceFrom next G state = Refines IsSequence (EachFrom next G state)
 
@@ -100,7 +101,7 @@ unfoldable pub values_from : {S X : Type 0} → (S → X → S) → (S → List 
     → Result (List X) DerError
 values_from next reading state content = each_from next (length content) reading state content
 
--- one value at least
+-- at least one value
 abbrev pub some_of : {X : Type 0} → List X → Result (List X) DerError
 some_of [] = Err EmptyBlocks
 some_of (x ∷ xs) = Ok (x ∷ xs)
@@ -112,7 +113,7 @@ abbrev pub sequence_from : {S X : Type 0} → (S → X → S) → (S → List �
     → Result (List X × List ℕ) DerError
 sequence_from next reading state = refined (tagged_at 48) (values_from next reading state)
 
--- the same with nothing to remember
+-- the same without a state
 abbrev pub values_of : {X : Type 0} → (List ℕ → Result (X × List ℕ) DerError) → List ℕ → Result (List X) DerError
 values_of reading = values_from (λ (state : Unit {0}) x. state) (λ state. reading) tt
 

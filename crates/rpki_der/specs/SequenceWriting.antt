@@ -1,4 +1,4 @@
--- What is written of lists of values.
+-- The encodings of lists of values.
 use Rattle.std.specs.Prelude.{ℕ, List}
 use Rattle.std.specs.List.{flat_map}
 use Rattle.rpki_der.specs.Der.{sequence_value}

@@ -1,4 +1,4 @@
-//! A value that was taken, and what its content says.
+//! A decoded value, and the readings of its content.
 
 ghost use Rattle.std.specs.Prelude.{◌<◌, ◌≤◌, ◌*◌, length};
 
@@ -8,7 +8,7 @@ use crate::value::number_of;
 
 /// The tag and the content of a value. It borrows the octets, so a copy costs nothing.
 ///
-/// But for `tag`, every call reads the content alone, whatever the tag is.
+/// Except for `tag`, every call reads only the content. No call checks the tag.
 #[derive(Clone, Copy, Debug)]
 pub struct Content<'a> {
     pub(crate) tag: u8,
@@ -16,8 +16,9 @@ pub struct Content<'a> {
     pub(crate) strict: bool,
 }
 
-/// The content of a BIT STRING (X.690, 8.6.2): how many bits of the last octet are unused, and the
-/// octets, in which the unused bits may be set. It borrows them, so a copy costs nothing.
+/// The content of a BIT STRING (X.690, 8.6.2): the number of unused bits in the last octet, and the octets.
+///
+/// Unused bits may be set. The value borrows the octets, so a copy costs nothing.
 #[derive(Clone, Copy, Debug)]
 pub struct BitString<'a> {
     unused: u8,
@@ -32,21 +33,23 @@ impl<'a> Content<'a> {
     ghost use Rattle.rpki_der.specs.Reading.{Gives, bits, bits_by, is_longer, nothing, unsigned};
     ghost use Rattle.rpki_der.specs.Views.{LenientIn, NotCanonicalInOr, Parses, StrictIn, bit_string_of, content_octets, is_strict, is_strict_in, left, tlv};
 
-    /// The tag octet.
+    /// Returns the tag octet.
     pub fn tag(&self) -> u8
         ensures tag { result ≡ (tlv self.now).tag }
     {
         self.tag
     }
 
-    /// The octets of the content.
+    /// Returns the octets of the content.
     pub fn bytes(&self) -> &'a [u8]
         ensures octets { result.now ≡ content_octets self.now }
     {
         self.octets
     }
 
-    /// A cursor over the content, as of a SEQUENCE. It is strict where the one was that gave the content.
+    /// Returns a cursor over the content, as for a SEQUENCE.
+    ///
+    /// The cursor is strict if and only if the content was taken from a strict cursor.
     pub fn cursor(&self) -> Cursor<'a>
         ensures octets { left result ≡ content_octets self.now }
         ensures mode { is_strict result ≡ is_strict_in self.now }
@@ -54,7 +57,11 @@ impl<'a> Content<'a> {
         Cursor::in_mode(self.octets, self.strict)
     }
 
-    /// The content as an INTEGER (X.690, 8.3) from 0 to 4294967295, else `BadInteger`.
+    /// Reads the content as an INTEGER (X.690, 8.3) from 0 to 4294967295.
+    ///
+    /// # Errors
+    ///
+    /// [`DerError::BadInteger`]: the content is no such INTEGER.
     #[tactic(auto, using(crate::proofs::Contents::unsigned_check))]
     pub fn to_u32(&self) -> Result<u32, DerError>
         ensures reads { Parses IsUnsigned (λ n. n) (content_octets self.now) result }
@@ -63,8 +70,12 @@ impl<'a> Content<'a> {
         self.parse_u32()
     }
 
-    /// The content as a BIT STRING (X.690, 8.6.2), else `BadBitString`. Of a strict cursor's content, `NotCanonical`
-    /// where an unused bit is set.
+    /// Reads the content as a BIT STRING (X.690, 8.6.2).
+    ///
+    /// # Errors
+    ///
+    /// - [`DerError::BadBitString`]: the content is not that of a BIT STRING.
+    /// - [`DerError::NotCanonical`]: an unused bit is set, and the content was taken from a strict cursor.
     #[tactic(auto, using(crate::proofs::Contents::bits_check, crate::proofs::Modes::padded_check, crate::proofs::Modes::bits_tighten, crate::proofs::Cursors::parses_by))]
     pub fn to_bit_string(&self) -> Result<BitString<'a>, DerError>
         ensures reads { LenientIn self.now
@@ -81,7 +92,8 @@ impl<'a> Content<'a> {
         self.parse_bit_string()
     }
 
-    /// Whether the content, if it is that of a BIT STRING, has more bits than the limit; false of any other content.
+    /// Returns whether the content is that of a BIT STRING with more than `limit` bits. Any other content gives
+    /// false.
     pub fn has_more_bits_than(&self, limit: u8) -> bool
         ensures { result ≡ is_longer limit (content_octets self.now) }
     {
@@ -93,14 +105,18 @@ impl<'a> Content<'a> {
         }
     }
 
-    /// The content as an OCTET STRING (X.690, 8.7), which any octets are.
+    /// Reads the content as an OCTET STRING (X.690, 8.7). Any octets are one, so this call never fails.
     pub fn to_octets(&self) -> Result<&'a [u8], DerError>
         ensures exact { Gives (λ o. o.now) result (Ok (content_octets self.now)) }
     {
         Ok(self.octets)
     }
 
-    /// The content as a NULL (X.690, 8.8), which has no octet, else `BadNull`.
+    /// Reads the content as a NULL (X.690, 8.8), which has no octets.
+    ///
+    /// # Errors
+    ///
+    /// [`DerError::BadNull`]: the content has an octet.
     #[tactic(auto, unfolding(crate::specs::Reading::nothing))]
     pub fn to_null(&self) -> Result<(), DerError>
         ensures reads { Parses IsNothing (λ u. u) (content_octets self.now) result }
@@ -110,7 +126,7 @@ impl<'a> Content<'a> {
     }
 }
 
-// The readings behind the calls: each stands apart from its call, whose further clause, `reads`,
+// The implementations of the calls above. Each is separate from its call, because the call's further clause, `reads`,
 // follows from `exact` by a theorem on the grammar.
 impl<'a> Content<'a> {
     ghost use Rattle.rpki_der.specs.Reading.{Gives, bits_by, nothing, unsigned};
@@ -172,28 +188,28 @@ impl<'a> BitString<'a> {
     ghost use Rattle.rpki_der.specs.Der.{bit_count};
     ghost use Rattle.rpki_der.specs.Views.{bit_string_of};
 
-    /// How many bits of the last octet are unused: 0 to 7, and 0 where there is no octet.
+    /// Returns the number of unused bits in the last octet: 0 to 7, and 0 if there is no octet.
     pub fn unused(&self) -> u8
         ensures unused { result ≡ (bit_string_of self.now).unused }
     {
         self.unused
     }
 
-    /// The octets as they stand, the unused bits among them.
+    /// Returns the octets unchanged, including the unused bits.
     pub fn octets(&self) -> &'a [u8]
         ensures octets { result.now ≡ (bit_string_of self.now).octets }
     {
         self.octets
     }
 
-    /// How many octets there are.
+    /// Returns the number of octets.
     pub fn octet_len(&self) -> usize
         ensures len { result ≡ length (bit_string_of self.now).octets }
     {
         self.octets.len()
     }
 
-    /// How many bits are used.
+    /// Returns the number of used bits.
     pub fn bit_len(&self) -> u128
         ensures len { result ≡ bit_count (bit_string_of self.now) }
     {

@@ -1,4 +1,4 @@
-//! A place in octets, from which values are taken one after another.
+//! A cursor over octets, from which values are taken one after another.
 
 ghost use Rattle.std.specs.Prelude.{◌<◌, ◌^◌, length};
 ghost use Rattle.rpki_der.specs.Der.{IsBytes};
@@ -8,11 +8,13 @@ use crate::error::DerError;
 use crate::tag;
 use crate::value::value_of;
 
-/// The octets that are left to read. A take moves the cursor behind the value that it answers, and
-/// where it refuses it leaves the cursor as it was.
+/// The octets that are left to read.
 ///
-/// A strict cursor refuses octets that aren't those that are written of the value, by `NotCanonical`. So do the cursors
-/// over the contents of its values.
+/// A take that succeeds moves the cursor past the value that it returns. A take that fails leaves the cursor
+/// unchanged.
+///
+/// A strict cursor refuses the encoding of a value by [`DerError::NotCanonical`], if the writers encode the value with
+/// other octets. The cursors over the contents of its values are strict too.
 ///
 /// A cursor borrows its octets, so a copy costs nothing: take from a copy to look ahead.
 #[derive(Clone, Copy, Debug)]
@@ -29,7 +31,7 @@ impl<'a> Cursor<'a> {
     ghost use Rattle.rpki_der.specs.Reading.{Gives, bit_string_at, bit_string_by, ended, null_at, optional, tagged_at, u32_at, value_at};
     ghost use Rattle.rpki_der.specs.Views.{Lenient, NotCanonicalOr, ReadsValue, ReadsOptional, Strict, Takes, bit_string_of, is_strict, is_strict_in, left, tlv};
 
-    /// A cursor at the first of the octets.
+    /// Returns a lenient cursor at the start of `octets`.
     pub fn new(octets: &'a [u8]) -> Cursor<'a>
         ensures octets { left result ≡ octets.now }
         ensures mode { is_strict result ≡ false }
@@ -37,7 +39,7 @@ impl<'a> Cursor<'a> {
         Self::in_mode(octets, false)
     }
 
-    /// A strict cursor at the first of the octets, which takes canonical octets alone.
+    /// Returns a strict cursor at the start of `octets`. It takes only canonical octets.
     pub fn new_strict(octets: &'a [u8]) -> Cursor<'a>
         ensures octets { left result ≡ octets.now }
         ensures mode { is_strict result ≡ true }
@@ -53,14 +55,14 @@ impl<'a> Cursor<'a> {
         Cursor { octets, strict }
     }
 
-    /// Whether the cursor takes canonical octets alone.
+    /// Returns whether the cursor takes only canonical octets.
     pub fn is_strict(&self) -> bool
         ensures mode { result ≡ is_strict self.now }
     {
         self.strict
     }
 
-    /// Whether no octet is left.
+    /// Returns whether no octet is left.
     pub fn is_empty(&self) -> bool
         ensures empty { result ≡ (length (left self.now) == 0) }
     {
@@ -75,24 +77,31 @@ impl<'a> Cursor<'a> {
         ensures { length (left self.now) < 2 ^ 64 }
     {}
 
-    /// The octets that are left.
+    /// Returns the octets that are left.
     pub fn rest(&self) -> &'a [u8]
         ensures octets { result.now ≡ left self.now }
     {
         self.octets
     }
 
-    /// The next octet, which is the tag of the next value if one is there; None at the end.
+    /// Returns the next octet without taking it, or None if no octet is left.
+    ///
+    /// The octet is the tag of the next value, if the octets begin with a value.
     pub fn peek_tag(&self) -> Option<u8>
         ensures next { result ≡ slice_get (left self.now) 0 }
     {
         self.octets.first().copied()
     }
 
-    /// Takes a value of any tag (X.690, 8.1).
+    /// Takes a value with any tag (X.690, 8.1).
     ///
-    /// `Truncated` where octets are missing, `BadTag` where the low five bits of the tag octet are
-    /// all ones, `BadLength` where the length is indefinite or isn't in the fewest octets.
+    /// # Errors
+    ///
+    /// The cursor is unchanged after an error.
+    ///
+    /// - [`DerError::Truncated`]: octets are missing.
+    /// - [`DerError::BadTag`]: the low five bits of the tag octet are all ones.
+    /// - [`DerError::BadLength`]: the length is indefinite, or is not in the fewest octets.
     #[tactic(auto, using(crate::proofs::Readings::value_reading))]
     pub fn take_value(&mut self) -> Result<Content<'a>, DerError>
         ensures reads { ReadsValue IsTlv tlv self.old self.new result }
@@ -103,7 +112,11 @@ impl<'a> Cursor<'a> {
         self.next_value()
     }
 
-    /// Takes a value of any tag as `take_value` does; None at the end, and there alone.
+    /// Takes a value with any tag, as `take_value` does. Returns None if and only if no octet is left.
+    ///
+    /// # Errors
+    ///
+    /// The errors of `take_value`. The cursor is unchanged after an error.
     #[tactic(auto, using(crate::proofs::Readings::value_reading, crate::proofs::Lists::optional_some, crate::proofs::Lists::optional_none, crate::proofs::Lists::optional_err, crate::proofs::Cursors::none_by))]
     pub fn take_opt_value(&mut self) -> Result<Option<Content<'a>>, DerError>
         ensures reads { ReadsOptional IsTlv tlv self.old self.new result }
@@ -115,9 +128,12 @@ impl<'a> Cursor<'a> {
         self.next_opt_value()
     }
 
-    /// Takes a SEQUENCE (X.690, 8.9) and answers a cursor over its content.
+    /// Takes a SEQUENCE (X.690, 8.9) and returns a cursor over its content.
     ///
-    /// The faults are those of `take_value`; `BadTag` also where another value stands there.
+    /// # Errors
+    ///
+    /// The errors of `take_value`, and [`DerError::BadTag`] if the value has another tag. The cursor is unchanged after
+    /// an error.
     #[tactic(auto, using(crate::proofs::Readings::sequence_reading))]
     pub fn take_sequence(&mut self) -> Result<Cursor<'a>, DerError>
         ensures reads { ReadsValue IsSequence left self.old self.new result }
@@ -130,8 +146,12 @@ impl<'a> Cursor<'a> {
 
     /// Takes an INTEGER (X.690, 8.3) from 0 to 4294967295.
     ///
-    /// The faults are those of `take_value`; `BadTag` also where another value stands there, and
-    /// `BadInteger` for any other content.
+    /// # Errors
+    ///
+    /// The cursor is unchanged after an error. The errors are those of `take_value`, and:
+    ///
+    /// - [`DerError::BadTag`]: the value has another tag.
+    /// - [`DerError::BadInteger`]: the content is no such INTEGER.
     #[tactic(auto, using(crate::proofs::Readings::u32_reading))]
     pub fn take_u32(&mut self) -> Result<u32, DerError>
         ensures reads { ReadsValue IsU32 (λ n. n) self.old self.new result }
@@ -141,12 +161,15 @@ impl<'a> Cursor<'a> {
         self.next_u32()
     }
 
-    /// Takes a BIT STRING (X.690, 8.6.2). Unused bits that are set are accepted, but from a strict
-    /// cursor.
+    /// Takes a BIT STRING (X.690, 8.6.2). A lenient cursor accepts unused bits that are set.
     ///
-    /// The faults are those of `take_value`; `BadTag` also where another value stands there,
-    /// `BadBitString` for any other content, and from a strict cursor `NotCanonical` where an unused
-    /// bit is set.
+    /// # Errors
+    ///
+    /// The cursor is unchanged after an error. The errors are those of `take_value`, and:
+    ///
+    /// - [`DerError::BadTag`]: the value has another tag.
+    /// - [`DerError::BadBitString`]: the content is not that of a BIT STRING.
+    /// - [`DerError::NotCanonical`]: an unused bit is set, and the cursor is strict.
     #[tactic(auto, using(crate::proofs::Modes::bit_string_modal, crate::proofs::Readings::bit_string_reading, crate::proofs::Cursors::none_by))]
     pub fn take_bit_string(&mut self) -> Result<BitString<'a>, DerError>
         ensures reads { Lenient self.old
@@ -166,7 +189,10 @@ impl<'a> Cursor<'a> {
 
     /// Takes an OCTET STRING (X.690, 8.7).
     ///
-    /// The faults are those of `take_value`; `BadTag` also where another value stands there.
+    /// # Errors
+    ///
+    /// The errors of `take_value`, and [`DerError::BadTag`] if the value has another tag. The cursor is unchanged after
+    /// an error.
     #[tactic(auto, using(crate::proofs::Readings::octet_string_reading))]
     pub fn take_octets(&mut self) -> Result<&'a [u8], DerError>
         ensures reads { ReadsValue IsOctetString (λ o. o.now) self.old self.new result }
@@ -178,8 +204,12 @@ impl<'a> Cursor<'a> {
 
     /// Takes a NULL (X.690, 8.8).
     ///
-    /// The faults are those of `take_value`; `BadTag` also where another value stands there, and
-    /// `BadNull` where it has content.
+    /// # Errors
+    ///
+    /// The cursor is unchanged after an error. The errors are those of `take_value`, and:
+    ///
+    /// - [`DerError::BadTag`]: the value has another tag.
+    /// - [`DerError::BadNull`]: the value has content.
     #[tactic(auto, using(crate::proofs::Readings::null_reading, crate::proofs::Cursors::reads_by))]
     pub fn take_null(&mut self) -> Result<(), DerError>
         ensures reads { ReadsValue IsNull (λ u. u) self.old self.new result }
@@ -189,7 +219,11 @@ impl<'a> Cursor<'a> {
         self.next_null()
     }
 
-    /// Ends the reading: `TrailingData` where octets are left.
+    /// Ends the reading.
+    ///
+    /// # Errors
+    ///
+    /// [`DerError::TrailingData`]: octets are left.
     pub fn finish(self) -> Result<(), DerError>
         ensures exact { Gives (λ u. u) result (ended (left self.entry)) }
     {
@@ -200,8 +234,8 @@ impl<'a> Cursor<'a> {
     }
 }
 
-// The readings behind the takes: which value or which fault the octets give. Each stands apart from
-// its take, whose further clause, `reads`, follows from this one by a theorem on the grammar.
+// The implementations of the takes: the value, or the error, that the octets give. Each is separate from its take,
+// because the take's further clause, `reads`, follows from this one by a theorem on the grammar.
 impl<'a> Cursor<'a> {
     ghost use Rattle.std.specs.Prelude.{◌≡◌, option_map, IfOk, IfSome};
     ghost use Rattle.rpki_der.specs.Reading.{bit_string_by, null_at, optional, tagged_at, u32_at, value_at};

@@ -1,4 +1,4 @@
-//! The faults of DER.
+//! The errors of DER.
 
 ghost use Rattle.std.specs.Prelude.{◌≡◌, Some};
 ghost use Rattle.rpki_der.specs.Faults.{fault_name, fault_number, fault_text};
@@ -7,22 +7,22 @@ use rpki_text::memory::OrMemory;
 use std::error::Error;
 use std::fmt;
 
-/// Why octets are refused: the first fault that a reader meets on its way from left to right.
+/// Why octets are refused: the first fault from left to right.
 #[derive(Clone, Copy, Debug, PartialEq, Eq)]
 pub enum DerError {
     /// Octets are missing.
     Truncated = 1,
-    /// The tag isn't the one that is wanted, or goes on in further octets.
+    /// The tag is not the expected one, or continues in further octets.
     BadTag = 2,
-    /// The length is indefinite, or isn't in the fewest octets, or has more than eight.
+    /// The length is indefinite, is not in the fewest octets, or has more than eight octets.
     BadLength = 3,
-    /// The content isn't an integer from 0 to 4294967295 in the fewest octets.
+    /// The content is not an integer from 0 to 4294967295 in the fewest octets.
     BadInteger = 4,
-    /// The content isn't a count of unused bits and the octets that have them.
+    /// The content is not a count of unused bits followed by octets that have them.
     BadBitString = 5,
     /// A NULL has content.
     BadNull = 6,
-    /// Octets are left behind the last value.
+    /// Octets are left after the last value.
     TrailingData = 7,
     /// The bit string is too long for a prefix.
     BadPrefix = 8,
@@ -30,18 +30,18 @@ pub enum DerError {
     BadFamily = 9,
     /// The first bound of a range is above the second.
     ReversedRange = 10,
-    /// The list of blocks is empty where one is needed.
+    /// The first bound of a range is above the second.
     EmptyBlocks = 11,
-    /// An address family stands there for the second time.
+    /// The list of blocks is empty, but at least one block is required.
     DuplicateFamily = 12,
-    /// The list of address families is empty.
+    /// An address family occurs for the second time.
     NoFamily = 13,
-    /// A strict cursor stands at octets that aren't canonical.
+    /// A strict cursor found octets that are not canonical.
     NotCanonical = 14,
 }
 
 impl DerError {
-    /// The number of the fault, from 1 to 14.
+    /// Returns the number of the error, from 1 to 14.
     pub fn number(&self) -> u8
         ensures number { result ≡ fault_number self.now }
     {
@@ -73,7 +73,7 @@ impl DerError {
 impl fmt::Display for DerError {
     ghost output = { λ fault. Some (fault_text fault) };
 
-    /// Prints the number and the name, as `der error 3 (BadLength)`.
+    /// Prints the number and the name, as in `der error 3 (BadLength)`.
     fn fmt<W: fmt::Write>(&self, f: &mut fmt::Formatter<W>) -> fmt::Result {
         let number = self.number();
         let name = self.name();

@@ -1,4 +1,4 @@
-//! The two families of addresses.
+//! The two address families.
 ghost use Rattle.std.specs.Prelude.{◌≡◌};
 ghost use Rattle.rpki_der.specs.Families.{bits_of};
 
@@ -7,7 +7,7 @@ mod error;
 
 pub use error::DecodeFamilyError;
 
-/// A family of addresses (RFC 3779, 2.2.3.3).
+/// An address family (RFC 3779, 2.2.3.3).
 #[derive(Clone, Copy, Debug, PartialEq, Eq, Hash)]
 pub enum AddressFamily {
     /// IPv4, with addresses of 32 bits.
@@ -17,7 +17,7 @@ pub enum AddressFamily {
 }
 
 impl AddressFamily {
-    /// The greatest length of a prefix of the family: 32 or 128.
+    /// Returns the number of bits of an address of the family, which is the longest prefix length: 32 or 128.
     pub fn max_addr_len(self) -> u8
         ensures { result ≡ bits_of self }
     {
@@ -28,7 +28,7 @@ impl AddressFamily {
     }
 }
 
-/// A type that stands for a family, [`Ipv4Family`] or [`Ipv6Family`].
+/// A type that stands for an address family: [`Ipv4Family`] or [`Ipv6Family`].
 pub trait Family {
     ghost use Rattle.rpki_der.specs.declared.family.AddressFamily.{AddressFamily};
 
@@ -38,7 +38,7 @@ pub trait Family {
     const FAMILY: AddressFamily;
 }
 
-/// IPv4, as the family of blocks, sets and faults.
+/// IPv4, as the type parameter of blocks, sets and errors.
 pub enum Ipv4Family {}
 
 impl Family for Ipv4Family {
@@ -49,7 +49,7 @@ impl Family for Ipv4Family {
     const FAMILY: AddressFamily = AddressFamily::Ipv4;
 }
 
-/// IPv6, as the family of blocks, sets and faults.
+/// IPv6, as the type parameter of blocks, sets and errors.
 pub enum Ipv6Family {}
 
 impl Family for Ipv6Family {

@@ -1,4 +1,4 @@
-//! What holds of the values themselves, each law as the contract of a function that does nothing.
+//! Lemmas about values. Each is the contract of a function that does nothing when it runs.
 
 ghost use Rattle.std.specs.Prelude.{◌≡◌, ℕ, List, Ok, ◌<◌, ◌^◌, ◌∷◌, ◌++◌, length};
 ghost use Rattle.rpki_der.specs.Der.{Bits, IsBitString, IsBits, IsBytes, IsLength, IsNull, IsOctetString, IsSequence, IsTag, IsTlv, IsU32, IsUnsigned, IsValue, OneFront, bit_string_value, integer, length_octets, null_value, octet_string_value, sequence_value, tag_octet, u32_value};
@@ -6,8 +6,7 @@ ghost use Rattle.rpki_der.specs.Reading.{bit_string_at, null_at, tagged_at, u32_
 
 use crate::tag::{BIT_STRING, CONTEXT_0, INTEGER, NULL, OCTET_STRING, SEQUENCE};
 
-/// The tag octets are those of their types: the class, the form (X.690, 8.1.2), and the tag number
-/// (X.680, 8.6, table 1).
+/// Each tag octet is that of its type: the class, the form (X.690, 8.1.2), and the tag number (X.680, 8.6, table 1).
 pub fn tags()
     ensures integer { INTEGER ≡ tag_octet 0 0 2 }
     ensures bit_string { BIT_STRING ≡ tag_octet 0 0 3 }
@@ -17,7 +16,7 @@ pub fn tags()
     ensures context_0 { CONTEXT_0 ≡ tag_octet 2 1 0 }
 {}
 
-/// Octets begin with at most one value of each kind.
+/// Octets begin with at most one value of each type.
 pub fn one_value()
     ensures value { OneFront IsTlv }
     ensures number { OneFront IsU32 }
@@ -39,7 +38,7 @@ pub fn written()
     ensures sequence { (o : List ℕ) → length o < 2 ^ 64 → IsSequence (sequence_value o) o }
 {}
 
-/// What is written is read back, whatever follows it.
+/// An encoded value is read back, and the octets after it are left.
 #[tactic(auto, using(crate::proofs::Readings::u32_reading, crate::proofs::Readings::bit_string_reading, crate::proofs::Readings::octet_string_reading, crate::proofs::Readings::sequence_reading, crate::proofs::Written::value_is, crate::proofs::Written::u32_is, crate::proofs::Written::bit_string_is))]
 pub fn read_back()
     ensures number { (n : ℕ) (rest : List ℕ) → n < 2 ^ 32
@@ -53,8 +52,7 @@ pub fn read_back()
         → tagged_at 48 (sequence_value o ++ rest) ≡ Ok (o, rest) }
 {}
 
-/// Values, lengths and integers are spelled as the conditions of X.690 (8.1.2, 8.1.3, 8.3 and 10.1)
-/// say, and in no other way.
+/// Values, lengths and integers are encoded as X.690 (8.1.2, 8.1.3, 8.3 and 10.1) requires, and in no other way.
 #[tactic(auto, using(crate::proofs::Written::value_spelled, crate::proofs::Written::spelled_value, crate::proofs::Contents::unsigned_spelled, crate::proofs::Lengths::length_spelled, crate::proofs::Lengths::spelled_length))]
 pub fn spelled()
     ensures value { (tag : ℕ) (len content : List ℕ) → IsTag tag → IsBytes len

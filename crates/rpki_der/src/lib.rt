@@ -1,11 +1,13 @@
-//! The part of DER (X.690) that RFC 3779 needs: a cursor that takes values from octets, writers that append them, and
-//! what stands in SEQUENCEs: values of any kind, and families of addresses, each with its claim.
+//! The part of DER (X.690) that RFC 3779 needs.
 //!
-//! Values have a tag of one octet and a definite length in the fewest octets. A [`Cursor`] takes
-//! them one after another, and a refused take leaves it where it was. A [`Content`] is read by the
-//! rule of its type: INTEGER, BIT STRING, OCTET STRING, NULL or SEQUENCE. Nothing is copied.
+//! - A [`Cursor`] takes values from octets, one after another. A take that fails leaves it unchanged.
+//! - A [`Content`] is read by the rule of its type: INTEGER, BIT STRING, OCTET STRING, NULL or SEQUENCE.
+//! - The writers append values to a vector.
+//! - [`sequences`] reads and writes SEQUENCEs: of values of any type, and of address families, each with its claim.
 //!
-//! A value is taken, or refused by its fault, as in `test_der::values`:
+//! Values have a tag of one octet and a definite length in the fewest octets. Readers copy no octets.
+//!
+//! A take returns a value or an error, as in `test_der::values`:
 //!
 //! ```rust
 //! let mut cursor = Cursor::new(octets);

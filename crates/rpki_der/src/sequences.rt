@@ -1,4 +1,4 @@
-//! SEQUENCEs (X.690, 8.9 and 8.10): of values, whatever these are, and of families, whatever each claims.
+//! SEQUENCEs (X.690, 8.9 and 8.10) of values of any type, and of address families with claims of any type.
 mod families;
 mod read;
 mod write;

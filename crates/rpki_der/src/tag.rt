@@ -12,8 +12,8 @@ pub const OCTET_STRING: u8 = 0x04;
 /// A NULL (8.8).
 pub const NULL: u8 = 0x05;
 
-/// A SEQUENCE, which is constructed (8.9).
+/// A SEQUENCE, constructed (8.9).
 pub const SEQUENCE: u8 = 0x30;
 
-/// `[0]` of the context, constructed (8.14).
+/// The context-specific tag `[0]`, constructed (8.14).
 pub const CONTEXT_0: u8 = 0xa0;

@@ -8,7 +8,7 @@ ghost use Rattle.rpki_der.specs.Views.{is_strict_in, tlv};
 use crate::content::Content;
 use crate::error::DerError;
 
-/// The number that octets spell, the most significant first.
+/// Returns the number that octets spell, the most significant first.
 #[tactic(auto, using(crate::proofs::Numbers::big_endian_more, crate::proofs::Numbers::digit_more, crate::proofs::Numbers::digits_fit, std::proofs::lemmas::Grind::common_steps))]
 pub(crate) fn number_of(digits: &[u8]) -> u64
     requires { length digits.now ≤ 8 }
@@ -21,7 +21,7 @@ pub(crate) fn number_of(digits: &[u8]) -> u64
     number
 }
 
-// The length in the next `count` octets, and what follows them.
+// Reads the length in the next `count` octets, and returns it with the octets after it.
 #[tactic(auto, unfolding(crate::specs::Reading::long_length_at))]
 fn long_length_of(count: usize, octets: &[u8]) -> Result<(usize, &[u8]), DerError>
     ensures exact { Gives (λ x. (x.0, x.1.now)) result (long_length_at count octets.now) }
@@ -40,7 +40,7 @@ fn long_length_of(count: usize, octets: &[u8]) -> Result<(usize, &[u8]), DerErro
     Ok((length as usize, rest))
 }
 
-// The length at the front of octets, and what follows it.
+// Reads the length at the front of octets, and returns it with the octets after it.
 #[tactic(auto, unfolding(crate::specs::Reading::length_at))]
 fn length_of(octets: &[u8]) -> Result<(usize, &[u8]), DerError>
     ensures exact { Gives (λ x. (x.0, x.1.now)) result (length_at octets.now) }
@@ -55,7 +55,7 @@ fn length_of(octets: &[u8]) -> Result<(usize, &[u8]), DerError>
     long_length_of(first - 128, rest)
 }
 
-/// The value at the front of octets, for a cursor of this mode, and what follows it.
+/// Reads the value at the front of octets, for a cursor of this mode, and returns it with the octets after it.
 #[tactic(auto, unfolding(crate::specs::Reading::value_at))]
 pub(crate) fn value_of(octets: &[u8], strict: bool) -> Result<(Content<'_>, &[u8]), DerError>
     ensures exact { Gives (λ x. (tlv x.0, x.1.now)) result (value_at octets.now) }

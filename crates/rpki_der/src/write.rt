@@ -1,7 +1,8 @@
 //! Writers that append values to a vector, and the lengths of what they append.
 //!
-//! A `put` reserves the whole length first, so where memory is wanting the vector stays as it was. An `append` is for
-//! callers that reserved room for more than the one value: it takes no memory.
+//! Each `put` reserves the whole length first, so after an error the octets in the vector are unchanged. It succeeds
+//! if the capacity suffices. Each `append` is for callers that reserved the capacity for several values: it allocates
+//! nothing.
 
 ghost use Rattle.std.specs.Prelude.{◌≡◌, ◌≤◌, ◌<◌, ◌+◌, ◌^◌, ◌++◌, length, vec_len, OnOk, OnErr, IsOk};
 ghost use Rattle.std.specs.Vec.{vec_capacity};
@@ -10,7 +11,7 @@ ghost use Rattle.rpki_der.specs.Der.{IsBits, IsTag, bit_string_value, bits_with,
 use crate::tag;
 use std::alloc::{AllocError, Allocator};
 
-/// The octets without the zeros in front.
+/// Returns the octets without leading zeros.
 fn significant(octets: &[u8]) -> &[u8]
     ensures digits { result.now ≡ without_zeros octets.now }
     ensures short { length result.now ≤ length octets.now }
@@ -22,7 +23,7 @@ fn significant(octets: &[u8]) -> &[u8]
     rest
 }
 
-/// How many octets `put_header` appends.
+/// Returns the number of octets that `put_header` appends: at most 10.
 #[tactic(auto, unfolding(crate::specs::Der::header, crate::specs::Der::length_octets, crate::specs::Der::octets))]
 pub fn header_len(tag: u8, content_len: usize) -> usize
     ensures len { result ≡ length (header tag content_len) }
@@ -35,9 +36,16 @@ pub fn header_len(tag: u8, content_len: usize) -> usize
     }
 }
 
-/// Appends the tag octet and the length octets of a value whose content has `content_len` octets
-/// (X.690, 8.1.2, 8.1.3 and 10.1). The low five bits of the tag octet must not all be ones.
-/// `AllocError` where there is no memory for it; then the output stays as it was.
+/// Appends the tag octet and the length octets of a value with `content_len` octets of content (X.690, 8.1.2, 8.1.3,
+/// 10.1).
+///
+/// # Preconditions
+///
+/// The low five bits of `tag` are not all ones.
+///
+/// # Errors
+///
+/// `AllocError`: out of memory. The octets in `out` are unchanged.
 pub fn put_header<A: Allocator>(
     out: &mut Vec<u8, A>,
     tag: u8,
@@ -55,7 +63,12 @@ pub fn put_header<A: Allocator>(
     Ok(())
 }
 
-/// Appends what `put_header` does, where there is room for it.
+/// Appends the octets of `put_header`, without allocation.
+///
+/// # Preconditions
+///
+/// - The low five bits of `tag` are not all ones.
+/// - The capacity of `out` suffices for these octets.
 #[tactic(auto, unfolding(crate::specs::Der::header, crate::specs::Der::length_octets))]
 pub fn append_header<A: Allocator>(out: &mut Vec<u8, A>, tag: u8, content_len: usize)
     requires has_tag { IsTag tag }
@@ -71,7 +84,7 @@ pub fn append_header<A: Allocator>(out: &mut Vec<u8, A>, tag: u8, content_len: u
     }
 }
 
-/// Appends the octets of a length of 128 or more, which few values have; there is room for them.
+/// Appends the octets of a length of 128 or more, which few values have. The capacity suffices for them.
 #[cold]
 #[tactic(auto, unfolding(crate::specs::Der::length_octets, crate::specs::Der::octets))]
 fn append_long_length<A: Allocator>(out: &mut Vec<u8, A>, content_len: usize)
@@ -86,17 +99,17 @@ fn append_long_length<A: Allocator>(out: &mut Vec<u8, A>, content_len: usize)
     append(out, digits);
 }
 
-/// Appends octets, for which there is room.
+/// Appends octets, for which the capacity suffices.
 fn append<A: Allocator>(out: &mut Vec<u8, A>, octets: &[u8])
     requires room { vec_len out.old + length octets.now ≤ vec_capacity out.old }
     ensures items { out.new.items ≡ out.old.items ++ octets.now }
     ensures capacity { vec_capacity out.old ≤ vec_capacity out.new }
 {
-    // There is room, so nothing is refused.
+    // The capacity suffices, so this call can't fail.
     let _appended = out.extend_from_slice(octets);
 }
 
-/// What stands in front of digits so that their first bit is 0.
+/// Returns the octets to put before `digits` so that the first bit is 0.
 fn sign_of(digits: &[u8]) -> &'static [u8]
     ensures sign { result.now ++ digits.now ≡ with_sign digits.now }
     ensures short { length result.now ≤ 1 }
@@ -107,7 +120,7 @@ fn sign_of(digits: &[u8]) -> &'static [u8]
     }
 }
 
-/// How many octets a value has whose content has `content_len` octets.
+/// Returns the number of octets of a value with `content_len` octets of content.
 fn value_len(tag: u8, content_len: usize) -> usize
     requires { content_len < 2 ^ 63 + 16 }
     ensures len { result ≡ length (header tag content_len) + content_len }
@@ -116,7 +129,7 @@ fn value_len(tag: u8, content_len: usize) -> usize
     header_len(tag, content_len) + content_len
 }
 
-/// How many octets the content of an INTEGER has.
+/// Returns the number of octets in the content of an INTEGER.
 #[tactic(auto, unfolding(crate::specs::Der::integer, crate::specs::Der::octets))]
 fn integer_len(number: u32) -> usize
     ensures len { result ≡ length (integer number) }
@@ -127,7 +140,7 @@ fn integer_len(number: u32) -> usize
     sign_of(digits).len() + digits.len()
 }
 
-/// How many octets `put_u32` appends: at most 7.
+/// Returns the number of octets that `put_u32` appends: at most 7.
 #[tactic(auto, using(crate::proofs::Written::short_integer))]
 pub fn u32_len(number: u32) -> usize
     ensures len { result ≡ length (u32_value number) }
@@ -136,7 +149,11 @@ pub fn u32_len(number: u32) -> usize
     value_len(tag::INTEGER, integer_len(number))
 }
 
-/// Appends an INTEGER (X.690, 8.3). `AllocError` where there is no memory for it; then the output stays as it was.
+/// Appends an INTEGER (X.690, 8.3).
+///
+/// # Errors
+///
+/// `AllocError`: out of memory. The octets in `out` are unchanged.
 pub fn put_u32<A: Allocator>(out: &mut Vec<u8, A>, number: u32) -> Result<(), AllocError>
     ensures ok { OnOk result (out.new.items ≡ out.old.items ++ u32_value number) }
     ensures err { OnErr result (out.new.items ≡ out.old.items) }
@@ -149,7 +166,11 @@ pub fn put_u32<A: Allocator>(out: &mut Vec<u8, A>, number: u32) -> Result<(), Al
     Ok(())
 }
 
-/// Appends what `put_u32` does, where there is room for it.
+/// Appends the octets of `put_u32`, without allocation.
+///
+/// # Preconditions
+///
+/// The capacity of `out` suffices for these octets.
 #[tactic(auto, using(crate::proofs::Contents::integer_octets, std::proofs::lemmas::Grind::common_steps))]
 pub fn append_u32<A: Allocator>(out: &mut Vec<u8, A>, number: u32)
     requires room { vec_len out.old + length (u32_value number) ≤ vec_capacity out.old }
@@ -162,16 +183,23 @@ pub fn append_u32<A: Allocator>(out: &mut Vec<u8, A>, number: u32)
     append(out, &octets[8 - content_len..]);
 }
 
-/// How many octets `put_bit_string` appends.
+/// Returns the number of octets that `put_bit_string` appends.
 pub fn bit_string_len(unused: u8, octets: &[u8]) -> usize
     ensures len { result ≡ length (bit_string_value (bits_with unused octets.now)) }
 {
     value_len(tag::BIT_STRING, 1 + octets.len())
 }
 
-/// Appends a BIT STRING (X.690, 8.6.2) of octets as they stand, whose last octet has `unused`
-/// unused bits: at most 7, and 0 where there is no octet. `AllocError` where there is no memory for it; then the output
-/// stays as it was.
+/// Appends a BIT STRING (X.690, 8.6.2) with these octets, unchanged. `unused` is the number of unused bits in the
+/// last one.
+///
+/// # Preconditions
+///
+/// `unused` is at most 7, and 0 if there is no octet.
+///
+/// # Errors
+///
+/// `AllocError`: out of memory. The octets in `out` are unchanged.
 pub fn put_bit_string<A: Allocator>(
     out: &mut Vec<u8, A>,
     unused: u8,
@@ -190,7 +218,12 @@ pub fn put_bit_string<A: Allocator>(
     Ok(())
 }
 
-/// Appends what `put_bit_string` does, where there is room for it.
+/// Appends the octets of `put_bit_string`, without allocation.
+///
+/// # Preconditions
+///
+/// - `unused` is at most 7, and 0 if there is no octet.
+/// - The capacity of `out` suffices for these octets.
 pub fn append_bit_string<A: Allocator>(out: &mut Vec<u8, A>, unused: u8, octets: &[u8])
     requires bits { IsBits (bits_with unused octets.now) }
     requires room { vec_len out.old + length (bit_string_value (bits_with unused octets.now))
@@ -204,14 +237,18 @@ pub fn append_bit_string<A: Allocator>(out: &mut Vec<u8, A>, unused: u8, octets:
     append(out, octets);
 }
 
-/// How many octets `put_octets` appends.
+/// Returns the number of octets that `put_octets` appends.
 pub fn octets_len(octets: &[u8]) -> usize
     ensures len { result ≡ length (octet_string_value octets.now) }
 {
     value_len(tag::OCTET_STRING, octets.len())
 }
 
-/// Appends an OCTET STRING (X.690, 8.7). `AllocError` where there is no memory for it; then the output stays as it was.
+/// Appends an OCTET STRING (X.690, 8.7).
+///
+/// # Errors
+///
+/// `AllocError`: out of memory. The octets in `out` are unchanged.
 pub fn put_octets<A: Allocator>(out: &mut Vec<u8, A>, octets: &[u8]) -> Result<(), AllocError>
     ensures ok { OnOk result (out.new.items ≡ out.old.items ++ octet_string_value octets.now) }
     ensures err { OnErr result (out.new.items ≡ out.old.items) }
@@ -224,7 +261,11 @@ pub fn put_octets<A: Allocator>(out: &mut Vec<u8, A>, octets: &[u8]) -> Result<(
     Ok(())
 }
 
-/// Appends what `put_octets` does, where there is room for it.
+/// Appends the octets of `put_octets`, without allocation.
+///
+/// # Preconditions
+///
+/// The capacity of `out` suffices for these octets.
 pub fn append_octets<A: Allocator>(out: &mut Vec<u8, A>, octets: &[u8])
     requires room { vec_len out.old + length (octet_string_value octets.now)
         ≤ vec_capacity out.old }
@@ -235,14 +276,18 @@ pub fn append_octets<A: Allocator>(out: &mut Vec<u8, A>, octets: &[u8])
     append(out, octets);
 }
 
-/// How many octets `put_null` appends.
+/// Returns the number of octets that `put_null` appends.
 pub fn null_len() -> usize
     ensures len { result ≡ length null_value }
 {
     value_len(tag::NULL, 0)
 }
 
-/// Appends a NULL (X.690, 8.8). `AllocError` where there is no memory for it; then the output stays as it was.
+/// Appends a NULL (X.690, 8.8).
+///
+/// # Errors
+///
+/// `AllocError`: out of memory. The octets in `out` are unchanged.
 pub fn put_null<A: Allocator>(out: &mut Vec<u8, A>) -> Result<(), AllocError>
     ensures ok { OnOk result (out.new.items ≡ out.old.items ++ null_value) }
     ensures err { OnErr result (out.new.items ≡ out.old.items) }
@@ -254,7 +299,11 @@ pub fn put_null<A: Allocator>(out: &mut Vec<u8, A>) -> Result<(), AllocError>
     Ok(())
 }
 
-/// Appends what `put_null` does, where there is room for it.
+/// Appends the octets of `put_null`, without allocation.
+///
+/// # Preconditions
+///
+/// The capacity of `out` suffices for these octets.
 pub fn append_null<A: Allocator>(out: &mut Vec<u8, A>)
     requires room { vec_len out.old + length null_value ≤ vec_capacity out.old }
     ensures items { out.new.items ≡ out.old.items ++ null_value }

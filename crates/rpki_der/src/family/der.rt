@@ -15,8 +15,11 @@ impl AddressFamily {
     ghost use Rattle.rpki_der.specs.Views.{ReadsValue, Takes, is_strict, left};
     ghost use Rattle.rpki_der.specs.FamilyDer.{IsFamilyDer, SaysFamily, family_at, family_der, family_octets};
 
-    /// The family that two octets name (RFC 3779, 2.2.3.3): 0 and 1 for IPv4, 0 and 2 for IPv6. Any others are refused
-    /// by [`DecodeFamilyError`].
+    /// Returns the family that two octets name (RFC 3779, 2.2.3.3): 0 and 1 name IPv4, 0 and 2 name IPv6.
+    ///
+    /// # Errors
+    ///
+    /// [`DecodeFamilyError`]: `octets` name no family.
     pub fn from_octets(octets: &[u8]) -> Result<AddressFamily, DecodeFamilyError>
         ensures { MatchResult result (SaysFamily octets.now)
             (λ _. (family : SomeFamily) → ¬ SaysFamily octets.now family) }
@@ -26,13 +29,17 @@ impl AddressFamily {
 
     /// Takes the OCTET STRING of a family (RFC 3779, 2.2.3.3; RFC 6487, 4.8.10).
     ///
-    /// The faults are those of [`Cursor::take_value`]; `BadTag` also where another value stands there, and `BadFamily`
-    /// where its octets name no family.
+    /// # Errors
+    ///
+    /// The cursor is unchanged after an error. The errors are those of [`Cursor::take_value`], and:
+    ///
+    /// - [`DerError::BadTag`]: the value has another tag.
+    /// - [`DerError::BadFamily`]: the octets name no family.
     #[tactic(auto, using(crate::proofs::Cursors::reads_by, crate::proofs::FamilyLemmas::family_reading, crate::proofs::FamilyLemmas::family_again))]
     pub fn take_from(cursor: &mut Cursor<'_>) -> Result<AddressFamily, DerError>
         ensures reads { ReadsValue IsFamilyDer (λ f. f) cursor.old cursor.new result }
         ensures exact { Takes (λ f. f) cursor.old cursor.new result family_at }
-        // What is written of a family is read as that family, whatever follows it.
+        // The encoding of a family is read as that family, with any octets after it.
         ensures reads_back { (family : SomeFamily) (rest : List ℕ)
             → left cursor.old ≡ family_der family ++ rest
             → (result ≡ Ok family) × (left cursor.new ≡ rest) }
@@ -41,8 +48,13 @@ impl AddressFamily {
         Self::next(cursor)
     }
 
-    /// Takes a family as `take_from` does where the next octet is the tag of an OCTET STRING; None where it isn't, and
-    /// at the end.
+    /// Takes a family as `take_from` does, if the next octet is the tag of an OCTET STRING.
+    ///
+    /// Returns None, and takes nothing, if the next octet is another one or no octet is left.
+    ///
+    /// # Errors
+    ///
+    /// The errors of `take_from`. The cursor is unchanged after an error.
     #[tactic(auto, using(crate::proofs::SequenceCursors::reads_tagged_by, crate::proofs::FamilyLemmas::family_reading))]
     pub fn take_opt_from(cursor: &mut Cursor<'_>) -> Result<Option<AddressFamily>, DerError>
         ensures reads { ReadsTagged 4 IsFamilyDer cursor.old cursor.new result }
@@ -52,7 +64,7 @@ impl AddressFamily {
         Self::next_opt(cursor)
     }
 
-    /// Passes over what `take_opt_from` takes, with the same faults.
+    /// Skips what `take_opt_from` takes, with the same errors.
     #[tactic(auto, using(crate::proofs::SequenceCursors::reads_tagged_by, crate::proofs::FamilyLemmas::family_skipped))]
     pub fn skip_opt_in(cursor: &mut Cursor<'_>) -> Result<Option<()>, DerError>
         ensures reads { ReadsTagged 4 (Skips IsFamilyDer) cursor.old cursor.new result }
@@ -63,7 +75,7 @@ impl AddressFamily {
         Self::pass_over_opt(cursor)
     }
 
-    /// How many octets `encode` appends.
+    /// Returns the number of octets that `encode` appends, which is 4.
     #[tactic(auto, using(crate::proofs::FamilyLemmas::length_family))]
     pub fn encoded_len(&self) -> usize
         ensures len { result ≡ length (family_der self.now) }
@@ -72,8 +84,11 @@ impl AddressFamily {
         octets_len(self.octets())
     }
 
-    /// Appends the OCTET STRING of the family. `AllocError` where there is no memory for it; then the octets stay as
-    /// they were.
+    /// Appends the OCTET STRING of the family to `out`. The call succeeds if the capacity of `out` suffices.
+    ///
+    /// # Errors
+    ///
+    /// `AllocError`: out of memory. The octets in `out` are unchanged.
     #[tactic(auto, using(crate::proofs::FamilyLemmas::family_again))]
     pub fn encode<A: Allocator>(&self, out: &mut Vec<u8, A>) -> Result<(), AllocError>
         ensures ok { OnOk result (out.new.items ≡ out.old.items ++ family_der self.now) }
@@ -81,14 +96,18 @@ impl AddressFamily {
         ensures succeeds { vec_len out.old + length (family_der self.now) ≤ vec_capacity out.old
             → IsOk result }
         ensures capacity { vec_capacity out.old ≤ vec_capacity out.new }
-        // It is read back, whatever follows it.
+        // The encoding is read back, with any octets after it.
         ensures read_back { (rest : List ℕ)
             → family_at (family_der self.now ++ rest) ≡ Ok (self.now, rest) }
     {
         put_octets(out, self.octets())
     }
 
-    /// Appends what `encode` does, where there is room for it.
+    /// Appends the OCTET STRING of the family to `out`, without allocation.
+    ///
+    /// # Preconditions
+    ///
+    /// The capacity of `out` suffices for these octets.
     pub fn append<A: Allocator>(&self, out: &mut Vec<u8, A>)
         requires room { vec_len out.old + length (family_der self.now) ≤ vec_capacity out.old }
         ensures items { out.new.items ≡ out.old.items ++ family_der self.now }
@@ -97,7 +116,7 @@ impl AddressFamily {
         append_octets(out, self.octets())
     }
 
-    // The octets that name the family.
+    // Returns the octets that name the family.
     fn octets(&self) -> &'static [u8]
         ensures { result.now ≡ family_octets self.now }
     {
@@ -108,7 +127,7 @@ impl AddressFamily {
     }
 }
 
-// The readings behind the calls.
+// The implementations of the calls above.
 impl AddressFamily {
     ghost use Rattle.std.specs.Prelude.{◌≡◌};
     ghost use Rattle.rpki_der.specs.SequenceReading.{if_tagged, skipping};

@@ -1,10 +1,10 @@
-//! The refusal of octets that name no family of addresses.
+//! The error for octets that name no address family.
 ghost use Rattle.std.specs.Prelude.{Some, codes};
 
 use std::error::Error;
 use std::fmt;
 
-/// Octets name no family of addresses.
+/// The octets name no address family.
 #[derive(Clone, Copy, Debug, PartialEq, Eq)]
 pub struct DecodeFamilyError;
 

@@ -1,5 +1,5 @@
-//! Reading the SEQUENCE of families of addresses, each with its claim (RFC 3779, 2.2.3; RFC 6487, 4.8.10), whatever a
-//! claim is.
+//! Reads the SEQUENCE of address families, each with its claim (RFC 3779, 2.2.3; RFC 6487, 4.8.10). The type of a
+//! claim is a parameter.
 ghost use Rattle.std.specs.Prelude.{◌≡◌, ℕ, Bool, List, Result, length};
 ghost use Rattle.rpki_der.specs.declared.error.DerError.{DerError as Fault};
 ghost use Rattle.rpki_der.specs.Der.{Refines};
@@ -15,15 +15,15 @@ use crate::error::DerError;
 use crate::family::AddressFamily;
 use rpki_text::memory::OrMemory;
 
-/// What IPv4 has and what IPv6 has, if they have something.
+/// A pair of optional values: the first is that of IPv4, the second that of IPv6.
 pub type ByFamily<C> = (Option<C>, Option<C>);
 
-/// Reads the claim of a family.
+/// A reader of the claim of an address family.
 pub trait ReadClaim {
-    /// What is read.
+    /// The claim that is read.
     type Claim: Drop;
 
-    // What the octets say, before it is made a claim.
+    // What the octets say, before it becomes a claim.
     ghost Found: { Type 0 };
 
     // What the octets say is this claim.
@@ -32,16 +32,23 @@ pub trait ReadClaim {
     // The octets are a claim of the family.
     ghost grammar: { Self → SomeFamily → List ℕ → Found → Type 0 };
 
-    // The claim of the family at the front of octets and what follows it, or the first fault.
+    // The claim of the family at the front of the octets and the octets after it, or the first fault.
     ghost reading: { Self → SomeFamily → List ℕ → Result (Found × List ℕ) Fault };
 
     // The octets are a claim of the family that a strict cursor takes.
     ghost strict_grammar: { Self → SomeFamily → List ℕ → Found → Type 0 };
 
-    // What `reading` gives, for a cursor that is strict or isn't.
+    // The result of `reading` for a cursor of the given mode: strict (true) or lenient (false).
     ghost reading_by: { Self → Bool → SomeFamily → List ℕ → Result (Found × List ℕ) Fault };
 
-    /// Takes a claim of the family. The cursor stays where it is refused, and where memory is wanting.
+    /// Takes a claim of `family`.
+    ///
+    /// # Errors
+    ///
+    /// The cursor is unchanged after an error.
+    ///
+    /// - `Refused`: the first fault of the octets.
+    /// - `Memory`: out of memory.
     fn take_claim(
         &self,
         family: AddressFamily,
@@ -55,22 +62,32 @@ pub trait ReadClaim {
             (reading_by self.now (is_strict cursor.old) family) }
         ensures mode { is_strict cursor.new ≡ is_strict cursor.old };
 
-    // The reading finds the claims of the grammar, whatever follows them, and no others.
+    // The reading finds the claims of the grammar, with any octets after them, and no others.
     ghost is_reading: { (reader : Self) (family : SomeFamily)
         → IsReading (grammar reader family) (reading reader family) };
 
-    // Leniently it is `reading`; strictly it refuses by `NotCanonical` all but the claims of the strict grammar.
+    // A lenient cursor gives what `reading` gives. A strict cursor gives the same or refuses it by `NotCanonical`, and
+    // finds exactly the claims of the strict grammar.
     ghost is_modal: { (reader : Self) (family : SomeFamily)
         → IsModal (strict_grammar reader family) (reading reader family)
         (λ strict. reading_by reader strict family) };
 }
 
-/// Takes a SEQUENCE of families in any order, each at most once and with its claim, one at least.
+/// Takes a SEQUENCE of at least one address family, each at most once and with its claim. A lenient cursor accepts
+/// them in any order.
 ///
-/// `Refused` with the first fault: that of a SEQUENCE, of a family or of a claim; `DuplicateFamily` for a family that
-/// was there before, ahead of its claim; `TrailingData` for octets that are left behind a claim; `NoFamily` where the
-/// SEQUENCE is empty; from a strict cursor also `NotCanonical` for IPv4 behind IPv6, ahead of its claim. `Memory` where
-/// there is no memory for a claim. The cursor then stays.
+/// # Errors
+///
+/// The cursor is unchanged after an error.
+///
+/// - `Refused`: the first fault of the octets. It is an error of a SEQUENCE, of a family or of a claim, or one of those
+///   below.
+/// - `Refused` with `NoFamily`: the SEQUENCE is empty.
+/// - `Refused` with `DuplicateFamily`: the family occurred before. This is reported before its claim is read.
+/// - `Refused` with `NotCanonical`: IPv4 follows IPv6, and the cursor is strict. This is reported before the claim of
+///   IPv4 is read.
+/// - `Refused` with `TrailingData`: octets are left after a claim.
+/// - `Memory`: out of memory for a claim.
 pub fn take_families<R: ReadClaim>(
     reader: &R,
     cursor: &mut Cursor<'_>,
@@ -90,8 +107,8 @@ pub fn take_families<R: ReadClaim>(
     next_families(reader, cursor)
 }
 
-// The reading behind the take, whose further clauses, `reads` and `exact`, follow from `by_mode` by theorems on the
-// grammar.
+// The implementation of `take_families`, whose further clauses, `reads` and `exact`, follow from `by_mode` by
+// theorems on the grammar.
 #[tactic(auto, unfolding(crate::specs::Reading::refined))]
 fn next_families<R: ReadClaim>(
     reader: &R,
@@ -108,7 +125,7 @@ fn next_families<R: ReadClaim>(
     Ok(found)
 }
 
-/// The families of a content, to its end.
+/// Reads the families of a content, to its end.
 #[tactic(auto, unfolding(crate::specs::FamiliesReading::families_in_by))]
 fn families_within<R: ReadClaim>(
     reader: &R,
@@ -125,7 +142,7 @@ fn families_within<R: ReadClaim>(
     members_within(reader, content)
 }
 
-/// The members of a content, to its end, by their families.
+/// Reads the members of a content, to its end, and returns their claims by family.
 fn members_within<R: ReadClaim>(
     reader: &R,
     content: Cursor<'_>,
@@ -145,7 +162,7 @@ fn members_within<R: ReadClaim>(
     Ok(found)
 }
 
-/// Takes a member of a family that isn't among those that were found.
+/// Takes a member whose family is not among those in `found`.
 #[tactic(auto, unfolding(crate::specs::Reading::refined))]
 fn next_member<R: ReadClaim>(
     reader: &R,
@@ -164,7 +181,7 @@ fn next_member<R: ReadClaim>(
     Ok(member)
 }
 
-/// The member in the content of a SEQUENCE.
+/// Reads the member in the content of a SEQUENCE.
 #[tactic(auto, unfolding(crate::specs::FamiliesReading::member_in_by))]
 fn member_within<R: ReadClaim>(
     reader: &R,
@@ -188,7 +205,7 @@ fn member_within<R: ReadClaim>(
     Ok((family, claim))
 }
 
-/// Whether the family was found.
+/// Returns whether the family is among those in `found`.
 fn is_among<C>(found: &ByFamily<C>, family: AddressFamily) -> bool
     ensures { result ≡ was_seen (seen found.now) family }
 {
@@ -198,7 +215,7 @@ fn is_among<C>(found: &ByFamily<C>, family: AddressFamily) -> bool
     }
 }
 
-/// Refuses IPv4 behind IPv6 in the content of a strict cursor.
+/// Refuses IPv4 after IPv6 in the content of a strict cursor.
 #[tactic(auto, unfolding(crate::specs::Reading::passing))]
 fn look_at_order<C>(
     content: &Cursor<'_>,
@@ -214,7 +231,7 @@ fn look_at_order<C>(
     Ok(())
 }
 
-/// Whether the family may stand behind those that were found.
+/// Returns whether the family may follow those in `found`.
 fn is_in_order<C>(found: &ByFamily<C>, family: AddressFamily) -> bool
     ensures { result ≡ is_in_order (seen found.now) family }
 {
@@ -224,7 +241,7 @@ fn is_in_order<C>(found: &ByFamily<C>, family: AddressFamily) -> bool
     }
 }
 
-/// What was found, and the claim of one family more.
+/// Returns `found` with the claim of one more family.
 fn and_claim<C: Drop>(found: ByFamily<C>, family: AddressFamily, claim: C) -> ByFamily<C>
     ensures { result ≡ with_claim found family claim }
 {

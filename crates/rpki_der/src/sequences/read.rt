@@ -1,4 +1,4 @@
-//! Reading the values of a SEQUENCE.
+//! Reads the values of a SEQUENCE.
 ghost use Rattle.std.specs.Prelude.{◌≡◌, ◌≢◌, ◌<◌, ℕ, Bool, List, [], Result, IfOk, length};
 ghost use Rattle.rpki_der.specs.declared.error.DerError.{DerError as Fault};
 ghost use Rattle.rpki_der.specs.Reading.{IsModal, IsReading, optional};
@@ -11,13 +11,13 @@ use crate::error::DerError;
 use rpki_text::memory::OrMemory;
 use std::alloc::Allocator;
 
-/// Reads values that stand one after another. What the next one may be can depend on a state, to which the values
-/// before it led.
+/// A reader of consecutive values. The values that may come next can depend on a state, which follows from the values
+/// before.
 pub trait ReadNext {
-    /// What is read.
+    /// The value that is read.
     type Value: Drop;
 
-    /// What is remembered of the values before.
+    /// The state that is kept of the values before.
     type State: Copy;
 
     // The state before the first value.
@@ -26,27 +26,31 @@ pub trait ReadNext {
     // The state after a value.
     ghost after: { Self → Self.State → Self.Value → Self.State };
 
-    // The octets are a value, in this state.
+    // The octets are a value in this state.
     ghost grammar: { Self → Self.State → List ℕ → Self.Value → Type 0 };
 
-    // The value at the front of octets and what follows it, or the first fault.
+    // The value at the front of the octets and the octets after it, or the first fault.
     ghost reading: { Self → Self.State → List ℕ → Result (Self.Value × List ℕ) Fault };
 
-    // The octets are a value, in this state, that a strict cursor takes.
+    // The octets are a value in this state that a strict cursor takes.
     ghost strict_grammar: { Self → Self.State → List ℕ → Self.Value → Type 0 };
 
-    // What `reading` gives, for a cursor that is strict or isn't.
+    // The result of `reading` for a cursor of the given mode: strict (true) or lenient (false).
     ghost reading_by: { Self → Bool → Self.State → List ℕ → Result (Self.Value × List ℕ) Fault };
 
-    /// The state before the first value.
+    /// Returns the state before the first value.
     fn first_state(&self) -> Self::State
         ensures { result ≡ first self.now };
 
-    /// The state after a value.
+    /// Returns the state after `value`, which was read in `state`.
     fn state_after(&self, state: Self::State, value: &Self::Value) -> Self::State
         ensures { result ≡ after self.now state value.now };
 
-    /// Takes the next value; None at the end, and there alone. The cursor stays where a value is refused.
+    /// Takes the next value. Returns None if and only if no octet is left.
+    ///
+    /// # Errors
+    ///
+    /// The first fault of the octets. The cursor is unchanged after an error.
     fn take_next(
         &self,
         state: Self::State,
@@ -60,21 +64,27 @@ pub trait ReadNext {
             (optional (reading_by self.now (is_strict cursor.old) state)) }
         ensures mode { is_strict cursor.new ≡ is_strict cursor.old };
 
-    // The reading finds the values of the grammar, whatever follows them, and no others.
+    // The reading finds the values of the grammar, with any octets after them, and no others.
     ghost is_reading: { (reader : Self) (state : Self.State)
         → IsReading (grammar reader state) (reading reader state) };
 
-    // A value has an octet at least.
+    // A value has at least one octet.
     ghost has_octets: { (reader : Self) (state : Self.State) (front : List ℕ) (value : Self.Value)
         → grammar reader state front value → 0 < length front };
 
-    // Leniently it is `reading`; strictly it refuses by `NotCanonical` all but the values of the strict grammar.
+    // A lenient cursor gives what `reading` gives. A strict cursor gives the same or refuses it by `NotCanonical`, and
+    // finds exactly the values of the strict grammar.
     ghost is_modal: { (reader : Self) (state : Self.State)
         → IsModal (strict_grammar reader state) (reading reader state)
         (λ strict. reading_by reader strict state) };
 }
 
-/// All values of a content, to its end. `Refused` with the first fault, `Memory` where there is no memory for them.
+/// Returns all values of a content, to its end.
+///
+/// # Errors
+///
+/// - `Refused`: the first fault of the octets.
+/// - `Memory`: out of memory for the values.
 pub fn read_values<R: ReadNext, A: Allocator>(
     alloc: A,
     reader: &R,
@@ -91,7 +101,7 @@ pub fn read_values<R: ReadNext, A: Allocator>(
     values_within(alloc, reader, content)
 }
 
-// The reading behind it, whose further clause, `exact`, follows from `by_mode`.
+// The implementation of `read_values`, whose further clause, `exact`, follows from `by_mode`.
 fn values_within<R: ReadNext, A: Allocator>(
     alloc: A,
     reader: &R,
@@ -111,7 +121,11 @@ fn values_within<R: ReadNext, A: Allocator>(
     Ok(values)
 }
 
-/// The values of a content as by [`read_values`], one at least: where there is none, `Refused` with `EmptyBlocks`.
+/// Returns all values of a content, as [`read_values`] does, if there is at least one.
+///
+/// # Errors
+///
+/// The errors of [`read_values`], and `Refused` with `EmptyBlocks` if there is no value.
 pub fn read_some<R: ReadNext, A: Allocator>(
     alloc: A,
     reader: &R,
@@ -130,8 +144,14 @@ pub fn read_some<R: ReadNext, A: Allocator>(
     Ok(values)
 }
 
-/// Takes a SEQUENCE of values, which may be none. `Refused` with the first fault, `Memory` where there is no memory for
-/// the values; the cursor then stays.
+/// Takes a SEQUENCE of values, which may be empty.
+///
+/// # Errors
+///
+/// The cursor is unchanged after an error.
+///
+/// - `Refused`: the first fault of the octets.
+/// - `Memory`: out of memory for the values.
 pub fn take_sequence_of<R: ReadNext, A: Allocator>(
     alloc: A,
     reader: &R,
@@ -153,8 +173,8 @@ pub fn take_sequence_of<R: ReadNext, A: Allocator>(
     next_sequence(alloc, reader, cursor)
 }
 
-// The reading behind the take, whose further clauses, `reads` and `exact`, follow from `by_mode` by theorems on the
-// grammar.
+// The implementation of `take_sequence_of`, whose further clauses, `reads` and `exact`, follow from `by_mode` by
+// theorems on the grammar.
 #[tactic(auto, unfolding(crate::specs::Reading::refined))]
 fn next_sequence<R: ReadNext, A: Allocator>(
     alloc: A,

@@ -1,4 +1,4 @@
-//! Writing values one after another, and in a SEQUENCE.
+//! Writes consecutive values, alone or in a SEQUENCE.
 ghost use Rattle.std.specs.Prelude.{◌≡◌, ◌≤◌, ◌+◌, ◌^◌, ◌++◌, ℕ, List, length, vec_len, OnOk, OnErr, IsOk, IfSome, IfNone};
 ghost use Rattle.std.specs.Vec.{vec_capacity};
 ghost use Rattle.rpki_der.specs.SequenceWriting.{octets_of_all, sequence_octets};
@@ -7,23 +7,27 @@ use crate::tag;
 use crate::write::{append_header, header_len};
 use std::alloc::{AllocError, Allocator};
 
-/// Values that are written in DER.
+/// A value that has a DER encoding.
 pub trait Encode {
-    // What is written of a value.
+    // The encoding of a value.
     ghost octets: { Self → List ℕ };
 
-    /// How many octets `append` appends.
+    /// Returns the number of octets that `append` appends.
     fn encoded_len(&self) -> usize
         ensures len { result ≡ length (octets self.now) };
 
-    /// Appends the value, for which there is room.
+    /// Appends the encoding of the value to `out`, without allocation.
+    ///
+    /// # Preconditions
+    ///
+    /// The capacity of `out` suffices for these octets.
     fn append<A: Allocator>(&self, out: &mut Vec<u8, A>)
         requires room { vec_len out.old + length (octets self.now) ≤ vec_capacity out.old }
         ensures items { out.new.items ≡ out.old.items ++ octets self.now }
         ensures capacity { vec_capacity out.old ≤ vec_capacity out.new };
 }
 
-/// How many octets `encode_all` appends; None where no length can tell it.
+/// Returns the number of octets that `encode_all` appends, or None if it is 2^64 or more.
 pub fn len_of_all<V: Encode>(values: &[V]) -> Option<usize>
     ensures some { IfSome result (λ n. n ≡ length (octets_of_all V.octets values.now)) }
     ensures none { IfNone result (2 ^ 64 ≤ length (octets_of_all V.octets values.now)) }
@@ -35,8 +39,12 @@ pub fn len_of_all<V: Encode>(values: &[V]) -> Option<usize>
     Some(total)
 }
 
-/// Appends the values, one after another. `AllocError` where there is no memory for all of them, or where no length can
-/// tell how many octets they have; then the octets stay as they were.
+/// Appends the encodings of the values to `out`, one after another. The call succeeds if the capacity of `out`
+/// suffices.
+///
+/// # Errors
+///
+/// `AllocError`: out of memory, or the encodings have 2^64 octets or more. The octets in `out` are unchanged.
 pub fn encode_all<V: Encode, A: Allocator>(
     values: &[V],
     out: &mut Vec<u8, A>,
@@ -55,7 +63,7 @@ pub fn encode_all<V: Encode, A: Allocator>(
     Ok(())
 }
 
-/// Appends the values, one after another, for which there is room.
+/// Appends the encodings of the values, for which the capacity suffices.
 fn append_all<V: Encode, A: Allocator>(values: &[V], out: &mut Vec<u8, A>)
     requires room { vec_len out.old + length (octets_of_all V.octets values.now)
         ≤ vec_capacity out.old }
@@ -67,7 +75,7 @@ fn append_all<V: Encode, A: Allocator>(values: &[V], out: &mut Vec<u8, A>)
     }
 }
 
-/// How many octets `encode_sequence` appends; None where no length can tell it.
+/// Returns the number of octets that `encode_sequence` appends, or None if it is 2^64 or more.
 pub fn sequence_len<V: Encode>(values: &[V]) -> Option<usize>
     ensures some { IfSome result (λ n. n ≡ length (sequence_octets V.octets values.now)) }
     ensures none { IfNone result (2 ^ 64 ≤ length (sequence_octets V.octets values.now)) }
@@ -76,8 +84,11 @@ pub fn sequence_len<V: Encode>(values: &[V]) -> Option<usize>
     header_len(tag::SEQUENCE, content_len).checked_add(content_len)
 }
 
-/// Appends a SEQUENCE of the values. `AllocError` where there is no memory for all of it, or where no length can tell
-/// how many octets it has; then the octets stay as they were.
+/// Appends a SEQUENCE of the values to `out`. The call succeeds if the capacity of `out` suffices.
+///
+/// # Errors
+///
+/// `AllocError`: out of memory, or the SEQUENCE has 2^64 octets or more. The octets in `out` are unchanged.
 pub fn encode_sequence<V: Encode, A: Allocator>(
     values: &[V],
     out: &mut Vec<u8, A>,
@@ -100,7 +111,12 @@ pub fn encode_sequence<V: Encode, A: Allocator>(
     Ok(())
 }
 
-/// Appends what `encode_sequence` does, where there is room for it, of values that have `content_len` octets.
+/// Appends a SEQUENCE of the values to `out`, without allocation.
+///
+/// # Preconditions
+///
+/// - `content_len` is the number of octets of the encodings of `values`.
+/// - The capacity of `out` suffices for these octets.
 pub fn append_sequence<V: Encode, A: Allocator>(
     values: &[V],
     content_len: usize,

@@ -25,13 +25,13 @@ pub record IsGroupText (text : List ℕ) (group : ℕ) : Type 0 where
   pub few : length text ≤ 4
   pub value : digits_value 16 text ≡ group
 
--- the text is these groups with colons between them, or nothing where there are none
+-- the text is these groups with colons between them, or empty if there are no groups
 pub record AreGroups (text groups : List ℕ) : Type 0 where
   pub texts : List (List ℕ)
   pub spelled : text ≡ joined_by (codes ":") texts
   pub each : HaveValues IsGroupText texts groups
 
--- the text is groups and then an IPv4 text, which stands for the last two groups, with colons between them
+-- the text is groups and then an IPv4 text for the last two groups, with colons between them
 pub record AreGroupsAndIpv4 (text groups : List ℕ) : Type 0 where
   pub texts : List (List ℕ)
   pub front : List ℕ
@@ -45,8 +45,8 @@ pub record AreGroupsAndIpv4 (text groups : List ℕ) : Type 0 where
 abbrev pub AreGroupsAtEnd : List ℕ → List ℕ → Type 0
 AreGroupsAtEnd text groups = AreGroups text groups ⊎ AreGroupsAndIpv4 text groups
 
--- The text is groups, `::` and groups, at most seven in all, and the groups between are zero. An IPv4 text may stand at
--- the end.
+-- The text is groups, `::` and groups, at most seven in all, and the groups between are zero. It may end in an IPv4
+-- text.
 pub record IsCompressed (text groups : List ℕ) : Type 0 where
   pub front_text : List ℕ
   pub back_text : List ℕ
@@ -58,7 +58,7 @@ pub record IsCompressed (text groups : List ℕ) : Type 0 where
   pub at_most_seven : length front + length back ≤ 7
   pub value : groups ≡ front ++ replicate (8 - (length front + length back)) 0 ++ back
 
--- the text is eight groups, of which an IPv4 text may write the last two, or it is compressed
+-- the text is eight groups, the last two of which may be an IPv4 text, or it is compressed
 abbrev pub IsGroupsText : List ℕ → List ℕ → Type 0
 IsGroupsText text groups = (AreGroupsAtEnd text groups × (length groups ≡ 8)) ⊎ IsCompressed text groups
 

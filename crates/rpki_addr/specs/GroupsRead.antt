@@ -1,15 +1,15 @@
--- How far a reader of groups has come.
+-- The progress of a reader of groups.
 use Rattle.std.specs.Prelude.{◌≡◌, ℕ, ◌-◌, ◌^◌, ◌<◌, ◌≤◌, ◌==◌, Bool, true, List, length, if◌then◌else◌}
 use Rattle.std.specs.Net.Reader.{Segments, after, read_segments}
 use Rattle.rpki_text.specs.Digits.{from_groups}
 use Rattle.rpki_addr.specs.declared.addr.read.Groups.{Groups}
 
--- what is known of groups that were read: their number, how many they are, whether an IPv4 text closes them, what
--- follows
+-- the parts of groups that were read: their number, their count, whether they end in an IPv4 text, and the text after
+-- them
 abbrev pub parts : Groups → ℕ × ℕ × Bool × List ℕ
 parts groups = (groups.bits, groups.count, groups.closed, groups.rest.now)
 
--- what a reader of at most n groups finds in all, where it has these and has come so far
+-- all that a reader of at most n groups finds, if it has read these groups so far
 abbrev pub found_with : ℕ → List ℕ → Groups → Segments
 found_with n front groups =
     if groups.closed then (front, true, groups.rest.now)

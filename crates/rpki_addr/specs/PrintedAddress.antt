@@ -1,4 +1,5 @@
--- What is printed of an address: of IPv6 the form of RFC 5952, section 4, and of mapped addresses that of section 5.
+-- The printed text of an address: for IPv6 the form of RFC 5952, section 4, and for mapped addresses that of section
+-- 5.
 use Rattle.std.specs.Prelude.{◌≡◌, ℕ, ◌/◌, ◌%◌, ◌^◌, ◌≤◌, ◌<◌, ◌⊎◌, List, ◌++◌, length, map, replicate, codes, nat_lt, if◌then◌else◌}
 use Rattle.std.specs.Char.{digit_char}
 use Rattle.std.specs.Net.Text as std
@@ -12,7 +13,8 @@ use Rattle.rpki_addr.specs.declared.addr.IpAddr.TheVariants.{V4, V6}
 abbrev pub ipv4_text : ℕ → List ℕ
 ipv4_text n = dotted (octets_of n)
 
--- how many hexadecimal digits a group needs, and the group in these, in lower case (RFC 5952, 4.1 and 4.3)
+-- the number of hexadecimal digits that a group needs, and the group in these digits, in lower case (RFC 5952, 4.1
+-- and 4.3)
 abbrev pub hex_len : ℕ → ℕ
 hex_len group = if nat_lt group 0x10 then 1 else (if nat_lt group 0x100 then 2 else (if nat_lt group 0x1000 then 3 else 4))
 
@@ -27,7 +29,7 @@ groups_text groups = joined_by (codes ":") (map hex_text groups)
 abbrev pub HasZeroRun : List ℕ → List ℕ → ℕ → List ℕ → Type 0
 HasZeroRun groups front n back = groups ≡ front ++ (replicate n 0 ++ back)
 
--- of the longest runs of zero groups this is the first (RFC 5952, 4.2.3)
+-- this is the first of the longest runs of zero groups (RFC 5952, 4.2.3)
 pub record IsFirstLongestRun (groups front : List ℕ) (n : ℕ) (back : List ℕ) : Type 0 where
   pub run : HasZeroRun groups front n back
   pub longest : (before : List ℕ) (m : ℕ) (after : List ℕ) → HasZeroRun groups before m after → m ≤ n
@@ -51,17 +53,17 @@ pub record IsUnshortened (groups text : List ℕ) : Type 0 where
 abbrev pub IsMapped : ℕ → Type 0
 IsMapped n = n / 2 ^ 32 ≡ 0xffff
 
--- The text is what is printed of the IPv6 address n.
+-- The text is the printed text of the IPv6 address n.
 abbrev pub IsPrintedIpv6 : ℕ → List ℕ → Type 0
 IsPrintedIpv6 n text =
     (IsMapped n × (text ≡ codes "::ffff:" ++ ipv4_text (n % 2 ^ 32)))
     ⊎ ((¬ IsMapped n) × (IsShortened (groups_of n) text ⊎ IsUnshortened (groups_of n) text))
 
--- That text, as std's printer makes it. `laws::ipv6_is_printed_so` proves that it is the one that is printed.
+-- The same text as std's printer makes it. `laws::ipv6_is_printed_so` proves that it is the printed text.
 unfoldable pub ipv6_text : ℕ → List ℕ
 ipv6_text n = std.ipv6_text (groups_of n)
 
--- what is printed of an address of either family
+-- the printed text of an address of either family
 abbrev pub ip_text : IpAddr → List ℕ
 ip_text (V4 n) = ipv4_text n
 ip_text (V6 n) = ipv6_text n

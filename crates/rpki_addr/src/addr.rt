@@ -17,7 +17,7 @@ use std::marker::Model;
 
 /// An IPv4 address: 32 bits (RFC 791).
 ///
-/// Addresses compare, and are in order, as their numbers.
+/// Addresses compare and sort as their numbers.
 #[derive(Clone, Copy, Debug, PartialEq, Eq, PartialOrd, Ord, Hash)]
 pub struct Ipv4Addr(u32);
 
@@ -34,21 +34,21 @@ impl Model for Ipv4Addr {
 }
 
 impl Ipv4Addr {
-    /// The address of these bits.
+    /// Returns the address with these bits.
     pub fn from_bits(bits: u32) -> Ipv4Addr
         ensures { result ≡ bits }
     {
         Ipv4Addr(bits)
     }
 
-    /// The bits of the address.
+    /// Returns the bits of the address.
     pub fn to_bits(self) -> u32
         ensures { result ≡ self }
     {
         self.0
     }
 
-    /// The four octets, the highest first.
+    /// Returns the four octets, the highest first.
     pub fn octets(self) -> [u8; 4]
         ensures { result ≡ octets_of self }
     {
@@ -74,7 +74,7 @@ impl From<Ipv4Addr> for u32 {
 
 /// An IPv6 address: 128 bits (RFC 4291).
 ///
-/// Addresses compare, and are in order, as their numbers.
+/// Addresses compare and sort as their numbers.
 #[derive(Clone, Copy, Debug, PartialEq, Eq, PartialOrd, Ord, Hash)]
 pub struct Ipv6Addr(u128);
 
@@ -91,21 +91,21 @@ impl Model for Ipv6Addr {
 }
 
 impl Ipv6Addr {
-    /// The address of these bits.
+    /// Returns the address with these bits.
     pub fn from_bits(bits: u128) -> Ipv6Addr
         ensures { result ≡ bits }
     {
         Ipv6Addr(bits)
     }
 
-    /// The bits of the address.
+    /// Returns the bits of the address.
     pub fn to_bits(self) -> u128
         ensures { result ≡ self }
     {
         self.0
     }
 
-    /// The eight groups of 16 bits, the highest first.
+    /// Returns the eight groups of 16 bits, the highest first.
     pub fn segments(self) -> [u16; 8]
         ensures { result ≡ groups_of self }
     {
@@ -131,7 +131,7 @@ impl From<Ipv6Addr> for u128 {
 
 /// An address of either family.
 ///
-/// Every IPv4 address is before every IPv6 address; within a family they are in order as their numbers.
+/// Every IPv4 address is before every IPv6 address. Within a family, addresses sort as their numbers.
 #[derive(Clone, Copy, Debug, PartialEq, Eq, PartialOrd, Ord, Hash)]
 pub enum IpAddr {
     /// An IPv4 address.
@@ -144,14 +144,14 @@ impl IpAddr {
     ghost use Rattle.rpki_addr.specs.Widths.{width};
     ghost use Rattle.rpki_addr.specs.ReadsAddress.{IsV4};
 
-    /// Is this an IPv4 address?
+    /// Returns whether this is an IPv4 address.
     pub fn is_ipv4(&self) -> bool
         ensures { IsTrue result ↔ IsV4 self.now }
     {
         matches!(self, IpAddr::V4(_))
     }
 
-    /// How many bits the address has, 32 or 128: the greatest length of a prefix of its family.
+    /// Returns the number of bits of the address, which is the longest prefix length of its family: 32 or 128.
     pub fn width(&self) -> u8
         ensures { result ≡ width self.now }
     {
@@ -178,14 +178,14 @@ impl From<Ipv6Addr> for IpAddr {
     }
 }
 
-/// The text writes no address of the kind that was asked for.
+/// Why a text was refused: it is no address of the expected kind.
 #[derive(Clone, Copy, Debug, PartialEq, Eq)]
 pub enum AddrParseError {
-    /// It writes no IPv4 address.
+    /// The text is no IPv4 address.
     Ipv4,
-    /// It writes no IPv6 address.
+    /// The text is no IPv6 address.
     Ipv6,
-    /// It writes no address of either family.
+    /// The text is no address of either family.
     Ip,
 }
 

@@ -2,7 +2,7 @@
 ghost use Rattle.std.specs.Prelude.{◌≡◌, ◌/◌, ◌%◌};
 ghost use Rattle.rpki_text.specs.Digits.{groups_of};
 
-/// The bits before the last group, and the last group.
+/// Returns the bits before the last group, and the last group.
 fn split_group(bits: u128) -> (u128, u16)
     ensures before { result.0 ≡ bits / 0x10000 }
     ensures last { result.1 ≡ bits % 0x10000 }
@@ -10,7 +10,7 @@ fn split_group(bits: u128) -> (u128, u16)
     (bits / 0x10000, (bits % 0x10000) as u16)
 }
 
-/// The groups of an address, the highest first.
+/// Returns the groups of an address, the highest first.
 pub(crate) fn split_groups(bits: u128) -> [u16; 8]
     ensures { result ≡ groups_of bits }
 {

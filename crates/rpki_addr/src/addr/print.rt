@@ -1,6 +1,7 @@
-//! Addresses written into a buffer, each byte once.
+//! Writes addresses into a buffer, each byte once.
 //!
-//! What is put stands behind the bytes that a caller has there; the answer is where it ends.
+//! Each `put` writes into `out` from index `at` on, and leaves the bytes before it unchanged. It returns the index
+//! after the last byte that it wrote. Each requires enough bytes from `at` on for the longest text that it may write.
 ghost use Rattle.std.specs.Prelude.{◌≡◌, ◌+◌, ◌*◌, ◌<◌, ◌≤◌, [], ◌∷◌, ◌++◌, length, take, codes, decimal, nat_lt};
 ghost use Rattle.std.specs.Char.{digit_char};
 ghost use Rattle.std.specs.Fmt.{WritesOnOk};
@@ -13,16 +14,20 @@ use super::groups::split_groups;
 use super::{IpAddr, Ipv4Addr};
 use std::{fmt, str};
 
-/// The most bytes of an IPv4 text.
+/// The maximum number of bytes of an IPv4 text.
 pub(crate) const IPV4_ROOM: usize = 15;
 
-/// The most bytes of a text of either family, and one for the colon behind a last group.
+/// The maximum number of bytes of a text of either family, and one for the colon after a last group.
 pub const IP_ROOM: usize = 40;
 
-/// The most bytes of a prefix: an address, a slash and a length.
+/// The maximum number of bytes of a prefix: an address, a slash and a length.
 pub const PREFIX_ROOM: usize = IP_ROOM + 4;
 
-/// Puts a byte.
+/// Writes one byte.
+///
+/// # Preconditions
+///
+/// `out` has a byte at index `at`.
 #[inline(always)]
 pub fn put(out: &mut [u8], at: usize, byte: u8) -> usize
     requires { at < length out.old }
@@ -33,7 +38,7 @@ pub fn put(out: &mut [u8], at: usize, byte: u8) -> usize
     at + 1
 }
 
-/// Puts bytes.
+/// Writes `bytes`.
 fn put_all(out: &mut [u8], at: usize, bytes: &[u8]) -> usize
     requires { at + length bytes.now ≤ length out.old }
     ensures text { take result out.new ≡ take at out.old ++ bytes.now }
@@ -46,7 +51,11 @@ fn put_all(out: &mut [u8], at: usize, bytes: &[u8]) -> usize
     end
 }
 
-/// Puts an octet in decimal.
+/// Writes an octet in decimal.
+///
+/// # Preconditions
+///
+/// `out` has at least 3 bytes from index `at` on.
 #[tactic(auto, using(std::proofs::lemmas::Fmt::decimal_step, std::proofs::lemmas::Fmt::decimal_digit, std::proofs::lemmas::Grind::common_steps))]
 pub fn put_octet(out: &mut [u8], at: usize, octet: u8) -> usize
     requires { at + 3 ≤ length out.old }
@@ -65,7 +74,11 @@ pub fn put_octet(out: &mut [u8], at: usize, octet: u8) -> usize
     put(out, at, b'0' + octet)
 }
 
-/// Puts four octets in decimal with dots between them.
+/// Writes four octets in decimal with dots between them.
+///
+/// # Preconditions
+///
+/// `out` has at least 15 bytes from index `at` on.
 #[tactic(auto, using(crate::proofs::AddressLemmas::dotted_octets, std::proofs::lemmas::Grind::common_steps))]
 pub fn put_ipv4(out: &mut [u8], at: usize, octets: [u8; 4]) -> usize
     requires { at + 15 ≤ length out.old }
@@ -87,7 +100,7 @@ static HEX_DIGITS: [u8; 16] = [
     b'0', b'1', b'2', b'3', b'4', b'5', b'6', b'7', b'8', b'9', b'a', b'b', b'c', b'd', b'e', b'f',
 ];
 
-/// The digit of this value.
+/// Returns the digit of this value.
 #[inline(always)]
 fn hex_digit(value: u16) -> u8
     requires { value < 16 }
@@ -96,7 +109,7 @@ fn hex_digit(value: u16) -> u8
     HEX_DIGITS[usize::from(value)]
 }
 
-/// Puts a group in hexadecimal without leading zeros (RFC 5952, 4.1).
+/// Writes a group in hexadecimal without leading zeros (RFC 5952, 4.1).
 #[tactic(auto, unfolding(std::specs::Net::Text::hex))]
 fn put_group(out: &mut [u8], at: usize, group: u16) -> usize
     requires { at + 4 ≤ length out.old }
@@ -121,7 +134,7 @@ fn put_group(out: &mut [u8], at: usize, group: u16) -> usize
     put(out, at, hex_digit(group % 16))
 }
 
-/// Puts groups with colons between them.
+/// Writes groups with colons between them.
 fn put_groups(out: &mut [u8], at: usize, groups: &[u16]) -> usize
     requires { at + 5 * length groups.now ≤ length out.old }
     ensures text { take result out.new ≡ take at out.old ++ std_groups_text groups.now }
@@ -138,7 +151,7 @@ fn put_groups(out: &mut [u8], at: usize, groups: &[u16]) -> usize
     end
 }
 
-/// Zero groups that stand one after another.
+/// A run of consecutive zero groups.
 #[derive(Clone, Copy)]
 struct ZeroRun {
     start: usize,
@@ -146,7 +159,7 @@ struct ZeroRun {
 }
 
 impl ZeroRun {
-    /// Is it printed as two colons? A single zero group isn't (RFC 5952, 4.2.2).
+    /// Returns whether the run is printed as two colons. A single zero group isn't (RFC 5952, 4.2.2).
     #[inline(always)]
     fn is_shortened(self) -> bool
         ensures { result ≡ nat_lt 1 self.len }
@@ -155,7 +168,7 @@ impl ZeroRun {
     }
 }
 
-/// The longest run of zero groups, and of several that are as long the first (RFC 5952, 4.2.3).
+/// Returns the longest run of zero groups, the first one if several are equally long (RFC 5952, 4.2.3).
 fn longest_run(groups: &[u16]) -> ZeroRun
     ensures value { (result.start, result.len) ≡ longest_zero_run groups.now }
     ensures within { result.start + result.len ≤ length groups.now }
@@ -169,7 +182,7 @@ fn longest_run(groups: &[u16]) -> ZeroRun
     while start > 0 {
         start -= 1;
         len = if groups[start] == 0 { len + 1 } else { 0 };
-        // From the end on, so that a run in front of one that is as long takes its place.
+        // The loop goes from the end to the front, so a run replaces one of equal length after it.
         if len >= longest.len {
             longest = ZeroRun { start, len };
         }
@@ -177,7 +190,7 @@ fn longest_run(groups: &[u16]) -> ZeroRun
     longest
 }
 
-/// Puts groups, the longest run of two or more zeros as two colons (RFC 5952, 4.2).
+/// Writes groups, with the longest run of two or more zero groups as two colons (RFC 5952, 4.2).
 #[tactic(auto, using(std::proofs::lemmas::Bool::Decides::nat_tests, std::proofs::lemmas::Grind::common_steps), unfolding(std::specs::Net::Text::hex_groups_text))]
 fn put_shortened(out: &mut [u8], at: usize, groups: &[u16]) -> usize
     requires { at + 5 * length groups.now ≤ length out.old }
@@ -194,7 +207,7 @@ fn put_shortened(out: &mut [u8], at: usize, groups: &[u16]) -> usize
     put_groups(out, at, groups)
 }
 
-/// Puts the IPv4-mapped address of an IPv4 address (RFC 4291, 2.5.5.2), with dots.
+/// Writes the IPv4-mapped address of an IPv4 address (RFC 4291, 2.5.5.2), with dots.
 fn put_mapped(out: &mut [u8], at: usize, low: Ipv4Addr) -> usize
     requires { at + 22 ≤ length out.old }
     ensures text { take result out.new ≡ take at out.old ++ codes "::ffff:" ++ ipv4_text low }
@@ -204,7 +217,11 @@ fn put_mapped(out: &mut [u8], at: usize, low: Ipv4Addr) -> usize
     put_ipv4(out, at, low.octets())
 }
 
-/// Puts the IPv6 address of these bits. An IPv4-mapped one ends in its IPv4 address (RFC 5952, 5).
+/// Writes the IPv6 address with these bits. An IPv4-mapped one ends in its IPv4 address (RFC 5952, 5).
+///
+/// # Preconditions
+///
+/// `out` has at least 40 bytes from index `at` on.
 #[tactic(auto, using(crate::proofs::PrintedAddressLemmas::mapped_is, crate::proofs::PrintedAddressLemmas::unmapped_is, std::proofs::lemmas::Grind::common_steps))]
 pub fn put_ipv6(out: &mut [u8], at: usize, bits: u128) -> usize
     requires { at + 40 ≤ length out.old }
@@ -217,7 +234,11 @@ pub fn put_ipv6(out: &mut [u8], at: usize, bits: u128) -> usize
     put_shortened(out, at, &split_groups(bits))
 }
 
-/// Puts an address of either family.
+/// Writes an address of either family.
+///
+/// # Preconditions
+///
+/// `out` has at least 40 bytes from index `at` on.
 #[inline(always)]
 pub fn put_ip(out: &mut [u8], at: usize, addr: IpAddr) -> usize
     requires { at + 40 ≤ length out.old }
@@ -230,7 +251,11 @@ pub fn put_ip(out: &mut [u8], at: usize, addr: IpAddr) -> usize
     }
 }
 
-/// Puts a slash and the length of a prefix.
+/// Writes a slash and the length of a prefix.
+///
+/// # Preconditions
+///
+/// `out` has at least 4 bytes from index `at` on.
 #[inline(always)]
 pub fn put_length(out: &mut [u8], at: usize, len: u8) -> usize
     requires { at + 4 ≤ length out.old }
@@ -241,7 +266,11 @@ pub fn put_length(out: &mut [u8], at: usize, len: u8) -> usize
     put_octet(out, end, len)
 }
 
-/// Puts an address of either family, a slash and the length of a prefix.
+/// Writes an address of either family, a slash and the length of a prefix.
+///
+/// # Preconditions
+///
+/// `out` has at least 44 bytes from index `at` on.
 #[inline(always)]
 pub fn put_with_length(out: &mut [u8], at: usize, addr: IpAddr, len: u8) -> usize
     requires { at + 44 ≤ length out.old }
@@ -252,12 +281,16 @@ pub fn put_with_length(out: &mut [u8], at: usize, addr: IpAddr, len: u8) -> usiz
     put_length(out, end, len)
 }
 
-/// Writes what stands in a buffer before a place, at once.
+/// Writes the bytes of `out` before index `end` to `f`, in one call.
+///
+/// # Preconditions
+///
+/// `end` is at most the length of `out`.
 pub fn write_front<W: fmt::Write>(out: &[u8], end: usize, f: &mut fmt::Formatter<W>) -> fmt::Result
     requires { end ≤ length out.now }
     ensures { WritesOnOk W.write_str_gives f.old result (take end out.now) f.new }
 {
-    // What is put is ASCII, so it is a text.
+    // The bytes that a `put` writes are ASCII, so they are a text.
     let text = str::from_utf8(&out[..end]).map_err(|_| fmt::Error)?;
     f.write_str(text)
 }

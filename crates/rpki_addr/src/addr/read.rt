@@ -1,6 +1,6 @@
-//! Addresses read from bytes, each byte about once.
+//! Reads addresses from bytes, each byte about once.
 //!
-//! What a reader takes stands at the front of a text; it answers what that writes, and what stands behind it.
+//! Each reader takes bytes from the front of a text. It returns the value that they spell, and the text after them.
 ghost use Rattle.std.specs.Prelude.{◌≡◌, ◌==◌, true, ◌*◌, ◌^◌, ◌<◌, ◌≤◌, ℕ, List, Some, length, get_or, option_map, option_and_then, IfSome, MatchOption};
 ghost use Rattle.std.specs.Char.{digit_value};
 ghost use Rattle.std.specs.Net.Reader as Reader;
@@ -8,7 +8,7 @@ ghost use Rattle.rpki_text.specs.Digits.{from_octets};
 ghost use Rattle.rpki_addr.specs.AddressReading.{numbered, with_number, with_octets, hex_value};
 ghost use Rattle.rpki_addr.specs.GroupsRead.{IsSoFar, parts};
 
-/// The value of the decimal digit at a place, or 10 or more where none is there.
+/// Returns the value of the decimal digit at an index, or 10 or more if there is no digit.
 #[inline(always)]
 fn decimal_at(text: &[u8], at: usize) -> u8
     ensures digit { result < 10 → digit_value (get_or text.now at 0) ≡ result }
@@ -22,7 +22,7 @@ fn decimal_at(text: &[u8], at: usize) -> u8
     }
 }
 
-/// Takes a decimal of 0 to 255 without leading zeros.
+/// Takes a decimal from 0 to 255 without leading zeros.
 #[inline(always)]
 #[tactic(auto, using(crate::proofs::AddressReading::octet_read))]
 fn take_octet(text: &[u8]) -> Option<(u8, &[u8])>
@@ -53,7 +53,7 @@ fn take_octet(text: &[u8]) -> Option<(u8, &[u8])>
     Some((octet as u8, &text[3..]))
 }
 
-/// What stands behind this byte at the front.
+/// Returns the text after this byte, if the text begins with it.
 #[inline(always)]
 fn behind(byte: u8, text: &[u8]) -> Option<&[u8]>
     ensures { option_map (λ rest. rest.now) result ≡ Reader.read_byte byte text.now }
@@ -71,7 +71,7 @@ fn take_next_octet(text: &[u8]) -> Option<(u8, &[u8])>
     take_octet(behind(b'.', text)?)
 }
 
-/// Takes an IPv4 text, as the number of its address.
+/// Takes an IPv4 address and returns its number.
 #[tactic(auto, unfolding(std::specs::Net::Reader::read_ipv4))]
 pub(super) fn take_ipv4(text: &[u8]) -> Option<(u32, &[u8])>
     ensures { Reader.read_view (λ n. n) result
@@ -84,7 +84,7 @@ pub(super) fn take_ipv4(text: &[u8]) -> Option<(u32, &[u8])>
     Some((number_of([a, b, c, d]), text))
 }
 
-/// The number of the address of these octets.
+/// Returns the number of the address with these octets.
 #[inline(always)]
 fn number_of(octets: [u8; 4]) -> u32
     ensures { result ≡ from_octets octets }
@@ -92,7 +92,7 @@ fn number_of(octets: [u8; 4]) -> u32
     u32::from_be_bytes(octets)
 }
 
-/// Is there a dot at this place?
+/// Returns whether there is a dot at this index.
 #[inline(always)]
 fn is_dot(text: &[u8], at: usize) -> bool
     ensures { result ≡ (get_or text.now at 0 == 46) }
@@ -100,8 +100,8 @@ fn is_dot(text: &[u8], at: usize) -> bool
     at < text.len() && text[at] == b'.'
 }
 
-/// Takes an IPv4 text where it may stand for two groups, so there must be room for both. A dot follows the group that
-/// such a text begins with.
+/// Takes an IPv4 address at a place where it may replace two groups, so both must fit (`has_room`). `behind_group` is
+/// the text after the first group. An IPv4 address here begins with a group that a dot follows.
 #[inline(always)]
 #[tactic(auto, using(crate::proofs::AddressReading::no_last_two))]
 fn take_last_two<'a>(text: &'a [u8], behind_group: &[u8], has_room: bool) -> Option<(u32, &'a [u8])>
@@ -133,7 +133,7 @@ static HEX_VALUES: [u8; 256] = [
     16, 16, 16, 16, 16, 16, 16, 16, 16, 16, 16, 16, 16, 16,
 ];
 
-/// The value of a hexadecimal digit, or 16 at any other byte.
+/// Returns the value of a hexadecimal digit, or 16 for any other byte.
 #[inline(always)]
 fn hex_value(byte: u8) -> u8
     ensures { result ≡ hex_value byte }
@@ -141,7 +141,7 @@ fn hex_value(byte: u8) -> u8
     HEX_VALUES[usize::from(byte)]
 }
 
-/// The value of the hexadecimal digit at a place, or 16 where none is there.
+/// Returns the value of the hexadecimal digit at an index, or 16 if there is no digit.
 #[inline(always)]
 #[tactic(auto, unfolding(crate::specs::AddressReading::hex_value))]
 fn hex_at(text: &[u8], at: usize) -> u8
@@ -186,21 +186,21 @@ fn take_group(text: &[u8]) -> Option<(u16, &[u8])>
     Some((three * 16 + u16::from(fourth), &text[4..]))
 }
 
-/// Groups that were read, with colons between them.
+/// The groups that were read, with colons between them.
 #[derive(Clone, Copy)]
 struct Groups<'a> {
-    /// The groups as one number, the first one the highest.
+    /// The groups as one number, the first group highest.
     bits: u128,
-    /// How many they are.
+    /// The number of groups.
     count: usize,
-    /// Whether an IPv4 text wrote the last two, behind which no group can follow.
+    /// Whether the last two groups are an IPv4 address, which no group can follow.
     closed: bool,
-    /// What stands behind them.
+    /// The text after the groups.
     rest: &'a [u8],
 }
 
 impl<'a> Groups<'a> {
-    /// What stands behind the colon before the next group. Before the first group is none.
+    /// Returns the text after the colon before the next group. The first group has no colon before it.
     #[inline(always)]
     fn next_text(&self) -> Option<&'a [u8]>
         ensures { option_map (λ rest. rest.now) result
@@ -212,7 +212,8 @@ impl<'a> Groups<'a> {
         behind(b':', self.rest)
     }
 
-    /// The groups and the next one, or the next two by an IPv4 text; None where none follows, or none has room.
+    /// Returns the groups with the next group, or with the next two from an IPv4 address. Returns None if no group
+    /// follows, or if `room` groups were read.
     #[inline(always)]
     #[tactic(auto, using(crate::proofs::GroupReading::one_fits, crate::proofs::GroupReading::two_fit, crate::proofs::GroupReading::with_ipv4, crate::proofs::GroupReading::with_group))]
     fn longer(&self, room: usize) -> Option<Groups<'a>>
@@ -253,7 +254,7 @@ impl<'a> Groups<'a> {
     }
 }
 
-/// Takes groups as long as one follows and has room.
+/// Takes groups for as long as one follows and fewer than `room` were read.
 fn take_groups(text: &[u8], room: usize) -> Groups<'_>
     requires { room ≤ 8 }
     ensures value { parts result ≡ numbered (Reader.read_segments room true text.now) }
@@ -272,7 +273,7 @@ fn take_groups(text: &[u8], room: usize) -> Groups<'_>
     groups
 }
 
-/// What stands behind two colons at the front.
+/// Returns the text after two colons, if the text begins with them.
 #[inline(always)]
 fn behind_colons(text: &[u8]) -> Option<&[u8]>
     ensures { option_map (λ rest. rest.now) result
@@ -281,7 +282,7 @@ fn behind_colons(text: &[u8]) -> Option<&[u8]>
     behind(b':', behind(b':', text)?)
 }
 
-/// The number of groups that so many zero groups follow.
+/// Returns the number of these groups followed by `count` zero groups.
 #[tactic(auto, using(crate::proofs::GroupReading::one_zero_more, crate::proofs::GroupReading::power_less))]
 fn with_zeros(bits: u128, count: usize) -> u128
     requires { bits * 0x10000 ^ count < 2 ^ 128 }
@@ -296,7 +297,7 @@ fn with_zeros(bits: u128, count: usize) -> u128
     all
 }
 
-/// Takes an IPv6 text, as the number of its address.
+/// Takes an IPv6 address and returns its number.
 #[tactic(auto, using(crate::proofs::GroupReading::number_elided, crate::proofs::GroupReading::elided_fits), unfolding(std::specs::Net::Reader::read_ipv6))]
 pub(super) fn take_ipv6(text: &[u8]) -> Option<(u128, &[u8])>
     ensures { Reader.read_view (λ n. n) result
@@ -312,13 +313,13 @@ pub(super) fn take_ipv6(text: &[u8]) -> Option<(u128, &[u8])>
     let Some(text) = behind_colons(front.rest) else {
         return None;
     };
-    // Two colons stand for one group of zeros at least.
+    // Two colons stand for at least one zero group.
     let back = take_groups(text, 7 - front.count);
     let bits = with_zeros(front.bits, 8 - front.count) + back.bits;
     Some((bits, back.rest))
 }
 
-/// The value, where nothing stands behind it.
+/// Returns the value, if no text is left after it.
 #[inline(always)]
 fn if_whole<T: Copy>(read: Option<(T, &[u8])>) -> Option<T>
     ensures { result ≡ Reader.whole_value (Reader.read_view (λ x. x) read.entry) }
@@ -327,14 +328,14 @@ fn if_whole<T: Copy>(read: Option<(T, &[u8])>) -> Option<T>
     if rest.is_empty() { Some(value) } else { None }
 }
 
-/// The number of the address that an IPv4 text writes.
+/// Returns the number of the IPv4 address, if the whole text is one.
 pub(crate) fn ipv4_of(text: &[u8]) -> Option<u32>
     ensures { result ≡ Reader.whole_value (option_map with_octets (Reader.read_ipv4 text.now)) }
 {
     if_whole(take_ipv4(text))
 }
 
-/// The number of the address that an IPv6 text writes.
+/// Returns the number of the IPv6 address, if the whole text is one.
 pub(crate) fn ipv6_of(text: &[u8]) -> Option<u128>
     ensures { result ≡ Reader.whole_value (option_map with_number (Reader.read_ipv6 text.now)) }
 {

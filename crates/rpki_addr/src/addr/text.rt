@@ -1,4 +1,4 @@
-//! Texts of addresses, read and printed.
+//! Parses and prints addresses.
 ghost use Rattle.std.specs.Prelude.{Some};
 ghost use Rattle.rpki_addr.specs.PrintedAddress.{ipv4_text, ipv6_text, ip_text};
 ghost use Rattle.rpki_addr.specs.ReadsAddress.{ReadsIpv4, ReadsIpv6, ReadsIp};
@@ -9,9 +9,11 @@ use super::{AddrParseError, IpAddr, Ipv4Addr, Ipv6Addr};
 use std::fmt;
 use std::str::FromStr;
 
-/// Reads four decimals with dots between them, each 0 to 255 without leading zeros (RFC 4291, section 2.2).
+/// Parses four decimals with dots between them, each 0 to 255 without leading zeros (RFC 4291, 2.2).
 ///
-/// Any other text is refused by [`AddrParseError::Ipv4`].
+/// # Errors
+///
+/// [`AddrParseError::Ipv4`]: any other text.
 impl FromStr for Ipv4Addr {
     type Err = AddrParseError;
 
@@ -25,11 +27,13 @@ impl FromStr for Ipv4Addr {
     }
 }
 
-/// Reads the forms of RFC 4291, section 2.2: eight groups of one to four hexadecimal digits, or
-/// fewer with one `::` for the zero groups between, at least one. The last two groups may be an
-/// IPv4 text.
+/// Parses the forms of RFC 4291, 2.2: eight groups of one to four hexadecimal digits, or fewer with one `::`.
 ///
-/// Any other text is refused by [`AddrParseError::Ipv6`].
+/// The `::` stands for at least one zero group. The last two groups may be an IPv4 address.
+///
+/// # Errors
+///
+/// [`AddrParseError::Ipv6`]: any other text.
 impl FromStr for Ipv6Addr {
     type Err = AddrParseError;
 
@@ -43,7 +47,11 @@ impl FromStr for Ipv6Addr {
     }
 }
 
-/// Reads an IPv4 text or an IPv6 text. Any other text is refused by [`AddrParseError::Ip`].
+/// Parses an IPv4 address or an IPv6 address.
+///
+/// # Errors
+///
+/// [`AddrParseError::Ip`]: any other text.
 impl FromStr for IpAddr {
     type Err = AddrParseError;
 
@@ -60,7 +68,7 @@ impl FromStr for IpAddr {
     }
 }
 
-/// Writes four decimals with dots between them.
+/// Prints four decimals with dots between them.
 impl fmt::Display for Ipv4Addr {
     ghost output = { λ address. Some (ipv4_text address) };
 
@@ -71,8 +79,9 @@ impl fmt::Display for Ipv4Addr {
     }
 }
 
-/// Writes the form of RFC 5952, 4: lower-case groups, with the first longest run of two or more zero groups as `::`;
-/// and that of its 5 of an IPv4-mapped address: `::ffff:` and its IPv4 address.
+/// Prints the form of RFC 5952, 4: lower-case groups, with the first longest run of two or more zero groups as `::`.
+///
+/// An IPv4-mapped address is printed in the form of RFC 5952, 5: `::ffff:` and its IPv4 address.
 impl fmt::Display for Ipv6Addr {
     ghost output = { λ address. Some (ipv6_text address) };
 
@@ -83,7 +92,7 @@ impl fmt::Display for Ipv6Addr {
     }
 }
 
-/// Writes the address as its family does.
+/// Prints the address in the form of its family.
 impl fmt::Display for IpAddr {
     ghost output = { λ address. Some (ip_text address) };
 

@@ -11,13 +11,13 @@ IsAsNumber = IsU32
 abbrev pub as_number_at : List ℕ → Result (ℕ × List ℕ) DerError
 as_number_at = u32_at
 
--- the content of one, whatever the number is
+-- the content of an AS number, for any number
 abbrev pub SaysAsNumber : List ℕ → Unit {0} → Type 0
 SaysAsNumber content u = (n : ℕ) × IsUnsigned content n
 
 abbrev pub skip_number : List ℕ → Result (Unit {0}) DerError
 skip_number content = unsigned content >>= λ n. Ok tt
 
--- what is written of an AS number
+-- the encoding of an AS number
 abbrev pub as_number_octets : ℕ → List ℕ
 as_number_octets n = u32_value n

@@ -1,22 +1,22 @@
--- Texts of AS numbers at a place among bytes.
+-- Texts of AS numbers at an index of a text.
 use Rattle.std.specs.Prelude.{◌≡◌, ℕ, ◌+◌, ◌-◌, ◌^◌, ◌<◌, ◌≤◌, ◌⊎◌, List, length, take, drop, slice_index}
 use Rattle.std.specs.Int.{IsInRange}
 use Rattle.std.specs.List.{AllByRecursion}
 use Rattle.rpki_text.specs.Numbers.{AreDigitsFrom}
 use Rattle.rpki_base.specs.AsnText.{IsAsnText}
 
--- `as` stands at start, in any case of letters
+-- `as` is at index start, in any case of letters
 pub record HasLettersAt (start : ℕ) (text : List ℕ) : Type 0 where
   pub within : start + 2 ≤ length text
   pub first : (slice_index text start ≡ 65) ⊎ (slice_index text start ≡ 97)
   pub second : (slice_index text (start + 1) ≡ 83) ⊎ (slice_index text (start + 1) ≡ 115)
 
--- after is the place behind `as` where that stands at start, and else start
+-- after is the index after `as` if that is at start, and else start
 abbrev pub IsAfterLetters : ℕ → ℕ → List ℕ → Type 0
 IsAfterLetters start after text = ((after ≡ start) × (¬ HasLettersAt start text)) ⊎ ((after ≡ start + 2) × HasLettersAt start text)
 
--- At start stands an AS number of the usual form: `as`, in any case, or nothing, and then digits, one to ten. They are
--- all that stand there or the first ten, write n, and end at end.
+-- At start is an AS number of the usual form: `as`, in any case of letters, or nothing, and then one to ten digits.
+-- These are all digits there or the first ten. They write n and end at end.
 pub record IsAsnAt (start end : ℕ) (text : List ℕ) (n : ℕ) : Type 0 where
   pub after : ℕ
   pub letters : IsAfterLetters start after text
@@ -24,7 +24,7 @@ pub record IsAsnAt (start end : ℕ) (text : List ℕ) (n : ℕ) : Type 0 where
   pub some : after < end
   pub fits : n < 2 ^ 32
 
--- the bytes from start to end write n, with letters and digits alone
+-- the bytes from start to end write n, with only letters and digits
 pub record IsAsnBetween (start end : ℕ) (text : List ℕ) (n : ℕ) : Type 0 where
   pub in_order : start < end
   pub within : end ≤ length text

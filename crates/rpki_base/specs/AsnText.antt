@@ -18,11 +18,12 @@ pub record IsAsnText (text : List ℕ) (n : ℕ) : Type 0 where
   pub prefix : IsAsLetters letters
   pub number : IsNumberText (2 ^ 32 - 1) digits n
 
--- what is printed of an AS number: `AS` and the decimal without leading zeros
+-- the printed text of an AS number: `AS` and the decimal without leading zeros
 abbrev pub asn_text : ℕ → List ℕ
 asn_text n = codes "AS" ++ decimal n
 
--- The text is read as an AS number exactly where it writes one, and what is printed of one is read as that one.
+-- The text is read as an AS number if and only if it writes one. The printed text of an AS number is read as that
+-- number.
 pub record ReadsAsn (text : List ℕ) (r : Result ℕ ParseAsnError) : Type 0 where
   pub exact : Answers (IsAsnText text) (λ _. (n : ℕ) → ¬ IsAsnText text n) r
   pub reads_back : (n : ℕ) → n < 2 ^ 32 → text ≡ asn_text n → r ≡ Ok n
@@ -33,6 +34,6 @@ pub record IsAsAnd (text rest : List ℕ) : Type 0 where
   pub split : text ≡ letters ++ rest
   pub lower : str_to_ascii_lowercase letters ≡ codes "as"
 
--- rest is what follows `as`, or the whole text where that doesn't stand first
+-- rest is the text after `as`, or the whole text if it does not begin with `as`
 abbrev pub IsAfterAs : List ℕ → List ℕ → Type 0
 IsAfterAs text rest = IsAsAnd text rest ⊎ ((rest ≡ text) × ((other : List ℕ) → ¬ IsAsAnd text other))

@@ -1,8 +1,8 @@
--- Small sets of AS numbers, as in the Rust crate `rpki` 0.20.1: ascending lists without repeats.
+-- Small sets of AS numbers, as in the Rust crate `rpki` 0.20.1: ascending lists without duplicates.
 use Rattle.std.specs.Prelude.{ℕ, ◌⊎◌, ◌↔◌, List, Contains}
 use Rattle.std.specs.List.Sorted.{IsStrictlyIncreasing}
 
--- the list is a set: each number is below the next, so none stands twice
+-- the list is a set: each number is below the next, so no number occurs twice
 abbrev pub IsSmallSet : List ℕ → Type 0
 IsSmallSet numbers = IsStrictlyIncreasing numbers
 

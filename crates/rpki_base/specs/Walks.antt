@@ -1,4 +1,5 @@
--- A helper: what one walk over two ascending lists gives. What that is, by membership, the calls that start a walk say.
+-- A helper: the numbers that a traversal of two ascending lists gives. The calls that start a traversal state them by
+-- membership.
 use Rattle.std.specs.Prelude.{ℕ, List, [], ◌∷◌, Bool, true, false, nat_lt, if◌then◌else◌}
 use Rattle.rpki_base.specs.declared.small_set.walk.Wanted.{Wanted}
 
@@ -10,7 +11,7 @@ kept_items wanted n others = if wanted then n ∷ others else others
 abbrev pub all_kept : Bool → List ℕ → List ℕ
 all_kept wanted numbers = if wanted then numbers else []
 
--- the wanted numbers of x, left and the last argument, where `others` walks over left and a list
+-- the wanted numbers of x, left and the last argument; `others` traverses left and a list
 abbrev pub walk_step : Wanted → ℕ → List ℕ → (List ℕ → List ℕ) → List ℕ → List ℕ
 walk_step wanted x left others [] = all_kept wanted.left (x ∷ left)
 walk_step wanted x left others (y ∷ right) =
@@ -23,7 +24,7 @@ abbrev pub walk : Wanted → List ℕ → List ℕ → List ℕ
 walk wanted [] right = all_kept wanted.right right
 walk wanted (x ∷ left) right = walk_step wanted x left (walk wanted left) right
 
--- which numbers each operation wants
+-- the wanted numbers of each operation
 abbrev pub only_left : Wanted
 only_left = record { left = true; both = false; right = false }
 

@@ -15,9 +15,9 @@ use std::fmt;
 use std::marker::Model;
 use std::str::FromStr;
 
-/// An AS number: one of 0 to 4294967295 (RFC 6793).
+/// An AS number: 0 to 4294967295 (RFC 6793).
 ///
-/// AS numbers compare, and are in order, as their values.
+/// AS numbers compare and sort as their values.
 #[derive(Clone, Copy, Debug, PartialEq, Eq, PartialOrd, Ord, Hash)]
 pub struct Asn(u32);
 
@@ -34,13 +34,13 @@ impl Model for Asn {
 }
 
 impl Asn {
-    /// The least AS number, 0.
+    /// The lowest AS number, 0.
     pub const MIN: Asn = Asn(u32::MIN);
 
-    /// The greatest AS number, 4294967295.
+    /// The highest AS number, 4294967295.
     pub const MAX: Asn = Asn(u32::MAX);
 
-    /// The AS number of a value.
+    /// Returns the AS number with this value.
     pub fn from_u32(value: u32) -> Asn
         ensures { result ≡ value }
     {
@@ -57,22 +57,25 @@ impl Asn {
         let _number = self.0;
     }
 
-    /// The value of the AS number.
+    /// Returns the value of the AS number.
     pub fn into_u32(self) -> u32
         ensures { result ≡ self }
     {
         self.0
     }
 
-    /// The four octets of the value, the highest first.
+    /// Returns the four octets of the value, the highest first.
     pub fn to_raw(self) -> [u8; 4]
         ensures { result ≡ octets_of self }
     {
         self.0.to_be_bytes()
     }
 
-    /// The AS number that is `value` more. The caller owes that there is one: `Asn::MAX.into_u32() - self.into_u32()`
-    /// is at least `value`.
+    /// Returns the AS number whose value is greater by `value`.
+    ///
+    /// # Preconditions
+    ///
+    /// The sum is at most 4294967295: `Asn::MAX.into_u32() - self.into_u32()` is at least `value`.
     pub fn add(self, value: u32) -> Asn
         requires { self + value < 2 ^ 32 }
         ensures { result ≡ self + value }
@@ -97,7 +100,7 @@ impl From<Asn> for u32 {
     }
 }
 
-/// The text writes no AS number.
+/// Why a text was refused: it is no AS number.
 #[derive(Clone, Copy, Debug, PartialEq, Eq)]
 pub struct ParseAsnError;
 
@@ -111,7 +114,7 @@ impl fmt::Display for ParseAsnError {
 
 impl Error for ParseAsnError {}
 
-/// What follows `as`, in any case of letters, if that stands first.
+/// Returns the text after `as`, in any case of letters, or the whole text if it does not begin with that.
 #[tactic(auto, using(crate::proofs::AsnLemmas::too_short, crate::proofs::AsnLemmas::no_letters))]
 fn after_as(text: &[u8]) -> &[u8]
     ensures { IsAfterAs text.now result.now }
@@ -127,7 +130,7 @@ fn after_as(text: &[u8]) -> &[u8]
     }
 }
 
-/// The AS number that any text writes.
+/// Parses the AS number of any text.
 fn read_any(text: &[u8]) -> Result<Asn, ParseAsnError>
     ensures { ReadsAsn text.now result }
 {
@@ -137,8 +140,11 @@ fn read_any(text: &[u8]) -> Result<Asn, ParseAsnError>
     }
 }
 
-/// Reads an optional `as` in any case of letters, and then the decimal text of a `u32`, as
-/// [`rpki_text::number::parse_u32`] does. Any other text is refused by [`ParseAsnError`].
+/// Parses an optional `as`, in any case of letters, and then a `u32` in the form of [`rpki_text::number::parse_u32`].
+///
+/// # Errors
+///
+/// [`ParseAsnError`]: any other text.
 impl FromStr for Asn {
     type Err = ParseAsnError;
 
@@ -153,7 +159,7 @@ impl FromStr for Asn {
     }
 }
 
-/// Writes `AS` and the value in decimal, as in `AS65000` (RFC 5396, section 2, asplain).
+/// Prints `AS` and the value in decimal, as in `AS65000` (RFC 5396, section 2, asplain).
 impl fmt::Display for Asn {
     ghost output = { λ asn. Some (asn_text asn) };
 

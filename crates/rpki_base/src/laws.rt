@@ -1,4 +1,4 @@
-//! What callers may rely on and no single call says.
+//! Lemmas for callers that no single call states.
 ghost use Rattle.std.specs.Prelude.{◌≡◌, ◌≢◌, ◌↔◌, ℕ, ◌-◌, ◌^◌, List, Err, true, Contains, IsOk, IsTrue};
 ghost use Rattle.std.specs.Ordering.{nat_cmp};
 ghost use Rattle.rpki_der.specs.declared.error.DerError.TheVariants.{NotCanonical};
@@ -11,7 +11,7 @@ use crate::asn::Asn;
 use crate::small_set::SmallAsnSet;
 use std::alloc::Allocator;
 
-/// `Asn::MIN` and `Asn::MAX` are the least and the greatest AS number, 0 and 4294967295 (RFC 6793).
+/// `Asn::MIN` and `Asn::MAX` are the lowest and the highest AS number, 0 and 4294967295 (RFC 6793).
 pub fn ends_of_asns() -> (Asn, Asn)
     ensures min { result.0 ≡ 0 }
     ensures max { result.1 ≡ 2 ^ 32 - 1 }
@@ -19,33 +19,34 @@ pub fn ends_of_asns() -> (Asn, Asn)
     (Asn::MIN, Asn::MAX)
 }
 
-/// AS numbers are in order as their numbers.
+/// AS numbers sort as their values.
 pub fn orders_are_of_numbers()
     ensures { (a b : ℕ) → ⟦<Asn as Ord>⟧.cmp a b ≡ nat_cmp a b }
 {}
 
-/// AS numbers are equal exactly where they are the same.
+/// AS numbers are equal if and only if they have the same value.
 pub fn equal_where_the_same()
     ensures { (a b : ℕ) → IsTrue (⟦<Asn as PartialEq>⟧.eq a b) ↔ (a ≡ b) }
 {}
 
-/// Small sets are equal exactly where they have the same numbers.
+/// Small sets are equal if and only if they have the same AS numbers.
 pub fn equal_small_sets<A: Allocator>()
     ensures { (a b : List ℕ) → IsSmallSet a → IsSmallSet b
         → IsTrue (⟦<SmallAsnSet<A> as PartialEq>⟧.eq a b)
         ↔ ((n : ℕ) → (Contains a n) ↔ (Contains b n)) }
 {}
 
-/// Small sets of the same numbers are one list, so they are equal, and hash and compare alike.
+/// Small sets with the same AS numbers are one list. They are therefore equal, and they hash and compare alike.
 #[tactic(auto, using(crate::proofs::SmallSetLemmas::one_set))]
 pub fn one_small_set()
     ensures { (a b : List ℕ) → IsSmallSet a → IsSmallSet b
         → ((n : ℕ) → (Contains a n) ↔ (Contains b n)) → a ≡ b }
 {}
 
-/// Octets are refused as not canonical by a strict cursor alone, and never as a value of any tag, an AS number or a
-/// family, which are read alike in both modes. As a BIT STRING a strict cursor refuses them so only where a lenient one
-/// finds it: each other fault of it comes first.
+/// Only a strict cursor refuses octets as not canonical.
+///
+/// It never does so for a value of any tag, an AS number or a family, which both modes read alike. It does so for a
+/// BIT STRING only if a lenient cursor accepts the octets: every other fault is reported first.
 #[tactic(auto, using(rpki_der::proofs::SequenceFaults::value_faults, rpki_der::proofs::FamilyLemmas::family_names, rpki_der::proofs::Steps::ok_or_err), unfolding(rpki_der::specs::Reading::refined, rpki_der::specs::Reading::bits_by))]
 pub fn not_canonical()
     ensures value { (bytes : List ℕ) → value_at bytes ≢ Err NotCanonical }

@@ -1,7 +1,10 @@
-//! What the layers above share: AS numbers and small sets of them, and what crates below have, number texts, addresses,
-//! lists of texts and the answer of a call that may want memory.
+//! Basic values that the crates above share.
 //!
-//! The AS number behind another is asked for where there is one, as in `example_calls::conditions::behind`:
+//! - [`asn`] has AS numbers, and [`small_set`] has small sets of them.
+//! - Other crates provide addresses, number texts, lists of texts, and the error of a call that may run out of
+//!   memory. This crate re-exports them.
+//!
+//! [`Asn::add`] requires that the sum is an AS number, as checked in `example_calls::conditions::behind`:
 //!
 //! ```rust
 //! if asn == Asn::MAX {
@@ -21,8 +24,8 @@ pub use memory::{OrMemory, refused_as};
 pub use number::ParseIntError;
 pub use small_set::SmallAsnSet;
 
-/// Texts, which stand in a crate of their own below this one.
+/// Texts, re-exported from the crate `rpki_text`.
 pub use rpki_text::{list, memory, number};
 
-/// Addresses, which stand in a crate of their own below this one.
+/// Addresses, re-exported from the crate `rpki_addr`.
 pub use rpki_addr::addr;

@@ -1,4 +1,4 @@
-//! Small sets of AS numbers: ascending lists without repeats.
+//! Small sets of AS numbers: ascending lists without duplicates.
 ghost use Rattle.std.specs.Prelude.{◌≡◌, ◌↔◌, ◌+◌, ◌^◌, ◌<◌, ◌≤◌, [], length, IsTrue, IfOk, Some, Contains, nat_eq, refl};
 ghost use Rattle.std.specs.Cmp.{partial_equiv_from_equiv};
 ghost use Rattle.std.specs.Cmp.Lexicographic.{pointwise, slice_cmp, nat_list_eq_equiv, nat_list_cmp_total, texts_po, texts_ties};
@@ -22,9 +22,9 @@ use std::fmt;
 use std::hash::{Hash, Hasher};
 use std::marker::Model;
 
-/// A set of AS numbers, kept as an ascending list.
+/// A set of AS numbers, stored as an ascending list.
 ///
-/// Sets are equal where they have the same numbers, and are in order item by item.
+/// Sets are equal if and only if they have the same numbers. They sort item by item.
 #[derive(Drop)]
 pub struct SmallAsnSet<A: Allocator = Global> {
     items: Vec<Asn, A>,
@@ -42,8 +42,11 @@ impl<A: Allocator> Model for SmallAsnSet<A> {
 }
 
 impl<A: Allocator> SmallAsnSet<A> {
-    /// The set of the AS numbers of a list in any order, with repeats or not. `AllocError` where there is no memory for
-    /// it.
+    /// Returns the set of the AS numbers in `list`, which may be in any order and have duplicates.
+    ///
+    /// # Errors
+    ///
+    /// `AllocError`: out of memory.
     pub fn from_list(alloc: A, list: &[Asn]) -> Result<SmallAsnSet<A>, AllocError>
         ensures { IfOk result (λ set. IsSmallSetOf (Contains list.now) set) }
     {
@@ -53,7 +56,11 @@ impl<A: Allocator> SmallAsnSet<A> {
         Ok(SmallAsnSet { items })
     }
 
-    /// A set of its own with the same AS numbers. `AllocError` where there is no memory for it.
+    /// Returns a copy of the set, allocated in `alloc`.
+    ///
+    /// # Errors
+    ///
+    /// `AllocError`: out of memory.
     pub fn clone(&self, alloc: A) -> Result<SmallAsnSet<A>, AllocError>
         ensures { IfOk result (λ set. set ≡ self.now) }
     {
@@ -61,8 +68,11 @@ impl<A: Allocator> SmallAsnSet<A> {
         Ok(SmallAsnSet { items })
     }
 
-    /// The set of these AS numbers. The caller owes that each is below the next; no vector of one number or none
-    /// breaks that.
+    /// Returns the set of these AS numbers, without a check.
+    ///
+    /// # Preconditions
+    ///
+    /// Each AS number is below the next. A vector with at most one number always satisfies this.
     pub fn from_vec_unchecked(items: Vec<Asn, A>) -> SmallAsnSet<A>
         requires { IsSmallSet items.items }
         ensures { result ≡ items.items }
@@ -70,7 +80,7 @@ impl<A: Allocator> SmallAsnSet<A> {
         SmallAsnSet { items }
     }
 
-    /// The AS numbers of the set, ascending.
+    /// Returns an iterator over the AS numbers of the set, ascending.
     pub fn iter(&self) -> SmallSetIter<'_>
         ensures items { result ≡ self.now }
         ensures ascending { IsSmallSet self.now }
@@ -79,28 +89,28 @@ impl<A: Allocator> SmallAsnSet<A> {
         SmallSetIter::new(self.items.as_slice())
     }
 
-    /// How many AS numbers the set has.
+    /// Returns the number of AS numbers in the set.
     pub fn len(&self) -> usize
         ensures { result ≡ length self.now }
     {
         self.items.len()
     }
 
-    /// Has the set no AS number?
+    /// Returns whether the set is empty.
     pub fn is_empty(&self) -> bool
         ensures { IsTrue result ↔ (self.now ≡ []) }
     {
         self.items.is_empty()
     }
 
-    /// Is the AS number in the set? This is a binary search.
+    /// Returns whether the AS number is in the set. This is a binary search.
     pub fn contains(&self, asn: Asn) -> bool
         ensures { IsTrue result ↔ Contains self.now asn }
     {
         self.items.as_slice().binary_search(&asn).is_ok()
     }
 
-    /// The AS numbers that are in this set and not in the other.
+    /// Returns an iterator over the AS numbers that are in this set and not in the other, ascending.
     #[tactic(auto, using(crate::proofs::WalkLemmas::walk_is))]
     pub fn difference<'a>(&'a self, other: &'a SmallAsnSet<A>) -> SmallSetDifference<'a>
         ensures set { IsSmallSetOf (IsInFirstAlone self.now other.now) result }
@@ -110,7 +120,7 @@ impl<A: Allocator> SmallAsnSet<A> {
         SmallSetDifference::new(self.items.as_slice(), other.items.as_slice())
     }
 
-    /// The AS numbers that are in exactly one of the sets.
+    /// Returns an iterator over the AS numbers that are in exactly one of the sets, ascending.
     #[tactic(auto, using(crate::proofs::WalkLemmas::walk_is))]
     pub fn symmetric_difference<'a>(
         &'a self,
@@ -123,7 +133,7 @@ impl<A: Allocator> SmallAsnSet<A> {
         SmallSetSymmetricDifference::new(self.items.as_slice(), other.items.as_slice())
     }
 
-    /// The AS numbers that are in both sets.
+    /// Returns an iterator over the AS numbers that are in both sets, ascending.
     #[tactic(auto, using(crate::proofs::WalkLemmas::walk_is))]
     pub fn intersection<'a>(&'a self, other: &'a SmallAsnSet<A>) -> SmallSetIntersection<'a>
         ensures set { IsSmallSetOf (IsInBoth self.now other.now) result }
@@ -134,7 +144,7 @@ impl<A: Allocator> SmallAsnSet<A> {
         SmallSetIntersection::new(self.items.as_slice(), other.items.as_slice())
     }
 
-    /// The AS numbers that are in one of the sets, or in both.
+    /// Returns an iterator over the AS numbers that are in at least one of the sets, ascending.
     #[tactic(auto, using(crate::proofs::WalkLemmas::walk_is))]
     pub fn union<'a>(&'a self, other: &'a SmallAsnSet<A>) -> SmallSetUnion<'a>
         ensures set { IsSmallSetOf (IsInEither self.now other.now) result }
@@ -150,7 +160,7 @@ impl<'a, A: Allocator> IntoIterator for &'a SmallAsnSet<A> {
 
     type IntoIter = SmallSetIter<'a>;
 
-    // what `iter` says
+    // the postconditions of `iter`
     ghost into_iter_gives = { λ set iter. (iter ≡ set.now) × IsSmallSet set.now
         × (length iter < 2 ^ 64) };
 

@@ -15,13 +15,15 @@ impl Asn {
 
     /// Takes an AS number.
     ///
-    /// The faults are those of [`Cursor::take_u32`].
+    /// # Errors
+    ///
+    /// The errors of [`Cursor::take_u32`]. The cursor is unchanged after an error.
     #[tactic(auto, using(rpki_der::proofs::Readings::u32_reading, rpki_der::proofs::Written::u32_is))]
     #[inline]
     pub fn take_from(cursor: &mut Cursor<'_>) -> Result<Asn, DerError>
         ensures reads { ReadsValue IsAsNumber (λ n. n) cursor.old cursor.new result }
         ensures exact { Takes (λ n. n) cursor.old cursor.new result as_number_at }
-        // What is written of an AS number is read as that number, whatever follows it.
+        // The encoding of an AS number is read as that number, with any octets after it.
         ensures reads_back { (n : ℕ) (rest : List ℕ) → n < 2 ^ 32
             → left cursor.old ≡ as_number_octets n ++ rest
             → (result ≡ Ok n) × (left cursor.new ≡ rest) }
@@ -30,8 +32,13 @@ impl Asn {
         Asn::next(cursor)
     }
 
-    /// Takes an AS number as `take_from` does where the next octet is the tag of an INTEGER; None where it isn't, and
-    /// at the end.
+    /// Takes an AS number as `take_from` does, if the next octet is the tag of an INTEGER.
+    ///
+    /// Returns None, and takes nothing, if the next octet is another one or no octet is left.
+    ///
+    /// # Errors
+    ///
+    /// The errors of `take_from`. The cursor is unchanged after an error.
     #[tactic(auto, using(rpki_der::proofs::SequenceCursors::reads_tagged_by, rpki_der::proofs::Readings::u32_reading))]
     pub fn take_opt_from(cursor: &mut Cursor<'_>) -> Result<Option<Asn>, DerError>
         ensures reads { ReadsTagged 2 IsAsNumber cursor.old cursor.new result }
@@ -41,7 +48,7 @@ impl Asn {
         Asn::next_opt(cursor)
     }
 
-    /// Passes over an AS number, with the faults of `take_from`.
+    /// Skips an AS number, with the errors of `take_from`. The cursor is unchanged after an error.
     #[tactic(auto, using(rpki_der::proofs::Cursors::reads_by, rpki_der::proofs::SequenceReadings::number_skipped))]
     pub fn skip_in(cursor: &mut Cursor<'_>) -> Result<(), DerError>
         ensures reads { ReadsValue (Skips IsAsNumber) (λ u. u) cursor.old cursor.new result }
@@ -51,7 +58,11 @@ impl Asn {
         Asn::pass_over(cursor)
     }
 
-    /// The AS number that a content says, whatever the tag is, else `BadInteger`.
+    /// Reads the AS number of a content. The tag is not checked.
+    ///
+    /// # Errors
+    ///
+    /// [`DerError::BadInteger`]: the content is no AS number.
     pub fn parse_content(content: &Content<'_>) -> Result<Asn, DerError>
         ensures reads { Parses IsUnsigned (λ n. n) (content_octets content.now) result }
         ensures exact { Gives (λ n. n) result (unsigned (content_octets content.now)) }
@@ -60,7 +71,11 @@ impl Asn {
         Ok(Asn(number))
     }
 
-    /// Looks whether a content says an AS number, whatever the tag is, else `BadInteger`.
+    /// Checks that a content is an AS number. The tag is not checked.
+    ///
+    /// # Errors
+    ///
+    /// [`DerError::BadInteger`]: the content is no AS number.
     pub fn skip_content(content: &Content<'_>) -> Result<(), DerError>
         ensures reads { Parses SaysAsNumber (λ u. u) (content_octets content.now) result }
         ensures exact { Gives (λ u. u) result (skip_number (content_octets content.now)) }
@@ -69,7 +84,7 @@ impl Asn {
         Ok(())
     }
 
-    /// How many octets `encode` appends: at most 7.
+    /// Returns the number of octets that `encode` appends: at most 7.
     pub fn encoded_len(&self) -> usize
         ensures len { result ≡ length (as_number_octets self.now) }
         ensures short { result ≤ 7 }
@@ -77,7 +92,11 @@ impl Asn {
         u32_len(self.0)
     }
 
-    /// Appends the AS number. `AllocError` where there is no memory for it; then the octets stay as they were.
+    /// Appends the AS number to `out`. The call succeeds if the capacity of `out` suffices.
+    ///
+    /// # Errors
+    ///
+    /// `AllocError`: out of memory. The octets in `out` are unchanged.
     #[tactic(auto, using(rpki_der::proofs::Readings::u32_reading, rpki_der::proofs::Written::u32_is))]
     pub fn encode<A: Allocator>(&self, out: &mut Vec<u8, A>) -> Result<(), AllocError>
         ensures ok { OnOk result (out.new.items ≡ out.old.items ++ as_number_octets self.now) }
@@ -85,7 +104,7 @@ impl Asn {
         ensures succeeds { vec_len out.old + length (as_number_octets self.now)
             ≤ vec_capacity out.old → IsOk result }
         ensures capacity { vec_capacity out.old ≤ vec_capacity out.new }
-        // It is read back, whatever follows it.
+        // The encoding is read back, with any octets after it.
         ensures read_back { (rest : List ℕ)
             → as_number_at (as_number_octets self.now ++ rest) ≡ Ok (self.now, rest) }
     {
@@ -93,7 +112,11 @@ impl Asn {
         put_u32(out, number)
     }
 
-    /// Appends what `encode` does, where there is room for it.
+    /// Appends the octets of `encode` to `out`, without allocation.
+    ///
+    /// # Preconditions
+    ///
+    /// The capacity of `out` suffices for these octets.
     pub fn append<A: Allocator>(&self, out: &mut Vec<u8, A>)
         requires room { vec_len out.old + length (as_number_octets self.now)
             ≤ vec_capacity out.old }
@@ -104,8 +127,8 @@ impl Asn {
     }
 }
 
-// The readings behind the calls: each stands apart from its call, whose further clauses, `reads` and `reads_back`,
-// follow from `exact` by theorems on the grammar.
+// The implementations of the calls above. Each is separate from its call, because the call's further clauses, `reads`
+// and `reads_back`, follow from `exact` by theorems on the grammar.
 impl Asn {
     ghost use Rattle.std.specs.Prelude.{◌≡◌};
     ghost use Rattle.rpki_der.specs.Views.{Takes, is_strict};

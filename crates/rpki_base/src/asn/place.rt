@@ -1,11 +1,11 @@
-//! AS numbers of the usual form, read at a place among bytes.
+//! Reads AS numbers of the usual form at an index of a text.
 ghost use Rattle.std.specs.Prelude.{◌≡◌, ℕ, ◌≤◌, length, Some, IfSome};
 ghost use Rattle.rpki_base.specs.AsnPlaces.{IsAfterLetters, IsAsnAt, IsAsnBetween};
 
 use super::Asn;
 use rpki_text::number::digits_from;
 
-/// The place behind `as`, in any case of letters, where that stands at the place, and else the place itself.
+/// Returns the index after `as`, in any case of letters, if the text has that at `start`, and else `start`.
 fn after_letters(text: &[u8], start: usize) -> usize
     requires { start ≤ length text.now }
     ensures { IsAfterLetters start result text.now }
@@ -24,15 +24,23 @@ fn after_letters(text: &[u8], start: usize) -> usize
     start + 2
 }
 
-/// The AS number that the bytes from a place on write with an optional `as` and all digits behind it, of which it reads
-/// ten at most, and the place behind them. None where no digit stands there, and where they write no AS number. It is
-/// for reading the usual texts at once: others, with a plus or more digits, are for [`Asn::from_str`].
+/// Reads an AS number of the usual form at index `start`, and returns it with the index after it.
+///
+/// The usual form is an optional `as`, in any case of letters, and then digits. The call reads all digits there, but
+/// at most ten. Use it to read the usual texts at once. [`Asn::from_str`] also reads texts with a plus sign or more
+/// digits.
+///
+/// Returns None if no digit is there, or if the digits exceed 4294967295.
+///
+/// # Preconditions
+///
+/// `start` is at most the length of `text`.
 pub fn asn_at(text: &[u8], start: usize) -> Option<(Asn, usize)>
     requires { start ≤ length text.now }
-    // What is found is a number of the usual form, and one that stands there is found.
+    // The result is a number of the usual form, and any such number at `start` is found.
     ensures found { IfSome result (λ found. IsAsnAt start found.1 text.now found.0) }
     ensures each { (n end : ℕ) → IsAsnAt start end text.now n → result ≡ Some (n, end) }
-    // It is the number of its text.
+    // The number is the one that its text writes.
     ensures number { IfSome result (λ found. IsAsnBetween start found.1 text.now found.0) }
 {
     let first = after_letters(text, start);

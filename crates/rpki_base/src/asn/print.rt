@@ -1,4 +1,4 @@
-//! What is printed of AS numbers, put into a buffer on the stack from its end, and written at once.
+//! Prints AS numbers. The text is built from its end in a buffer on the stack, and written in one call.
 ghost use Rattle.std.specs.Prelude.{◌≡◌, ◌+◌, ◌≤◌, ◌∷◌, ◌++◌, length, drop};
 ghost use Rattle.std.specs.Fmt.{WritesOnOk};
 ghost use Rattle.rpki_text.specs.Cuts.{dash};
@@ -8,13 +8,13 @@ use super::Asn;
 use itoa::write_digits;
 use std::{fmt, str};
 
-/// The most bytes of the text of an AS number: `AS` and ten digits.
+/// The maximum number of bytes of an AS number: `AS` and ten digits.
 const ROOM: usize = 12;
 
-/// The most bytes of the text of a range: two AS numbers and a dash.
+/// The maximum number of bytes of a range: two AS numbers and a dash.
 const RANGE_ROOM: usize = 25;
 
-/// Puts the text of an AS number before `end`, and answers where it begins.
+/// Writes the text of an AS number before index `end`, and returns the index where it begins.
 #[tactic(auto, using(crate::proofs::AsnPrinting::ten_digits, crate::proofs::AsnPrinting::letters_before))]
 #[inline(always)]
 fn put_before(out: &mut [u8], end: usize, asn: Asn) -> usize
@@ -28,7 +28,7 @@ fn put_before(out: &mut [u8], end: usize, asn: Asn) -> usize
     digits - 2
 }
 
-/// Writes an AS number.
+/// Prints an AS number.
 pub(crate) fn fmt_asn<W: fmt::Write>(asn: Asn, f: &mut fmt::Formatter<W>) -> fmt::Result
     ensures { WritesOnOk W.write_str_gives f.old result (asn_text asn) f.new }
 {
@@ -39,7 +39,7 @@ pub(crate) fn fmt_asn<W: fmt::Write>(asn: Asn, f: &mut fmt::Formatter<W>) -> fmt
     f.write_str(text)
 }
 
-/// Writes two AS numbers with a dash between them, as in `AS3-AS5`.
+/// Prints two AS numbers with a dash between them, as in `AS3-AS5`.
 pub fn fmt_asn_range<W: fmt::Write>(min: Asn, max: Asn, f: &mut fmt::Formatter<W>) -> fmt::Result
     ensures { WritesOnOk W.write_str_gives f.old result (asn_text min ++ dash ∷ asn_text max) f.new }
 {

@@ -1,5 +1,5 @@
-//! Iterators over small sets: ascending, each number once. They take no memory, and each turn takes a number off one
-//! list or off both.
+//! Iterators over small sets: ascending, each number once. They allocate nothing, and each step takes a number off
+//! one list or off both.
 ghost use Rattle.std.specs.Prelude.{◌≡◌};
 ghost use Rattle.std.specs.Iterator.{YieldsFirst, item_count};
 ghost use Rattle.rpki_base.specs.Walks.{walk, only_left, only_one, only_both, any_side};
@@ -10,7 +10,7 @@ use crate::asn::Asn;
 use std::fmt;
 use std::marker::{Model, PhantomData};
 
-/// The AS numbers of a set.
+/// An iterator over the AS numbers of a set.
 #[derive(Debug, Drop)]
 pub struct SmallSetIter<'a> {
     items: &'a [Asn],
@@ -48,13 +48,13 @@ impl<'a> Iterator for SmallSetIter<'a> {
 
 /// An operation on two sets.
 pub trait Operation {
-    // Which of their numbers it gives, by where they stand.
+    // The numbers that the operation gives, by the set or sets that they are in.
     ghost WANTED: { WantedOf };
 
     const WANTED: Wanted;
 }
 
-/// The AS numbers of two sets that an operation gives.
+/// An iterator over the AS numbers of two sets that an operation gives.
 #[derive(Drop)]
 pub struct SmallSetOperation<'a, O: Operation> {
     walk: Walk<'a>,
@@ -101,7 +101,7 @@ impl<O: Operation> Iterator for SmallSetOperation<'_, O> {
     }
 }
 
-/// What gives the AS numbers that are in one set and not in the other.
+/// The operation that gives the AS numbers that are in one set and not in the other.
 pub enum Difference {}
 
 impl Operation for Difference {
@@ -110,10 +110,10 @@ impl Operation for Difference {
     const WANTED: Wanted = Wanted::LEFT;
 }
 
-/// The AS numbers that are in one set and not in the other.
+/// An iterator over the AS numbers that are in one set and not in the other.
 pub type SmallSetDifference<'a> = SmallSetOperation<'a, Difference>;
 
-/// What gives the AS numbers that are in exactly one of two sets.
+/// The operation that gives the AS numbers that are in exactly one of two sets.
 pub enum SymmetricDifference {}
 
 impl Operation for SymmetricDifference {
@@ -122,10 +122,10 @@ impl Operation for SymmetricDifference {
     const WANTED: Wanted = Wanted::ONE;
 }
 
-/// The AS numbers that are in exactly one of two sets.
+/// An iterator over the AS numbers that are in exactly one of two sets.
 pub type SmallSetSymmetricDifference<'a> = SmallSetOperation<'a, SymmetricDifference>;
 
-/// What gives the AS numbers that are in both of two sets.
+/// The operation that gives the AS numbers that are in both of two sets.
 pub enum Intersection {}
 
 impl Operation for Intersection {
@@ -134,10 +134,10 @@ impl Operation for Intersection {
     const WANTED: Wanted = Wanted::BOTH;
 }
 
-/// The AS numbers that are in both of two sets.
+/// An iterator over the AS numbers that are in both of two sets.
 pub type SmallSetIntersection<'a> = SmallSetOperation<'a, Intersection>;
 
-/// What gives the AS numbers that are in one of two sets, or in both.
+/// The operation that gives the AS numbers that are in at least one of two sets.
 pub enum Union {}
 
 impl Operation for Union {
@@ -146,5 +146,5 @@ impl Operation for Union {
     const WANTED: Wanted = Wanted::ANY;
 }
 
-/// The AS numbers that are in one of two sets, or in both.
+/// An iterator over the AS numbers that are in at least one of two sets.
 pub type SmallSetUnion<'a> = SmallSetOperation<'a, Union>;

@@ -1,4 +1,4 @@
-//! One walk over two ascending lists of AS numbers, which all set operations share.
+//! The traversal of two ascending lists of AS numbers, which all set operations share.
 ghost use Rattle.std.specs.Prelude.{◌≡◌, [], ◌∷◌, MatchOption};
 ghost use Rattle.rpki_base.specs.Walks.{walk};
 ghost use Rattle.rpki_base.specs.Steps.{IsStep, chosen};
@@ -6,7 +6,7 @@ ghost use Rattle.rpki_base.specs.Steps.{IsStep, chosen};
 use crate::asn::Asn;
 use std::cmp::Ordering;
 
-/// Where a number of two sets stands.
+/// The set or sets that a number is in.
 #[derive(Clone, Copy)]
 pub(crate) enum Side {
     Left,
@@ -14,7 +14,7 @@ pub(crate) enum Side {
     Right,
 }
 
-/// Which numbers of two sets are wanted, by where they stand.
+/// The numbers that an operation gives, by the set or sets that they are in.
 #[derive(Clone, Copy)]
 pub struct Wanted {
     left: bool,
@@ -47,7 +47,7 @@ impl Wanted {
         right: true,
     };
 
-    /// Are the numbers of this side wanted?
+    /// Returns whether the operation gives the numbers of this side.
     fn has(self, side: Side) -> bool
         ensures { result ≡ chosen self side }
     {
@@ -59,14 +59,14 @@ impl Wanted {
     }
 }
 
-/// What is left of two ascending lists.
+/// The rest of two ascending lists.
 #[derive(Clone, Copy, Debug)]
 pub(crate) struct Walk<'a> {
     pub(crate) left: &'a [Asn],
     pub(crate) right: &'a [Asn],
 }
 
-/// The least number of both lists, where it stands, and what is left behind it.
+/// The lowest number of both lists, its side, and the rest of the lists after it.
 #[derive(Clone, Copy)]
 struct Step<'a> {
     asn: Asn,
@@ -75,7 +75,7 @@ struct Step<'a> {
 }
 
 impl<'a> Walk<'a> {
-    /// The next step, if a list has a number left.
+    /// Returns the next step, if a list has a number left.
     fn step(&self) -> Option<Step<'a>>
         ensures { MatchOption result
             ((self.now.left.now ≡ []) × (self.now.right.now ≡ []))
@@ -126,7 +126,7 @@ impl<'a> Walk<'a> {
         }
     }
 
-    /// The next number that is wanted. Each turn takes a number off one list or both.
+    /// Returns the next number that the operation gives. Each iteration takes a number off one list or off both.
     pub(crate) fn next(&mut self, wanted: Wanted) -> Option<Asn>
         ensures { MatchOption result
             ((walk wanted self.old.left.now self.old.right.now ≡ [])

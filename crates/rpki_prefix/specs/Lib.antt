@@ -1,4 +1,4 @@
--- Definitions: prefixes of one family, their order, their texts, and greatest lengths.
+-- Definitions: prefixes of one family, their order, their texts, and maximum lengths.
 pub mod MaxLen
 pub mod Nesting
 pub mod Order

@@ -1,9 +1,9 @@
--- Prefixes that lie in one another (RFC 4632, 3.1).
+-- Prefixes inside one another (RFC 4632, 3.1).
 use Rattle.std.specs.Prelude.{◌≡◌, ◌≤◌}
 use Rattle.rpki_prefix.specs.Order.{last_bits}
 use Rattle.rpki_prefix.specs.Values.{FamilyPrefix, address_number, is_v6}
 
--- both are of one family, and the least and the greatest address of p lie round those of q
+-- both are of one family, and the addresses of q are between the lowest and the highest address of p
 pub record LiesRound (p q : FamilyPrefix) : Type 0 where
   pub family : is_v6 p.addr ≡ is_v6 q.addr
   pub from : address_number p.addr ≤ address_number q.addr

@@ -1,4 +1,4 @@
--- Prefixes stand at one place in the order exactly where they are equal.
+-- Prefixes tie in the order if and only if they are equal.
 use Rattle.std.proofs.Common.{◌≡◌, ℕ, ◌+◌, ◌-◌, ◌^◌, ◌<◌, Bool, false, ◌&&◌, eqb, sym, ◌∙◌, ap, refl, arith, inl, inr, Option, Some, None}
 use Rattle.std.proofs.lemmas.Bool.{cases_eq, cases_order, eq-eqb, ne_eqb, lt-ltb, le-ltb, and_right}
 use Rattle.std.proofs.lemmas.Nat.{pow_pos}
@@ -12,7 +12,7 @@ use Rattle.rpki_prefix.specs.MaxLen.{MaxLenValue, max_len_cmp}
 use Rattle.rpki_prefix.specs.Order.{prefix_cmp}
 use Rattle.rpki_prefix.specs.Values.{FamilyPrefix}
 
--- a test of whether two addresses are one
+-- a test of whether two addresses are the same
 pub record IsSameAddress (test : IpAddr → IpAddr → Bool) : Type 0 where
   pub of_v4 : (m n : ℕ) → test (V4 m) (V4 n) ≡ eqb m n
   pub of_v6 : (m n : ℕ) → test (V6 m) (V6 n) ≡ eqb m n
@@ -25,7 +25,7 @@ is_eq_then Less b = refl
 is_eq_then Equal b = refl
 is_eq_then Greater b = refl
 
--- numbers tie where they are equal
+-- numbers tie if they are equal
 is_eq_nat : (x y : ℕ) → is_eq (nat_cmp x y) ≡ eqb x y
 is_eq_nat x y = elim (cases_order x y) [
   | inl e ↦ rw (le-ltb x y (omega arith), eq-eqb x y e) refl
@@ -33,11 +33,11 @@ is_eq_nat x y = elim (cases_order x y) [
   | inr (inr g) ↦ rw (le-ltb x y (omega arith), ne_eqb x y (λ e. omega arith)) refl
 ]
 
--- the test of equality, turned round
+-- the test of equality with its arguments exchanged
 eq_turned : (x y : ℕ) → eqb x y ≡ eqb y x
 eq_turned x y = elim (cases_eq x y) [ inl e ↦ rw (eq-eqb x y e, eq-eqb y x (sym e)) refl | inr n ↦ rw (ne_eqb x y n, ne_eqb y x (λ e. n (sym e))) refl ]
 
--- at one length, the first numbers are equal exactly where the last are
+-- with equal lengths, the first numbers are equal if and only if the last ones are
 same_ends : (w a b k l : ℕ) → (eqb a b && eqb k l) ≡ (eqb (a + 2 ^ (w - k) - 1) (b + 2 ^ (w - l) - 1) && eqb l k)
 same_ends w a b k l = elim (cases_eq k l) [
   | inr n ↦ rw (ne_eqb k l n, ne_eqb l k (λ e. n (sym e))) (and_right (eqb a b) false refl ∙ sym (and_right (eqb (a + 2 ^ (w - k) - 1) (b + 2 ^ (w - l) - 1)) false refl))
@@ -67,11 +67,11 @@ module _ (test : IpAddr → IpAddr → Bool) (is : IsSameAddress test) where
   ties_at (V4 m) (V6 n) k l = rw (is.v4_v6 m n) refl
   ties_at (V6 m) (V4 n) k l = rw (is.v6_v4 m n) refl
 
-  -- the keys are equal exactly where the prefixes are
+  -- the keys are equal if and only if the prefixes are
   pub prefix_ties : (x y : FamilyPrefix) → (test x.addr y.addr && eqb x.len y.len) ≡ is_eq (prefix_cmp x y)
   prefix_ties x y = ties_at x.addr y.addr x.len y.len
 
--- and so with a greatest length
+-- the same for maximum lengths
 option_ties : (m n : Option ℕ) → option_eq eqb m n ≡ is_eq (option_cmp nat_cmp n m)
 option_ties None None = refl
 option_ties None (Some y) = refl

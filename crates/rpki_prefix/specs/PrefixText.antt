@@ -18,11 +18,11 @@ pub record AreParts (left right : List ℕ) (a : IpAddr) (len : ℕ) : Type 0 wh
   pub addr_text : IsIpText left a
   pub len_text : IsNumberText (2 ^ 8 - 1) right len
 
--- an address and a length stand round the first slash
+-- an address is before the first slash, and a length after it
 abbrev pub HasParts : List ℕ → IpAddr → ℕ → Type 0
 HasParts text a len = Around slash text (λ left right. AreParts left right a len)
 
--- why the text has no such parts: the first fault
+-- why the text has no such parts: its first fault
 abbrev pub HasNoParts : List ℕ → ParsePrefixError → Type 0
 HasNoParts text Empty = text ≡ []
 HasNoParts text MissingLen = (text ≢ []) × HasNo slash text
@@ -30,7 +30,7 @@ HasNoParts text (InvalidAddr f) = Around slash text (λ left right. ((a : IpAddr
 HasNoParts text (InvalidLen f) = Around slash text (λ left right. (a : IpAddr) × IsIpText left a × HasNumberFault (2 ^ 8 - 1) right f)
 HasNoParts text (InvalidPrefix f) = ⊥
 
--- the parts are found, or there are none
+-- the parts are found, or the text has no such parts
 abbrev pub FindsParts : List ℕ → Result (IpAddr × ℕ) ParsePrefixError → Type 0
 FindsParts text r = MatchResult r (λ x. HasParts text x.0 x.1) (HasNoParts text)
 
@@ -41,26 +41,26 @@ pub record IsTextBy (Rule : IpAddr → ℕ → FamilyPrefix → Type 0) (text : 
   pub parts : HasParts text addr len
   pub prefix : Rule addr len p
 
--- this is the first fault of the text: of its parts, or, by Fails, of the prefix that they would be
+-- this is the first fault of the text: of its parts, or, by Fails, of the address and the length
 abbrev pub HasTextFaultBy : (IpAddr → ℕ → PrefixError → Type 0) → List ℕ → ParsePrefixError → Type 0
 HasTextFaultBy Fails text e =
     HasNoParts text e ⊎ ((a : IpAddr) × (len : ℕ) × (f : PrefixError) × HasParts text a len × Fails a len f × (e ≡ InvalidPrefix f))
 
--- the text of a prefix whose host bits are clear, and what is wrong with any other text
+-- the text of a prefix whose host bits are zero, and the faults of any other text
 abbrev pub IsPrefixText : List ℕ → FamilyPrefix → Type 0
 IsPrefixText = IsTextBy IsPrefixOf
 
 abbrev pub HasPrefixTextFault : List ℕ → ParsePrefixError → Type 0
 HasPrefixTextFault = HasTextFaultBy HasPrefixError
 
--- the same, where host bits may be set and are cleared
+-- the same, except that host bits may be set and are cleared
 abbrev pub IsRelaxedPrefixText : List ℕ → FamilyPrefix → Type 0
 IsRelaxedPrefixText = IsTextBy IsRelaxedPrefixOf
 
 abbrev pub HasRelaxedPrefixTextFault : List ℕ → ParsePrefixError → Type 0
 HasRelaxedPrefixTextFault = HasTextFaultBy HasRelaxedPrefixError
 
--- what is printed of a fault
+-- the printed text of a fault
 abbrev pub prefix_fault_text : ParsePrefixError → List ℕ
 prefix_fault_text Empty = codes "empty string"
 prefix_fault_text MissingLen = codes "missing length portion"
@@ -68,12 +68,12 @@ prefix_fault_text (InvalidAddr f) = codes "invalid address: " ++ address_fault_t
 prefix_fault_text (InvalidLen f) = codes "invalid length: " ++ number_fault_text f
 prefix_fault_text (InvalidPrefix f) = prefix_error_text f
 
--- what is printed of a prefix: its address and, always, its length
+-- the printed text of a prefix: its address and, always, its length
 abbrev pub prefix_text : FamilyPrefix → List ℕ
 prefix_text p = ip_text p.addr ++ slash ∷ decimal p.len
 
--- The text is read as a prefix exactly where it writes one, else as its first fault; what is printed of a prefix is
--- read as that prefix.
+-- The text is read as a prefix if and only if it writes one. Otherwise the error is its first fault. The printed text
+-- of a prefix is read as that prefix.
 pub record ReadsPrefix (text : List ℕ) (r : Result FamilyPrefix ParsePrefixError) : Type 0 where
   pub exact : Answers (IsPrefixText text) (HasPrefixTextFault text) r
   pub reads_back : (p : FamilyPrefix) → IsFamilyPrefix p → text ≡ prefix_text p → r ≡ Ok p

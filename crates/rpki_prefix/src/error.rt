@@ -1,4 +1,4 @@
-//! What is wrong with prefixes and their texts.
+//! The errors of prefixes and of their texts.
 ghost use Rattle.std.specs.Prelude.{◌≡◌, Some};
 
 use rpki_addr::addr::AddrParseError;
@@ -6,19 +6,19 @@ use rpki_text::number::ParseIntError;
 use std::fmt;
 use thiserror::Error;
 
-/// Why an address and a length are no prefix.
+/// Why an address and a length are not a prefix.
 #[derive(Clone, Copy, Debug, PartialEq, Eq)]
 pub enum PrefixError {
-    /// The length is above the family's: 32 for IPv4, 128 for IPv6.
+    /// The length is above the longest one of the family: 32 for IPv4, 128 for IPv6.
     LenOverflow,
-    /// A bit after the first ones is set.
+    /// A host bit, which is a bit after the prefix length, is set.
     NonZeroHost,
 }
 
 impl PrefixError {
     ghost use Rattle.rpki_prefix.specs.Values.{prefix_error_text};
 
-    /// What the error says.
+    /// Returns the error message.
     pub fn static_description(self) -> &'static str
         ensures { result.now ≡ prefix_error_text self }
     {
@@ -51,18 +51,18 @@ impl fmt::Display for PrefixError {
 
 impl std::error::Error for PrefixError {}
 
-/// What is wrong with the text of a prefix. The first fault in this order is answered.
+/// Why a text is not a prefix. The variants are in the order of the checks, and the first fault is reported.
 #[derive(Clone, Copy, Debug, PartialEq, Eq)]
 pub enum ParsePrefixError {
-    /// There is no text.
+    /// The text is empty.
     Empty,
-    /// There is no slash.
+    /// The text has no slash.
     MissingLen,
-    /// What stands before the first slash is no address.
+    /// The text before the first slash is not an address.
     InvalidAddr(AddrParseError),
-    /// What stands behind it is no decimal text of a `u8`.
+    /// The text after the first slash is not a decimal `u8`.
     InvalidLen(ParseIntError),
-    /// The address and the length are no prefix.
+    /// The address and the length are not a prefix.
     InvalidPrefix(PrefixError),
 }
 
@@ -114,19 +114,19 @@ impl From<PrefixError> for ParsePrefixError {
     }
 }
 
-/// Why a number is no greatest length of a prefix.
+/// Why a number is not a maximum length of a prefix.
 #[derive(Clone, Copy, Debug, PartialEq, Eq)]
 pub enum MaxLenError {
-    /// It is above the family's: 32 for IPv4, 128 for IPv6.
+    /// The number is above the longest prefix length of the family: 32 for IPv4, 128 for IPv6.
     Overflow,
-    /// It is below the prefix's length.
+    /// The number is below the length of the prefix.
     Underflow,
 }
 
 impl MaxLenError {
     ghost use Rattle.rpki_prefix.specs.MaxLen.{max_len_error_text};
 
-    /// What the error says.
+    /// Returns the error message.
     pub fn static_description(self) -> &'static str
         ensures { result.now ≡ max_len_error_text self }
     {
@@ -159,16 +159,17 @@ impl fmt::Display for MaxLenError {
 
 impl std::error::Error for MaxLenError {}
 
-/// What is wrong with the text of a prefix with a greatest length. The first fault in this order is answered.
+/// Why a text is not a prefix with an optional maximum length. The variants are in the order of the checks, and the
+/// first fault is reported.
 #[derive(Clone, Copy, Debug, PartialEq, Eq, Error)]
 pub enum ParseMaxLenPrefixError {
-    /// What stands before the first dash, or the whole text where there is none, is no prefix.
+    /// The text before the first dash, or the whole text if it has no dash, is not a prefix.
     #[error("{0}")]
     InvalidPrefix(ParsePrefixError),
-    /// What stands behind it is no decimal text of a `u8`.
+    /// The text after the first dash is not a decimal `u8`.
     #[error("invalid max length: {0}")]
     InvalidMaxLenFormat(ParseIntError),
-    /// The number is no greatest length of the prefix.
+    /// The number is not a maximum length of the prefix.
     #[error("{0}")]
     InvalidMaxLenValue(MaxLenError),
 }

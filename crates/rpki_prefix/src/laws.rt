@@ -1,4 +1,4 @@
-//! What callers may rely on and no single call says.
+//! Lemmas for callers that no single call states.
 ghost use Rattle.std.specs.Prelude.{◌≡◌, ◌↔◌, IsTrue};
 ghost use Rattle.std.specs.Cmp.{IsTotalOrder};
 ghost use Rattle.std.specs.declared.cmp.Ordering.TheVariants.{Equal};
@@ -9,16 +9,16 @@ ghost use Rattle.rpki_prefix.specs.Values.{CoversPrefix, FamilyPrefix};
 use crate::max_len::MaxLenPrefix;
 use crate::prefix::Prefix;
 
-/// Prefixes are equal exactly where their addresses and their lengths are the same; with a greatest length, where that
-/// is the same too.
+/// Prefixes are equal if and only if their addresses and their lengths are the same. With maximum lengths, these must
+/// be the same too.
 pub fn equal_where_the_same()
     ensures prefix { (p q : FamilyPrefix) → IsTrue (⟦<Prefix as PartialEq>⟧.eq p q) ↔ (p ≡ q) }
     ensures max_len { (m n : MaxLenValue)
         → IsTrue (⟦<MaxLenPrefix as PartialEq>⟧.eq m n) ↔ (m ≡ n) }
 {}
 
-/// The order of prefixes is total, and prefixes stand at one place in it exactly where they are the same; and so with
-/// greatest lengths.
+/// The order of prefixes is total, and two prefixes tie if and only if they are the same. The same holds with maximum
+/// lengths.
 #[tactic(auto, using(crate::proofs::OrderLemmas::max_len_one_place, crate::proofs::OrderLemmas::max_len_total, crate::proofs::OrderLemmas::prefix_total))]
 pub fn total_order()
     ensures total { IsTotalOrder ⟦<Prefix as Ord>⟧.cmp }
@@ -28,8 +28,9 @@ pub fn total_order()
         → (⟦<MaxLenPrefix as Ord>⟧.cmp m n ≡ Equal) ↔ (m ≡ n) }
 {}
 
-/// A prefix covers another exactly where both are of one family and its least and its greatest address lie round the
-/// other's.
+/// A prefix covers another if and only if both are of one family, and its bounds enclose those of the other.
+///
+/// The bounds of a prefix are its lowest and its highest address.
 pub fn covers_by_bounds()
     ensures { (p q : FamilyPrefix) → CoversPrefix p q ↔ LiesRound p q }
 {}

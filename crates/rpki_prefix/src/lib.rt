@@ -1,6 +1,7 @@
-//! Prefixes of IPv4 and IPv6 addresses, with a greatest length or without, as routing and route origins have them.
+//! Prefixes of IPv4 and IPv6 addresses, with an optional maximum length, as in routing and in route origin
+//! validation.
 //!
-//! The prefixes that cover a route are found in a table, as in `example_calls::cache::covering`:
+//! Find the prefixes of a table that cover a route, as in `example_calls::cache::covering`:
 //!
 //! ```rust
 //! for prefix in table {

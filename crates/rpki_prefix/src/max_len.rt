@@ -1,4 +1,4 @@
-//! Prefixes with a greatest length.
+//! Prefixes with an optional maximum length.
 ghost use Rattle.std.specs.Prelude.{◌≡◌, Some, MatchResult, refl, None};
 ghost use Rattle.std.proofs.Common.{rules};
 ghost use Rattle.std.specs.Cmp.{partial_order_from_own_ties};
@@ -16,10 +16,10 @@ use std::fmt;
 use std::marker::Model;
 use std::str::FromStr;
 
-/// A prefix, and the greatest length of the prefixes inside it that it stands for, if there is one
-/// (RFC 9582, 4.3.2).
+/// A prefix with an optional maximum length (RFC 9582, 4.3.2).
 ///
-/// The greatest length is at least the prefix's and at most the family's, which is 32 or 128.
+/// The value stands for the prefixes inside the prefix that are not longer than the maximum length. The maximum length
+/// is at least the length of the prefix, and at most the longest one of the family: 32 or 128.
 #[derive(Clone, Copy, Debug, PartialEq, Eq, Hash)]
 pub struct MaxLenPrefix {
     prefix: Prefix,
@@ -39,10 +39,12 @@ impl Model for MaxLenPrefix {
 }
 
 impl MaxLenPrefix {
-    /// The prefix with a greatest length, or without one.
+    /// Returns the prefix with this optional maximum length.
     ///
-    /// A greatest length above the family's is refused as [`MaxLenError::Overflow`], and then one below the prefix's
-    /// length as [`MaxLenError::Underflow`].
+    /// # Errors
+    ///
+    /// - [`MaxLenError::Overflow`]: the maximum length is above the longest one of the family. This is checked first.
+    /// - [`MaxLenError::Underflow`]: the maximum length is below the length of the prefix.
     pub fn new(prefix: Prefix, max_len: Option<u8>) -> Result<MaxLenPrefix, MaxLenError>
         ensures { MatchResult result
             (λ m. (m ≡ record { prefix = prefix; max_len = max_len }) × IsMaxLenOf prefix max_len)
@@ -59,8 +61,10 @@ impl MaxLenPrefix {
         Ok(MaxLenPrefix { prefix, max_len })
     }
 
-    /// The prefix with a greatest length that is raised to the prefix's length, or lowered to the family's, where it
-    /// is outside them.
+    /// Returns the prefix with this optional maximum length, moved into its range.
+    ///
+    /// A maximum length below the length of the prefix is raised to that length. A maximum length above the longest
+    /// length of the family is lowered to that.
     pub fn saturating_new(prefix: Prefix, max_len: Option<u8>) -> MaxLenPrefix
         ensures value { result ≡ record { prefix = prefix; max_len = saturated prefix max_len } }
         ensures within { IsMaxLenOf result.prefix result.max_len }
@@ -72,7 +76,7 @@ impl MaxLenPrefix {
         MaxLenPrefix { prefix, max_len }
     }
 
-    /// The prefix.
+    /// Returns the prefix.
     pub fn prefix(self) -> Prefix
         ensures value { result ≡ self.prefix }
         ensures within { IsMaxLenOf self.prefix self.max_len }
@@ -80,14 +84,14 @@ impl MaxLenPrefix {
         self.prefix
     }
 
-    /// The prefix's address.
+    /// Returns the address of the prefix.
     pub fn addr(self) -> IpAddr
         ensures { result ≡ self.prefix.addr }
     {
         self.prefix.addr()
     }
 
-    /// The prefix's length.
+    /// Returns the length of the prefix.
     pub fn prefix_len(self) -> u8
         ensures { result ≡ self.prefix.len }
     {
@@ -104,7 +108,7 @@ impl MaxLenPrefix {
         let _max_len = self.max_len;
     }
 
-    /// The greatest length, if there is one.
+    /// Returns the maximum length, if there is one.
     pub fn max_len(self) -> Option<u8>
         ensures value { result ≡ self.max_len }
         ensures within { IsMaxLenOf self.prefix self.max_len }
@@ -112,7 +116,7 @@ impl MaxLenPrefix {
         self.max_len
     }
 
-    /// The greatest length, or the prefix's length where there is none.
+    /// Returns the maximum length if there is one, and otherwise the length of the prefix.
     pub fn resolved_max_len(self) -> u8
         ensures { result ≡ resolved self.prefix self.max_len }
     {
@@ -120,7 +124,7 @@ impl MaxLenPrefix {
     }
 }
 
-/// The prefix without a greatest length.
+/// Returns the prefix without a maximum length.
 impl From<Prefix> for MaxLenPrefix {
     ghost from_gives = { λ prefix m. m ≡ record { prefix = prefix; max_len = None } };
 
@@ -171,10 +175,17 @@ impl PartialOrd for MaxLenPrefix {
     }
 }
 
-/// Reads a prefix, or a prefix, a dash and a greatest length, as in `10.0.0.0/8-24`.
+/// Parses a prefix, or a prefix, a dash and a maximum length, as in `10.0.0.0/8-24`.
 ///
-/// The text is cut at its first dash. The greatest length is a decimal text of a `u8`, as [`parse_u8`] reads it.
-/// Refused with the first fault: that of the prefix, that of the number, and that of [`MaxLenPrefix::new`].
+/// The text is split at its first dash. The maximum length is a decimal `u8` in the form of [`parse_u8`].
+///
+/// # Errors
+///
+/// The first fault of the text, in this order:
+///
+/// - [`ParseMaxLenPrefixError::InvalidPrefix`]: the prefix is invalid.
+/// - [`ParseMaxLenPrefixError::InvalidMaxLenFormat`]: the maximum length is not a decimal `u8`.
+/// - [`ParseMaxLenPrefixError::InvalidMaxLenValue`]: [`MaxLenPrefix::new`] refuses the maximum length.
 impl FromStr for MaxLenPrefix {
     type Err = ParseMaxLenPrefixError;
 
@@ -191,7 +202,7 @@ impl FromStr for MaxLenPrefix {
     }
 }
 
-/// Prints the prefix, and a dash and the greatest length where there is one.
+/// Prints the prefix, and a dash and the maximum length if there is one.
 impl fmt::Display for MaxLenPrefix {
     ghost output = { λ m. Some (max_len_text m) };
 

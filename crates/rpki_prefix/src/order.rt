@@ -1,6 +1,6 @@
-//! The order of prefixes: IPv4 before IPv6, then by the greatest address, then the longer prefix first.
+//! The order of prefixes: IPv4 before IPv6, then by the highest address, then the longer prefix first.
 //!
-//! So a prefix isn't before what it covers.
+//! In this order, no prefix is before a prefix that it covers.
 ghost use Rattle.std.specs.Prelude.{◌≡◌, ◌↔◌, IsTrue, false, refl};
 ghost use Rattle.std.proofs.Common.{rules};
 ghost use Rattle.std.specs.Cmp.{partial_order_from_own_ties};
@@ -15,9 +15,9 @@ use rpki_addr::addr::IpAddr;
 use std::cmp::Ordering;
 
 impl Prefix {
-    /// Are both prefixes of one family, and is each address of the other one of this one's?
+    /// Returns whether both prefixes are of one family, and each address of `other` is an address of `self`.
     ///
-    /// A prefix isn't before what it covers in the order of prefixes.
+    /// In the order of prefixes, no prefix is before a prefix that it covers.
     #[tactic(auto, using(crate::proofs::Covering::covering))]
     pub fn covers(self, other: Prefix) -> bool
         ensures value { IsTrue result ↔ CoversPrefix self other }
@@ -29,7 +29,7 @@ impl Prefix {
     }
 }
 
-/// The number that the bits of an address write.
+/// Returns the bits of an address as a number.
 fn number(addr: &IpAddr) -> u128
     ensures { result ≡ address_number addr.now }
 {

@@ -9,8 +9,8 @@ use std::marker::Model;
 
 /// The addresses of one family that begin with the same bits (RFC 4632, 3.1; RFC 4291, 2.3).
 ///
-/// The length is 0 to 32 for IPv4 and 0 to 128 for IPv6. The bits after it, the host bits, are clear in the prefix's
-/// address.
+/// The length is 0 to 32 for IPv4 and 0 to 128 for IPv6. The bits after it, the host bits, are zero in the address of
+/// the prefix.
 #[derive(Clone, Copy, Debug, PartialEq, Eq, Hash)]
 pub struct Prefix {
     addr: IpAddr,
@@ -29,7 +29,7 @@ impl Model for Prefix {
     ghost inverse = { λ p. record { addr = p.addr; len = p.len } };
 }
 
-/// The number whose last `count` bits are set, and no other.
+/// Returns the number whose last `count` bits are ones, and all others zeros.
 fn host_mask(count: u8) -> u128
     requires { count ≤ 128 }
     ensures { result + 1 ≡ 2 ^ count }
@@ -41,7 +41,7 @@ fn host_mask(count: u8) -> u128
     }
 }
 
-/// The address with the bits after the first `len` cleared.
+/// Returns the address with the bits after the first `len` cleared.
 fn clear_host(addr: &IpAddr, len: u8) -> IpAddr
     requires { len ≤ width addr.now }
     ensures value { result ≡ cleared_addr addr.now len }
@@ -54,7 +54,7 @@ fn clear_host(addr: &IpAddr, len: u8) -> IpAddr
     }
 }
 
-/// The address with the bits after the first `len` set.
+/// Returns the address with the bits after the first `len` set.
 #[tactic(auto, using(crate::proofs::HostBits::filled_by))]
 fn set_host(addr: &IpAddr, len: u8) -> IpAddr
     requires { len ≤ width addr.now }
@@ -68,10 +68,12 @@ fn set_host(addr: &IpAddr, len: u8) -> IpAddr
 }
 
 impl Prefix {
-    /// The prefix of an address and a length.
+    /// Returns the prefix with this address and length.
     ///
-    /// A length above the family's is refused as [`PrefixError::LenOverflow`], and then host bits that are set as
-    /// [`PrefixError::NonZeroHost`].
+    /// # Errors
+    ///
+    /// - [`PrefixError::LenOverflow`]: the length is above 32 for IPv4 or above 128 for IPv6. This is checked first.
+    /// - [`PrefixError::NonZeroHost`]: a host bit of the address is set.
     pub fn new(addr: IpAddr, len: u8) -> Result<Prefix, PrefixError>
         ensures { MatchResult result (IsPrefixOf addr len) (HasPrefixError addr len) }
     {
@@ -82,23 +84,25 @@ impl Prefix {
         Ok(prefix)
     }
 
-    /// The IPv4 prefix of an address and a length, as [`Prefix::new`].
+    /// Returns the IPv4 prefix with this address and length, with the errors of [`Prefix::new`].
     pub fn new_v4(addr: Ipv4Addr, len: u8) -> Result<Prefix, PrefixError>
         ensures { MatchResult result (IsPrefixOf (V4 addr) len) (HasPrefixError (V4 addr) len) }
     {
         Prefix::new(IpAddr::V4(addr), len)
     }
 
-    /// The IPv6 prefix of an address and a length, as [`Prefix::new`].
+    /// Returns the IPv6 prefix with this address and length, with the errors of [`Prefix::new`].
     pub fn new_v6(addr: Ipv6Addr, len: u8) -> Result<Prefix, PrefixError>
         ensures { MatchResult result (IsPrefixOf (V6 addr) len) (HasPrefixError (V6 addr) len) }
     {
         Prefix::new(IpAddr::V6(addr), len)
     }
 
-    /// The prefix of the first bits of an address, whose host bits are cleared.
+    /// Returns the prefix of the first `len` bits of an address. Host bits that are set are cleared.
     ///
-    /// A length above the family's is refused as [`PrefixError::LenOverflow`], and nothing else.
+    /// # Errors
+    ///
+    /// [`PrefixError::LenOverflow`]: the length is above 32 for IPv4 or above 128 for IPv6. There is no other error.
     #[tactic(auto, using(crate::proofs::HostBits::relaxed_prefix))]
     pub fn new_relaxed(addr: IpAddr, len: u8) -> Result<Prefix, PrefixError>
         ensures { MatchResult result (IsRelaxedPrefixOf addr len) (HasRelaxedPrefixError addr len) }
@@ -112,7 +116,7 @@ impl Prefix {
         })
     }
 
-    /// The IPv4 prefix of the first bits of an address, as [`Prefix::new_relaxed`].
+    /// Returns the IPv4 prefix of the first `len` bits of an address, with the errors of [`Prefix::new_relaxed`].
     pub fn new_v4_relaxed(addr: Ipv4Addr, len: u8) -> Result<Prefix, PrefixError>
         ensures { MatchResult result (IsRelaxedPrefixOf (V4 addr) len)
             (HasRelaxedPrefixError (V4 addr) len) }
@@ -120,7 +124,7 @@ impl Prefix {
         Prefix::new_relaxed(IpAddr::V4(addr), len)
     }
 
-    /// The IPv6 prefix of the first bits of an address, as [`Prefix::new_relaxed`].
+    /// Returns the IPv6 prefix of the first `len` bits of an address, with the errors of [`Prefix::new_relaxed`].
     pub fn new_v6_relaxed(addr: Ipv6Addr, len: u8) -> Result<Prefix, PrefixError>
         ensures { MatchResult result (IsRelaxedPrefixOf (V6 addr) len)
             (HasRelaxedPrefixError (V6 addr) len) }
@@ -128,7 +132,7 @@ impl Prefix {
         Prefix::new_relaxed(IpAddr::V6(addr), len)
     }
 
-    /// Is it a prefix of IPv4 addresses?
+    /// Returns whether this is an IPv4 prefix.
     pub fn is_v4(self) -> bool
         ensures { result ≡ not (is_v6 self.addr) }
     {
@@ -138,14 +142,14 @@ impl Prefix {
         }
     }
 
-    /// Is it a prefix of IPv6 addresses?
+    /// Returns whether this is an IPv6 prefix.
     pub fn is_v6(self) -> bool
         ensures { result ≡ is_v6 self.addr }
     {
         !self.is_v4()
     }
 
-    /// The prefix's address, which is its least one.
+    /// Returns the address of the prefix, which is its lowest one.
     pub fn addr(self) -> IpAddr
         ensures value { result ≡ self.addr }
         ensures prefix { IsFamilyPrefix self }
@@ -163,7 +167,7 @@ impl Prefix {
         let _len = self.len;
     }
 
-    /// How many bits the addresses have in common.
+    /// Returns the prefix length, which is the number of bits that all its addresses begin with.
     pub fn len(self) -> u8
         ensures value { result ≡ self.len }
         ensures prefix { IsFamilyPrefix self }
@@ -171,7 +175,7 @@ impl Prefix {
         self.len
     }
 
-    /// The greatest length of a prefix of the family: 32 or 128.
+    /// Returns the longest prefix length of the family: 32 or 128.
     pub(crate) fn greatest_len(self) -> u8
         ensures value { result ≡ width self.addr }
         ensures prefix { IsFamilyPrefix self }
@@ -179,7 +183,7 @@ impl Prefix {
         self.addr.width()
     }
 
-    /// The prefix's address and length.
+    /// Returns the address and the length of the prefix.
     pub fn addr_and_len(self) -> (IpAddr, u8)
         ensures addr { result.0 ≡ self.addr }
         ensures len { result.1 ≡ self.len }
@@ -187,7 +191,7 @@ impl Prefix {
         (self.addr, self.len)
     }
 
-    /// The least address.
+    /// Returns the lowest address.
     pub fn min_addr(self) -> IpAddr
         ensures value { result ≡ self.addr }
         ensures prefix { IsFamilyPrefix self }
@@ -195,7 +199,7 @@ impl Prefix {
         self.addr
     }
 
-    /// The greatest address.
+    /// Returns the highest address.
     pub fn max_addr(self) -> IpAddr
         ensures value { result ≡ last_addr self }
         ensures prefix { IsFamilyPrefix self }

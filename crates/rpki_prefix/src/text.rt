@@ -1,4 +1,4 @@
-//! Texts of prefixes.
+//! Parses and prints prefixes.
 ghost use Rattle.std.specs.Prelude.{Some};
 ghost use Rattle.rpki_text.specs.Reading.{Answers};
 ghost use Rattle.rpki_prefix.specs.PrefixText.{FindsParts, ReadsPrefix, IsRelaxedPrefixText, HasRelaxedPrefixTextFault, prefix_text};
@@ -11,7 +11,7 @@ use rpki_text::number::parse_u8;
 use std::fmt;
 use std::str::FromStr;
 
-/// The address and the length round the first slash.
+/// Parses the address before the first slash and the length after it.
 fn read_parts(text: &str) -> Result<(IpAddr, u8), ParsePrefixError>
     ensures { FindsParts text.now result }
 {
@@ -27,7 +27,11 @@ fn read_parts(text: &str) -> Result<(IpAddr, u8), ParsePrefixError>
 }
 
 impl Prefix {
-    /// Reads an address, a slash and a length, as [`FromStr`] does, but clears host bits that are set.
+    /// Parses an address, a slash and a length, as [`FromStr`] does, but clears host bits that are set.
+    ///
+    /// # Errors
+    ///
+    /// The errors of [`FromStr`]. `InvalidPrefix` is reported only for a length that is too large for the family.
     pub fn from_str_relaxed(text: &str) -> Result<Prefix, ParsePrefixError>
         ensures { Answers (IsRelaxedPrefixText text.now)
             (HasRelaxedPrefixTextFault text.now) result }
@@ -37,11 +41,19 @@ impl Prefix {
     }
 }
 
-/// Reads an address, a slash and a length, as in `10.0.0.0/8` (RFC 4632, 3.1) and `2001:db8::/32` (RFC 4291, 2.3).
+/// Parses an address, a slash and a length, as in `10.0.0.0/8` (RFC 4632, 3.1) and `2001:db8::/32` (RFC 4291, 2.3).
 ///
-/// The text is cut at its first slash. The length is a decimal text of a `u8`, as [`parse_u8`] reads it. Refused with
-/// the first fault: `Empty` for no text, `MissingLen` for one without a slash, `InvalidAddr` and `InvalidLen` for what
-/// stands before and behind it, and `InvalidPrefix` where the two are no prefix, as where host bits are set.
+/// The text is split at its first slash. The length is a decimal `u8` in the form of [`parse_u8`].
+///
+/// # Errors
+///
+/// The first fault of the text, in this order:
+///
+/// - [`ParsePrefixError::Empty`]: the text is empty.
+/// - [`ParsePrefixError::MissingLen`]: the text has no slash.
+/// - [`ParsePrefixError::InvalidAddr`]: the text before the slash is not an address.
+/// - [`ParsePrefixError::InvalidLen`]: the text after the slash is not a decimal `u8`.
+/// - [`ParsePrefixError::InvalidPrefix`]: [`Prefix::new`] refuses the two, for example because a host bit is set.
 impl FromStr for Prefix {
     type Err = ParsePrefixError;
 
@@ -53,7 +65,7 @@ impl FromStr for Prefix {
     }
 }
 
-/// Prints the address, a slash and the length, also where the prefix is one address.
+/// Prints the address, a slash and the length, even if the prefix is a single address.
 impl fmt::Display for Prefix {
     ghost output = { λ prefix. Some (prefix_text prefix) };
 

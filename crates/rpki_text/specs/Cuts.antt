@@ -1,4 +1,4 @@
--- Texts cut at the first of some byte.
+-- Texts split at the first occurrence of a byte.
 use Rattle.std.specs.Prelude.{◌≡◌, ℕ, ◌≢◌, List, ◌∷◌, ◌++◌, EachIndex, slice_index}
 
 -- `b'-'`
@@ -18,7 +18,7 @@ pub record IsCutAt (b : ℕ) (text left right : List ℕ) : Type 0 where
   pub split : text ≡ left ++ b ∷ right
   pub first : HasNo b left
 
--- P holds of the two texts round the first b
+-- P holds of the two texts before and after the first b
 pub record Around (b : ℕ) (text : List ℕ) (P : List ℕ → List ℕ → Type 0) : Type 0 where
   pub left : List ℕ
   pub right : List ℕ

@@ -1,4 +1,4 @@
--- Definitions: what a reader answers, the lines of a text, and the texts of numbers and of lists.
+-- Definitions: the results of a reader, the lines of a text, and the texts of numbers and of lists.
 pub mod Cuts
 pub mod Digits
 pub mod Lines

@@ -1,17 +1,17 @@
--- Decimal texts of numbers up to a limit, as Rust's std reads them, and what is wrong with any other text.
+-- Decimal texts of numbers up to a limit, as Rust's std reads them, and the faults of any other text.
 use Rattle.std.specs.Prelude.{◌≡◌, ℕ, ◌+◌, ◌-◌, ◌<◌, ◌≤◌, ◌≢◌, List, [], ◌∷◌, ◌++◌, ◌⊎◌, length, take, drop, slice_index, codes}
 use Rattle.std.specs.Char.{digit_value}
 use Rattle.std.specs.Str.Parse.{AllDigits, IsNumeral, digits_value, without_leading_plus}
 use Rattle.rpki_text.specs.declared.number.ParseIntError.{ParseIntError}
 use Rattle.rpki_text.specs.declared.number.ParseIntError.TheVariants.{Empty, InvalidDigit, PosOverflow}
 
--- The text is an optional plus and then ASCII digits, one or more, that write n, which is at most the limit.
+-- The text is an optional plus and then one or more ASCII digits, which write n. The number n is at most the limit.
 pub record IsNumberText (limit : ℕ) (text : List ℕ) (n : ℕ) : Type 0 where
   pub digits : IsNumeral 10 (without_leading_plus text)
   pub value : digits_value 10 (without_leading_plus text) ≡ n
   pub within : n ≤ limit
 
--- some beginning of these bytes is all digits, with a value above the limit
+-- the bytes begin with digits whose value is above the limit
 pub record PassesLimit (limit : ℕ) (digits : List ℕ) : Type 0 where
   pub front : List ℕ
   pub rest : List ℕ
@@ -19,7 +19,7 @@ pub record PassesLimit (limit : ℕ) (digits : List ℕ) : Type 0 where
   pub all_digits : AllDigits 10 front
   pub above : limit < digits_value 10 front
 
--- there is a text, it writes no number, and its digits don't pass the limit
+-- the text is not empty and writes no number, and its digits do not exceed the limit
 pub record HasInvalidDigit (limit : ℕ) (text : List ℕ) : Type 0 where
   pub some_text : text ≢ []
   pub no_number : (n : ℕ) → ¬ IsNumberText limit text n
@@ -31,19 +31,19 @@ HasNumberFault limit text Empty = text ≡ []
 HasNumberFault limit text InvalidDigit = HasInvalidDigit limit text
 HasNumberFault limit text PosOverflow = PassesLimit limit (without_leading_plus text)
 
--- what is printed of a fault: the words of Rust's std
+-- the printed text of a fault: the words of Rust's std
 abbrev pub number_fault_text : ParseIntError → List ℕ
 number_fault_text Empty = codes "cannot parse integer from empty string"
 number_fault_text InvalidDigit = codes "invalid digit found in string"
 number_fault_text PosOverflow = codes "number too large to fit in target type"
 
--- the digits, of which there may be none, write n, which is at most the limit
+-- the digits, which may be empty, write n, which is at most the limit
 pub record IsValueUpTo (limit : ℕ) (digits : List ℕ) (n : ℕ) : Type 0 where
   pub all_digits : AllDigits 10 digits
   pub value : digits_value 10 digits ≡ n
   pub within : n ≤ limit
 
--- another byte stands behind digits that write at most the limit
+-- another byte follows digits that write at most the limit
 pub record StopsBelow (limit : ℕ) (bytes : List ℕ) : Type 0 where
   pub front : List ℕ
   pub byte : ℕ
@@ -52,13 +52,13 @@ pub record StopsBelow (limit : ℕ) (bytes : List ℕ) : Type 0 where
   pub value : IsValueUpTo limit front (digits_value 10 front)
   pub not_digit : 10 ≤ digit_value byte
 
--- this is why bytes behind the plus write no number
+-- why the bytes after the plus write no number
 abbrev pub DigitsFail : ℕ → List ℕ → ParseIntError → Type 0
 DigitsFail limit bytes Empty = ⊥
 DigitsFail limit bytes InvalidDigit = StopsBelow limit bytes
 DigitsFail limit bytes PosOverflow = PassesLimit limit bytes
 
--- the bytes from start to end are digits, ten at most, that write n
+-- the bytes from start to end are at most ten digits, which write n
 pub record AreDigitsBetween (start end : ℕ) (text : List ℕ) (n : ℕ) : Type 0 where
   pub in_order : start ≤ end
   pub within : end ≤ length text
@@ -66,12 +66,11 @@ pub record AreDigitsBetween (start end : ℕ) (text : List ℕ) (n : ℕ) : Type
   pub all_digits : AllDigits 10 (take (end - start) (drop start text))
   pub value : digits_value 10 (take (end - start) (drop start text)) ≡ n
 
--- none of the digits from start on is left at end: the text ends there, ten have been read, or the byte there is no
--- digit
+-- at end no further digit is read: the text ends there, ten digits were read, or the byte there is no digit
 abbrev pub NoDigitIsLeft : ℕ → ℕ → List ℕ → Type 0
 NoDigitIsLeft start end text = (end ≡ length text) ⊎ ((end ≡ start + 10) ⊎ (10 ≤ digit_value (slice_index text end)))
 
--- the digits from start on, as many as stand there or the first ten, write n, and end is the place behind them
+-- the digits from start on, all of them or the first ten, write n, and end is the index after them
 pub record AreDigitsFrom (start end : ℕ) (text : List ℕ) (n : ℕ) : Type 0 where
   pub digits : AreDigitsBetween start end text n
   pub none_left : NoDigitIsLeft start end text

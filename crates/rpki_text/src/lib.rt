@@ -1,6 +1,7 @@
-//! Texts: what a reader answers, lines, number texts, lists of texts, and the answer of a call that may want memory.
+//! Basic calls on texts: lines, number texts, lists of texts, and the error of a call that may run out of memory.
 //!
-//! A refusal and want of memory are told apart, as in `example_calls::errors::fault_of`:
+//! The definitions also say what a reader of a text returns. [`OrMemory`] separates a refusal from an out-of-memory
+//! error, as in `example_calls::errors::fault_of`:
 //!
 //! ```rust
 //! match AsBlocks::from_str(alloc, list) {

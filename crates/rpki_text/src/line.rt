@@ -4,8 +4,13 @@ ghost use Rattle.rpki_text.specs.Lines.{is_end, lines_of};
 
 use memchr::memchr;
 
-/// The first line of a text that isn't empty, without its end, and what stands behind its end. `\n` ends a line; the
-/// last one may have no end.
+/// Returns the first line of a text without its end, and the rest of the text after that end.
+///
+/// `\n` ends a line. The last line may have no end.
+///
+/// # Preconditions
+///
+/// The text is not empty.
 #[tactic(auto, using(crate::proofs::LineLemmas::first_line, crate::proofs::LineLemmas::only_line))]
 pub fn cut_line(text: &[u8]) -> (&[u8], &[u8])
     requires { 0 < length text.now }
@@ -18,7 +23,7 @@ pub fn cut_line(text: &[u8]) -> (&[u8], &[u8])
     }
 }
 
-/// Where the first line of a text ends, if something ends it.
+/// Returns the index of the end of the first line, if it has an end.
 #[tactic(auto, using(crate::proofs::LineLemmas::first_end))]
 fn line_end(text: &[u8]) -> Option<usize>
     ensures { result ≡ position is_end text.now }

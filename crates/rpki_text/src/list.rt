@@ -1,4 +1,4 @@
-//! Texts of lists: read at their commas, and printed with them.
+//! Reads lists of texts that are separated by commas, and prints them.
 ghost use Rattle.std.specs.Prelude.{◌≡◌, ℕ, List, map, Option, Some, Ok, Err, MatchResult};
 ghost use Rattle.std.specs.Fmt.{WritesOnOk, DisplaysOnOk};
 ghost use Rattle.std.specs.Str.{trim};
@@ -11,12 +11,12 @@ use std::fmt;
 use std::marker::PhantomData;
 use std::str::FromStr;
 
-/// Reads the elements of a list.
+/// A reader of the elements of a list.
 pub trait ReadElement {
-    /// What an element writes.
+    /// The value of an element.
     type Value: Drop;
 
-    /// What may be wrong with an element.
+    /// The error of an element that has no value.
     type Fault;
 
     // The text writes the value.
@@ -25,12 +25,13 @@ pub trait ReadElement {
     // The text has the fault.
     ghost fails: { Self → List ℕ → Self.Fault → Type 0 };
 
-    /// The value that the text of an element writes, or what is wrong with it.
+    /// Returns the value that the text of an element writes, or the fault of the text.
     fn read_element(&self, text: &str) -> Result<Self::Value, Self::Fault>
         ensures { MatchResult result (has self.now text.now) (fails self.now text.now) };
 }
 
-/// The text without the white space at both its ends. Where visible ASCII stands there, characters aren't looked at.
+/// Returns the text without white space at its start and end. If the first and the last byte are visible ASCII, the
+/// call does not decode characters.
 #[tactic(auto, using(crate::proofs::TrimLemmas::trim_visible))]
 fn trimmed(text: &str) -> &str
     ensures { result.now ≡ trim text.now }
@@ -43,10 +44,14 @@ fn trimmed(text: &str) -> &str
     text.trim()
 }
 
-/// The values that the elements of a list write, in its order.
+/// Returns the values of the elements of a list, in order.
 ///
-/// The text is cut at its commas, each part is trimmed of white space, and a part that is then
-/// empty is left out. The first element that writes no value is refused with its fault.
+/// The call splits the text at its commas, trims white space from each part, and skips the parts that are then empty.
+///
+/// # Errors
+///
+/// - [`OrMemory::Refused`]: the fault of the first element that has no value.
+/// - [`OrMemory::Memory`]: out of memory.
 pub fn read_elements<R: ReadElement, A: Allocator>(
     alloc: A,
     reader: &R,
@@ -70,7 +75,7 @@ pub fn read_elements<R: ReadElement, A: Allocator>(
     Ok(values)
 }
 
-/// Reads elements by their type's own `FromStr`.
+/// A reader that uses the `FromStr` of the element type.
 #[derive(Drop)]
 struct ByFromStr<T> {
     value: PhantomData<T>,
@@ -90,7 +95,11 @@ impl<T: FromStr + Drop> ReadElement for ByFromStr<T> {
     }
 }
 
-/// The values that the elements of a list write, each read by its type's own `FromStr`, as [`read_elements`] answers.
+/// Returns the values of the elements of a list, as [`read_elements`] does, with the `FromStr` of their type.
+///
+/// # Errors
+///
+/// The errors of [`read_elements`].
 pub fn read_list<T: FromStr + Drop, A: Allocator>(
     alloc: A,
     text: &str,
@@ -107,15 +116,15 @@ pub fn read_list<T: FromStr + Drop, A: Allocator>(
     read_elements(alloc, &reader, text)
 }
 
-/// Prints the elements of a list.
+/// A printer of the elements of a list.
 pub trait FmtElement {
-    /// What is printed.
+    /// The type of an element.
     type Item;
 
     // The text of an item, if it is known.
     ghost text: { Self → Self.Item → Option (List ℕ) };
 
-    /// Writes the text of an item.
+    /// Prints one element.
     fn fmt_element<W: fmt::Write>(
         &self,
         item: &Self::Item,
@@ -125,13 +134,13 @@ pub trait FmtElement {
             (text self.now item.now) f.new };
 }
 
-/// Prints items joined by a comma and a space, and nothing where there are none.
+/// Prints the elements of a list with a comma and a space between them. Prints nothing for an empty list.
 pub fn fmt_elements<P: FmtElement, W: fmt::Write>(
     printer: &P,
     items: &[P::Item],
     f: &mut fmt::Formatter<W>,
 ) -> fmt::Result
-    // Whatever text the printer writes of each item, these texts are joined.
+    // For any texts that the printer writes of the elements, these texts are joined.
     ensures { (show : P.Item → List ℕ)
         → ((item : P.Item) → P.text printer.now item ≡ Some (show item))
         → WritesOnOk W.write_str_gives f.old result (joined (map show items.now)) f.new }
@@ -146,7 +155,7 @@ pub fn fmt_elements<P: FmtElement, W: fmt::Write>(
     Ok(())
 }
 
-/// Prints elements by their type's own `Display`.
+/// A printer that uses the `Display` of the element type.
 #[derive(Drop)]
 struct ByDisplay<T> {
     item: PhantomData<T>,
@@ -162,12 +171,12 @@ impl<T: fmt::Display> FmtElement for ByDisplay<T> {
     }
 }
 
-/// Prints items, each by its type's own `Display`, as [`fmt_elements`] does.
+/// Prints the elements of a list, as [`fmt_elements`] does, with the `Display` of their type.
 pub fn fmt_joined<T: fmt::Display, W: fmt::Write>(
     items: &[T],
     f: &mut fmt::Formatter<W>,
 ) -> fmt::Result
-    // Whatever text each item prints, these texts are joined.
+    // For any texts that the elements print, these texts are joined.
     ensures { (show : T → List ℕ) → ((item : T) → T.output item ≡ Some (show item))
         → WritesOnOk W.write_str_gives f.old result (joined (map show items.now)) f.new }
 {

@@ -1,4 +1,4 @@
-//! The refusal of a call that also takes memory.
+//! The error of a call that also allocates.
 ghost use Rattle.std.specs.Prelude.{◌≡◌, MatchResult};
 ghost use Rattle.std.specs.Result.{IsErrAnd};
 ghost use Rattle.rpki_text.specs.Memory.{ForRefused, IsMemory, IsRefusedAnd, MatchOrMemory};
@@ -7,18 +7,23 @@ use std::alloc::{AllocError, AllocFailed};
 use std::error::Error;
 use std::fmt;
 
-/// Why a call that takes memory answered no value.
+/// Why a call that also allocates returned no value.
 #[derive(Clone, Copy, Debug, PartialEq, Eq, Drop)]
 pub enum OrMemory<E> {
-    /// The call refuses what it was given.
+    /// The call refuses its input.
     Refused(E),
-    /// A request for memory was refused. This says nothing of what the call was given.
+    /// Out of memory: an allocation was refused. This says nothing about the input.
     Memory(AllocError),
 }
 
 impl<E> OrMemory<E> {
-    /// The same, with what the function answers in the place of why the call refuses what it was given; want of memory
-    /// stays what it is. The function is called for a refusal alone.
+    /// Replaces the error of a refusal by what `f` returns for it.
+    ///
+    /// An out-of-memory error is unchanged. The call runs `f` only for a refusal.
+    ///
+    /// # Preconditions
+    ///
+    /// The error of a refusal satisfies the precondition of `f`.
     pub fn map_refused<D, F: FnOnce(E) -> D>(self, f: F) -> OrMemory<D>
         requires { ForRefused self (F.pre f) }
         ensures { MatchOrMemory self (λ fault. IsRefusedAnd result (F.post f fault))
@@ -31,8 +36,13 @@ impl<E> OrMemory<E> {
     }
 }
 
-/// The same answer, with what the function makes of why a call refuses what it was given in the place of that. A value
-/// and want of memory stay as they are, and the function is called for a refusal alone.
+/// Replaces the error of a refusal in `answer` by what `f` returns for it.
+///
+/// A value and an out-of-memory error are unchanged. The call runs `f` only for a refusal.
+///
+/// # Preconditions
+///
+/// The error of a refusal satisfies the precondition of `f`.
 pub fn refused_as<T, E, D, F: FnOnce(E) -> D>(
     answer: Result<T, OrMemory<E>>,
     f: F,
@@ -68,7 +78,7 @@ impl<E, T: Drop> From<AllocFailed<T>> for OrMemory<E> {
     }
 }
 
-/// Writes the refusal as it writes itself, and `out of memory` where a request for memory was refused.
+/// Prints a refusal in its own form, and an out-of-memory error as `out of memory`.
 impl<E: fmt::Display> fmt::Display for OrMemory<E> {
     ghost use Rattle.rpki_text.specs.Memory.{or_memory_text};
 

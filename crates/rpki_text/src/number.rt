@@ -1,4 +1,4 @@
-//! Decimal texts of numbers, read up to a limit.
+//! Parses decimal numbers up to a limit.
 ghost use Rattle.std.specs.Prelude.{◌≡◌, ◌^◌, ◌+◌, ◌-◌, ◌<◌, ◌≤◌, ◌⊎◌, length, Some, MatchResult};
 ghost use Rattle.std.specs.Str.Parse.{without_leading_plus};
 ghost use Rattle.rpki_text.specs.Reading.{Answers};
@@ -7,15 +7,15 @@ ghost use Rattle.rpki_text.specs.Numbers.{IsNumberText, HasNumberFault, IsValueU
 use std::error::Error;
 use std::fmt;
 
-/// What is wrong with a text that writes no number, read from left to right.
+/// Why a text is not a number: its first fault from left to right.
 #[derive(Clone, Copy, Debug, PartialEq, Eq)]
 pub enum ParseIntError {
-    /// There is no text.
+    /// The text is empty.
     Empty,
-    /// A sign stands alone, or another character stands where a digit is due, and the digits before it don't pass the
+    /// A sign is alone, or another character is where a digit is expected. The digits before it do not exceed the
     /// limit.
     InvalidDigit,
-    /// The digits pass the greatest number that is wanted.
+    /// The digits exceed the highest number that is accepted.
     PosOverflow,
 }
 
@@ -33,7 +33,7 @@ impl fmt::Display for ParseIntError {
 
 impl Error for ParseIntError {}
 
-/// What follows a plus, if one stands first.
+/// Returns the text after a plus, or the whole text if it does not begin with one.
 fn after_plus(text: &[u8]) -> &[u8]
     ensures { result.now ≡ without_leading_plus text.now }
 {
@@ -43,7 +43,7 @@ fn after_plus(text: &[u8]) -> &[u8]
     }
 }
 
-/// The value of digits, 0 where there are none.
+/// Returns the value of digits, which is 0 if there is no digit.
 #[tactic(auto, using(crate::proofs::NumberLemmas::stops_at, crate::proofs::NumberLemmas::value_passes))]
 fn read_digits(limit: u64, digits: &[u8]) -> Result<u64, ParseIntError>
     requires { limit < 2 ^ 32 }
@@ -62,10 +62,10 @@ fn read_digits(limit: u64, digits: &[u8]) -> Result<u64, ParseIntError>
     Ok(value)
 }
 
-/// How many digits are read without asking whether their value passes a limit: any ten of them write a `u64`.
+/// The number of digits that are read without a check of the limit. The value of any ten digits is a `u64`.
 const FEW: usize = 10;
 
-/// The place behind the last byte that is read of a number at a place.
+/// Returns the index after the last byte that may be read of a number at index `start`.
 fn few_behind(start: usize, len: usize) -> usize
     requires { start ≤ len }
     ensures within { (result ≤ len) × (result ≤ start + 10) }
@@ -74,8 +74,13 @@ fn few_behind(start: usize, len: usize) -> usize
     if len - start < FEW { len } else { start + FEW }
 }
 
-/// The value of the digits from a place on, all that stand there or the first ten, and the place behind them. Where
-/// none stands there they are 0 and the place itself.
+/// Reads the digits from index `start` on, but at most ten. Returns their value and the index after them.
+///
+/// If there is no digit at `start`, the call returns 0 and `start`.
+///
+/// # Preconditions
+///
+/// `start` is at most the length of `text`.
 #[tactic(auto, using(crate::proofs::NumberLemmas::few_below))]
 pub fn digits_from(text: &[u8], start: usize) -> (u64, usize)
     requires { start ≤ length text.now }
@@ -95,8 +100,15 @@ pub fn digits_from(text: &[u8], start: usize) -> (u64, usize)
     (value, end)
 }
 
-/// The number that a decimal text writes, at most a limit that is below 2^32: as [`parse_u32`], whose faults it has for
-/// this limit.
+/// Parses a decimal number that is at most `limit`, in the form of [`parse_u32`].
+///
+/// # Preconditions
+///
+/// `limit` is below 2^32.
+///
+/// # Errors
+///
+/// The errors of [`parse_u32`], with `limit` in place of 4294967295.
 #[tactic(auto, using(crate::proofs::NumberLemmas::no_text, crate::proofs::NumberLemmas::plus_alone))]
 pub fn parse_up_to(limit: u64, text: &[u8]) -> Result<u64, ParseIntError>
     requires { limit < 2 ^ 32 }
@@ -112,11 +124,16 @@ pub fn parse_up_to(limit: u64, text: &[u8]) -> Result<u64, ParseIntError>
     read_digits(limit, digits)
 }
 
-/// Reads a decimal text of a `u32`: an optional `+`, then one or more ASCII digits, leading zeros among them.
+/// Parses a decimal `u32`: an optional `+`, and then one or more ASCII digits. Leading zeros are accepted.
 ///
-/// The fault is the first one from left to right: [`ParseIntError::Empty`] where there is no text,
-/// [`ParseIntError::PosOverflow`] where the digits pass 4294967295 before another character stands,
-/// else [`ParseIntError::InvalidDigit`]. A minus sign is such another character.
+/// # Errors
+///
+/// The first fault from left to right:
+///
+/// - [`ParseIntError::Empty`]: the text is empty.
+/// - [`ParseIntError::PosOverflow`]: the digits exceed 4294967295 before any other character.
+/// - [`ParseIntError::InvalidDigit`]: there is another character, for example a minus sign, or no digit after the
+///   `+`.
 pub fn parse_u32(text: &str) -> Result<u32, ParseIntError>
     ensures { Answers (IsNumberText (2 ^ 32 - 1) text.now)
         (HasNumberFault (2 ^ 32 - 1) text.now) result }
@@ -124,7 +141,11 @@ pub fn parse_u32(text: &str) -> Result<u32, ParseIntError>
     Ok(parse_up_to(u64::from(u32::MAX), text.as_bytes())? as u32)
 }
 
-/// Reads a decimal text of a `u8`, as [`parse_u32`] reads one of a `u32`. The greatest number is 255.
+/// Parses a decimal `u8` in the form of [`parse_u32`].
+///
+/// # Errors
+///
+/// The errors of [`parse_u32`], with 255 in place of 4294967295.
 pub fn parse_u8(text: &str) -> Result<u8, ParseIntError>
     ensures { Answers (IsNumberText (2 ^ 8 - 1) text.now)
         (HasNumberFault (2 ^ 8 - 1) text.now) result }

@@ -1,13 +1,12 @@
 -- Prefixes of a width: 32 bits for IPv4, 128 bits for IPv6 and for addresses of either family.
 use Rattle.std.specs.Prelude.{◌≡◌, ℕ, ◌+◌, ◌-◌, ◌%◌, ◌^◌, ◌<◌, ◌≤◌}
 
--- what contracts see of a prefix: its first number, and how many of its leading bits are fixed
+-- the value that contracts see of a prefix: its first number, and the number of its leading bits that are fixed
 pub record PrefixValue : Type 0 where
   pub first : ℕ
   pub len : ℕ
 
--- p is a prefix of width w: its first number, of w bits, is a multiple of how many numbers the prefix has (RFC 3779,
--- 2.1.1)
+-- p is a prefix of width w: its first number, of w bits, is a multiple of the number of its numbers (RFC 3779, 2.1.1)
 pub record IsPrefix (w : ℕ) (p : PrefixValue) : Type 0 where
   pub short : p.len ≤ w
   pub aligned : p.first % 2 ^ (w - p.len) ≡ 0
@@ -28,12 +27,12 @@ pub record IsParent (w : ℕ) (q p : PrefixValue) : Type 0 where
   pub shorter : p.len ≡ q.len + 1
   pub holds : LiesIn w (IsIn w q) p
 
--- p is a maximal prefix inside S: it has no parent, or one that isn't inside
+-- p is a maximal prefix inside S: it has no parent inside S
 pub record IsMaximal (w : ℕ) (S : ℕ → Type 0) (p : PrefixValue) : Type 0 where
   pub is_prefix : IsPrefix w p
   pub inside : LiesIn w S p
   pub greatest : (q : PrefixValue) → IsParent w q p → ¬ LiesIn w S q
 
--- the greatest number of a prefix
+-- the highest number of a prefix
 abbrev pub last_of : ℕ → PrefixValue → ℕ
 last_of w p = p.first + 2 ^ (w - p.len) - 1

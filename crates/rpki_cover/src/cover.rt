@@ -1,4 +1,4 @@
-//! The cover list of a range of numbers, one prefix after the other.
+//! The cover list of a range of numbers, one prefix after another.
 ghost use Rattle.std.specs.Prelude.{◌≡◌, ◌+◌, ◌*◌, ◌^◌, ◌<◌, ◌≤◌, [], length, MatchOption};
 ghost use Rattle.std.specs.Iterator.{YieldsFirst, item_count};
 ghost use Rattle.rpki_cover.specs.Covers.{IsShortestCover};
@@ -6,7 +6,8 @@ ghost use Rattle.rpki_cover.specs.Walk.{free_bits};
 
 use std::marker::Model;
 
-/// A prefix of numbers: a first number, and how many of its leading bits are fixed. The others are clear in it.
+/// A prefix of numbers: a first number, and the number of its leading bits that are fixed. The other bits of the
+/// first number are zero.
 #[derive(Clone, Copy, Debug)]
 pub struct NumberPrefix {
     first: u128,
@@ -31,7 +32,7 @@ impl NumberPrefix {
         self.first
     }
 
-    /// How many bits are fixed.
+    /// Returns the number of fixed leading bits.
     pub fn len(self) -> u8
         ensures { result ≡ self.len }
     {
@@ -39,8 +40,9 @@ impl NumberPrefix {
     }
 }
 
-/// The prefixes of the cover list of a range of numbers of a width that are left, ascending. Contracts see it as their
-/// list.
+/// An iterator over the cover list of a range of numbers of one width, ascending.
+///
+/// Contracts see it as the list of the prefixes that are left.
 ///
 /// The cover list has exactly the maximal prefixes inside the range. Its union is the range, and no list of prefixes
 /// with that union is shorter.
@@ -64,7 +66,16 @@ impl Model for Cover {
 }
 
 impl Cover {
-    /// The cover list of the numbers from `first` to `last`, which have at most `width` bits.
+    /// Returns an iterator over the cover list of the numbers from `first` to `last`, inclusive, as numbers of
+    /// `width` bits.
+    ///
+    /// The list has at most `2 * width - 2` prefixes if `width` is 2 or more.
+    ///
+    /// # Preconditions
+    ///
+    /// - `width` is at most 128.
+    /// - `first` is at most `last`.
+    /// - `last` is below 2^`width`.
     #[tactic(auto, using(crate::proofs::Counting::cover_list_few, crate::proofs::Shortest::range_cover))]
     pub fn new(width: u8, first: u128, last: u128) -> Cover
         requires width { width ≤ 128 }
@@ -80,7 +91,7 @@ impl Cover {
     }
 }
 
-/// No prefixes.
+/// Returns a cover without prefixes.
 impl Default for Cover {
     ghost is_default = { λ cover. cover ≡ [] };
 
@@ -113,8 +124,11 @@ impl Iterator for Cover {
     }
 }
 
-/// How many bits aren't fixed in the greatest prefix that begins with `first` and ends with `last` or before: at most
-/// as many as `first` ends with zeros, and as the binary logarithm of how many numbers there are.
+/// Returns the number of bits that are not fixed in the largest prefix that begins with `first` and ends at `last` or
+/// before.
+///
+/// It is at most the number of trailing zeros of `first`, and at most the binary logarithm of the count of numbers from
+/// `first` to `last`.
 #[tactic(auto, using(crate::proofs::FreeBits::greatest_by))]
 fn free_bits(width: u8, first: u128, last: u128) -> u8
     requires width { width ≤ 128 }
@@ -131,7 +145,7 @@ fn free_bits(width: u8, first: u128, last: u128) -> u8
     (aligned.min(fitting) as u8).min(width)
 }
 
-/// The numbers that are left behind the first 2^free, from the least to the last.
+/// Returns the bounds of the numbers that are left after the first 2^`free`, if any are left.
 fn behind(first: u128, last: u128, free: u8) -> Option<(u128, u128)>
     ensures { MatchOption result (last < first + 2 ^ free)
         (λ r. (r ≡ (first + 2 ^ free, last)) × (first + 2 ^ free ≤ last)) }

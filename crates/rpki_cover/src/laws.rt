@@ -1,8 +1,8 @@
-//! What no single call says of prefixes of numbers.
+//! Lemmas about prefixes of numbers that no single call states.
 ghost use Rattle.std.specs.Prelude.{ℕ, ◌↔◌, ◌⊎◌};
 ghost use Rattle.rpki_cover.specs.Prefixes.{PrefixValue, IsPrefix, IsIn, LiesIn};
 
-/// Two prefixes of one width have a number in common exactly where one lies in the other (RFC 4632, 3.1).
+/// Two prefixes of one width have a number in common if and only if one lies in the other (RFC 4632, 3.1).
 pub fn nested_prefixes()
     ensures { (w : ℕ) (p q : PrefixValue) → IsPrefix w p → IsPrefix w q →
         ((n : ℕ) × IsIn w p n × IsIn w q n) ↔ (LiesIn w (IsIn w p) q ⊎ LiesIn w (IsIn w q) p) }

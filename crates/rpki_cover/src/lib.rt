@@ -1,6 +1,6 @@
 //! Shortest covers of ranges of numbers by prefixes.
 //!
-//! The prefixes of a set of addresses come from it, one after the other, as in `example_calls::filters::v4_filter`:
+//! The prefixes of an address set come from this crate, one after another, as in `example_calls::filters::v4_filter`:
 //!
 //! ```rust
 //! for prefix in set.prefixes() {

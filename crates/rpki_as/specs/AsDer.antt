@@ -14,23 +14,23 @@ use Rattle.rpki_as_block.specs.AsDer.{IsAsBlock, as_block_octets}
 use Rattle.rpki_as_block.specs.Blocks.{as_bounds, new_as_block}
 use Rattle.rpki_as_block.specs.declared.block.AsBlock.{AsBlock}
 
--- a SEQUENCE of blocks, in any order, overlapping or not, and nothing else; it stands for the set of their numbers
+-- a SEQUENCE of blocks, in any order, overlapping or not, and nothing else; it denotes the set of their numbers
 -- (3.2.3.4, asIdsOrRanges)
 abbrev pub IsAsBlockSequence : List ℕ → Runs → Type 0
 IsAsBlockSequence = Refines (IsSequenceOf IsAsBlock) (IsRunsOfBlocks as_bounds)
 
--- a SEQUENCE of one value of context tag 0 (128 + 32: of the context, constructed), in which stands a NULL for
--- inherited resources, and else a SEQUENCE of blocks, one at least (3.2.3.1 to 3.2.3.4; RFC 6487, 4.8.11)
+-- a SEQUENCE of one value of context tag 0 (128 + 32: context, constructed), which contains a NULL for inherited
+-- resources, or else a SEQUENCE of at least one block (3.2.3.1 to 3.2.3.4; RFC 6487, 4.8.11)
 abbrev pub IsAsChoice : List ℕ → ResourcesChoice (List AsBlock) → Type 0
 IsAsChoice = Encloses 48 (Encloses 160 (IsChoiceOf (IsSequenceOf IsAsBlock)))
 
--- what is listed stands for the set of its numbers
+-- listed blocks denote the set of their numbers
 abbrev pub IsAsResources : List ℕ → Claim → Type 0
 IsAsResources = Refines IsAsChoice (ListsBy (IsRunsOfBlocks as_bounds))
 
--- ---- what is written
+-- ---- encodings
 
--- a run: an AS number where it is one, else the SEQUENCE of its bounds (3.2.3.5)
+-- a run: an AS number if it is one number, or else the SEQUENCE of its bounds (3.2.3.5)
 abbrev pub as_run_octets : ℕ × ℕ → List ℕ
 as_run_octets run = as_block_octets (new_as_block run)
 
@@ -46,6 +46,6 @@ as_sequence_octets set = sequence_octets as_run_octets set
 abbrev pub as_resources_octets : Claim → List ℕ
 as_resources_octets claim = sequence_value (value 160 (choice_octets as_sequence_octets claim))
 
--- a claim that has octets: inherited resources, or a set that isn't empty
+-- a claim that has an encoding: inherited resources, or a set that isn't empty
 abbrev pub IsPresentAsClaim : Claim → Type 0
 IsPresentAsClaim claim = IsClaim IsAsSet claim × (claim ≢ Missing)

@@ -1,4 +1,4 @@
--- Reading sequences of blocks of AS numbers and AS resources from left to right, with the first fault that is met.
+-- Decoding of sequences of blocks of AS numbers and of AS resources from left to right, with the first fault.
 use Rattle.std.specs.Prelude.{ℕ, Bool, List, Option, Some, None, Result}
 use Rattle.rpki_der.specs.declared.error.DerError.{DerError}
 use Rattle.rpki_der.specs.SequenceReading.{enclosed_at, sequence_from, sequence_of, values_from, values_of}
@@ -12,11 +12,11 @@ use Rattle.rpki_as_block.specs.declared.block.AsBlock.{AsBlock}
 abbrev pub as_blocks_at : List ℕ → Result (List AsBlock × List ℕ) DerError
 as_blocks_at = sequence_of as_block_at
 
--- resources, of which the blocks are known
+-- resources, with the list of their blocks
 abbrev pub as_choice_at : List ℕ → Result (ResourcesChoice (List AsBlock) × List ℕ) DerError
 as_choice_at = enclosed_at 48 (enclosed_at 160 (choice_at (values_of as_block_at)))
 
--- ---- by the mode: strictly each block begins more than one above the greatest number of the one before
+-- ---- by the mode: in strict mode each block begins more than one above the greatest number of the block before it
 
 abbrev pub greatest_of_as_block : Option ℕ → AsBlock → Option ℕ
 greatest_of_as_block before block = Some (as_bounds block).1

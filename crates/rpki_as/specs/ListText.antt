@@ -6,14 +6,14 @@ use Rattle.rpki_as_block.specs.Blocks.{as_bounds, new_as_block}
 use Rattle.rpki_as_block.specs.BlockText.{IsAsBlockText, HasAsBlockFault, as_block_text}
 use Rattle.rpki_as_block.specs.declared.error.FromStrError.{FromStrError}
 
--- each element of the text writes a block, and the set is that of the numbers in some block
+-- each element of the text denotes a block, and the set is that of the numbers in these blocks
 abbrev pub IsAsListText : List ℕ → Runs → Type 0
 IsAsListText text = IsSetOfBlocks as_bounds (HaveValues IsAsBlockText (elements text))
 
--- the first element that writes no block has this fault
+-- the first element that denotes no block has this fault
 abbrev pub HasAsListFault : List ℕ → FromStrError → Type 0
 HasAsListFault text fault = HasFirstFault IsAsBlockText HasAsBlockFault (elements text) fault
 
--- what is printed of a set: the blocks of its runs, each in new form
+-- the printed text of a set: the blocks of its runs, each in the form that `new` gives
 abbrev pub as_list_text : Runs → List ℕ
 as_list_text set = joined (map as_block_text (map new_as_block set))

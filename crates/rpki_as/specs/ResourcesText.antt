@@ -9,17 +9,17 @@ use Rattle.rpki_as_block.specs.declared.error.FromStrError.{FromStrError}
 abbrev pub IsInherit : List ℕ → Type 0
 IsInherit text = text ≡ codes "inherit"
 
--- the text is `inherit` for inherited resources, and else a list: of no numbers for missing ones
+-- the text is `inherit` for inherited resources, or else a list; for missing resources the list has no numbers
 abbrev pub IsAsResourcesText : List ℕ → Claim → Type 0
 IsAsResourcesText text Missing = ¬ IsInherit text × IsAsListText text []
 IsAsResourcesText text Inherit = IsInherit text
 IsAsResourcesText text (Blocks set) = ¬ IsInherit text × IsAsListText text set × (set ≢ [])
 
--- the text isn't `inherit`, and as a list has this fault
+-- the text isn't `inherit`, and has this fault as a list
 abbrev pub HasAsResourcesFault : List ℕ → FromStrError → Type 0
 HasAsResourcesFault text fault = ¬ IsInherit text × HasAsListFault text fault
 
--- what is printed of resources
+-- the printed text of resources
 abbrev pub as_resources_text : Claim → List ℕ
 as_resources_text Missing = []
 as_resources_text Inherit = codes "inherit"

@@ -29,10 +29,10 @@ use std::fmt;
 use std::marker::Model;
 use std::slice::Iter;
 
-/// A set of AS numbers. Sets of the same numbers are equal and print alike. Its memory may have several owners, and the
-/// empty set has none.
+/// A set of AS numbers. Sets of the same numbers are equal and print alike. Several sets may share the same memory. The
+/// empty set takes no memory.
 ///
-/// Contracts see the set as the ascending list of its runs, each as its least and its greatest number.
+/// Its model is the ascending list of its runs, each as its least and its greatest number.
 #[derive(Drop)]
 pub struct AsBlocks<A: Allocator = Global> {
     set: BlockSet<AsBlock, A>,
@@ -47,7 +47,7 @@ impl<A: Allocator> Model for AsBlocks<A> {
 }
 
 impl<A: Allocator> AsBlocks<A> {
-    /// The set of no numbers.
+    /// Returns the empty set.
     pub fn empty() -> AsBlocks<A>
         ensures { result ≡ [] }
     {
@@ -56,7 +56,11 @@ impl<A: Allocator> AsBlocks<A> {
         }
     }
 
-    /// The set of all AS numbers. `AllocError` where there is no memory for it.
+    /// Returns the set of all AS numbers, 0 to 4294967295.
+    ///
+    /// # Errors
+    ///
+    /// [`AllocError`] if an allocation fails.
     pub fn all(alloc: A) -> Result<AsBlocks<A>, AllocError>
     where
         A: Copy,
@@ -66,8 +70,11 @@ impl<A: Allocator> AsBlocks<A> {
         Ok(Self::from_set(set))
     }
 
-    /// The set of the numbers that some block has. The blocks may come in any order and may overlap. `AllocError` where
-    /// there is no memory for it.
+    /// Returns the set of the numbers that at least one block has. The blocks may be in any order and may overlap.
+    ///
+    /// # Errors
+    ///
+    /// [`AllocError`] if an allocation fails.
     pub fn from_blocks(alloc: A, blocks: &[AsBlock]) -> Result<AsBlocks<A>, AllocError>
     where
         A: Copy,
@@ -77,8 +84,12 @@ impl<A: Allocator> AsBlocks<A> {
         Ok(Self::from_set(set))
     }
 
-    /// The set of the numbers that some block has, made in the memory of the blocks, which may come in any order and
-    /// may overlap. `AllocError` where there is no memory for what its owners share.
+    /// Returns the set of the numbers that at least one block has, in the memory of `blocks`. The blocks may be in any
+    /// order and may overlap.
+    ///
+    /// # Errors
+    ///
+    /// [`AllocError`] if there is no memory for the reference count.
     pub fn from_vec(alloc: A, blocks: Vec<AsBlock, A>) -> Result<AsBlocks<A>, AllocError>
         ensures { IfOk result (IsRunsOfBlocks as_bounds blocks.items) }
     {
@@ -86,8 +97,8 @@ impl<A: Allocator> AsBlocks<A> {
         Ok(Self::from_set(set))
     }
 
-    /// The set of blocks that are its runs as they stand, each in the form that sets have. `AllocError` where there is
-    /// no memory for what its owners share.
+    /// Returns the set whose runs are `blocks` as they are. The call fails if there is no memory for the reference
+    /// count. The blocks must be the runs of a set, ascending, each in the form that sets have.
     pub(crate) fn from_vec_unchecked(
         alloc: A,
         blocks: Vec<AsBlock, A>,
@@ -99,8 +110,11 @@ impl<A: Allocator> AsBlocks<A> {
         Ok(Self::from_set(set))
     }
 
-    /// The set that AS resources list, and the empty set where they are missing. `InheritedAsResources` where they are
-    /// inherited.
+    /// Returns the set that `resources` list, and the empty set if they are missing.
+    ///
+    /// # Errors
+    ///
+    /// [`InheritedAsResources`] if the resources are inherited.
     pub fn from_resources(resources: AsResources<A>) -> Result<AsBlocks<A>, InheritedAsResources>
         ensures { MatchChoice resources (result ≡ Ok []) (IsErr result)
             (λ listed. result ≡ Ok listed) }
@@ -112,21 +126,25 @@ impl<A: Allocator> AsBlocks<A> {
         }
     }
 
-    /// A set of blocks as a set of AS numbers.
+    /// Returns a set of blocks as a set of AS numbers.
     pub(crate) fn from_set(set: BlockSet<AsBlock, A>) -> AsBlocks<A>
         ensures { result ≡ set }
     {
         AsBlocks { set }
     }
 
-    /// The set as one of blocks.
+    /// Returns the set as a set of blocks.
     pub(crate) fn as_set(&self) -> &BlockSet<AsBlock, A>
         ensures { result.now ≡ self.now }
     {
         &self.set
     }
 
-    /// The same set, whose memory has one owner more. `AllocError` where std refuses that owner.
+    /// Returns the same set, which shares the memory of `self`.
+    ///
+    /// # Errors
+    ///
+    /// [`AllocError`] if std refuses one more reference.
     pub fn clone(&self) -> Result<AsBlocks<A>, AllocError>
         ensures same { IfOk result (λ set. set ≡ self.now) }
         ensures set { IsAsSet self.now }
@@ -135,14 +153,14 @@ impl<A: Allocator> AsBlocks<A> {
         Ok(Self::from_set(set))
     }
 
-    /// Whether the set has no numbers.
+    /// Returns whether the set has no numbers.
     pub fn is_empty(&self) -> bool
         ensures { IsTrue result ↔ (self.now ≡ []) }
     {
         self.set.is_empty()
     }
 
-    /// How many numbers the set has, which is 0 to 2^32.
+    /// Returns how many numbers the set has, 0 to 2^32.
     #[tactic(auto, using(crate::proofs::CountLemmas::numbers_counted))]
     pub fn asn_count(&self) -> u64
         ensures { IsSizeOf (Holds self.now) result }
@@ -155,7 +173,7 @@ impl<A: Allocator> AsBlocks<A> {
         count
     }
 
-    /// States an invariant for the proofs of callers: the set is one of AS numbers.
+    /// States an invariant for the proofs of callers: the set is a set of AS numbers.
     ///
     /// This call is no test. It does nothing and returns nothing.
     #[doc(hidden)]
@@ -165,7 +183,8 @@ impl<A: Allocator> AsBlocks<A> {
         self.set.is_lawful();
     }
 
-    /// The blocks of the set one by one, ascending: its runs, each an Id where it is one number, and else a Range.
+    /// Iterates over the blocks of the set, ascending. They are its runs: a run of one number is an Id, any other a
+    /// Range.
     pub fn iter(&self) -> Iter<'_, AsBlock>
         ensures blocks { map as_bounds (iter_rest result) ≡ self.now }
         ensures made { iter_rest result ≡ map new_as_block self.now }
@@ -174,28 +193,32 @@ impl<A: Allocator> AsBlocks<A> {
         self.set.iter()
     }
 
-    /// The numbers of the set one by one, ascending.
+    /// Iterates over the numbers of the set, ascending.
     pub fn iter_asns(&self) -> AsnIter<'_>
         ensures { IsListOf (Holds self.now) result }
     {
         AsnIter::over(self.set.iter())
     }
 
-    /// Whether the set has a number.
+    /// Returns whether the set has `asn`.
     pub fn contains_asn(&self, asn: Asn) -> bool
         ensures { IsTrue result ↔ Holds self.now asn }
     {
         self.set.contains_item(asn)
     }
 
-    /// Whether the set has each number of another.
+    /// Returns whether the set has every number of `other`.
     pub fn contains(&self, other: &AsBlocks<A>) -> bool
         ensures { IsTrue result ↔ ((n : ℕ) → Holds other.now n → Holds self.now n) }
     {
         self.set.contains(&other.set)
     }
 
-    /// The set of the numbers that both have. `AllocError` where there is no memory for it.
+    /// Returns the intersection of `self` and `other`.
+    ///
+    /// # Errors
+    ///
+    /// [`AllocError`] if there is no memory for the result.
     pub fn intersection(&self, alloc: A, other: &AsBlocks<A>) -> Result<AsBlocks<A>, AllocError>
     where
         A: Copy,
@@ -205,8 +228,11 @@ impl<A: Allocator> AsBlocks<A> {
         Ok(Self::from_set(set))
     }
 
-    /// Keeps the numbers that the other has too. `AllocError` where there is no memory for it; then the set stays as it
-    /// was.
+    /// Keeps only the numbers that `other` has too.
+    ///
+    /// # Errors
+    ///
+    /// [`AllocError`] if there is no memory for the result. The set is unchanged then.
     pub fn intersection_assign(&mut self, alloc: A, other: &AsBlocks<A>) -> Result<(), AllocError>
     where
         A: Copy,
@@ -216,7 +242,11 @@ impl<A: Allocator> AsBlocks<A> {
         self.set.intersection_assign(alloc, &other.set)
     }
 
-    /// The set of the numbers that the other doesn't have. `AllocError` where there is no memory for it.
+    /// Returns the set of the numbers of `self` that `other` doesn't have.
+    ///
+    /// # Errors
+    ///
+    /// [`AllocError`] if an allocation fails.
     pub fn difference(&self, alloc: A, other: &AsBlocks<A>) -> Result<AsBlocks<A>, AllocError>
     where
         A: Copy,
@@ -226,7 +256,11 @@ impl<A: Allocator> AsBlocks<A> {
         Ok(Self::from_set(set))
     }
 
-    /// The set of the numbers that one or the other has. `AllocError` where there is no memory for it.
+    /// Returns the union of `self` and `other`.
+    ///
+    /// # Errors
+    ///
+    /// [`AllocError`] if there is no memory for the result.
     pub fn union(&self, alloc: A, other: &AsBlocks<A>) -> Result<AsBlocks<A>, AllocError>
     where
         A: Copy,
@@ -236,15 +270,19 @@ impl<A: Allocator> AsBlocks<A> {
         Ok(Self::from_set(set))
     }
 
-    /// The set that a list of blocks writes: the text is cut at commas, white space round an element is dropped,
-    /// and so is an element that is empty then. `Refused` with the fault of the first element that is no block;
-    /// `Memory` where there is no memory for the set.
+    /// Returns the set that a list of blocks denotes. The text is cut at commas. White space around an element is
+    /// dropped, and an element that is empty then is skipped.
+    ///
+    /// # Errors
+    ///
+    /// - `Refused`: an element is not a block. The variant holds the fault of the first such element.
+    /// - `Memory`: an allocation failed.
     pub fn from_str(alloc: A, text: &str) -> Result<AsBlocks<A>, OrMemory<FromStrError>>
     where
         A: Copy,
         ensures exact { AnswersOrMemory (λ set. set) (IsAsListText text.now)
             (HasAsListFault text.now) result }
-        // What is printed of a set is read as that set.
+        // The printed text of a set is read as that set.
         ensures reads_back { (set : Runs) → IsAsSet set → text.now ≡ as_list_text set
             → MatchResult result (λ read. read ≡ set) IsMemory }
     {
@@ -259,7 +297,7 @@ impl<'a, A: Allocator> IntoIterator for &'a AsBlocks<A> {
 
     type IntoIter = Iter<'a, AsBlock>;
 
-    // what `iter` says
+    // the postconditions of `iter`
     ghost into_iter_gives = { λ set blocks. (map as_bounds (iter_rest blocks) ≡ set.now)
         × (iter_rest blocks ≡ map new_as_block set.now)
         × IsAsSet set.now };
@@ -275,7 +313,7 @@ impl<A: Allocator> fmt::Debug for AsBlocks<A> {
     }
 }
 
-/// The set of no numbers.
+/// The default is the empty set.
 impl<A: Allocator> Default for AsBlocks<A> {
     ghost is_default = { λ set. set ≡ [] };
 
@@ -284,7 +322,7 @@ impl<A: Allocator> Default for AsBlocks<A> {
     }
 }
 
-/// Sets are equal exactly where they have the same numbers.
+/// Sets are equal if and only if they have the same numbers.
 impl<A: Allocator> PartialEq for AsBlocks<A> {
     ghost eq = { λ a b. same_runs a b };
 
@@ -303,7 +341,7 @@ impl<A: Allocator> Eq for AsBlocks<A> {
     ghost laws = { runs_equiv };
 }
 
-/// Prints the blocks of the set, ascending, joined by a comma and a space; nothing, where the set is empty.
+/// Prints the blocks of the set, ascending, joined by a comma and a space. The empty set prints nothing.
 impl<A: Allocator> fmt::Display for AsBlocks<A> {
     ghost output = { λ set. Some (as_list_text set) };
 

@@ -1,4 +1,4 @@
-//! Sets of AS numbers, and AS resources, built block by block.
+//! Builders of sets of AS numbers and of AS resources, block by block.
 ghost use Rattle.std.specs.Prelude.{◌≡◌, ◌++◌, [], ◌∷◌, IfOk, OnOk, OnErr, map};
 ghost use Rattle.rpki_chain.specs.Runs.{Holds, IsRunsOf};
 ghost use Rattle.rpki_as_block.specs.Blocks.{as_bounds};
@@ -12,9 +12,9 @@ use std::alloc::{AllocError, Allocator, Global};
 use std::fmt;
 use std::marker::Model;
 
-/// Collects blocks of AS numbers, in any order, for a set of them. It keeps the allocator that it is given.
+/// Collects blocks of AS numbers, in any order, for a set of their numbers. It keeps the allocator that it is given.
 ///
-/// Contracts see it as the list of the blocks' least and greatest numbers, in the order in which they came.
+/// Its model is the list of the blocks' least and greatest numbers, in the order in which they were added.
 #[derive(Drop)]
 pub struct AsBlocksBuilder<A: Allocator = Global> {
     blocks: BlockSetBuilder<AsBlock, A>,
@@ -29,7 +29,7 @@ impl<A: Allocator> Model for AsBlocksBuilder<A> {
 }
 
 impl<A: Allocator> AsBlocksBuilder<A> {
-    /// A builder that has no blocks yet.
+    /// Creates a builder without blocks.
     pub fn new(alloc: A) -> AsBlocksBuilder<A>
         ensures { result ≡ [] }
     {
@@ -38,7 +38,11 @@ impl<A: Allocator> AsBlocksBuilder<A> {
         }
     }
 
-    /// Adds a block. `AllocError` where there is no memory for it; then the builder has the blocks that it had.
+    /// Adds a block.
+    ///
+    /// # Errors
+    ///
+    /// [`AllocError`] if an allocation fails. The builder is unchanged then.
     pub fn push(&mut self, block: AsBlock) -> Result<(), AllocError>
         ensures ok { OnOk result (self.new ≡ self.old ++ as_bounds block ∷ []) }
         ensures err { OnErr result (self.new ≡ self.old) }
@@ -46,8 +50,11 @@ impl<A: Allocator> AsBlocksBuilder<A> {
         self.blocks.push(block)
     }
 
-    /// Adds several blocks. `AllocError` where there is no memory for them; then the builder has the blocks that it
-    /// had.
+    /// Adds several blocks.
+    ///
+    /// # Errors
+    ///
+    /// [`AllocError`] if an allocation fails. The builder is unchanged then.
     pub fn extend_from(&mut self, blocks: &[AsBlock]) -> Result<(), AllocError>
         ensures ok { OnOk result (self.new ≡ self.old ++ map as_bounds blocks.now) }
         ensures err { OnErr result (self.new ≡ self.old) }
@@ -55,7 +62,11 @@ impl<A: Allocator> AsBlocksBuilder<A> {
         self.blocks.extend_from(blocks)
     }
 
-    /// The set of the numbers that some of the blocks has. `AllocError` where there is no memory for it.
+    /// Returns the set of the numbers that at least one block has.
+    ///
+    /// # Errors
+    ///
+    /// [`AllocError`] if an allocation fails.
     pub fn finalize(self) -> Result<AsBlocks<A>, AllocError>
     where
         A: Copy,
@@ -95,5 +106,5 @@ impl<A: Allocator + Copy> CollectBlocks for AsBlocksBuilder<A> {
     }
 }
 
-/// Builds AS resources: inherited ones, or a list, to which a function adds blocks of AS numbers.
+/// Builds AS resources: inherited ones, or a list to which a function adds blocks of AS numbers.
 pub type AsResourcesBuilder<A = Global> = ResourcesBuilder<AsBlocksBuilder<A>>;

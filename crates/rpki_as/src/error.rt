@@ -1,4 +1,4 @@
-//! What is wrong with a text of AS blocks, and with resources that are no set by themselves.
+//! Errors of a text of AS blocks, and of resources that are not a set by themselves.
 ghost use Rattle.std.specs.Prelude.{Some};
 ghost use Rattle.rpki_as.specs.Faults.{inherited_text};
 
@@ -7,7 +7,7 @@ use rpki_chain::choice::InheritedResources;
 use std::error::Error;
 use std::fmt;
 
-/// AS resources are inherited, and so are no set by themselves.
+/// The AS resources are inherited, so they are not a set by themselves.
 #[derive(Clone, Copy, Debug, PartialEq, Eq)]
 pub struct InheritedAsResources;
 

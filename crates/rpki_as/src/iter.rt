@@ -1,4 +1,4 @@
-//! AS numbers one by one, ascending. The iterators take no memory.
+//! Iterators over AS numbers, ascending. The iterators take no memory.
 ghost use Rattle.std.specs.Prelude.{◌≡◌};
 ghost use Rattle.std.specs.Iterator.{YieldsFirst, item_count};
 
@@ -8,7 +8,7 @@ use rpki_base::asn::Asn;
 use std::marker::Model;
 use std::slice::Iter;
 
-/// The numbers of a set that are left. Contracts see it as their list.
+/// Iterates over the numbers of a set. Its model is the list of the numbers that are left.
 #[derive(Debug, Drop)]
 pub struct AsnIter<'a> {
     current: AsBlockIter,
@@ -29,7 +29,7 @@ impl<'a> AsnIter<'a> {
     ghost use Rattle.std.specs.Slice.Iter.{iter_rest};
     ghost use Rattle.rpki_as_block.specs.Numbers.{numbers_of};
 
-    /// The numbers of blocks, in their order.
+    /// Returns an iterator over the numbers of `blocks`, in their order.
     pub(crate) fn over(blocks: Iter<'a, AsBlock>) -> AsnIter<'a>
         ensures { result ≡ numbers_of (iter_rest blocks.entry) }
     {

@@ -1,5 +1,4 @@
-//! What holds of ranges and of the texts of sets and resources, each law as the contract of a function that does
-//! nothing.
+//! Lemmas about ranges and about the texts of sets and resources. Each is the contract of a function that does nothing.
 ghost use Rattle.std.specs.Prelude.{◌≡◌, ℕ, List, ◌↔◌};
 ghost use Rattle.rpki_chain.specs.Claims.{Claim, IsClaim};
 ghost use Rattle.rpki_chain.specs.Runs.{Runs, Holds};
@@ -9,8 +8,8 @@ ghost use Rattle.rpki_as.specs.ResourcesText.{IsAsResourcesText, as_resources_te
 
 pub use rpki_as_block::laws::equal_where_the_same;
 
-/// What is printed of a set is a list that writes the set. A list writes one set at most, so two sets print alike
-/// exactly where they have the same numbers.
+/// The printed text of a set is a list that denotes the set. A list denotes at most one set, so two sets print alike if
+/// and only if they have the same numbers.
 pub fn printed_sets()
     ensures written { (set : Runs) → IsAsSet set → IsAsListText (as_list_text set) set }
     ensures one_set { (text : List ℕ) (a b : Runs) →
@@ -19,8 +18,8 @@ pub fn printed_sets()
         (as_list_text a ≡ as_list_text b) ↔ ((n : ℕ) → Holds a n ↔ Holds b n) }
 {}
 
-/// What is printed of resources is a text that writes them. A text writes one claim at most, so two are printed alike
-/// exactly where they are equal.
+/// The printed text of resources denotes them. A text denotes at most one claim, so two claims print alike if and only
+/// if they are equal.
 pub fn printed_resources()
     ensures written { (claim : Claim) → IsClaim IsAsSet claim
         → IsAsResourcesText (as_resources_text claim) claim }

@@ -1,6 +1,7 @@
-//! Sets of AS numbers, AS resources and what claims of them leave (RFC 3779, 3), with their texts and their DER.
+//! Sets of AS numbers, AS resources, and what remains of a set after claims (RFC 3779, 3), with their texts and their
+//! DER.
 //!
-//! Resources are built block by block, as in `example_calls::builders::listed_in_the_end`:
+//! This code builds resources block by block, as in `example_calls::builders::listed_in_the_end`:
 //!
 //! ```rust
 //! let mut builder: AsResourcesBuilder<A> = AsResourcesBuilder::new(alloc);
@@ -26,5 +27,5 @@ pub use iter::AsnIter;
 pub use resources::AsResources;
 pub use verify::{AsStep, OverclaimedAsResources};
 
-/// Blocks of AS numbers, which stand in a crate of their own below this one.
+/// Re-exports the blocks of AS numbers, which are defined in a crate of their own.
 pub use rpki_as_block::{AsBlock, AsBlockIter, AsRange, FromStrError, block, range};

@@ -1,4 +1,4 @@
-//! AS numbers that are missing, inherited from the issuer, or listed (RFC 3779, 3.2.3).
+//! AS resources that are missing, inherited from the issuer, or listed (RFC 3779, 3.2.3).
 ghost use Rattle.std.specs.Prelude.{◌≡◌, ◌≢◌, ◌↔◌, true, [], IsTrue, IfOk, Ok, Some, MatchResult, ⊤};
 ghost use Rattle.rpki_text.specs.Memory.{IsMemory};
 ghost use Rattle.rpki_text.specs.Reading.{AnswersOrMemory};
@@ -31,9 +31,9 @@ use std::alloc::{AllocError, Allocator, Global};
 use std::fmt;
 use std::marker::Model;
 
-/// AS numbers that are missing, inherited from the issuer, or listed. A listed set isn't empty.
+/// AS resources that are missing, inherited from the issuer, or listed. A listed set isn't empty.
 ///
-/// Contracts see them as missing, inherited, or the ascending list of the runs of what is listed, which isn't empty.
+/// Its model is missing, inherited, or the ascending list of the runs of the listed set, which isn't empty.
 #[derive(Drop)]
 pub struct AsResources<A: Allocator = Global> {
     choice: ResourcesChoice<AsBlocks<A>>,
@@ -50,7 +50,7 @@ impl<A: Allocator> Model for AsResources<A> {
 }
 
 impl<A: Allocator> AsResources<A> {
-    /// Missing resources: there are none.
+    /// Returns missing resources, which have no numbers.
     pub fn missing() -> AsResources<A>
         ensures { result ≡ Missing }
     {
@@ -59,7 +59,7 @@ impl<A: Allocator> AsResources<A> {
         }
     }
 
-    /// Resources that are those of the issuer.
+    /// Returns inherited resources, which are those of the issuer.
     pub fn inherit() -> AsResources<A>
         ensures { result ≡ Inherit }
     {
@@ -68,7 +68,7 @@ impl<A: Allocator> AsResources<A> {
         }
     }
 
-    /// Resources that list a set, and missing ones where the set is empty.
+    /// Returns resources that list a set, and missing resources if the set is empty.
     pub fn blocks(blocks: AsBlocks<A>) -> AsResources<A>
         ensures { result ≡ claim_of blocks }
     {
@@ -80,32 +80,36 @@ impl<A: Allocator> AsResources<A> {
         }
     }
 
-    /// Whether the resources are those of the issuer.
+    /// Returns whether the resources are inherited from the issuer.
     pub fn is_inherited(&self) -> bool
         ensures { IsTrue result ↔ (self.now ≡ Inherit) }
     {
         self.choice.is_inherited()
     }
 
-    /// Whether there are none.
+    /// Returns whether the resources are missing.
     pub fn is_missing(&self) -> bool
         ensures { IsTrue result ↔ (self.now ≡ Missing) }
     {
         matches!(self.choice, ResourcesChoice::Missing)
     }
 
-    /// Whether the resources are inherited or listed.
+    /// Returns whether the resources are inherited or listed.
     pub fn is_present(&self) -> bool
         ensures present { IsTrue result ↔ (self.now ≢ Missing) }
         ensures claim { IsClaim IsAsSet self.now }
     {
-        // what is listed is canonical: the set in the choice tells it
+        // This call proves that the listed set is canonical.
         let _listed = self.as_choice();
         self.choice.is_present()
     }
 
-    /// The set that is listed, and the empty set where the resources are missing. `Refused` where they are inherited,
-    /// `Memory` where there is no memory for a set that is listed.
+    /// Returns the set that is listed, and the empty set if the resources are missing.
+    ///
+    /// # Errors
+    ///
+    /// - `Refused`: the resources are inherited.
+    /// - `Memory`: out of memory. Only a listed set gives this error.
     pub fn to_blocks(&self) -> Result<AsBlocks<A>, OrMemory<InheritedAsResources>>
         ensures { MatchChoice self.now (result ≡ Ok []) (IsRefused result)
             (λ listed. MatchResult result (λ set. set ≡ listed) IsMemory) }
@@ -117,7 +121,11 @@ impl<A: Allocator> AsResources<A> {
         }
     }
 
-    /// The same resources; a set that they list has one owner more. `AllocError` where std refuses that owner.
+    /// Returns the same resources, which share the memory of a listed set.
+    ///
+    /// # Errors
+    ///
+    /// [`AllocError`] if std refuses one more reference.
     pub fn clone(&self) -> Result<AsResources<A>, AllocError>
         ensures { IfOk result (λ resources. resources ≡ self.now) }
     {
@@ -125,8 +133,8 @@ impl<A: Allocator> AsResources<A> {
         Ok(AsResources { choice })
     }
 
-    /// Resources as they were read, with the set that [`make_set`] makes of the blocks in their place. `AllocError`
-    /// where it answers it.
+    /// Returns the resources that were read, with the set of [`make_set`] for a list of blocks. It fails if that call
+    /// fails.
     pub(crate) fn from_listed(
         alloc: A,
         listed: ResourcesChoice<Vec<AsBlock, A>>,
@@ -149,7 +157,7 @@ impl<A: Allocator> AsResources<A> {
         Ok(AsResources { choice })
     }
 
-    /// The blocks that are listed, each a run in the form that `new` gives.
+    /// Returns the listed blocks. Each is a run, in the form that `new` gives.
     #[tactic(auto, using(crate::proofs::AsDerLemmas::blocks_octets))]
     pub(crate) fn as_choice(&self) -> ResourcesChoice<&[AsBlock]>
         ensures octets { choice_octets (λ blocks. sequence_octets as_block_octets blocks.now) result
@@ -163,22 +171,26 @@ impl<A: Allocator> AsResources<A> {
         }
     }
 
-    /// What is said of the AS numbers.
+    /// Returns the choice itself.
     pub(crate) fn into_choice(self) -> ResourcesChoice<AsBlocks<A>>
         ensures { result ≡ self }
     {
         self.choice
     }
 
-    /// The resources that a text writes: `inherit` exactly, and else a list of blocks as in [`AsBlocks::from_str`].
-    /// They are missing where the list has no blocks. `Refused` with the fault of the first element of a list that is
-    /// no block; `Memory` where there is no memory for the set.
+    /// Returns the resources that a text denotes: exactly `inherit`, or else a list of blocks as in
+    /// [`AsBlocks::from_str`]. They are missing if the list has no blocks.
+    ///
+    /// # Errors
+    ///
+    /// - `Refused`: an element of the list is not a block. The variant holds the fault of the first such element.
+    /// - `Memory`: an allocation failed.
     pub fn from_str(alloc: A, text: &str) -> Result<AsResources<A>, OrMemory<FromStrError>>
     where
         A: Copy,
         ensures exact { AnswersOrMemory (λ claim. claim) (IsAsResourcesText text.now)
             (HasAsResourcesFault text.now) result }
-        // What is printed of resources is read as them.
+        // The printed text of resources is read as these resources.
         ensures reads_back { (claim : Claim) → IsClaim IsAsSet claim
             → text.now ≡ as_resources_text claim
             → MatchResult result (λ read. read ≡ claim) IsMemory }
@@ -209,7 +221,7 @@ impl<A: Allocator> fmt::Debug for AsResources<A> {
     }
 }
 
-/// Resources are equal where both are missing, both are inherited, or both list the same numbers.
+/// Resources are equal if both are missing, both are inherited, or both list the same numbers.
 impl<A: Allocator> PartialEq for AsResources<A> {
     ghost eq = { λ a b. choice_eq same_runs a b };
 
@@ -227,8 +239,8 @@ impl<A: Allocator> Eq for AsResources<A> {
     ghost laws = { choice_equiv same_runs runs_equiv };
 }
 
-/// Prints nothing for missing resources, `inherit` for inherited ones, and else the blocks that are listed, ascending,
-/// joined by a comma and a space.
+/// Prints nothing for missing resources and `inherit` for inherited ones. Listed blocks are printed ascending, joined
+/// by a comma and a space.
 impl<A: Allocator> fmt::Display for AsResources<A> {
     ghost output = { λ claim. Some (as_resources_text claim) };
 

@@ -1,4 +1,4 @@
-//! What claims of AS numbers leave of a set (RFC 3779, 3.3; RFC 6487, 7.2; RFC 8360, 4).
+//! The check of claims of AS numbers against a set (RFC 3779, 3.3; RFC 6487, 7.2; RFC 8360, 4).
 ghost use Rattle.std.specs.Prelude.{◌≡◌, ◌↔◌, IsTrue, IsOk, IfOk, IfErr, Some};
 ghost use Rattle.rpki_text.specs.Memory.{IfRefused};
 ghost use Rattle.rpki_text.specs.Reading.{AnswersOrMemory};
@@ -19,12 +19,12 @@ use std::error::Error;
 use std::fmt;
 use std::marker::Model;
 
-/// A step of a path: the AS numbers that are claimed, and what becomes of a claim that lists too many.
+/// A step of a path: the AS numbers that are claimed, and what happens to a claim that lists more than its issuer has.
 pub type AsStep<A = Global> = Step<AsResources<A>>;
 
 /// AS numbers are claimed that the issuer doesn't have.
 ///
-/// Contracts see the runs of these numbers.
+/// Its model is the runs of these numbers.
 #[derive(Drop)]
 pub struct OverclaimedAsResources<A: Allocator = Global> {
     excess: AsBlocks<A>,
@@ -39,14 +39,18 @@ impl<A: Allocator> Model for OverclaimedAsResources<A> {
 }
 
 impl<A: Allocator> OverclaimedAsResources<A> {
-    /// The numbers that are claimed and that the issuer doesn't have.
+    /// Returns the overclaimed numbers: they are claimed, and the issuer doesn't have them.
     pub fn excess(&self) -> &AsBlocks<A>
         ensures { result.now ≡ self.now }
     {
         &self.excess
     }
 
-    /// The same fault; its numbers have one owner more. `AllocError` where std refuses that owner.
+    /// Returns the same error, which shares the memory of its numbers.
+    ///
+    /// # Errors
+    ///
+    /// [`AllocError`] if std refuses one more reference.
     pub fn clone(&self) -> Result<OverclaimedAsResources<A>, AllocError>
         ensures { IfOk result (λ fault. fault ≡ self.now) }
     {
@@ -56,9 +60,17 @@ impl<A: Allocator> OverclaimedAsResources<A> {
 }
 
 impl<A: Allocator> AsBlocks<A> {
-    /// What a claim leaves of the set: nothing where it is missing, all where it is inherited, and what both have where
-    /// it lists a set. `Refused` with the excess where the mode is [`Overclaim::Refuse`] and the claim lists more than
-    /// the set has; `Memory` where there is no memory for the answer.
+    /// Returns what remains of the set after a claim (RFC 3779, 3.3; RFC 6487, 7.2; RFC 8360, 4).
+    ///
+    /// - A missing claim leaves nothing.
+    /// - An inherited claim leaves the whole set.
+    /// - A claim that lists a set leaves the intersection.
+    ///
+    /// # Errors
+    ///
+    /// - `Refused`: the mode is [`Overclaim::Refuse`] and the claim lists more than the set has. The variant holds the
+    ///   overclaimed numbers.
+    /// - `Memory`: there is no memory for the result or for these numbers.
     pub fn verify_issued(
         &self,
         alloc: A,
@@ -80,9 +92,16 @@ impl<A: Allocator> AsBlocks<A> {
         }
     }
 
-    /// Whether the claim of an issuer has the whole set: a missing one the empty set alone, an inherited one each set,
-    /// and one that lists a set what lies in it; this takes no memory. `Refused` with what the issuer doesn't have,
-    /// `Memory` where there is no memory for that.
+    /// Checks that the claim of an issuer covers the whole set. The check itself takes no memory.
+    ///
+    /// - A missing claim covers the empty set alone.
+    /// - An inherited claim covers every set.
+    /// - A claim that lists a set covers the subsets of that set.
+    ///
+    /// # Errors
+    ///
+    /// - `Refused`: the claim doesn't cover the set. The variant holds the numbers that the issuer doesn't have.
+    /// - `Memory`: there is no memory for these numbers.
     pub fn verify_covered(
         &self,
         alloc: A,
@@ -100,9 +119,14 @@ impl<A: Allocator> AsBlocks<A> {
         }
     }
 
-    /// What a path of claims leaves of the set, each made on what the steps before it leave: all of the set where there
-    /// is no step. `Refused` with the first step that is refused, counted from 0, and its excess; `Memory` where there
-    /// is no memory for a set on the way.
+    /// Returns what remains of the set after a path of claims. Each claim is made on what remains after the steps
+    /// before it. Without steps the whole set remains.
+    ///
+    /// # Errors
+    ///
+    /// - `Refused`: a step is refused. The variant holds the index of the first such step, counted from 0, and the
+    ///   overclaimed numbers.
+    /// - `Memory`: there is no memory for a set on the path.
     pub fn verify_path(
         &self,
         alloc: A,
@@ -125,7 +149,7 @@ impl<A: Allocator> AsBlocks<A> {
     }
 }
 
-/// The fault of an excess.
+/// Returns the error for a set of overclaimed numbers.
 fn overclaimed<A: Allocator>(excess: BlockSet<AsBlock, A>) -> OverclaimedAsResources<A>
     ensures { result ≡ excess }
 {
@@ -140,7 +164,7 @@ impl<A: Allocator> fmt::Debug for OverclaimedAsResources<A> {
     }
 }
 
-/// Faults are equal where their excess is.
+/// Errors are equal if and only if their overclaimed numbers are.
 impl<A: Allocator> PartialEq for OverclaimedAsResources<A> {
     ghost eq = { λ a b. same_runs a b };
 
@@ -158,7 +182,7 @@ impl<A: Allocator> Eq for OverclaimedAsResources<A> {
     ghost laws = { runs_equiv };
 }
 
-/// Prints the blocks of the excess, ascending, joined by a comma and a space, after a text of what it is.
+/// Prints `overclaimed AS resources: ` and the blocks of these numbers, ascending, joined by a comma and a space.
 impl<A: Allocator> fmt::Display for OverclaimedAsResources<A> {
     ghost output = { λ excess. Some (overclaimed_as_text excess) };
 

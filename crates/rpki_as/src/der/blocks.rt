@@ -19,13 +19,17 @@ impl<A: Allocator> AsBlocks<A> {
     ghost use Rattle.rpki_as.specs.Blocks.{IsAsSet};
     ghost use Rattle.rpki_as_block.specs.Blocks.{as_bounds};
 
-    /// Takes a SEQUENCE of blocks, which may be none, and answers the set of their numbers. The blocks may come in any
-    /// order and may overlap.
+    /// Takes a SEQUENCE of zero or more blocks, and returns the set of their numbers. The blocks may be in any order
+    /// and may overlap.
     ///
-    /// `Refused` with the first fault: that of the SEQUENCE as in [`Cursor::take_sequence`], or that of a block as in
-    /// [`AsBlock::take_opt_from`](crate::block::AsBlock::take_opt_from). From a strict cursor also `NotCanonical` where
-    /// a block doesn't begin more than one above the greatest number of the one before it (RFC 3779, 3.2.3.4). `Memory`
-    /// where there is no memory for the blocks. The cursor then stays.
+    /// # Errors
+    ///
+    /// The cursor is unchanged after an error. `Memory` means that an allocation failed. `Refused` has the first fault:
+    ///
+    /// - a fault of the SEQUENCE, as in [`Cursor::take_sequence`]
+    /// - a fault of a block, as in [`AsBlock::take_opt_from`](crate::block::AsBlock::take_opt_from)
+    /// - `NotCanonical`, from a strict cursor only: a block doesn't begin more than one above the greatest number of
+    ///   the block before it (RFC 3779, 3.2.3.4)
     pub fn take_from(alloc: A, cursor: &mut Cursor<'_>) -> Result<AsBlocks<A>, OrMemory<DerError>>
     where
         A: Copy,
@@ -34,11 +38,11 @@ impl<A: Allocator> AsBlocks<A> {
         ensures exact { Lenient cursor.old
             (TakesSaidOrMemory (IsRunsOfBlocks as_bounds) cursor.old cursor.new result
             as_blocks_at) }
-        // What is written of a set, in one SEQUENCE, is read as that set, whatever follows it.
+        // The encoding of a set, in one SEQUENCE, is read as that set, with any octets after it.
         ensures reads_back { (set : Runs) (rest : List ℕ) → IsAsSet set
             → left cursor.old ≡ as_sequence_octets set ++ rest
             → MatchResult result (λ read. (read ≡ set) × (left cursor.new ≡ rest)) IsMemory }
-        // A strict cursor takes what is written of a set.
+        // A strict cursor takes exactly the encodings of sets.
         ensures strict { Strict cursor.old
             (ReadsOrMemory (Spells IsAsSet as_sequence_octets) (λ set. set) cursor.old cursor.new
             result) }
@@ -51,9 +55,12 @@ impl<A: Allocator> AsBlocks<A> {
         Self::next_set(alloc, cursor)
     }
 
-    /// Appends the blocks of the set, ascending: its runs, each as an AS number where it is one, and else as the
-    /// SEQUENCE of its bounds. Nothing stands round them. `AllocError` where there is no memory for all of them; then
-    /// the octets stay as they were.
+    /// Appends the blocks of the set to `out`, ascending, without an enclosing SEQUENCE. They are its runs: a run of
+    /// one number is an AS number, any other is the SEQUENCE of its bounds.
+    ///
+    /// # Errors
+    ///
+    /// [`AllocError`] if there is no memory for all blocks. The octets of `out` are unchanged then.
     #[tactic(auto, using(crate::proofs::AsDerLemmas::blocks_octets))]
     pub fn encode<B: Allocator>(&self, out: &mut Vec<u8, B>) -> Result<(), AllocError>
         ensures ok { OnOk result (out.new.items ≡ out.old.items ++ as_set_octets self.now) }
@@ -66,7 +73,7 @@ impl<A: Allocator> AsBlocks<A> {
         encode_all(self.iter().as_slice(), out)
     }
 
-    // The reading behind `take_from`.
+    // Reads the set for `take_from`.
     fn next_set(alloc: A, cursor: &mut Cursor<'_>) -> Result<AsBlocks<A>, OrMemory<DerError>>
     where
         A: Copy,

@@ -1,4 +1,4 @@
-//! What holds of the octets of blocks, sets and resources, each law as the contract of a function that does nothing.
+//! Lemmas about the octets of blocks, sets and resources. Each is the contract of a function that does nothing.
 ghost use Rattle.std.specs.Prelude.{◌≡◌, ◌≢◌, ◌↔◌, ℕ, List, Err};
 ghost use Rattle.rpki_chain.specs.Claims.{Claim, IsClaim};
 ghost use Rattle.rpki_chain.specs.Runs.{Runs, Holds};
@@ -11,24 +11,24 @@ ghost use Rattle.rpki_as.specs.AsDerReading.{as_blocks_at, as_choice_at};
 ghost use Rattle.rpki_as_block.specs.AsDer.{IsAsBlock, IsBlockInAnyOrder};
 ghost use Rattle.rpki_as.specs.Blocks.{IsAsSet};
 
-/// Octets begin with at most one block, with at most one value that is passed over as a block, and with at most one
-/// SEQUENCE of blocks, which stands for one set.
+/// Octets begin with at most one block, and with at most one value that is skipped as a block. They begin with at most
+/// one SEQUENCE of blocks, which denotes one set.
 pub fn one_value()
     ensures block { OneFront IsAsBlock }
     ensures skipped { OneFront IsBlockInAnyOrder }
     ensures sequence { OneFront IsAsBlockSequence }
 {}
 
-/// What is written of a set, put in one SEQUENCE, stands for the set. Sets are written alike exactly where they have
-/// the same numbers.
+/// The encoding of a set, put in one SEQUENCE, denotes the set. Sets have equal encodings if and only if they have the
+/// same numbers.
 pub fn written_sets()
     ensures sequence { (set : Runs) → IsAsSet set → IsAsBlockSequence (as_sequence_octets set) set }
     ensures alike { (a b : Runs) → IsAsSet a → IsAsSet b →
         (as_set_octets a ≡ as_set_octets b) ↔ ((n : ℕ) → Holds a n ↔ Holds b n) }
 {}
 
-/// Octets begin with at most one value that is AS resources, which stands for one claim. What is written of resources
-/// that aren't missing stands for them, and two such are written alike exactly where they are equal.
+/// Octets begin with at most one value that is AS resources, which denotes one claim. The encoding of resources that
+/// aren't missing denotes these resources. Two such encodings are equal if and only if the resources are.
 pub fn written_resources()
     ensures one { OneFront IsAsResources }
     ensures written { (claim : Claim) → IsClaim IsAsSet claim → claim ≢ Missing →
@@ -38,15 +38,15 @@ pub fn written_resources()
         (as_resources_octets a ≡ as_resources_octets b) ↔ (a ≡ b) }
 {}
 
-/// Resources are refused for a list of no blocks exactly where the SEQUENCE of blocks is empty, whatever stands behind
-/// it.
+/// Resources are refused for a list of no blocks if and only if the SEQUENCE of blocks is empty. The octets after it
+/// don't matter.
 #[tactic(auto, using(crate::proofs::DerFaults::empty_blocks))]
 pub fn empty_blocks()
     ensures { (bytes : List ℕ) → (as_choice_at bytes ≡ Err EmptyBlocks)
         ↔ BeginsWithValue 48 (BeginsWithValue 160 BeginsEmpty) bytes }
 {}
 
-/// Octets are refused as not canonical by a strict cursor alone.
+/// Only a strict cursor refuses octets as not canonical.
 #[tactic(auto, using(crate::proofs::DerFaults::blocks_names, crate::proofs::DerFaults::resources_names))]
 pub fn not_canonical()
     ensures sequence { (bytes : List ℕ) → as_blocks_at bytes ≢ Err NotCanonical }

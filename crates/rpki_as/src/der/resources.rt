@@ -27,15 +27,19 @@ impl<A: Allocator> AsResources<A> {
     ghost use Rattle.rpki_as.specs.Blocks.{IsAsSet};
     ghost use Rattle.rpki_as_block.specs.Blocks.{as_bounds};
 
-    /// Takes AS resources, which are inherited or listed. The blocks may come in any order and may overlap.
+    /// Takes AS resources, which are inherited or listed. The blocks may be in any order and may overlap.
     ///
-    /// `Refused` with the first fault: that of the SEQUENCE and of the tagged value in it as in
-    /// [`Cursor::take_sequence`]; where that has neither a NULL nor a SEQUENCE, `BadTag`; `BadNull` for a NULL with
-    /// content; the fault of a block as in [`AsBlock::take_opt_from`](crate::block::AsBlock::take_opt_from);
-    /// `EmptyBlocks` for a SEQUENCE of no block; and then `TrailingData` for octets that are left in one of the two
-    /// that enclose it. From a strict cursor also `NotCanonical` as in
-    /// [`AsBlocks::take_from`](crate::blocks::AsBlocks::take_from). `Memory` where there is no memory for the blocks.
-    /// The cursor then stays.
+    /// # Errors
+    ///
+    /// The cursor is unchanged after an error. `Memory` means that an allocation failed. `Refused` has the first fault:
+    ///
+    /// - a fault of the SEQUENCE or of the tagged value in it, as in [`Cursor::take_sequence`]
+    /// - `BadTag`: the tagged value has neither a NULL nor a SEQUENCE
+    /// - `BadNull`: the NULL has content
+    /// - a fault of a block, as in [`AsBlock::take_opt_from`](crate::block::AsBlock::take_opt_from)
+    /// - `EmptyBlocks`: the SEQUENCE has no block
+    /// - `NotCanonical`, from a strict cursor only, as in [`AsBlocks::take_from`](crate::blocks::AsBlocks::take_from)
+    /// - `TrailingData`, after those above: octets are left in one of the two enclosing values
     pub fn take_from(
         alloc: A,
         cursor: &mut Cursor<'_>,
@@ -47,11 +51,11 @@ impl<A: Allocator> AsResources<A> {
         ensures exact { Lenient cursor.old
             (TakesSaidOrMemory (ListsBy (IsRunsOfBlocks as_bounds)) cursor.old cursor.new result
             as_choice_at) }
-        // What is written of resources is read as them, whatever follows it.
+        // The encoding of resources is read as these resources, with any octets after it.
         ensures reads_back { (claim : Claim) (rest : List ℕ) → IsClaim IsAsSet claim
             → claim ≢ Missing → left cursor.old ≡ as_resources_octets claim ++ rest
             → MatchResult result (λ read. (read ≡ claim) × (left cursor.new ≡ rest)) IsMemory }
-        // A strict cursor takes what is written of resources.
+        // A strict cursor takes exactly the encodings of resources.
         ensures strict { Strict cursor.old
             (ReadsOrMemory (Spells IsPresentAsClaim as_resources_octets) (λ claim. claim) cursor.old
             cursor.new result) }
@@ -64,10 +68,18 @@ impl<A: Allocator> AsResources<A> {
         Self::next_resources(alloc, cursor)
     }
 
-    /// Appends the resources, which aren't missing: inherited ones as a NULL, and else the SEQUENCE of the runs that
-    /// are listed, ascending, each as an AS number where it is one, and else as the SEQUENCE of its bounds. Round that
-    /// stand a tag and a SEQUENCE. `AllocError` where there is no memory for all of it; then the octets stay as they
-    /// were.
+    /// Appends the encoding of the resources to `out`, in a tag and a SEQUENCE.
+    ///
+    /// Inherited resources are a NULL. Listed ones are the SEQUENCE of their runs, ascending. A run of one number is an
+    /// AS number, any other is the SEQUENCE of its bounds.
+    ///
+    /// # Preconditions
+    ///
+    /// The resources aren't missing.
+    ///
+    /// # Errors
+    ///
+    /// [`AllocError`] if there is no memory for the whole encoding. The octets of `out` are unchanged then.
     pub fn encode<B: Allocator>(&self, out: &mut Vec<u8, B>) -> Result<(), AllocError>
         requires { self.now ≢ Missing }
         ensures ok { OnOk result (out.new.items ≡ out.old.items ++ as_resources_octets self.now) }
@@ -90,7 +102,7 @@ impl<A: Allocator> AsResources<A> {
         Ok(())
     }
 
-    // The reading behind `take_from`.
+    // Reads the resources for `take_from`.
     #[tactic(auto, unfolding(rpki_der::specs::Reading::refined, rpki_der::specs::SequenceReading::only))]
     fn next_resources(
         alloc: A,
@@ -114,7 +126,7 @@ impl<A: Allocator> AsResources<A> {
     }
 }
 
-/// Takes a value of a tag and answers a cursor over its content.
+/// Takes a value with a tag, and returns a cursor over its content.
 #[tactic(auto, unfolding(rpki_der::specs::Reading::tagged_at))]
 fn take_tagged<'a>(cursor: &mut Cursor<'a>, tag: u8) -> Result<Cursor<'a>, DerError>
     ensures exact { Takes left cursor.old cursor.new result (tagged_at tag) }

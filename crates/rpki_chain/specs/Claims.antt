@@ -1,4 +1,4 @@
--- Claims on the numbers of a kind (RFC 3779, 2.2.3.4 and 3.2.3.2), and what builders make.
+-- Claims on the numbers of a kind (RFC 3779, 2.2.3.4 and 3.2.3.2), and the results of builders.
 use Rattle.std.specs.Prelude.{◌≡◌, ◌≢◌, ℕ, List, [], ◌∷◌, Option, Some, None, ⊤}
 use Rattle.rpki_chain.specs.Runs.{Runs, Holds, IsRunsOf}
 use Rattle.rpki_chain.specs.declared.choice.ResourcesChoice.{ResourcesChoice}
@@ -8,24 +8,24 @@ use Rattle.rpki_chain.specs.declared.choice.ResourcesChoice.TheVariants.{Missing
 abbrev pub Claim : Type 0
 Claim = ResourcesChoice Runs
 
--- what is listed isn't empty
+-- the listed set isn't empty
 abbrev pub ListsSome : Claim → Type 0
 ListsSome Missing = ⊤
 ListsSome Inherit = ⊤
 ListsSome (Blocks runs) = runs ≢ []
 
--- what is listed is such a set, and isn't empty
+-- the listed set satisfies IsSet, and isn't empty
 abbrev pub IsClaim : (Runs → Type 0) → Claim → Type 0
 IsClaim IsSet Missing = ⊤
 IsClaim IsSet Inherit = ⊤
 IsClaim IsSet (Blocks runs) = IsSet runs × (runs ≢ [])
 
--- the claim that lists a set, and a missing one where the set is empty
+-- the claim that lists the set, and a missing one if the set is empty
 abbrev pub claim_of : Runs → Claim
 claim_of [] = Missing
 claim_of (run ∷ runs) = Blocks (run ∷ runs)
 
--- the claim that lists what is seen of a set
+-- the claim that lists the model of a set
 abbrev pub claim_by : {X : Type 0} → (X → Runs) → ResourcesChoice X → Claim
 claim_by runs Missing = Missing
 claim_by runs Inherit = Inherit
@@ -33,7 +33,7 @@ claim_by runs (Blocks x) = Blocks (runs x)
 
 -- ---- built block by block
 
--- the blocks so far, which are none where resources are inherited
+-- the blocks so far; no blocks if the resources are inherited
 abbrev pub blocks_so_far : Option (List (ℕ × ℕ)) → List (ℕ × ℕ)
 blocks_so_far None = []
 blocks_so_far (Some blocks) = blocks

@@ -2,7 +2,7 @@
 use Rattle.std.specs.Prelude.{◌⊎◌}
 use Rattle.rpki_chain.specs.Runs.{Runs, Holds, IsRunsOf}
 
--- the numbers that one or the other has
+-- the numbers that at least one of both has
 abbrev pub IsUnion : Runs → Runs → Runs → Type 0
 IsUnion a b set = IsRunsOf (λ n. Holds a n ⊎ Holds b n) set
 
@@ -10,6 +10,6 @@ IsUnion a b set = IsRunsOf (λ n. Holds a n ⊎ Holds b n) set
 abbrev pub IsIntersection : Runs → Runs → Runs → Type 0
 IsIntersection a b set = IsRunsOf (λ n. Holds a n × Holds b n) set
 
--- the numbers that the one has and the other has not
+-- the numbers of the first that the second doesn't have
 abbrev pub IsDifference : Runs → Runs → Runs → Type 0
 IsDifference a b set = IsRunsOf (λ n. Holds a n × (Holds b n → ⊥)) set

@@ -1,5 +1,5 @@
--- Claims on the numbers that an issuer has, and what a path of claims leaves of a root: sets by membership
--- (RFC 3779, 2.3 and 3.3; RFC 6487, 7.2; RFC 8360, 4).
+-- Claims on the numbers that an issuer has, and what remains of a root after a path of claims: sets by membership (RFC
+-- 3779, 2.3 and 3.3; RFC 6487, 7.2; RFC 8360, 4).
 use Rattle.std.specs.Prelude.{◌≡◌, ◌≢◌, ℕ, ◌<◌, List, [], ◌∷◌, ◌++◌, Option, All, codes, decimal, length, option_map, slice_index_or, take, ⊤}
 use Rattle.rpki_chain.specs.Claims.{Claim}
 use Rattle.rpki_chain.specs.Runs.{Runs, Holds, IsRunsOf}
@@ -23,17 +23,17 @@ Leaves Missing n = ⊥
 Leaves Inherit n = ⊤
 Leaves (Blocks runs) n = Holds runs n
 
--- by n the claim is refused: it lists n, an issuer that has the numbers S has not, and its mode is Refuse
+-- n is overclaimed: the claim lists n, an issuer that has the numbers S doesn't have n, and the mode is Refuse
 abbrev pub Exceeds : (ℕ → Type 0) → Claim → Overclaim → ℕ → Type 0
 Exceeds S claim Refuse n = Lists claim n × (S n → ⊥)
 Exceeds S claim Trim n = ⊥
 
--- the claim isn't refused, and the runs are those of what it leaves of S
+-- the claim isn't refused, and the runs are those of the numbers of S that it leaves
 pub record IsIssued (S : ℕ → Type 0) (claim : Claim) (mode : Overclaim) (issued : Runs) : Type 0 where
   pub runs : IsRunsOf (λ n. S n × Leaves claim n) issued
   pub accepted : (n : ℕ) → Exceeds S claim mode n → ⊥
 
--- the claim is refused, and the runs are those of the numbers by which it is, of which there are some
+-- the claim is refused, and the runs are those of the overclaimed numbers, of which there is at least one
 pub record IsExcess (S : ℕ → Type 0) (claim : Claim) (mode : Overclaim) (excess : Runs) : Type 0 where
   pub runs : IsRunsOf (Exceeds S claim mode) excess
   pub some : excess ≢ []
@@ -44,7 +44,7 @@ pub record IsExcess (S : ℕ → Type 0) (claim : Claim) (mode : Overclaim) (exc
 abbrev pub IsCovered : (ℕ → Type 0) → Claim → Type 0
 IsCovered S issuer = (n : ℕ) → S n → Leaves issuer n
 
--- the runs are those of the numbers of S that the issuer's claim doesn't leave, of which there are some
+-- the runs are those of the numbers of S that the issuer's claim doesn't leave, of which there is at least one
 pub record IsUncovered (S : ℕ → Type 0) (issuer : Claim) (excess : Runs) : Type 0 where
   pub runs : IsRunsOf (λ n. S n × (Leaves issuer n → ⊥)) excess
   pub some : excess ≢ []
@@ -56,28 +56,28 @@ abbrev pub one_step : {R : Type 0} → R → Overclaim → List (Step R)
 one_step claim mode = record { claim = claim; mode = mode } ∷ []
 
 module _ {R : Type 0} (claim : R → Claim) where
-  -- n is left by a path from S: it is in S, no step is missing, and each set that a step lists has it
+  -- n remains after a path from S: it is in S, no step is missing, and each set that a step lists has it
   abbrev pub IsLeft : (ℕ → Type 0) → List (Step R) → ℕ → Type 0
   IsLeft S steps n = S n × All (λ step. Leaves (claim step.claim) n) steps
 
-  -- by n the step at a place is refused: it exceeds what the steps before it leave
+  -- n is overclaimed by the step at an index: it exceeds what the steps before it leave
   abbrev pub ExceedsAt : (ℕ → Type 0) → List (Step R) → ℕ → ℕ → Type 0
   ExceedsAt S steps at n =
       (step : Step R) × (at < length steps) × (slice_index_or steps at step ≡ step)
       × Exceeds (IsLeft S (take at steps)) (claim step.claim) step.mode n
 
-  -- no step is refused, and the runs are those of what the path leaves
+  -- no step is refused, and the runs are those of the numbers that remain after the path
   pub record IsPathResult (S : ℕ → Type 0) (steps : List (Step R)) (result : Runs) : Type 0 where
     pub runs : IsRunsOf (IsLeft S steps) result
     pub accepted : (at n : ℕ) → ExceedsAt S steps at n → ⊥
 
-  -- the step is refused and none before it is, and the runs are those of the numbers by which it is
+  -- the step is refused, no step before it is, and the runs are those of the numbers that the step overclaims
   pub record IsFirstRefusal (S : ℕ → Type 0) (steps : List (Step R)) (refusal : PathRefusal Runs) : Type 0 where
     pub excess : IsRunsOf (ExceedsAt S steps refusal.step) refusal.fault
     pub some : refusal.fault ≢ []
     pub first : (at n : ℕ) → at < refusal.step → ExceedsAt S steps at n → ⊥
 
--- ---- what is printed of a refusal
+-- ---- the printed text of a refusal
 
 -- the index of the step and the text of its fault, if that is known
 abbrev pub path_refusal_text : {F : Type 0} → (F → Option (List ℕ)) → PathRefusal F → Option (List ℕ)

@@ -1,4 +1,4 @@
-//! Sets of the items of a kind, built block by block.
+//! The builder of a set of items of one kind, block by block.
 ghost use Rattle.std.specs.Prelude.{◌≡◌, ◌++◌, [], ◌∷◌, IfOk, OnOk, OnErr, map};
 ghost use Rattle.rpki_chain.specs.Runs.{Holds, IsRunsOf};
 
@@ -10,7 +10,7 @@ use std::marker::Model;
 
 /// Collects blocks, in any order, for a set of their items. It keeps the allocator that it is given.
 ///
-/// Contracts see it as the list of the blocks' least and greatest numbers, in the order in which they came.
+/// Its model is the list of the blocks' least and greatest numbers, in the order in which they were added.
 #[derive(Drop)]
 pub struct BlockSetBuilder<T: Block, A: Allocator = Global> {
     blocks: Vec<T, A>,
@@ -25,7 +25,7 @@ impl<T: Block, A: Allocator> Model for BlockSetBuilder<T, A> {
 }
 
 impl<T: Block, A: Allocator> BlockSetBuilder<T, A> {
-    /// A builder that has no blocks yet.
+    /// Creates a builder without blocks.
     pub fn new(alloc: A) -> Self
         ensures { result ≡ [] }
     {
@@ -34,7 +34,11 @@ impl<T: Block, A: Allocator> BlockSetBuilder<T, A> {
         }
     }
 
-    /// Adds a block. `AllocError` where there is no memory for it; then the builder has the blocks that it had.
+    /// Adds a block.
+    ///
+    /// # Errors
+    ///
+    /// [`AllocError`] if an allocation fails. The builder is unchanged then.
     pub fn push(&mut self, block: T) -> Result<(), AllocError>
         ensures ok { OnOk result (self.new ≡ self.old ++ T.bounds block ∷ []) }
         ensures err { OnErr result (self.new ≡ self.old) }
@@ -43,8 +47,11 @@ impl<T: Block, A: Allocator> BlockSetBuilder<T, A> {
         Ok(())
     }
 
-    /// Adds several blocks. `AllocError` where there is no memory for them; then the builder has the blocks that it
-    /// had.
+    /// Adds several blocks.
+    ///
+    /// # Errors
+    ///
+    /// [`AllocError`] if an allocation fails. The builder is unchanged then.
     pub fn extend_from(&mut self, blocks: &[T]) -> Result<(), AllocError>
         ensures ok { OnOk result (self.new ≡ self.old ++ map T.bounds blocks.now) }
         ensures err { OnErr result (self.new ≡ self.old) }
@@ -57,8 +64,11 @@ impl<T: Block, A: Allocator> BlockSetBuilder<T, A> {
         Ok(())
     }
 
-    /// The set of the items that some of the blocks has, made in the builder's memory. `AllocError` where there is no
-    /// memory for what its owners share.
+    /// Returns the set of the items that at least one block has, in the memory of the builder.
+    ///
+    /// # Errors
+    ///
+    /// [`AllocError`] if there is no memory for the reference count.
     pub fn finalize(self) -> Result<BlockSet<T, A>, AllocError>
     where
         A: Copy,

@@ -1,4 +1,4 @@
-//! What is said of resources: that there are none, that they are the issuer's, or which they are.
+//! Resources that are missing, inherited from the issuer, or listed.
 ghost use Rattle.std.specs.Prelude.{◌≡◌, ◌↔◌, IsTrue, IfOk, Ok, MatchResult, ⊤};
 ghost use Rattle.rpki_text.specs.Memory.{IsMemory};
 ghost use Rattle.rpki_chain.specs.ChoiceEquality.{choice_eq};
@@ -13,49 +13,56 @@ use std::fmt;
 /// Resources of one kind: missing, inherited from the issuer, or listed (RFC 3779, 2.2.3.4 and 3.2.3.2).
 #[derive(Debug, Drop)]
 pub enum ResourcesChoice<T> {
-    /// There are none.
+    /// There are no resources.
     Missing,
-    /// They are those of the issuer.
+    /// The resources are those of the issuer.
     Inherit,
-    /// They are these.
+    /// The resources are these.
     Blocks(T),
 }
 
 /// Sets that resources list.
 pub trait Listed: Drop {
-    // The set of nothing.
+    // The empty set.
     ghost nothing: { Self };
 
-    /// The set of nothing.
+    /// Returns the empty set.
     fn empty() -> Self
         ensures { result ≡ nothing };
 
-    /// A set that equals this one. `AllocError` where there is no memory for it.
+    /// Returns a set that equals this one.
+    ///
+    /// # Errors
+    ///
+    /// [`AllocError`] if there is no memory for it.
     fn copy(&self) -> Result<Self, AllocError>
         ensures { IfOk result (λ copy. copy ≡ self.now) };
 }
 
-/// Resources are inherited, and so are no set by themselves.
+/// The resources are inherited, so they are not a set by themselves.
 #[derive(Clone, Copy, Debug, PartialEq, Eq)]
 pub struct InheritedResources;
 
 impl<T> ResourcesChoice<T> {
-    /// Whether the resources are those of the issuer.
+    /// Returns whether the resources are inherited from the issuer.
     pub fn is_inherited(&self) -> bool
         ensures { IsTrue result ↔ (self.now ≡ Inherit) }
     {
         matches!(self, ResourcesChoice::Inherit)
     }
 
-    /// Whether the resources are inherited or listed.
+    /// Returns whether the resources are inherited or listed.
     pub fn is_present(&self) -> bool
         ensures { IsTrue result ↔ (self.now ≡ Missing → ⊥) }
     {
         !matches!(self, ResourcesChoice::Missing)
     }
 
-    /// The same choice, with what the function answers in the place of what is listed. The function is called there
-    /// alone.
+    /// Returns the same choice, with the result of `f` for what is listed. `f` is called only if something is listed.
+    ///
+    /// # Preconditions
+    ///
+    /// `f` can be called with what is listed.
     pub fn map_blocks<U, F: FnOnce(T) -> U>(self, f: F) -> ResourcesChoice<U>
         requires { MatchChoice self ⊤ ⊤ (F.pre f) }
         ensures { ListsBy (F.post f) self result }
@@ -69,8 +76,12 @@ impl<T> ResourcesChoice<T> {
 }
 
 impl<T: Listed> ResourcesChoice<T> {
-    /// The set that is listed, or the set of nothing where the resources are missing. `Refused` where they are
-    /// inherited, `Memory` where there is no memory for a copy of what is listed.
+    /// Returns the set that is listed, or the empty set if the resources are missing.
+    ///
+    /// # Errors
+    ///
+    /// - `Refused`: the resources are inherited.
+    /// - `Memory`: there is no memory for a copy of the listed set.
     pub fn to_blocks(&self) -> Result<T, OrMemory<InheritedResources>>
         ensures { MatchChoice self.now (result ≡ Ok T.nothing) (IsRefused result)
             (λ listed. MatchResult result (λ set. set ≡ listed) IsMemory) }
@@ -82,7 +93,11 @@ impl<T: Listed> ResourcesChoice<T> {
         }
     }
 
-    /// A choice that equals this one. `AllocError` where `copy` of what it lists answers it.
+    /// Returns a choice that equals this one.
+    ///
+    /// # Errors
+    ///
+    /// [`AllocError`] if [`Listed::copy`] of the listed set fails.
     pub fn clone(&self) -> Result<Self, AllocError>
         ensures { IfOk result (λ choice. choice ≡ self.now) }
     {
@@ -94,7 +109,7 @@ impl<T: Listed> ResourcesChoice<T> {
     }
 }
 
-/// Prints nothing for missing resources, `inherit` for inherited ones, and else what is listed.
+/// Prints nothing for missing resources, `inherit` for inherited ones, or else what is listed.
 impl<T: fmt::Display> fmt::Display for ResourcesChoice<T> {
     ghost output = { choice_text T.output };
 
@@ -107,7 +122,7 @@ impl<T: fmt::Display> fmt::Display for ResourcesChoice<T> {
     }
 }
 
-/// Resources are equal where both are missing, both are inherited, or both list what is equal.
+/// Resources are equal if both are missing, both are inherited, or both list equal values.
 impl<T: PartialEq> PartialEq for ResourcesChoice<T> {
     ghost eq = { choice_eq T.eq };
 

@@ -1,5 +1,5 @@
-//! Resources in DER: NULL where they are inherited, and else a SEQUENCE of blocks, one at least (RFC 3779, 2.2.3.4 to
-//! 2.2.3.6, 3.2.3.2 to 3.2.3.4).
+//! Resources in DER: a NULL for inherited ones, or else a SEQUENCE of at least one block (RFC 3779, 2.2.3.4 to 2.2.3.6,
+//! 3.2.3.2 to 3.2.3.4).
 ghost use Rattle.std.specs.Prelude.{◌≡◌, ◌≢◌, ◌≤◌, ◌<◌, ◌+◌, ◌^◌, ◌++◌, true, [], length, vec_len, IfOk, IfSome, IfNone, OnOk, OnErr, IsOk, ⊤};
 ghost use Rattle.std.specs.Vec.{vec_capacity};
 ghost use Rattle.rpki_der.specs.Views.{is_strict};
@@ -21,12 +21,18 @@ use rpki_der::{Cursor, DerError, append_null, header_len, null_len, put_null, ta
 use rpki_text::memory::OrMemory;
 use std::alloc::{AllocError, Allocator};
 
-/// Takes resources: a NULL, or a SEQUENCE of blocks in any order, overlapping or not, and answers the blocks that are
-/// listed as they stand there; [`make_set`] makes their set.
+/// Takes resources: a NULL, or a SEQUENCE of blocks in any order, which may overlap. Returns the listed blocks as they
+/// are in the SEQUENCE. [`make_set`] makes their set.
 ///
-/// `Refused` with the first fault: one of [`Cursor::take_value`], `BadTag` where neither stands there, `BadNull` for a
-/// NULL with content, the fault of a block, or `EmptyBlocks` for a SEQUENCE of none. `Memory` where there is no memory
-/// for the blocks. The cursor then stays.
+/// # Errors
+///
+/// The cursor is unchanged after an error. `Memory` means that an allocation failed. `Refused` has the first fault:
+///
+/// - a fault of [`Cursor::take_value`]
+/// - `BadTag`: the value is neither a NULL nor a SEQUENCE
+/// - `BadNull`: the NULL has content
+/// - a fault of a block
+/// - `EmptyBlocks`: the SEQUENCE has no block
 #[tactic(auto, unfolding(rpki_der::specs::Reading::refined, rpki_der::specs::SequenceReading::by_tag))]
 pub fn take_listed<R: ReadNext, A: Allocator + Copy>(
     alloc: A,
@@ -55,8 +61,17 @@ pub fn take_listed<R: ReadNext, A: Allocator + Copy>(
     Ok(listed)
 }
 
-/// The set of the blocks, of which there is one at least. Blocks that are a chain already are taken as they stand, and
-/// others are joined. `AllocError` where there is no memory for what the set's owners share.
+/// Returns the set of at least one block. If `are_chain` is true, the blocks are taken as they are; otherwise they are
+/// joined.
+///
+/// # Preconditions
+///
+/// There is at least one block. If `are_chain` is true, the blocks are the runs of a set, ascending, each in the form
+/// that `new` gives.
+///
+/// # Errors
+///
+/// [`AllocError`] if there is no memory for the reference count.
 pub fn make_set<T: Block, A: Allocator>(
     alloc: A,
     blocks: Vec<T, A>,
@@ -74,8 +89,8 @@ pub fn make_set<T: Block, A: Allocator>(
     BlockSet::from_vec(alloc, blocks)
 }
 
-/// How many octets the blocks have that are listed, without the header of their SEQUENCE, or else all that is written;
-/// None where no vector can hold them.
+/// Returns how many octets the listed blocks take, without the header of their SEQUENCE. For missing and inherited
+/// resources it returns the length of the whole encoding. It returns None if no vector can hold these octets.
 pub fn content_len<V: Encode>(choice: &ResourcesChoice<&[V]>) -> Option<usize>
     ensures some { IfSome result (λ n. n
         ≡ length (choice_octets (λ blocks. octets_of_all V.octets blocks.now) choice.now)) }
@@ -94,7 +109,11 @@ pub fn content_len<V: Encode>(choice: &ResourcesChoice<&[V]>) -> Option<usize>
     Some(content_len)
 }
 
-/// How many octets `encode_choice` appends, whose content has `content_len`.
+/// Returns how many octets [`encode_choice`] appends for `choice`.
+///
+/// # Preconditions
+///
+/// `content_len` is what [`content_len`] returned for `choice`.
 pub fn choice_len<V: Encode>(choice: &ResourcesChoice<&[V]>, content_len: usize) -> usize
     requires len { content_len ≡ length (choice_octets (λ blocks. octets_of_all V.octets blocks.now)
         choice.now) }
@@ -109,9 +128,12 @@ pub fn choice_len<V: Encode>(choice: &ResourcesChoice<&[V]>, content_len: usize)
     }
 }
 
-/// Appends resources: nothing for missing ones, a NULL for inherited ones, and else the SEQUENCE of the blocks.
-/// `AllocError` where there is no memory for all of it, or where no length can tell how many octets it has; then the
-/// octets stay as they were.
+/// Appends resources to `out`: nothing for missing ones, a NULL for inherited ones, or else the SEQUENCE of the blocks.
+///
+/// # Errors
+///
+/// [`AllocError`] if there is no memory for the whole encoding, or if its length doesn't fit in a `usize`. The octets
+/// of `out` are unchanged then.
 pub fn encode_choice<V: Encode, A: Allocator>(
     choice: &ResourcesChoice<&[V]>,
     out: &mut Vec<u8, A>,
@@ -132,7 +154,12 @@ pub fn encode_choice<V: Encode, A: Allocator>(
     }
 }
 
-/// Appends what `encode_choice` does, where there is room for it, of resources whose content has `content_len` octets.
+/// Appends to `out` what [`encode_choice`] appends.
+///
+/// # Preconditions
+///
+/// - `content_len` is what [`content_len`] returned for `choice`.
+/// - The capacity of `out` suffices for the whole encoding.
 pub fn append_choice<V: Encode, A: Allocator>(
     choice: &ResourcesChoice<&[V]>,
     content_len: usize,

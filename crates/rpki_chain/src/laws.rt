@@ -1,4 +1,4 @@
-//! Laws of what the calls on sets answer. Each holds of any answers that meet the calls' contracts.
+//! Lemmas about the results of the calls on sets. Each holds for all results that meet the calls' contracts.
 ghost use Rattle.std.specs.Prelude.{◌≡◌, ℕ, ◌<◌, ◌↔◌, List, [], map, take, length, slice_index_or, All, Contains};
 ghost use Rattle.rpki_chain.specs.BlockSets.{IsBlockSet};
 ghost use Rattle.rpki_chain.specs.Runs.{Runs, Holds, IsRunsOf, IsRunsOfBlocks};
@@ -11,7 +11,7 @@ ghost use Rattle.rpki_chain.specs.declared.path.Step.{Step};
 
 use rpki_chains::block::Block;
 
-/// The blocks that are made of the runs of a set stand for the set.
+/// The blocks made from the runs of a set denote the set.
 pub fn blocks_of_runs<T: Block>()
     ensures bounds { (set : Runs) → IsBlockSet T.first T.last set →
         map T.bounds (map T.form set) ≡ set }
@@ -45,8 +45,8 @@ pub fn laws_of_intersection()
     ensures idempotent { (a set : Runs) → IsRunsOf (Holds a) a → IsIntersection a a set → set ≡ a }
 {}
 
-/// The difference of two sets is disjoint from the second one, is the first one together with what both have, and is
-/// empty exactly where the second one contains the first.
+/// The difference of two sets is disjoint from the second set. Its union with the intersection of both is the first
+/// set. It is empty if and only if the second set contains the first.
 pub fn laws_of_difference()
     ensures disjoint { (a b rest : Runs) → IsDifference a b rest →
         (n : ℕ) → Holds rest n → Holds b n → ⊥ }
@@ -56,8 +56,8 @@ pub fn laws_of_difference()
         (rest ≡ []) ↔ ((n : ℕ) → Holds a n → Holds b n) }
 {}
 
-/// A claim is a path of one step: it leaves what the path leaves, and is refused as the path is. What it leaves where
-/// it is accepted, it leaves in mode Trim; and to trim once more by the same claim changes nothing.
+/// A claim is a path of one step: the same remains after both, and both are refused alike. A claim that is accepted in
+/// mode Refuse leaves the same in mode Trim. Trimming again by the same claim changes nothing.
 pub fn laws_of_claims()
     ensures path_of_one { (root issued : Runs) (claim : Claim) (mode : Overclaim) →
         IsIssued (Holds root) claim mode issued
@@ -74,10 +74,14 @@ pub fn laws_of_claims()
         → twice ≡ once }
 {}
 
-/// What a path leaves lies in its root and in each set that a step lists, and a claim that was accepted in mode Refuse
-/// lies in what the steps before it leave: no accepted set passes its issuer. No step in mode Trim is refused; a path
-/// of no step leaves its root; and what a path leaves doesn't depend on the order of its steps, nor on how often one
-/// stands in it.
+/// Lemmas about paths:
+///
+/// - The result of a path lies in its root and in each set that a step lists.
+/// - A claim that was accepted in mode Refuse lies in what remains after the steps before it. No accepted set exceeds
+///   its issuer's.
+/// - No step in mode Trim is refused.
+/// - The result of a path without steps is its root.
+/// - The result of a path depends neither on the order of its steps nor on how often a step occurs.
 pub fn laws_of_paths()
     ensures inside_root { (root set : Runs) (steps : List (Step Claim)) →
         IsPathResult (λ claim. claim) (Holds root) steps set → (n : ℕ) → Holds set n

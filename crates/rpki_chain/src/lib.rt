@@ -1,10 +1,10 @@
-//! Sets over any lawful block, resources that list them, what claims and paths of claims leave of them, and their DER
-//! (RFC 3779, 2 and 3). The blocks and chains of `rpki_chains` are named again here.
+//! Sets over any lawful block, resources that list them, and their DER (RFC 3779, 2 and 3). It also computes what
+//! remains of a set after claims and paths of claims. The crate re-exports the blocks and chains of `rpki_chains`.
 //!
-//! A lawful [`block::Block`] is all that a kind of number has to bring: what stands here is proved once, over every
-//! such kind.
+//! A lawful [`block::Block`] is all that a kind of number must provide. The contracts of this crate are proved once,
+//! for every such kind.
 //!
-//! An issuer's set is asked for what is claimed of it, as in `rpki_extensions::issued`:
+//! A claim is checked against the set of its issuer, as in `rpki_extensions::issued`:
 //!
 //! ```rust
 //! match issuer.verify_issued(alloc, claim, mode) {
@@ -35,8 +35,8 @@ pub use resources::ResourcesBuilder;
 pub use set::BlockSet;
 pub use shared::SharedChain;
 
-/// Blocks and chains, which stand in a crate of their own below this one.
+/// Re-exports blocks and chains, which are defined in a crate of their own.
 pub use rpki_chains::{block, chain, counted, owned, reads, shared};
 
-/// The calls on chains whose reads are counted.
+/// Re-exports the calls on chains whose reads are counted.
 pub use rpki_chains::{contains_item_counted, difference_counted, trim_counted, union_counted};

@@ -1,4 +1,4 @@
-//! Resources, built block by block, or inherited.
+//! Builders of resources: inherited, or listed block by block.
 ghost use Rattle.std.specs.Prelude.{◌≡◌, ℕ, List, [], Some, None, IfOk};
 ghost use Rattle.std.specs.Fn.{FnOnceReturnsAtMut, FnOnceTakesAtMut};
 ghost use Rattle.rpki_chain.specs.Claims.{Claim, IsBuilt, blocks_so_far};
@@ -10,40 +10,43 @@ use std::marker::Model;
 
 /// Collects blocks of one kind, in any order, for resources that list them.
 pub trait CollectBlocks: Drop {
-    /// The memory that it takes.
+    /// The type of the allocator.
     type Memory: Allocator + Copy;
 
-    /// The resources that are made.
+    /// The type of the resources that are built.
     type Resources;
 
-    // The least and the greatest numbers of the blocks, in the order in which they came.
+    // The least and the greatest numbers of the blocks, in the order in which they were added.
     ghost blocks: { Self → List (ℕ × ℕ) };
 
-    // What is claimed by resources.
+    // The claim of resources.
     ghost claim: { Self.Resources → Claim };
 
-    /// Without blocks yet.
+    /// Creates a collector without blocks.
     fn start(alloc: Self::Memory) -> Self
         ensures { blocks result ≡ [] };
 
-    /// The resources that list the numbers of the blocks, or missing ones where no block was collected. `AllocError`
-    /// where there is no memory for them.
+    /// Returns the resources that list the numbers of the blocks. They are missing if no block was collected.
+    ///
+    /// # Errors
+    ///
+    /// [`AllocError`] if an allocation fails.
     fn finish(self) -> Result<Self::Resources, AllocError>
         ensures { IfOk result (λ resources. IsBuilt (Some (blocks self)) (claim resources)) };
 
-    /// Inherited resources.
+    /// Returns inherited resources.
     fn inherited() -> Self::Resources
         ensures { claim result ≡ Inherit };
 }
 
 /// Builds resources: inherited ones, or a list, which begins without blocks.
 ///
-/// Contracts see it as the list of the blocks' least and greatest numbers, in the order in which they came, and as None
-/// where the resources are inherited.
+/// Its model is the list of the blocks' least and greatest numbers, in the order in which they were added, or None if
+/// the resources are inherited.
 #[derive(Drop)]
 pub struct ResourcesBuilder<B: CollectBlocks> {
     alloc: B::Memory,
-    /// What is listed, and None where the resources are inherited.
+    /// The list, or None if the resources are inherited.
     listed: Option<B>,
 }
 
@@ -56,7 +59,7 @@ impl<B: CollectBlocks> Model for ResourcesBuilder<B> {
 }
 
 impl<B: CollectBlocks> ResourcesBuilder<B> {
-    /// A builder of a list that has no blocks yet. It keeps the allocator that it is given.
+    /// Creates a builder of a list without blocks. It keeps the allocator that it is given.
     pub fn new(alloc: B::Memory) -> Self
         ensures { result ≡ Some [] }
     {
@@ -66,16 +69,23 @@ impl<B: CollectBlocks> ResourcesBuilder<B> {
         }
     }
 
-    /// The resources become inherited. The blocks that were listed are dropped.
+    /// Makes the resources inherited, and drops the blocks that were listed.
     pub fn inherit(&mut self)
         ensures { self.new ≡ None }
     {
         self.listed = None;
     }
 
-    /// Hands the list so far to the function, and one without blocks where the resources were inherited. The resources
-    /// then are listed, with what the function left in the list, and the answer is the function's, where it refuses
-    /// too.
+    /// Calls `build` with the list so far, or with a list without blocks if the resources were inherited. The resources
+    /// are listed afterwards, with the blocks that `build` left in the list, even if `build` fails.
+    ///
+    /// # Preconditions
+    ///
+    /// `build` can be called with a list of the blocks so far.
+    ///
+    /// # Errors
+    ///
+    /// The error of `build`.
     pub fn blocks<F: FnOnce(&mut B) -> Result<(), AllocError>>(
         &mut self,
         build: F,
@@ -95,8 +105,11 @@ impl<B: CollectBlocks> ResourcesBuilder<B> {
         answer
     }
 
-    /// The resources: inherited ones, those of the numbers that are listed, or missing ones where none is. `AllocError`
-    /// where there is no memory for them.
+    /// Returns the resources: inherited ones, or those of the listed numbers. They are missing if no number is listed.
+    ///
+    /// # Errors
+    ///
+    /// [`AllocError`] if an allocation fails.
     pub fn finalize(self) -> Result<B::Resources, AllocError>
         ensures { IfOk result (λ resources. IsBuilt self (B.claim resources)) }
     {

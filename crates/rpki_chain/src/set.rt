@@ -1,4 +1,4 @@
-//! Sets of the items of a kind.
+//! Sets of items of one kind.
 ghost use Rattle.std.specs.Prelude.{◌≡◌, ℕ, ◌↔◌, [], ◌∷◌, IsTrue, IsOk, IfOk, IfErr, OnOk, OnErr, map};
 ghost use Rattle.std.specs.Slice.Iter.{iter_rest};
 ghost use Rattle.rpki_chain.specs.BlockSets.{IsBlockChain, IsBlockSet};
@@ -20,10 +20,10 @@ use std::fmt;
 use std::marker::Model;
 use std::slice::Iter;
 
-/// A set of the items of one kind. Sets of the same items are equal. Its memory may have several owners, and the empty
-/// set has none.
+/// A set of items of one kind. Sets of the same items are equal. Several sets may share the same memory. The empty set
+/// takes no memory.
 ///
-/// Contracts see the set as the ascending list of its runs, each as its least and its greatest number.
+/// Its model is the ascending list of its runs, each as its least and its greatest number.
 #[derive(Drop)]
 pub struct BlockSet<T: Block, A: Allocator = Global> {
     chain: SharedChain<T, A>,
@@ -38,7 +38,7 @@ impl<T: Block, A: Allocator> Model for BlockSet<T, A> {
 }
 
 impl<T: Block, A: Allocator> BlockSet<T, A> {
-    /// The set of no items.
+    /// Returns the empty set.
     pub fn empty() -> Self
         ensures { result ≡ [] }
     {
@@ -47,7 +47,11 @@ impl<T: Block, A: Allocator> BlockSet<T, A> {
         }
     }
 
-    /// The set of the items of one block. `AllocError` where there is no memory for it.
+    /// Returns the set of the items of one block.
+    ///
+    /// # Errors
+    ///
+    /// [`AllocError`] if an allocation fails.
     pub fn from_block(alloc: A, block: T) -> Result<Self, AllocError>
     where
         A: Copy,
@@ -59,8 +63,11 @@ impl<T: Block, A: Allocator> BlockSet<T, A> {
         Self::from_owned(alloc, OwnedChain::from_vec_unchecked(blocks))
     }
 
-    /// The set of the items that some block has. The blocks may come in any order and may overlap. `AllocError` where
-    /// there is no memory for it.
+    /// Returns the set of the items that at least one block has. The blocks may be in any order and may overlap.
+    ///
+    /// # Errors
+    ///
+    /// [`AllocError`] if an allocation fails.
     pub fn from_blocks(alloc: A, blocks: &[T]) -> Result<Self, AllocError>
     where
         A: Copy,
@@ -70,8 +77,12 @@ impl<T: Block, A: Allocator> BlockSet<T, A> {
         Ok(BlockSet { chain })
     }
 
-    /// The set of the items that some block has, made in the memory of the blocks, which may come in any order and may
-    /// overlap. `AllocError` where there is no memory for what its owners share.
+    /// Returns the set of the items that at least one block has, in the memory of `blocks`. The blocks may be in any
+    /// order and may overlap.
+    ///
+    /// # Errors
+    ///
+    /// [`AllocError`] if there is no memory for the reference count.
     pub fn from_vec(alloc: A, blocks: Vec<T, A>) -> Result<Self, AllocError>
         ensures { IfOk result (IsRunsOfBlocks T.bounds blocks.items) }
     {
@@ -79,8 +90,15 @@ impl<T: Block, A: Allocator> BlockSet<T, A> {
         Ok(BlockSet { chain })
     }
 
-    /// The set of the items of blocks that are its runs as they stand, each in the form that `new` gives. It is made in
-    /// their memory. `AllocError` where there is no memory for what its owners share.
+    /// Returns the set whose runs are `blocks` as they are, in the memory of `blocks`.
+    ///
+    /// # Preconditions
+    ///
+    /// The blocks are the runs of a set, ascending, each in the form that `new` gives.
+    ///
+    /// # Errors
+    ///
+    /// [`AllocError`] if there is no memory for the reference count.
     pub fn from_vec_unchecked(alloc: A, blocks: Vec<T, A>) -> Result<Self, AllocError>
         requires { IsChain T.bounds T.form blocks.items }
         ensures { IfOk result (IsRunsOfBlocks T.bounds blocks.items) }
@@ -90,7 +108,8 @@ impl<T: Block, A: Allocator> BlockSet<T, A> {
         Ok(BlockSet { chain })
     }
 
-    /// The set of the items of a chain of the kind, for several owners. `AllocError` where there is no memory for it.
+    /// Returns the set of the items of a chain of this kind, ready to be shared. It fails if there is no memory for
+    /// that.
     fn from_owned(alloc: A, chain: OwnedChain<T, A>) -> Result<Self, AllocError>
         requires { IsBlockChain T.bounds T.form T.first T.last chain }
         ensures { IfOk result (λ set. set ≡ map T.bounds chain) }
@@ -99,7 +118,11 @@ impl<T: Block, A: Allocator> BlockSet<T, A> {
         Ok(BlockSet { chain })
     }
 
-    /// The same set, whose memory has one owner more. `AllocError` where std refuses that owner.
+    /// Returns the same set, which shares the memory of `self`.
+    ///
+    /// # Errors
+    ///
+    /// [`AllocError`] if std refuses one more reference.
     pub fn clone(&self) -> Result<Self, AllocError>
         ensures same { IfOk result (λ set. set ≡ self.now) }
         ensures set { IsBlockSet T.first T.last self.now }
@@ -108,7 +131,7 @@ impl<T: Block, A: Allocator> BlockSet<T, A> {
         Ok(BlockSet { chain })
     }
 
-    /// States an invariant for the proofs of callers: the set is one of items of the kind.
+    /// States an invariant for the proofs of callers: the set is a set of items of this kind.
     ///
     /// This call is no test. It does nothing and returns nothing.
     #[doc(hidden)]
@@ -118,7 +141,7 @@ impl<T: Block, A: Allocator> BlockSet<T, A> {
         let _chain = &self.chain;
     }
 
-    /// The chain of the set: its runs, each in the form that `new` gives.
+    /// Returns the chain of the set: its runs, each in the form that `new` gives.
     pub fn as_chain(&self) -> Chain<'_, T>
         ensures blocks { map T.bounds (chain_blocks result) ≡ self.now }
         ensures chain { IsBlockChain T.bounds T.form T.first T.last (chain_blocks result) }
@@ -126,7 +149,7 @@ impl<T: Block, A: Allocator> BlockSet<T, A> {
         self.chain.as_chain()
     }
 
-    /// The blocks of the set, ascending: its runs, each in the form that `new` gives.
+    /// Returns the blocks of the set, ascending. They are its runs, each in the form that `new` gives.
     pub fn as_slice(&self) -> &[T]
         ensures blocks { map T.bounds result.now ≡ self.now }
         ensures made { result.now ≡ map T.form self.now }
@@ -136,7 +159,7 @@ impl<T: Block, A: Allocator> BlockSet<T, A> {
         self.as_chain().as_slice()
     }
 
-    /// The blocks of the set one by one, ascending: its runs, each in the form that `new` gives.
+    /// Iterates over the blocks of the set, ascending. They are its runs, each in the form that `new` gives.
     pub fn iter(&self) -> Iter<'_, T>
         ensures blocks { map T.bounds (iter_rest result) ≡ self.now }
         ensures made { iter_rest result ≡ map T.form self.now }
@@ -145,42 +168,46 @@ impl<T: Block, A: Allocator> BlockSet<T, A> {
         self.as_slice().iter()
     }
 
-    /// Whether the set has no items.
+    /// Returns whether the set has no items.
     pub fn is_empty(&self) -> bool
         ensures { IsTrue result ↔ (self.now ≡ []) }
     {
         self.as_slice().is_empty()
     }
 
-    /// Whether the set has an item.
+    /// Returns whether the set has `item`.
     pub fn contains_item(&self, item: T::Item) -> bool
         ensures { IsTrue result ↔ Holds self.now (T.number item) }
     {
         self.as_chain().contains_item(item)
     }
 
-    /// Whether the set has each item of a block.
+    /// Returns whether the set has every item of `block`.
     pub fn contains_block(&self, block: &T) -> bool
         ensures { IsTrue result ↔ ((n : ℕ) → IsWithin (T.bounds block.now) n → Holds self.now n) }
     {
         self.as_chain().contains_block(block)
     }
 
-    /// Whether the set has an item of a block.
+    /// Returns whether the set has at least one item of `block`.
     pub fn intersects_block(&self, block: &T) -> bool
         ensures { IsTrue result ↔ ((n : ℕ) × IsWithin (T.bounds block.now) n × Holds self.now n) }
     {
         self.as_chain().intersects_block(block)
     }
 
-    /// Whether the set has each item of another.
+    /// Returns whether the set has every item of `other`.
     pub fn contains(&self, other: &BlockSet<T, A>) -> bool
         ensures { IsTrue result ↔ ((n : ℕ) → Holds other.now n → Holds self.now n) }
     {
         other.as_chain().is_encompassed(self.as_chain())
     }
 
-    /// The set of the items that both have. `AllocError` where there is no memory for it.
+    /// Returns the intersection of `self` and `other`.
+    ///
+    /// # Errors
+    ///
+    /// [`AllocError`] if there is no memory for the result.
     pub fn intersection(&self, alloc: A, other: &BlockSet<T, A>) -> Result<Self, AllocError>
     where
         A: Copy,
@@ -193,8 +220,11 @@ impl<T: Block, A: Allocator> BlockSet<T, A> {
         }
     }
 
-    /// Keeps the items that the other has too. `AllocError` where there is no memory for it; then the set stays as it
-    /// was.
+    /// Keeps only the items that `other` has too.
+    ///
+    /// # Errors
+    ///
+    /// [`AllocError`] if there is no memory for the result. The set is unchanged then.
     pub fn intersection_assign(
         &mut self,
         alloc: A,
@@ -210,7 +240,11 @@ impl<T: Block, A: Allocator> BlockSet<T, A> {
         Ok(())
     }
 
-    /// The set of the items that the other doesn't have. `AllocError` where there is no memory for it.
+    /// Returns the set of the items of `self` that `other` doesn't have.
+    ///
+    /// # Errors
+    ///
+    /// [`AllocError`] if an allocation fails.
     pub fn difference(&self, alloc: A, other: &BlockSet<T, A>) -> Result<Self, AllocError>
     where
         A: Copy,
@@ -220,8 +254,8 @@ impl<T: Block, A: Allocator> BlockSet<T, A> {
         Self::from_owned(alloc, chain)
     }
 
-    /// `Ok` where the other has each item, with no memory taken. Else `Refused` with the items that it doesn't have, or
-    /// `Memory`. One walk over both.
+    /// Checks in one pass over both sets that `other` has every item. If it has, the call takes no memory. `Refused`
+    /// holds the items that it doesn't have, and `Memory` means that there is no memory for these.
     pub(crate) fn covered_by(
         &self,
         alloc: A,
@@ -239,8 +273,8 @@ impl<T: Block, A: Allocator> BlockSet<T, A> {
         }
     }
 
-    /// `Ok` where the other has each item, with no memory taken. Else `Refused` with the items that both have, or
-    /// `Memory`. One walk over both.
+    /// Checks in one pass over both sets that `other` has every item. If it has, the call takes no memory. Otherwise
+    /// `Refused` holds the intersection, and `Memory` means that there is no memory for it.
     pub(crate) fn trim(
         &self,
         alloc: A,
@@ -258,7 +292,11 @@ impl<T: Block, A: Allocator> BlockSet<T, A> {
         }
     }
 
-    /// The set of the items that one or the other has. `AllocError` where there is no memory for it.
+    /// Returns the union of `self` and `other`.
+    ///
+    /// # Errors
+    ///
+    /// [`AllocError`] if there is no memory for the result.
     pub fn union(&self, alloc: A, other: &BlockSet<T, A>) -> Result<Self, AllocError>
     where
         A: Copy,
@@ -277,8 +315,8 @@ impl<T: Block, A: Allocator> BlockSet<T, A> {
     }
 }
 
-/// Reads the least number of a chain, which is in its first block, and the greatest, which is in its last: so each
-/// number is known to be one of the kind's.
+/// Reads the least number of a chain from its first block, and the greatest from its last. This proves that each number
+/// is one of the kind.
 fn read_ends<T: Block>(blocks: &[T])
     requires { IsChain T.bounds T.form blocks.now }
     ensures { IsBlockChain T.bounds T.form T.first T.last blocks.now }
@@ -289,7 +327,7 @@ fn read_ends<T: Block>(blocks: &[T])
     let Some(last) = blocks.last() else {
         return;
     };
-    // Read for what they tell: none comes before the kind's first, and none is above its last.
+    // These reads are for the proof: no number is below the kind's first, and no number is above its last.
     let _least = first.min();
     let _greatest = last.max();
 }
@@ -300,7 +338,7 @@ impl<T: Block + fmt::Debug, A: Allocator> fmt::Debug for BlockSet<T, A> {
     }
 }
 
-/// The set of no items.
+/// The default is the empty set.
 impl<T: Block, A: Allocator> Default for BlockSet<T, A> {
     ghost is_default = { λ set. set ≡ [] };
 
@@ -309,7 +347,7 @@ impl<T: Block, A: Allocator> Default for BlockSet<T, A> {
     }
 }
 
-/// Sets are equal exactly where they have the same items.
+/// Sets are equal if and only if they have the same items.
 impl<T: Block, A: Allocator> PartialEq for BlockSet<T, A> {
     ghost eq = { λ a b. same_runs a b };
 

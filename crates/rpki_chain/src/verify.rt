@@ -1,4 +1,5 @@
-//! What claims leave of a set: one claim, a path of them, and the claim of an issuer who should have it all.
+//! The check of claims against a set: of one claim, of a path of claims, and of an issuer's claim that should cover the
+//! set.
 ghost use Rattle.std.specs.Prelude.{◌≡◌, ◌↔◌, [], IsOk, IfErr, MatchResult};
 ghost use Rattle.rpki_text.specs.Memory.{IfRefused};
 ghost use Rattle.rpki_text.specs.Reading.{AnswersOrMemory};
@@ -15,9 +16,17 @@ use rpki_text::memory::OrMemory;
 use std::alloc::{AllocError, Allocator};
 
 impl<T: Block, A: Allocator> BlockSet<T, A> {
-    /// What a claim leaves of the set: nothing where it is missing, all where it is inherited, and what both have where
-    /// it lists a set. `Refused` with the excess where the mode is [`Overclaim::Refuse`] and the claim lists more than
-    /// the set has; `Memory` where there is no memory for the answer.
+    /// Returns what remains of the set after a claim (RFC 3779, 3.3; RFC 6487, 7.2; RFC 8360, 4).
+    ///
+    /// - A missing claim leaves nothing.
+    /// - An inherited claim leaves the whole set.
+    /// - A claim that lists a set leaves the intersection.
+    ///
+    /// # Errors
+    ///
+    /// - `Refused`: the mode is [`Overclaim::Refuse`] and the claim lists more than the set has. The variant holds the
+    ///   overclaimed items.
+    /// - `Memory`: there is no memory for the result or for these items.
     pub fn verify_issued(
         &self,
         alloc: A,
@@ -33,9 +42,16 @@ impl<T: Block, A: Allocator> BlockSet<T, A> {
         issued_by(self, alloc, claim, mode)
     }
 
-    /// Whether the claim of an issuer has the whole set: a missing one the empty set alone, an inherited one each set,
-    /// and one that lists a set what lies in it; this takes no memory. `Refused` with what the issuer doesn't have,
-    /// `Memory` where there is no memory for that.
+    /// Checks that the claim of an issuer covers the whole set. The check itself takes no memory.
+    ///
+    /// - A missing claim covers the empty set alone.
+    /// - An inherited claim covers every set.
+    /// - A claim that lists a set covers the subsets of that set.
+    ///
+    /// # Errors
+    ///
+    /// - `Refused`: the claim doesn't cover the set. The variant holds the items that the issuer doesn't have.
+    /// - `Memory`: there is no memory for these items.
     pub fn verify_covered(
         &self,
         alloc: A,
@@ -55,8 +71,14 @@ impl<T: Block, A: Allocator> BlockSet<T, A> {
         }
     }
 
-    /// What a path of claims leaves of the set, each made on what the steps before it leave. `Refused` with the first
-    /// step that is refused and its excess; `Memory` where there is no memory for a set on the way.
+    /// Returns what remains of the set after a path of claims. Each claim is made on what remains after the steps
+    /// before it.
+    ///
+    /// # Errors
+    ///
+    /// - `Refused`: a step is refused. The variant holds the index of the first such step, counted from 0, and the
+    ///   overclaimed items.
+    /// - `Memory`: there is no memory for a set on the path.
     pub fn verify_path<R: Claims<T, A>>(
         &self,
         alloc: A,
@@ -71,7 +93,7 @@ impl<T: Block, A: Allocator> BlockSet<T, A> {
     }
 }
 
-/// What a claim leaves of a set, or the excess. A set that is left as it is gets one owner more, and isn't copied.
+/// Returns what remains of a set after a claim, or the overclaimed items. An unchanged set is shared, not copied.
 fn issued_by<T: Block, A: Allocator + Copy>(
     set: &BlockSet<T, A>,
     alloc: A,
@@ -89,7 +111,7 @@ fn issued_by<T: Block, A: Allocator + Copy>(
     }
 }
 
-/// What a claim that lists a set leaves, or the excess.
+/// Returns what remains of a set after a claim that lists a set, or the overclaimed items.
 fn listed_by<T: Block, A: Allocator + Copy>(
     set: &BlockSet<T, A>,
     alloc: A,
@@ -113,7 +135,7 @@ fn listed_by<T: Block, A: Allocator + Copy>(
     Ok(listed.clone()?)
 }
 
-/// Whether a set is empty; else the refusal is the set itself.
+/// Checks that a set is empty. If not, `Refused` holds the set itself.
 fn none_left<T: Block, A: Allocator>(set: &BlockSet<T, A>) -> Result<(), OrMemory<BlockSet<T, A>>>
     ensures ok { IsOk result ↔ (set.now ≡ []) }
     ensures refused { IfErr result (IfRefused (λ left. left ≡ set.now)) }
@@ -125,7 +147,7 @@ fn none_left<T: Block, A: Allocator>(set: &BlockSet<T, A>) -> Result<(), OrMemor
     Err(OrMemory::Refused(set.clone()?))
 }
 
-/// What a path leaves of a root, or its first refusal.
+/// Returns what remains of a root after a path, or its first refusal.
 fn left_by<T: Block, A: Allocator + Copy, R: Claims<T, A>>(
     root: &BlockSet<T, A>,
     alloc: A,

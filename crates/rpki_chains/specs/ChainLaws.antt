@@ -1,4 +1,4 @@
--- A list is a chain in one way at most.
+-- A list is a chain in at most one way.
 use Rattle.std.specs.Prelude.{ℕ, List}
 use Rattle.std.proofs.Props.{props}
 use Rattle.rpki_chains.specs.Sets.{IsChain}

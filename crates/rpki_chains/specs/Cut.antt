@@ -1,13 +1,13 @@
--- What becomes of the rest b of a block at the next block c that is taken out, the cut.
+-- The effect of the next removed block c, the cut, on the rest b of a block.
 use Rattle.std.specs.Prelude.{◌≡◌, ℕ, ◌+◌, ◌<◌, ◌≤◌, ◌⊎◌, Option, Some, None}
 use Rattle.rpki_chains.specs.declared.difference.Cut.{Cut}
 use Rattle.rpki_chains.specs.declared.difference.Cut.TheVariants.{End, Skip, Keep, Drop, Split, Advance}
 
--- what is kept at last: all of it where the cut comes later, else the part before a cut that takes its end
+-- the last part that is kept: all of it if the cut comes later, or else the part before a cut that removes its end
 abbrev pub IsKept : {I : Type 0} → (I → ℕ) → I × I → I × I → I → Type 0
 IsKept number b c max = ((number b.1 < number c.0) × (max ≡ b.1)) ⊎ ((number b.0 < number c.0) × (number c.0 ≤ number b.1) × (number b.1 ≤ number c.1) × (number max + 1 ≡ number c.0))
 
--- the cut ends within b, which goes on at the next number
+-- the cut ends inside b, which goes on at the next number
 abbrev pub GoesOn : {I : Type 0} → (I → ℕ) → I × I → I × I → I → I → Type 0
 GoesOn number b c next max = (number b.0 ≤ number c.1) × (number c.1 < number b.1) × (number next ≡ number c.1 + 1) × (max ≡ b.1)
 

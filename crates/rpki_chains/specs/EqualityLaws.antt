@@ -12,7 +12,7 @@ runs_equiv = lists_equiv (blocks_equiv (λ (p : ℕ × ℕ). p))
 pub runs_per : IsPartialEquivalence same_runs
 runs_per = partial_equiv_from_equiv runs_equiv
 
--- and of what is compared by the bounds of its blocks
+-- and of values that are compared by the bounds of their blocks
 pub chains_equiv : {C B : Type 0} (bounds : B → ℕ × ℕ) (blocks : C → List B)
     → IsEquivalence (λ (a b : C). same_runs (map bounds (blocks a)) (map bounds (blocks b)))
 chains_equiv bounds blocks = on_equiv (λ c. map bounds (blocks c)) runs_equiv

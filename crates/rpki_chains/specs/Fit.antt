@@ -1,9 +1,9 @@
--- How a block stands to another chain's block at hand.
+-- The position of a block relative to the current block of another chain.
 use Rattle.std.specs.Prelude.{ℕ, ◌<◌, ◌≤◌, ◌⊎◌}
 use Rattle.rpki_chains.specs.declared.overhang.Fit.{Fit}
 use Rattle.rpki_chains.specs.declared.overhang.Fit.TheVariants as fit
 
--- b is beside c in the way that is told
+-- b has this position relative to c
 abbrev pub IsFitIn : {I : Type 0} → (I → ℕ) → I × I → I × I → Fit → Type 0
 IsFitIn number b c fit.Skip = number c.1 < number b.0
 IsFitIn number b c fit.Inside = (number c.0 ≤ number b.0) × (number b.1 ≤ number c.1)

@@ -1,4 +1,4 @@
--- Bounds that become a chain from left to right: the chain so far, and behind it the run at hand.
+-- Bounds that become a chain from left to right: the chain so far, and after it the current run.
 use Rattle.std.specs.Prelude.{ℕ, ◌+◌, ◌<◌, ◌≤◌, ◌⊎◌, List, All}
 use Rattle.rpki_chains.specs.Sets.{IsWithin, Covers, IsChain}
 
@@ -6,7 +6,7 @@ use Rattle.rpki_chains.specs.Sets.{IsWithin, Covers, IsChain}
 abbrev pub IsHeld : {B : Type 0} → (B → ℕ × ℕ) → List B → ℕ × ℕ → ℕ → Type 0
 IsHeld bounds xs run n = Covers bounds xs n ⊎ IsWithin run n
 
--- the run begins behind the chain, which it doesn't touch
+-- the run begins after the chain and doesn't touch it
 pub record IsBehind {B : Type 0} (bounds : B → ℕ × ℕ) (form : ℕ × ℕ → B) (last : ℕ) (xs : List B) (run : ℕ × ℕ) : Type 0 where
   pub chain : IsChain bounds form xs
   pub ordered : run.0 ≤ run.1

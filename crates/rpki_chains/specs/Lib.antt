@@ -1,4 +1,4 @@
--- Definitions: sets and their runs, and what the contracts see of a chain.
+-- Definitions: sets and their runs, and the models of chains.
 pub mod ChainLaws
 pub mod Common
 pub mod Cut

@@ -1,16 +1,16 @@
--- Where a chain leaves another one.
+-- The first block of a chain that doesn't lie in another chain.
 use Rattle.std.specs.Prelude.{ℕ, ◌<◌, ◌≤◌, List, Option, Some, None, ⊤}
 use Rattle.std.specs.Option.{option_map}
 use Rattle.rpki_chains.specs.Sets.{IsWithin, Covers, HoldsBlock, numbers}
 use Rattle.rpki_chains.specs.declared.overhang.Overhang.{Overhang}
 
--- n comes before the block at hand, or there is none
+-- n comes before the current block, or there is no current block
 abbrev pub Before : Option (ℕ × ℕ) → ℕ → Type 0
 Before None n = ⊤
 Before (Some b) n = n < b.0
 
--- the first block of xs that doesn't lie in ys: what comes before it lies in ys, and it does not; and what comes before
--- the block of ys at hand comes before it
+-- the first block of xs that doesn't lie in ys: the numbers of xs before this block lie in ys, and the block does not;
+-- the numbers of ys before the current block of ys come before this block
 pub record IsOverhang {B I : Type 0} (bounds : B → ℕ × ℕ) (number : I → ℕ) (first last : ℕ) (xs ys : List B) (o : Overhang I) : Type 0 where
   pub own_block : HoldsBlock bounds number last xs o.own_at (Some (o.min, o.max))
   pub other_block : HoldsBlock bounds number last ys o.other_at o.other

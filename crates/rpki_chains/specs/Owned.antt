@@ -1,4 +1,4 @@
--- The blocks of a chain that owns them, or shares them: none where it holds nothing.
+-- The blocks of a chain that owns or shares them; there are no blocks if it holds nothing.
 use Rattle.std.specs.Prelude.{◌≡◌, ℕ, List, [], Option, Some, None, MatchOption, ⊤}
 use Rattle.std.specs.declared.vec.Vec.{Vec}
 use Rattle.std.specs.declared.rc.Rc.{Rc}
@@ -12,7 +12,7 @@ abbrev pub shared_blocks : {T A : Type 0} → Option (Rc (List T) A) → List T
 shared_blocks None = []
 shared_blocks (Some rc) = rc.value
 
--- they are a chain, and memory is held for blocks alone: the empty chain holds none
+-- the blocks are a chain, and memory is held for blocks only: the empty chain holds none
 pub record IsOwned {T A : Type 0} (bounds : T → ℕ × ℕ) (form : ℕ × ℕ → T) (held : Option (Vec T A)) : Type 0 where
   pub chain : IsChain bounds form (owned_blocks held)
   pub some : MatchOption held ⊤ (λ v. v.items ≡ [] → ⊥)

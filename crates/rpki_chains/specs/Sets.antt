@@ -1,6 +1,6 @@
--- Sets of whole numbers: what a list of blocks covers, the runs of a set, and the chain of its runs (RFC 3779, 2.2.3.6
--- and 3.2.3.4: blocks are sorted, don't overlap, and are combined where they are contiguous).
--- `bounds` gives the least and the greatest number of a block.
+-- Sets of whole numbers: the numbers that a list of blocks covers, the runs of a set, and the chain of its runs (RFC
+-- 3779, 2.2.3.6 and 3.2.3.4: blocks are sorted, don't overlap, and are combined if they are contiguous). `bounds` gives
+-- the least and the greatest number of a block.
 use Rattle.std.specs.Prelude.{◌≡◌, ℕ, ◌+◌, ◌<◌, ◌≤◌, ◌↔◌, List, Option, MatchOption, length, slice_index_or, All, Any, AllPairs}
 pub use Rattle.rpki_block.specs.Bounds.{IsBeside, IsNew, IsWithin}
 
@@ -8,11 +8,11 @@ pub use Rattle.rpki_block.specs.Bounds.{IsBeside, IsNew, IsWithin}
 abbrev pub Covers : {B : Type 0} → (B → ℕ × ℕ) → List B → ℕ → Type 0
 Covers bounds xs n = Any (λ x. IsWithin (bounds x) n) xs
 
--- each number that the one list covers is covered by the other
+-- each number that the first list covers is covered by the second
 abbrev pub IsInside : {B : Type 0} → (B → ℕ × ℕ) → List B → List B → Type 0
 IsInside bounds xs ys = (n : ℕ) → Covers bounds xs n → Covers bounds ys n
 
--- each number that the list covers is one of the kind's, from the first to the last
+-- each number that the list covers is a number of the kind, from the first to the last
 abbrev pub IsOfKind : {B : Type 0} → (B → ℕ × ℕ) → ℕ → ℕ → List B → Type 0
 IsOfKind bounds first last xs = (n : ℕ) → Covers bounds xs n → (first ≤ n) × (n ≤ last)
 
@@ -47,7 +47,7 @@ pub record IsChain {B : Type 0} (bounds : B → ℕ × ℕ) (form : ℕ × ℕ �
 abbrev pub numbers : {I : Type 0} → (I → ℕ) → I × I → ℕ × ℕ
 numbers number p = (number p.0, number p.1)
 
--- what is read at an index: the numbers of the block there, or nothing at the end of the list
+-- the result of a read at an index: the numbers of the block there, or nothing at the end of the list
 abbrev pub HoldsBlock : {B I : Type 0} → (B → ℕ × ℕ) → (I → ℕ) → ℕ → List B → ℕ → Option (I × I) → Type 0
 HoldsBlock {B} bounds number last blocks at block =
     MatchOption block (at ≡ length blocks) (λ b. (at < length blocks) × ((d : B) → bounds (slice_index_or blocks at d) ≡ numbers number b) × (number b.1 ≤ last))

@@ -1,4 +1,4 @@
--- The blocks of a chain's view, and how often they were read.
+-- The blocks of a chain's view, and how many reads of them there were.
 use Rattle.std.specs.Prelude.{ℕ, List}
 use Rattle.rpki_chains.specs.declared.chain.Chain.{Chain}
 use Rattle.rpki_chains.specs.declared.counted.Counted.{Counted}

@@ -1,4 +1,4 @@
-//! Blocks that ascend become a chain while they are copied, in one pass.
+//! Builds a chain from ascending blocks in one pass, while it copies them.
 ghost use Rattle.std.specs.Prelude.{◌≡◌, ℕ, ◌↔◌, [], IsTrue, IfOk};
 ghost use Rattle.std.specs.List.Sorted.{IsNonDecreasingBy};
 ghost use Rattle.rpki_chains.specs.Sets.{Covers, IsChain, IsOfKind};
@@ -7,9 +7,9 @@ use crate::union::take_in;
 use rpki_block::block::Block;
 use std::alloc::{AllocError, Allocator};
 
-/// Makes an empty vector the chain of the numbers that the blocks cover, and answers that it did. It answers `false`
-/// where a block begins before the run that those before it end with, and so never where the blocks come by ascending
-/// minimum; then the vector may have any blocks.
+/// Fills the empty `chain` with the chain of the numbers that `blocks` cover, and returns true. It returns false if a
+/// block begins before the last run of the blocks before it. This can't happen if the blocks ascend by their minima.
+/// After false the blocks of `chain` are unspecified.
 pub fn join_ascending_into<T: Block, A: Allocator>(
     chain: &mut Vec<T, A>,
     blocks: &[T],
@@ -27,7 +27,7 @@ pub fn join_ascending_into<T: Block, A: Allocator>(
         return Ok(true);
     };
     let mut run = first.bounds();
-    // The blocks passed are held: those of the runs that are closed by `chain`, and the others by the run at hand.
+    // `chain` covers the blocks of the closed runs, and the current run covers the other blocks that were passed.
     for at in 1..blocks.len() {
         let next = blocks[at].bounds();
         if next.0 < run.0 {

@@ -1,4 +1,4 @@
-//! Blocks in any order become a chain in the memory that they stand in: they are sorted, and joined in one pass.
+//! Builds a chain from blocks in any order, in their own memory. The blocks are sorted, and joined in one pass.
 ghost use Rattle.std.specs.Prelude.{◌≡◌, ℕ, ◌+◌, ◌<◌, ◌≤◌, ◌↔◌, ◌⊎◌, IsTrue, IfSome, IfNone};
 ghost use Rattle.std.specs.List.Sorted.{IsNonDecreasingBy};
 ghost use Rattle.std.specs.Ordering.{nat_cmp};
@@ -8,7 +8,7 @@ use rpki_block::block::Block;
 use std::alloc::Allocator;
 use std::cmp::Ordering;
 
-/// Makes the blocks the chain of the numbers that they cover. It takes no memory, and gives none back.
+/// Replaces the blocks by the chain of the numbers that they cover. It neither takes nor returns memory.
 pub fn join<T: Block, A: Allocator>(blocks: &mut Vec<T, A>)
     ensures chain { IsChain T.bounds T.form blocks.new.items }
     ensures covers { (n : ℕ) →
@@ -19,7 +19,7 @@ pub fn join<T: Block, A: Allocator>(blocks: &mut Vec<T, A>)
     join_ascending(blocks);
 }
 
-/// Brings blocks into the order of their minima. Where they come so, it looks at each once and moves none.
+/// Sorts the blocks by their minima. If they are sorted already, it looks at each once and moves none.
 fn sort<T: Block, A: Allocator>(blocks: &mut Vec<T, A>)
     ensures covers { (n : ℕ) →
         Covers T.bounds blocks.new.items n ↔ Covers T.bounds blocks.old.items n }
@@ -32,11 +32,11 @@ fn sort<T: Block, A: Allocator>(blocks: &mut Vec<T, A>)
     );
 }
 
-/// Joins blocks that come by ascending minimum.
+/// Joins blocks that are sorted by their minima.
 ///
-/// A run is at hand. In front of `closed` stand the blocks of the runs before it, which end before it and don't touch
-/// it. Each turn takes the next block, which begins no earlier than the run does: so nothing that comes later can reach
-/// a run that was closed. A run is over one block at least, so its block has a place among those that were passed.
+/// The blocks below the index `closed` are those of the closed runs, which end before the current run and don't touch
+/// it. Each iteration takes the next block, which begins no earlier than the current run. No later block can therefore
+/// reach a closed run. A run covers at least one block, so its block has an index among those that were passed.
 fn join_ascending<T: Block, A: Allocator>(blocks: &mut Vec<T, A>)
     requires { IsNonDecreasingBy (λ b. (T.bounds b).0) blocks.old.items }
     ensures chain { IsChain T.bounds T.form blocks.new.items }
@@ -63,7 +63,7 @@ fn join_ascending<T: Block, A: Allocator>(blocks: &mut Vec<T, A>)
     blocks.truncate(closed + 1);
 }
 
-/// The run over a run and bounds that begin no earlier, where they overlap or touch.
+/// Returns the run that covers `run` and `next` if they overlap or touch. `next` begins no earlier than `run`.
 pub fn run_over<T: Block>(
     run: (T::Item, T::Item),
     next: (T::Item, T::Item),
@@ -85,7 +85,7 @@ pub fn run_over<T: Block>(
     Some((run.0, max))
 }
 
-/// Whether an item comes right after another one or is not above it.
+/// Returns whether `item` comes right after `high` or is not above it.
 fn is_reached<T: Block>(high: T::Item, item: T::Item) -> bool
     requires { T.number item ≤ T.last }
     ensures { IsTrue result ↔ (T.number item ≤ T.number high + 1) }

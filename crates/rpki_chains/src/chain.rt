@@ -1,4 +1,4 @@
-//! The borrowed view of a chain, and the operations on the sets that chains are.
+//! The borrowed view of a chain, and the operations on the sets that chains denote.
 ghost use Rattle.std.specs.Prelude.{◌≡◌, ◌↔◌, IsTrue, map};
 ghost use Rattle.std.specs.Coded.{Coded-set};
 ghost use Rattle.rpki_chains.specs.Sets.{IsChain};
@@ -18,8 +18,8 @@ use std::alloc::{AllocError, Allocator};
 use std::fmt;
 use std::slice::Iter;
 
-/// Ascending blocks that neither overlap nor touch, each in the form that `new` gives: the one list of the maximal runs
-/// of the numbers that they cover (RFC 3779, 2.2.3.6 and 3.2.3.4).
+/// Ascending blocks that neither overlap nor touch, each in the form that `new` gives. They are the only list of the
+/// maximal runs of the numbers that they cover (RFC 3779, 2.2.3.6 and 3.2.3.4).
 pub struct Chain<'a, T: Block> {
     blocks: &'a [T],
     pub ghost is_chain: { IsChain T.bounds T.form blocks.now } by { IsChain-prop (Coded-set T.code) },
@@ -31,14 +31,14 @@ impl<'a, T: Block> Chain<'a, T> {
     ghost use Rattle.rpki_chains.specs.Sets.{Covers, IsChain, IsChainOf};
     ghost use Rattle.rpki_chains.specs.View.{chain_blocks};
 
-    /// The chain with no blocks.
+    /// Returns the chain without blocks.
     pub fn empty() -> Self
         ensures { chain_blocks result ≡ [] }
     {
         Chain { blocks: &[] }
     }
 
-    /// A view of blocks that are a chain already.
+    /// Returns a view of blocks that are a chain already.
     pub(crate) fn from_slice_unchecked(blocks: &'a [T]) -> Self
         requires { IsChain T.bounds T.form blocks.now }
         ensures { chain_blocks result ≡ blocks.now }
@@ -46,8 +46,8 @@ impl<'a, T: Block> Chain<'a, T> {
         Chain { blocks }
     }
 
-    /// The blocks in ascending order. They are exactly the runs of the numbers that they cover, no other list is the
-    /// chain of these numbers, and no list of blocks with the same cover is shorter.
+    /// Returns the blocks in ascending order. They are exactly the runs of the numbers that they cover. No other list
+    /// is the chain of these numbers, and no shorter list of blocks covers the same numbers.
     pub fn as_slice(self) -> &'a [T]
         ensures value { result.now ≡ chain_blocks self.entry }
         ensures chain { IsChainOf T.bounds T.form (Covers T.bounds result.now) result.now }
@@ -61,21 +61,21 @@ impl<'a, T: Block> Chain<'a, T> {
         self.blocks
     }
 
-    /// How many blocks there are.
+    /// Returns the number of blocks.
     pub fn len(self) -> usize
         ensures { result ≡ length (chain_blocks self.entry) }
     {
         self.blocks.len()
     }
 
-    /// Whether there is no block.
+    /// Returns whether there is no block.
     pub fn is_empty(self) -> bool
         ensures { IsTrue result ↔ (chain_blocks self.entry ≡ []) }
     {
         self.blocks.is_empty()
     }
 
-    /// The blocks one by one, ascending.
+    /// Iterates over the blocks, ascending.
     pub fn iter(self) -> Iter<'a, T>
         ensures { iter_rest result ≡ chain_blocks self.entry }
     {
@@ -90,14 +90,14 @@ impl<T: Block> Chain<'_, T> {
     ghost use Rattle.rpki_chains.specs.Overhang.{IsOverhang};
     ghost use Rattle.rpki_chains.specs.View.{chain_blocks};
 
-    /// Whether an item lies in one of the blocks. A binary search.
+    /// Returns whether `item` lies in one of the blocks. This is a binary search.
     pub fn contains_item(self, item: T::Item) -> bool
         ensures { IsTrue result ↔ Covers T.bounds (chain_blocks self.entry) (T.number item) }
     {
         contains_item_counted(&mut Counted::new(self), item)
     }
 
-    /// Whether each item of a block lies in one of the blocks. A binary search.
+    /// Returns whether each item of `block` lies in one of the blocks. This is a binary search.
     pub fn contains_block(self, block: &T) -> bool
         ensures { IsTrue result ↔ ((n : ℕ) →
             IsWithin (T.bounds block.now) n → Covers T.bounds (chain_blocks self.entry) n) }
@@ -105,7 +105,7 @@ impl<T: Block> Chain<'_, T> {
         contains_block(&mut Counted::new(self), block)
     }
 
-    /// Whether an item of a block lies in one of the blocks. A binary search.
+    /// Returns whether at least one item of `block` lies in one of the blocks. This is a binary search.
     pub fn intersects_block(self, block: &T) -> bool
         ensures { IsTrue result ↔ ((n : ℕ) ×
             IsWithin (T.bounds block.now) n × Covers T.bounds (chain_blocks self.entry) n) }
@@ -113,7 +113,7 @@ impl<T: Block> Chain<'_, T> {
         intersects_block(&mut Counted::new(self), block)
     }
 
-    /// Whether each of its numbers is one of the other's.
+    /// Returns whether `other` has each number of `self`.
     pub fn is_encompassed(self, other: Chain<'_, T>) -> bool
         ensures { IsTrue result ↔
             IsInside T.bounds (chain_blocks self.entry) (chain_blocks other.entry) }
@@ -121,8 +121,8 @@ impl<T: Block> Chain<'_, T> {
         self.overhang(other).is_none()
     }
 
-    /// Its first block that doesn't lie in the other, `None` where each does. This takes no memory. Where the other has
-    /// many more blocks, each of its own is sought there by a binary search.
+    /// Returns the first block of `self` that doesn't lie in `other`, or None if each block does. The call takes no
+    /// memory. If `other` has many more blocks, a binary search looks for each block of `self` there.
     pub(crate) fn overhang(self, other: Chain<'_, T>) -> Option<Overhang<T::Item>>
         ensures { MatchOption result
             (IsInside T.bounds (chain_blocks self.entry) (chain_blocks other.entry))
@@ -135,10 +135,15 @@ impl<T: Block> Chain<'_, T> {
         overhang_of(self.blocks, other.blocks)
     }
 
-    /// `Ok` where each of its numbers is one of the other's, with no memory taken. Else `Refused` with the chain of the
-    /// numbers that both have, which has no more blocks than both together; or `Memory`.
+    /// Checks that `other` has each number of `self`. If it has, the call takes no memory.
     ///
     /// The chain in `Refused` is an owned one. [`crate::shared::SharedChain::trim`] returns a shared one.
+    ///
+    /// # Errors
+    ///
+    /// - `Refused`: `other` doesn't have each number. The variant holds the chain of the numbers that both have. This
+    ///   chain has at most as many blocks as both together.
+    /// - `Memory`: there is no memory for this chain.
     pub fn trim<A: Allocator>(
         self,
         alloc: A,
@@ -155,8 +160,12 @@ impl<T: Block> Chain<'_, T> {
         trim_counted(alloc, &mut Counted::new(self), &mut Counted::new(other))
     }
 
-    /// The chain of its numbers that aren't the other's. It has no more blocks than both together. `AllocError` where
-    /// there is no memory for it.
+    /// Returns the chain of the numbers of `self` that `other` doesn't have. The result has at most as many blocks as
+    /// both together.
+    ///
+    /// # Errors
+    ///
+    /// [`AllocError`] if an allocation fails.
     pub fn difference<A: Allocator>(
         self,
         alloc: A,
@@ -171,8 +180,12 @@ impl<T: Block> Chain<'_, T> {
         difference_counted(alloc, &mut Counted::new(self), &mut Counted::new(other))
     }
 
-    /// The chain of its numbers and the other's. It has no more blocks than both together. `AllocError` where there is
-    /// no memory for it.
+    /// Returns the chain of the numbers that `self` or `other` has. The result has at most as many blocks as both
+    /// together.
+    ///
+    /// # Errors
+    ///
+    /// [`AllocError`] if an allocation fails.
     pub fn union<A: Allocator>(
         self,
         alloc: A,
@@ -219,7 +232,7 @@ impl<T: Block> PartialEq for Chain<'_, T> {
 
     ghost laws = { chains_per T.bounds (λ c. chain_blocks c) };
 
-    /// Chains are equal exactly where they cover the same numbers.
+    /// Returns whether both chains cover the same numbers.
     fn eq(&self, other: &Self) -> bool
         ensures value { result ≡ same_runs
             (map T.bounds (chain_blocks self.now)) (map T.bounds (chain_blocks other.now)) }
@@ -239,14 +252,14 @@ impl<T: Block> Eq for Chain<'_, T> {
     ghost laws = { chains_equiv T.bounds (λ c. chain_blocks c) };
 }
 
-/// Whether the blocks of two lists have the same bounds, one by one.
+/// Returns whether the blocks of two lists have the same bounds, one by one.
 fn are_same_blocks<T: Block>(some: &[T], others: &[T]) -> bool
     ensures { IsTrue result ↔ (map T.bounds some.now ≡ map T.bounds others.now) }
 {
     if some.len() != others.len() {
         return false;
     }
-    // The blocks passed have the same bounds, one by one.
+    // The blocks that were passed have the same bounds, one by one.
     for (i, block) in some.iter().enumerate() {
         if !block.is_equivalent(&others[i]) {
             return false;

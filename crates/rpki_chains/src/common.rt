@@ -1,4 +1,4 @@
-//! The numbers that two chains have in common.
+//! The intersection of two chains.
 ghost use Rattle.std.specs.Prelude.{◌≡◌, ◌+◌, ◌-◌, ◌≤◌, ◌⊎◌, Some, length, take, IfOk, OnOk};
 ghost use Rattle.rpki_chains.specs.Sets.{Covers, IsChainOf, numbers};
 ghost use Rattle.rpki_chains.specs.Common.{IsCommonPushed};
@@ -11,7 +11,7 @@ use crate::reads::{Reads, read_at};
 use rpki_block::block::Block;
 use std::alloc::{AllocError, Allocator};
 
-/// The one of two items that comes later.
+/// Returns the larger of two items.
 fn later<T: Block>(item: T::Item, other: T::Item) -> T::Item
     ensures reaches { T.number item ≤ T.number result }
     ensures reaches_other { T.number other ≤ T.number result }
@@ -20,8 +20,8 @@ fn later<T: Block>(item: T::Item, other: T::Item) -> T::Item
     if item <= other { other } else { item }
 }
 
-/// Puts what a block has in common with one that ends no earlier behind a chain, and nothing where they have no item in
-/// common.
+/// Appends the common part of `block` and `other` to a chain; `other` ends no earlier than `block`. Without a common
+/// item it appends nothing.
 #[inline(always)]
 fn push_common<T: Block, A: Allocator>(
     chain: &mut Vec<T, A>,
@@ -40,7 +40,7 @@ fn push_common<T: Block, A: Allocator>(
     Ok(())
 }
 
-/// The first blocks of a chain, made anew.
+/// Returns the first `len` blocks of a chain, rebuilt from their bounds.
 fn first_blocks<T: Block, A: Allocator, X: Reads<T>>(
     alloc: A,
     own: &mut X,
@@ -51,10 +51,10 @@ fn first_blocks<T: Block, A: Allocator, X: Reads<T>>(
     ensures kept { X.blocks own.new ≡ X.blocks own.old }
     ensures reads { X.count own.new ≤ X.count own.old + len }
 {
-    // The length is asked for what its contract tells: that the blocks are a chain.
+    // `len` is called only for its contract: the blocks are a chain.
     let _len = own.len();
     let mut chain = Vec::with_capacity(alloc, len)?;
-    // A block in new form is the one that is made of its bounds, so each comes out as it was.
+    // A block in the form that `new` gives is the one made of its bounds, so each block comes out unchanged.
     for at in 0..len {
         let (min, max) = own.read(at);
         chain.push(T::new(min, max))?;
@@ -62,8 +62,9 @@ fn first_blocks<T: Block, A: Allocator, X: Reads<T>>(
     Ok(chain)
 }
 
-/// The chain of what two chains have in common, where the first overhang is known: the blocks before it, and then what
-/// a walk from there on finds. Each turn of it is done with one block.
+/// Returns the chain of the numbers that two chains have in common. `overhang` is the first overhang of `own` over
+/// `other`. The result has the blocks before the overhang, and then what a pass from there on finds. Each iteration of
+/// the pass finishes one block.
 pub fn common_from<T: Block, A: Allocator, X: Reads<T>, Y: Reads<T>>(
     alloc: A,
     own: &mut X,
@@ -78,13 +79,13 @@ pub fn common_from<T: Block, A: Allocator, X: Reads<T>, Y: Reads<T>>(
         length chain ≤ length (X.blocks own.old) + length (Y.blocks other.old)) }
     ensures own_kept { X.blocks own.new ≡ X.blocks own.old }
     ensures other_kept { Y.blocks other.new ≡ Y.blocks other.old }
-    // The blocks before the overhang are read once, and so are those behind it.
+    // The blocks before the overhang are read at most once, and so are those after it.
     ensures own_reads { X.count own.new ≤ X.count own.old + overhang.own_at +
         (length (X.blocks own.old) - (overhang.own_at + 1)) }
     ensures other_reads { Y.count other.new ≤ Y.count other.old +
         (length (Y.blocks other.old) - (overhang.other_at + 1)) }
 {
-    // The lengths are asked for what their contract tells: that the blocks are chains, of fewer than 2^64 blocks.
+    // `len` is called only for its contract: the blocks are chains of fewer than 2^64 blocks.
     let _own_len = own.len();
     let _other_len = other.len();
     let Overhang {
@@ -110,8 +111,8 @@ pub fn common_from<T: Block, A: Allocator, X: Reads<T>, Y: Reads<T>>(
     Ok(OwnedChain::from_vec_unchecked(chain))
 }
 
-/// Puts what two chains have in common from the first overhang on behind the blocks before it, where the other chain
-/// has a block left.
+/// Appends what two chains have in common from the first overhang on. `chain` has the blocks before the overhang, and
+/// the other chain has a block left.
 fn push_behind<T: Block, A: Allocator, X: Reads<T>, Y: Reads<T>>(
     chain: &mut Vec<T, A>,
     own: &mut X,
@@ -139,12 +140,12 @@ fn push_behind<T: Block, A: Allocator, X: Reads<T>, Y: Reads<T>>(
     ensures other { IsReadOn (Y.blocks other.old) (Y.blocks other.new) other_at
         (Y.count other.old) (Y.count other.new) }
 {
-    // Asked for what they tell: that the blocks are a chain, of fewer than 2^64 blocks.
+    // `len` is called only for its contract: the blocks are chains of fewer than 2^64 blocks.
     let _own_len = own.len();
     let _other_len = other.len();
-    // `chain` has what both have before one of the blocks at hand. A turn is done with the block that ends first: what
-    // the other one has of it is pushed, and nothing that comes later in either chain can reach it. So each turn passes
-    // a block, and the walk ends where one chain has none left.
+    // `chain` has what both chains have before one of the current blocks. Each iteration finishes the block that ends
+    // first. It pushes the part that the other block has, and no later block of either chain can reach the finished
+    // one. So each iteration passes a block, and the loop ends when one chain has no block left.
     loop {
         if own_block.1 <= other_block.1 {
             push_common(chain, own_block, other_block)?;

@@ -1,4 +1,4 @@
-//! The numbers of one chain that aren't in another.
+//! The difference of two chains: the numbers of one that aren't in the other.
 ghost use Rattle.std.specs.Prelude.{◌≡◌, ◌+◌, ◌-◌, ◌<◌, ◌≤◌, length, IfOk, IfSome};
 ghost use Rattle.rpki_chains.specs.Sets.{Covers, IsChainOf};
 ghost use Rattle.rpki_chains.specs.Cut.{IsCut, IsCutBy};
@@ -10,23 +10,23 @@ use crate::reads::{Reads, read_at};
 use rpki_block::block::Block;
 use std::alloc::{AllocError, Allocator};
 
-/// What becomes of the rest of a block at the next block that is taken out, the cut.
+/// The effect of the next removed block, the cut, on the rest of a block.
 pub enum Cut<I> {
     /// There is no rest.
     End,
-    /// The cut ends before the rest: the next cut is looked at.
+    /// The cut ends before the rest, so the next cut is examined.
     Skip,
-    /// From `min` to `max` it stays, and no more of it is left.
+    /// The rest stays from `min` to `max`, and no more of it is left.
     Keep { min: I, max: I },
-    /// None of it stays.
+    /// Nothing of the rest stays.
     Drop,
-    /// From `min` to `end` it stays, and it goes on at `next`, behind the cut.
+    /// The rest stays from `min` to `end`, and goes on at `next`, after the cut.
     Split { min: I, end: I, next: I, max: I },
-    /// It goes on at `next`, behind the cut.
+    /// The rest goes on at `next`, after the cut.
     Advance { next: I, max: I },
 }
 
-/// Looks at the next cut.
+/// Examines the next cut.
 fn next_cut<T: Block>(
     rest: Option<(T::Item, T::Item)>,
     cut: Option<(T::Item, T::Item)>,
@@ -75,7 +75,7 @@ fn cut_by<T: Block>(min: T::Item, max: T::Item, low: T::Item, high: T::Item) -> 
     }
 }
 
-/// The item before one that isn't the first.
+/// Returns the item before one that isn't the first.
 fn before<T: Block>(item: T::Item) -> T::Item
     requires { T.first < T.number item }
     ensures { T.number result + 1 ≡ T.number item }
@@ -86,7 +86,7 @@ fn before<T: Block>(item: T::Item) -> T::Item
     }
 }
 
-/// The item behind one that isn't the last.
+/// Returns the item after one that isn't the last.
 fn behind<T: Block>(item: T::Item) -> T::Item
     requires { T.number item < T.last }
     ensures { T.number result ≡ T.number item + 1 }
@@ -97,8 +97,12 @@ fn behind<T: Block>(item: T::Item) -> T::Item
     }
 }
 
-/// The chain of the numbers of one chain that aren't in the other, as [`crate::chain::Chain::difference`] answers it.
-/// Both together are read no more often than they have blocks.
+/// Returns the chain of the numbers of `own` that `other` doesn't have, as [`crate::chain::Chain::difference`] does.
+/// The number of reads of both chains together is at most the number of their blocks.
+///
+/// # Errors
+///
+/// [`AllocError`] if an allocation fails.
 pub fn difference_counted<T: Block, A: Allocator, X: Reads<T>, Y: Reads<T>>(
     alloc: A,
     own: &mut X,
@@ -120,8 +124,8 @@ pub fn difference_counted<T: Block, A: Allocator, X: Reads<T>, Y: Reads<T>>(
     }
 }
 
-/// The same, where the first overhang is known: nothing before it is left, and a walk goes on from there. Each turn is
-/// done with one block, and keeps one piece at most.
+/// Does the same if the first overhang is known. Nothing before the overhang is left, and the pass starts there. Each
+/// iteration finishes one block, and keeps at most one piece.
 pub fn difference_from<T: Block, A: Allocator, X: Reads<T>, Y: Reads<T>>(
     alloc: A,
     own: &mut X,
@@ -137,13 +141,13 @@ pub fn difference_from<T: Block, A: Allocator, X: Reads<T>, Y: Reads<T>>(
         length chain ≤ length (X.blocks own.old) + length (Y.blocks other.old)) }
     ensures own_kept { X.blocks own.new ≡ X.blocks own.old }
     ensures other_kept { Y.blocks other.new ≡ Y.blocks other.old }
-    // The blocks behind the overhang are read once.
+    // The blocks after the overhang are read at most once.
     ensures own_reads { X.count own.new ≤ X.count own.old +
         (length (X.blocks own.old) - (overhang.own_at + 1)) }
     ensures other_reads { Y.count other.new ≤ Y.count other.old +
         (length (Y.blocks other.old) - (overhang.other_at + 1)) }
 {
-    // The lengths are asked for what their contract tells: that the blocks are chains, of fewer than 2^64 blocks.
+    // `len` is called only for its contract: the blocks are chains of fewer than 2^64 blocks.
     let _own_len = own.len();
     let _other_len = other.len();
     let Overhang {
@@ -155,9 +159,9 @@ pub fn difference_from<T: Block, A: Allocator, X: Reads<T>, Y: Reads<T>>(
     } = overhang;
     let mut rest = Some((min, max));
     let mut chain = Vec::new(alloc);
-    // `rest` is what is left of the block at `own_at`, and `cut` is the block at `other_at` that may be taken out of
-    // it. All that comes before the rest is decided: what stays of it is in `chain`. No cut that was passed reaches the
-    // rest. A turn is done with the rest or with the cut, so the walk ends, and it keeps one piece at most.
+    // `rest` is what is left of the block at `own_at`. `cut` is the block at `other_at`, which may be removed from it.
+    // The numbers before the rest are decided: those that stay are in `chain`. No cut that was passed reaches the rest.
+    // Each iteration finishes the rest or the cut, so the loop ends. It keeps at most one piece.
     loop {
         match next_cut::<T>(rest, cut) {
             Cut::End => break,

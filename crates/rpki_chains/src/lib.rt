@@ -1,5 +1,5 @@
-//! Blocks of whole numbers and chains of them: the ascending list of a set's runs, and the walks over one or two such
-//! lists.
+//! Blocks of whole numbers and chains of them. A chain is the ascending list of a set's runs. The crate also has the
+//! passes over one or two such lists.
 //!
 //! Blocks in any order become the chain of their runs, here of 1 to 4 and 23 to 48, as in `test_chains::chains`:
 //!
@@ -29,5 +29,5 @@ pub use membership::contains_item_counted;
 pub use trim::trim_counted;
 pub use union::union_counted;
 
-/// Blocks, whose trait stands in a crate of its own below this one.
+/// Re-exports blocks, whose trait is defined in a crate of its own.
 pub use rpki_block::block;

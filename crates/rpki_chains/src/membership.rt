@@ -1,11 +1,12 @@
-//! Whether a chain has an item, or the items of a block: the first of its blocks that doesn't end before it is sought.
+//! Membership of an item, or of the items of a block, in a chain. The calls find the first block of the chain that
+//! doesn't end before the item.
 ghost use Rattle.std.specs.Prelude.{◌≡◌, ℕ, ◌+◌, ◌-◌, ◌*◌, ◌^◌, ◌<◌, ◌≤◌, ◌↔◌, length, slice_index_or, IsTrue, IfSome, MatchOption};
 ghost use Rattle.rpki_chains.specs.Sets.{IsWithin, Covers, IsChain, IsRunFrom, HoldsBlock, numbers};
 
 use crate::reads::Reads;
 use rpki_block::block::Block;
 
-/// The index in the middle of some, which leaves at most half of them on each side.
+/// Returns the index in the middle of a range of indexes. It leaves at most half of them on each side.
 fn middle_of(low: usize, high: usize) -> usize
     requires { low < high }
     ensures from_low { low ≤ result }
@@ -16,9 +17,10 @@ fn middle_of(low: usize, high: usize) -> usize
     low + (high - low) / 2
 }
 
-/// Moves a place on to the first block from there on that doesn't end before an item, by a binary search, and answers
-/// that block's bounds; to the end of the chain, and `None`, where all from there on end before it. It reads at most as
-/// many blocks as the number of those that are left has binary digits.
+/// Moves the index `at` to the first block from there on that doesn't end before `item`, and returns its bounds. If all
+/// blocks from there on end before `item`, the index becomes the length of the chain, and the call returns None.
+///
+/// This is a binary search. It reads at most as many blocks as the number of the blocks from `at` on has binary digits.
 pub fn seek<T: Block, R: Reads<T>>(
     chain: &mut R,
     at: &mut usize,
@@ -38,9 +40,9 @@ pub fn seek<T: Block, R: Reads<T>>(
     let mut low = *at;
     let mut high = chain.len();
     let mut found = None;
-    // The blocks before `low` end before the item. The one at `high` doesn't, and its bounds are in `found`, unless
-    // `high` is still the end of the chain. Each turn leaves half of the blocks between them, so they meet at the first
-    // block that doesn't end before the item.
+    // The blocks before `low` end before the item. The block at `high` doesn't, and its bounds are in `found`, unless
+    // `high` is still the end of the chain. Each iteration leaves at most half of the blocks between `low` and `high`.
+    // So they meet at the first block that doesn't end before the item.
     while low < high {
         let middle = middle_of(low, high);
         let (min, max) = chain.read(middle);
@@ -55,8 +57,8 @@ pub fn seek<T: Block, R: Reads<T>>(
     found
 }
 
-/// The bounds of the first block that doesn't end before an item. `None` where all end before it. It reads at most as
-/// many blocks as their number has binary digits, as do the questions that it serves.
+/// Returns the bounds of the first block that doesn't end before `item`, or None if all blocks do. It reads at most as
+/// many blocks as their number has binary digits. This also holds for its callers below.
 pub fn first_from<T: Block, R: Reads<T>>(chain: &mut R, item: T::Item) -> Option<(T::Item, T::Item)>
     ensures block { MatchOption result
         ((n : ℕ) → T.number item ≤ n → Covers T.bounds (R.blocks chain.old) n → ⊥)
@@ -70,8 +72,8 @@ pub fn first_from<T: Block, R: Reads<T>>(chain: &mut R, item: T::Item) -> Option
     seek(chain, &mut at, item)
 }
 
-/// Whether the chain has an item, as [`crate::chain::Chain::contains_item`] answers it. It reads at most as many blocks
-/// as their number has binary digits, and none where there are none.
+/// Returns whether the chain has `item`, as [`crate::chain::Chain::contains_item`] does. It reads at most as many
+/// blocks as their number has binary digits, and none if the chain is empty.
 pub fn contains_item_counted<T: Block, R: Reads<T>>(chain: &mut R, item: T::Item) -> bool
     ensures value { IsTrue result ↔ Covers T.bounds (R.blocks chain.old) (T.number item) }
     ensures kept { R.blocks chain.new ≡ R.blocks chain.old }
@@ -84,7 +86,7 @@ pub fn contains_item_counted<T: Block, R: Reads<T>>(chain: &mut R, item: T::Item
     }
 }
 
-/// Whether the chain has each item of a block.
+/// Returns whether the chain has each item of `block`.
 pub fn contains_block<T: Block, R: Reads<T>>(chain: &mut R, block: &T) -> bool
     ensures value { IsTrue result ↔ ((n : ℕ) →
         IsWithin (T.bounds block.now) n → Covers T.bounds (R.blocks chain.old) n) }
@@ -99,7 +101,7 @@ pub fn contains_block<T: Block, R: Reads<T>>(chain: &mut R, block: &T) -> bool
     }
 }
 
-/// Whether the chain has an item of a block.
+/// Returns whether the chain has at least one item of `block`.
 pub fn intersects_block<T: Block, R: Reads<T>>(chain: &mut R, block: &T) -> bool
     ensures value { IsTrue result ↔ ((n : ℕ) ×
         IsWithin (T.bounds block.now) n × Covers T.bounds (R.blocks chain.old) n) }

@@ -1,4 +1,4 @@
-//! Where a chain leaves another one.
+//! The overhang of a chain over another: its first block that doesn't lie in the other chain.
 ghost use Rattle.std.specs.Prelude.{◌≡◌, ◌+◌, ◌-◌, ◌≤◌, [], length, IfSome, MatchOption};
 ghost use Rattle.rpki_chains.specs.Sets.{IsInside, IsChain};
 ghost use Rattle.rpki_chains.specs.Fit.{IsFitIn};
@@ -7,17 +7,17 @@ ghost use Rattle.rpki_chains.specs.Overhang.{IsOverhang};
 use crate::reads::{Reads, read_at};
 use rpki_block::block::Block;
 
-/// How the next block of a chain stands to that of another.
+/// The position of a chain's next block relative to the next block of another chain.
 pub enum Fit {
-    /// The other's ends before it: the other's next one is looked at.
+    /// The other's block ends before this block, so the other's next block is examined.
     Skip,
-    /// It lies in the other's.
+    /// The block lies in the other's block.
     Inside,
-    /// Some of it lies in no block of the other.
+    /// Some of the block lies in no block of the other chain.
     Beyond,
 }
 
-/// The first block of a chain that doesn't lie in another, and the other's block at hand.
+/// The first block of a chain that doesn't lie in another, and the current block of the other.
 #[derive(Drop)]
 pub struct Overhang<I> {
     pub own_at: usize,
@@ -27,7 +27,7 @@ pub struct Overhang<I> {
     pub other: Option<(I, I)>,
 }
 
-/// Looks at the block from `min` to `max` beside the other chain's from `low` to `high`.
+/// Compares the block from `min` to `max` with the other chain's block from `low` to `high`.
 fn fit_in<T: Block>(min: T::Item, max: T::Item, low: T::Item, high: T::Item) -> Fit
     ensures { IsFitIn T.number (min, max) (low, high) result }
 {
@@ -43,7 +43,8 @@ fn fit_in<T: Block>(min: T::Item, max: T::Item, low: T::Item, high: T::Item) -> 
     Fit::Inside
 }
 
-/// Finds the first block that doesn't lie in the other chain. Each turn is done with one block.
+/// Returns the first block of `own` that doesn't lie in `other`, or None if each block does. Each iteration finishes
+/// one block.
 pub fn first_overhang<T: Block, X: Reads<T>, Y: Reads<T>>(
     own: &mut X,
     other: &mut Y,
@@ -54,7 +55,7 @@ pub fn first_overhang<T: Block, X: Reads<T>, Y: Reads<T>>(
     ensures other_kept { Y.blocks other.new ≡ Y.blocks other.old }
     ensures own_reads { X.count own.new ≤ X.count own.old + length (X.blocks own.old) }
     ensures other_reads { Y.count other.new ≤ Y.count other.old + length (Y.blocks other.old) }
-    // What comes behind the blocks at hand wasn't read.
+    // The blocks after the current ones weren't read.
     ensures own_left { IfSome result (λ o. X.count own.new
         + (length (X.blocks own.old) - (o.own_at + 1)) ≤
         X.count own.old + length (X.blocks own.old)) }
@@ -76,9 +77,9 @@ pub fn first_overhang<T: Block, X: Reads<T>, Y: Reads<T>>(
             other: None,
         });
     };
-    // What comes before the one chain's block at hand lies in the other chain, and what comes before the other's block
-    // at hand comes before that block too. A turn passes one of the two blocks, so the walk ends; a block that some
-    // block of the other doesn't hold ends it at once, since chains have gaps between their blocks.
+    // The blocks before `own_block` lie in the other chain. The blocks before `other_block` end before `own_block`
+    // begins. An iteration passes one of the two blocks, so the loop ends. A block that lies in no single block of the
+    // other chain ends the loop at once, since chains have gaps between their blocks.
     loop {
         match fit_in::<T>(own_block.0, own_block.1, other_block.0, other_block.1) {
             Fit::Skip => {
@@ -114,7 +115,7 @@ pub fn first_overhang<T: Block, X: Reads<T>, Y: Reads<T>>(
     }
 }
 
-/// The same over two lists: it counts nothing, and reads each block at most once.
+/// Does the same for two lists. It counts nothing, and reads each block at most once.
 pub fn overhang_of<T: Block>(own: &[T], other: &[T]) -> Option<Overhang<T::Item>>
     requires own_chain { IsChain T.bounds T.form own.now }
     requires other_chain { IsChain T.bounds T.form other.now }
@@ -126,8 +127,9 @@ pub fn overhang_of<T: Block>(own: &[T], other: &[T]) -> Option<Overhang<T::Item>
         return first_of(own);
     };
     let mut held = first.bounds();
-    // The blocks passed lie in the other chain, and what comes before the held block comes before the block at hand. So
-    // the first of the other's that doesn't end before it has to hold it: chains have gaps between their blocks.
+    // The blocks that were passed lie in the other chain. The other's blocks before `held` end before the current
+    // block. So the first of the other's blocks that doesn't end before the current block must contain it, since chains
+    // have gaps between their blocks.
     for (own_at, block) in own.iter().enumerate() {
         let (min, max) = block.bounds();
         while held.1 < min {
@@ -155,7 +157,7 @@ pub fn overhang_of<T: Block>(own: &[T], other: &[T]) -> Option<Overhang<T::Item>
     None
 }
 
-/// The first block of a chain as what leaves the empty one.
+/// Returns the overhang of a chain over the empty chain: its first block.
 fn first_of<T: Block>(own: &[T]) -> Option<Overhang<T::Item>>
     requires { IsChain T.bounds T.form own.now }
     ensures { MatchOption result (IsInside T.bounds own.now [])

@@ -1,4 +1,4 @@
-//! A chain with the memory that its blocks stand in.
+//! A chain that owns the memory of its blocks.
 ghost use Rattle.std.specs.Prelude.{◌≡◌, ℕ, ◌↔◌, List, [], All, IsTrue, IfOk, OnOk, map};
 ghost use Rattle.rpki_chains.specs.Equality.{same_runs};
 ghost use Rattle.rpki_chains.specs.EqualityLaws.{chains_per, chains_equiv};
@@ -14,7 +14,7 @@ use std::alloc::{AllocError, Allocator, Global};
 use std::fmt;
 use std::marker::Model;
 
-/// A chain that owns its blocks. The empty one holds no memory.
+/// A chain that owns its blocks. The empty chain holds no memory.
 #[derive(Drop)]
 pub struct OwnedChain<T: Block, A: Allocator = Global> {
     blocks: Option<Vec<T, A>>,
@@ -29,15 +29,19 @@ impl<T: Block, A: Allocator> Model for OwnedChain<T, A> {
 }
 
 impl<T: Block, A: Allocator> OwnedChain<T, A> {
-    /// The chain with no blocks. It holds no memory.
+    /// Returns the chain without blocks. It holds no memory.
     pub fn empty() -> Self
         ensures { result ≡ [] }
     {
         OwnedChain { blocks: None }
     }
 
-    /// The chain of the numbers that the blocks cover. They may come in any order and may overlap; where they ascend
-    /// already they are not sorted. `AllocError` where there is no memory for as many blocks as there are.
+    /// Returns the chain of the numbers that the blocks cover. The blocks may be in any order and may overlap. They are
+    /// not sorted if they ascend already.
+    ///
+    /// # Errors
+    ///
+    /// [`AllocError`] if there is no memory for as many blocks as `blocks` has.
     pub fn from_blocks(alloc: A, blocks: &[T]) -> Result<Self, AllocError>
         ensures chain { IfOk result (λ chain.
             IsChainOf T.bounds T.form (Covers T.bounds blocks.now) chain) }
@@ -52,8 +56,10 @@ impl<T: Block, A: Allocator> OwnedChain<T, A> {
         Ok(Self::from_vec(chain))
     }
 
-    /// The chain of the numbers that the blocks cover. They may come in any order and may overlap. It is made in their
-    /// own memory: none is taken, and the chain keeps all of it, but for an empty one, which holds none.
+    /// Returns the chain of the numbers that the blocks cover. The blocks may be in any order and may overlap.
+    ///
+    /// The chain is made in the memory of `blocks`. It takes no other memory, and keeps all of this memory. An empty
+    /// chain keeps none.
     pub fn from_vec(mut blocks: Vec<T, A>) -> Self
         ensures chain { IsChainOf T.bounds T.form (Covers T.bounds blocks.items) result }
         ensures kind { IsOfKind T.bounds T.first T.last blocks.items }
@@ -62,7 +68,11 @@ impl<T: Block, A: Allocator> OwnedChain<T, A> {
         Self::from_vec_unchecked(blocks)
     }
 
-    /// The chain of blocks that are a chain already. An empty vector is given back to its allocator.
+    /// Returns the chain of blocks that are a chain already. It returns the memory of an empty vector to its allocator.
+    ///
+    /// # Preconditions
+    ///
+    /// The blocks ascend and neither overlap nor touch, and each is in the form that `new` gives.
     #[tactic(auto, using(std::proofs::lemmas::Bool::Decides::nat_tests))]
     pub fn from_vec_unchecked(blocks: Vec<T, A>) -> Self
         requires { IsChain T.bounds T.form blocks.items }
@@ -76,7 +86,7 @@ impl<T: Block, A: Allocator> OwnedChain<T, A> {
         }
     }
 
-    /// The view of the chain.
+    /// Returns the view of the chain.
     pub fn as_chain(&self) -> Chain<'_, T>
         ensures { chain_blocks result ≡ self.now }
     {
@@ -86,7 +96,11 @@ impl<T: Block, A: Allocator> OwnedChain<T, A> {
         Chain::from_slice_unchecked(blocks.as_slice())
     }
 
-    /// The same chain in memory of its own. `AllocError` where there is none.
+    /// Returns the same chain in memory of its own.
+    ///
+    /// # Errors
+    ///
+    /// [`AllocError`] if an allocation fails.
     pub fn clone(&self, alloc: A) -> Result<Self, AllocError>
         ensures { IfOk result (λ chain. chain ≡ self.now) }
     {
@@ -99,8 +113,8 @@ impl<T: Block, A: Allocator> OwnedChain<T, A> {
     }
 }
 
-/// Puts blocks that are made anew, each of its bounds, into an empty vector. So a block in the form that `new` gives
-/// comes out as it was.
+/// Fills the empty vector with blocks rebuilt from the bounds of `blocks`. A block in the form that `T::new` gives
+/// comes out unchanged.
 fn rebuild<T: Block, A: Allocator>(new: &mut Vec<T, A>, blocks: &[T]) -> Result<(), AllocError>
     requires { new.old.items ≡ [] }
     ensures bounds { OnOk result (map T.bounds new.new.items ≡ map T.bounds blocks.now) }
@@ -127,7 +141,7 @@ impl<T: Block, A: Allocator> PartialEq for OwnedChain<T, A> {
 
     ghost laws = { chains_per T.bounds (λ c. c) };
 
-    /// Chains are equal exactly where they cover the same numbers.
+    /// Returns whether both chains cover the same numbers.
     fn eq(&self, other: &Self) -> bool
         ensures value { result ≡ same_runs (map T.bounds self.now) (map T.bounds other.now) }
         ensures covers { IsTrue result ↔ ((n : ℕ) →

@@ -1,5 +1,5 @@
-//! The seam between chains and the walks over them: blocks are read by their place, one at a time, and reads are
-//! counted.
+//! The interface between chains and the passes over them. Blocks are read by their index, one at a time, and the reads
+//! are counted.
 ghost use Rattle.std.specs.Prelude.{◌≡◌, ℕ, ◌+◌, ◌^◌, ◌<◌, ◌≤◌, List, length, slice_index_or, IfSome, is_some, if◌then◌else◌};
 ghost use Rattle.rpki_chains.specs.Sets.{IsChain, HoldsBlock, numbers};
 
@@ -7,21 +7,25 @@ use rpki_block::block::Block;
 
 /// A chain with a count of the reads of its blocks.
 ///
-/// A body that is generic over this trait sees a block by [`Reads::read`] alone, which counts each time, and it can
-/// neither make nor copy what it reads. So a bound on the count that such a body keeps is one on all that it read.
+/// Code that is generic over this trait reads a block with [`Reads::read`] only, which counts each read. It can neither
+/// make nor copy what it reads. A bound on the count of such code is therefore a bound on all its reads.
 pub trait Reads<T: Block> {
     /// The chain's blocks.
     ghost blocks: { Self → List T };
 
-    /// How often a block was read.
+    /// How many reads of blocks there were.
     ghost count: { Self → ℕ };
 
-    /// How many blocks there are.
+    /// Returns the number of blocks.
     fn len(&self) -> usize
         ensures value { result ≡ length (blocks self.now) }
         ensures chain { IsChain T.bounds T.form (blocks self.now) };
 
-    /// The bounds of the block at an index, which must be below the length. It is counted, and the chain stays.
+    /// Returns the bounds of the block at an index, counted from 0, and counts the read. The blocks don't change.
+    ///
+    /// # Preconditions
+    ///
+    /// `at` is below the number of blocks.
     fn read(&mut self, at: usize) -> (T::Item, T::Item)
         requires { at < length (blocks self.old) }
         ensures value { (d : T) →
@@ -32,7 +36,11 @@ pub trait Reads<T: Block> {
         ensures counted { count self.new ≡ count self.old + 1 };
 }
 
-/// The bounds of the block at an index, `None` at the end of the chain.
+/// Returns the bounds of the block at an index, or None at the end of the chain.
+///
+/// # Preconditions
+///
+/// `at` is at most the number of blocks.
 pub fn read_at<T: Block, R: Reads<T>>(chain: &mut R, at: usize) -> Option<(T::Item, T::Item)>
     requires { at ≤ length (R.blocks chain.old) }
     ensures block { HoldsBlock T.bounds T.number T.last (R.blocks chain.old) at result }

@@ -1,4 +1,4 @@
-//! A chain that several owners hold.
+//! A chain whose memory several values share.
 ghost use Rattle.std.specs.Prelude.{◌≡◌, ℕ, ◌↔◌, List, [], IsTrue, IsOk, IsOkAnd, IfOk, IfErr, map};
 ghost use Rattle.rpki_text.specs.Memory.{IfRefused};
 ghost use Rattle.rpki_chains.specs.Equality.{same_runs};
@@ -19,7 +19,7 @@ use std::fmt;
 use std::marker::Model;
 use std::rc::Rc;
 
-/// An owned chain with several owners. The empty one holds no memory.
+/// An owned chain that several values may share. The empty chain holds no memory.
 #[derive(Drop)]
 pub struct SharedChain<T: Block, A: Allocator = Global> {
     chain: Option<Rc<OwnedChain<T, A>, A>>,
@@ -34,14 +34,18 @@ impl<T: Block, A: Allocator> Model for SharedChain<T, A> {
 }
 
 impl<T: Block, A: Allocator> SharedChain<T, A> {
-    /// The chain with no blocks. It holds no memory.
+    /// Returns the chain without blocks. It holds no memory.
     pub fn empty() -> Self
         ensures { result ≡ [] }
     {
         SharedChain { chain: None }
     }
 
-    /// The same chain, for several owners. `AllocError` where there is no memory for it.
+    /// Returns the same chain, ready to be shared.
+    ///
+    /// # Errors
+    ///
+    /// [`AllocError`] if there is no memory for the reference count.
     pub fn from_owned(alloc: A, chain: OwnedChain<T, A>) -> Result<Self, AllocError>
         ensures { IfOk result (λ shared. shared ≡ chain) }
     {
@@ -52,8 +56,11 @@ impl<T: Block, A: Allocator> SharedChain<T, A> {
         Ok(SharedChain { chain: Some(chain) })
     }
 
-    /// The chain of the numbers that the blocks cover, as `OwnedChain::from_blocks` makes it. `AllocError` where there
-    /// is no memory for it.
+    /// Returns the chain of the numbers that the blocks cover, as `OwnedChain::from_blocks` does.
+    ///
+    /// # Errors
+    ///
+    /// [`AllocError`] if an allocation fails.
     pub fn from_blocks(alloc: A, blocks: &[T]) -> Result<Self, AllocError>
     where
         A: Copy,
@@ -65,8 +72,11 @@ impl<T: Block, A: Allocator> SharedChain<T, A> {
         Self::from_owned(alloc, chain)
     }
 
-    /// The chain of the numbers that the blocks cover, made in their memory, as `OwnedChain::from_vec` makes it.
-    /// `AllocError` where there is no memory for what its owners share.
+    /// Returns the chain of the numbers that the blocks cover, in their memory, as `OwnedChain::from_vec` does.
+    ///
+    /// # Errors
+    ///
+    /// [`AllocError`] if there is no memory for the reference count.
     pub fn from_vec(alloc: A, blocks: Vec<T, A>) -> Result<Self, AllocError>
         ensures chain { IfOk result (λ chain.
             IsChainOf T.bounds T.form (Covers T.bounds blocks.items) chain) }
@@ -75,7 +85,7 @@ impl<T: Block, A: Allocator> SharedChain<T, A> {
         Self::from_owned(alloc, OwnedChain::from_vec(blocks))
     }
 
-    /// The view of the chain.
+    /// Returns the view of the chain.
     pub fn as_chain(&self) -> Chain<'_, T>
         ensures { chain_blocks result ≡ self.now }
     {
@@ -85,10 +95,14 @@ impl<T: Block, A: Allocator> SharedChain<T, A> {
         chain.as_chain()
     }
 
-    /// `Ok` where each of its numbers is one of the other's, with no memory taken. Else `Refused` with the chain of the
-    /// numbers that both have, or `Memory`. One walk over both.
+    /// Checks in one pass over both chains that `other` has each number of `self`. If it has, the call takes no memory.
     ///
     /// The chain in `Refused` is a shared one. [`Chain::trim`] returns an owned one.
+    ///
+    /// # Errors
+    ///
+    /// - `Refused`: `other` doesn't have each number. The variant holds the chain of the numbers that both have.
+    /// - `Memory`: there is no memory for this chain.
     pub fn trim(
         &self,
         alloc: A,
@@ -111,8 +125,13 @@ impl<T: Block, A: Allocator> SharedChain<T, A> {
         Err(refused_with(alloc, chain))
     }
 
-    /// `Ok` where each of its numbers is one of the other's, with no memory taken. Else `Refused` with the chain of its
-    /// numbers that aren't the other's, or `Memory`. One walk over both.
+    /// Checks in one pass over both chains that `other` has each number of `self`. If it has, the call takes no memory.
+    ///
+    /// # Errors
+    ///
+    /// - `Refused`: `other` doesn't have each number. The variant holds the chain of the numbers that `other` doesn't
+    ///   have.
+    /// - `Memory`: there is no memory for this chain.
     pub fn covered_by(
         &self,
         alloc: A,
@@ -136,7 +155,8 @@ impl<T: Block, A: Allocator> SharedChain<T, A> {
     }
 }
 
-/// `Refused` with a chain, for several owners, or `Memory` where there was none for the chain or is none for them.
+/// Returns `Refused` with the chain, ready to be shared. Returns `Memory` if the chain or its reference count could not
+/// be allocated.
 fn refused_with<T: Block, A: Allocator>(
     alloc: A,
     chain: Result<OwnedChain<T, A>, AllocError>,
@@ -156,7 +176,7 @@ fn refused_with<T: Block, A: Allocator>(
 impl<T: Block, A: Allocator> Clone for SharedChain<T, A> {
     ghost is_clone = { λ chain copy. copy ≡ chain };
 
-    /// One more owner.
+    /// Returns the same chain, which shares the memory of `self`.
     fn clone(&self) -> Result<Self, AllocError> {
         let Some(chain) = &self.chain else {
             return Ok(Self::empty());
@@ -180,7 +200,7 @@ impl<T: Block, A: Allocator> PartialEq for SharedChain<T, A> {
 
     ghost laws = { chains_per T.bounds (λ c. c) };
 
-    /// Chains are equal exactly where they cover the same numbers.
+    /// Returns whether both chains cover the same numbers.
     fn eq(&self, other: &Self) -> bool
         ensures value { result ≡ same_runs (map T.bounds self.now) (map T.bounds other.now) }
         ensures covers { IsTrue result ↔ ((n : ℕ) →

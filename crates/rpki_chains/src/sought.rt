@@ -1,4 +1,4 @@
-//! Where a chain leaves a much longer one: its blocks are sought there, one by one.
+//! The overhang of a chain over a much longer one. A binary search looks for each of its blocks there.
 ghost use Rattle.std.specs.Prelude.{◌≡◌, ℕ, ◌+◌, ◌*◌, ◌^◌, ◌<◌, ◌≤◌, ◌↔◌, length, IsTrue, MatchOption};
 ghost use Rattle.rpki_chains.specs.Sets.{IsInside};
 ghost use Rattle.rpki_chains.specs.Overhang.{IsOverhang};
@@ -8,17 +8,17 @@ use crate::overhang::Overhang;
 use crate::reads::Reads;
 use rpki_block::block::Block;
 
-/// Whether a chain is so much longer than another that a search in it for each block of the other, whatever it reads,
-/// reads no more than a walk over it.
+/// Returns whether `many` is at least 64 times `few`. Even in the worst case, a search in `many` blocks for each of
+/// `few` blocks then reads no more than a pass over the `many` blocks.
 pub fn is_far_longer(many: usize, few: usize) -> bool
     ensures { IsTrue result ↔ (64 * few ≤ many) }
 {
     few <= many / 64
 }
 
-/// Finds the first block that doesn't lie in the other chain. Each is sought there, by a binary search behind the place
-/// of the one before it: so of the other chain it reads, for each, at most as many blocks as their number has binary
-/// digits.
+/// Returns the first block of `own` that doesn't lie in `other`, or None if each block does. A binary search looks for
+/// each block in `other`, from the index of the one before it on. For each block it reads at most as many blocks of
+/// `other` as their number has binary digits.
 #[tactic(auto, using(crate::proofs::Counts::sought_within))]
 pub fn sought_overhang<T: Block, X: Reads<T>, Y: Reads<T>>(
     own: &mut X,
@@ -32,11 +32,12 @@ pub fn sought_overhang<T: Block, X: Reads<T>, Y: Reads<T>>(
     ensures other_reads { (digits : ℕ) → length (Y.blocks other.old) < 2 ^ digits →
         Y.count other.new ≤ Y.count other.old + length (X.blocks own.old) * digits }
 {
-    // The length is asked for what its contract tells: that the blocks are a chain.
+    // `len` is called only for its contract: the blocks are a chain.
     let _other_len = other.len();
     let mut other_at = 0;
-    // What was passed lies in the other chain, and what comes before the place there comes before the block at hand. So
-    // the first of the other's that doesn't end before it has to hold it: chains have gaps between their blocks.
+    // The blocks that were passed lie in the other chain. The other's blocks before `other_at` end before the current
+    // block. So the first of the other's blocks that doesn't end before the current block must contain it, since chains
+    // have gaps between their blocks.
     for own_at in 0..own.len() {
         let (min, max) = own.read(own_at);
         let Some(held) = seek(other, &mut other_at, min) else {

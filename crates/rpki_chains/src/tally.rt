@@ -1,4 +1,4 @@
-//! A number that stands in proofs alone.
+//! A number that exists in proofs only.
 ghost use Rattle.std.specs.Prelude.{◌≡◌, ℕ, ◌+◌};
 ghost use Rattle.std.specs.Borrow.{ftrue};
 
@@ -15,14 +15,14 @@ impl Model for Tally {
 }
 
 impl Tally {
-    /// Nothing was counted yet.
+    /// Returns a count of 0.
     pub fn new() -> Tally
         ensures { result.number ≡ 0 }
     {
         Tally {}
     }
 
-    /// One more.
+    /// Returns the count plus 1.
     pub fn next(&self) -> Tally
         ensures { result.number ≡ self.now.number + 1 }
     {

@@ -1,4 +1,4 @@
-//! Whether a chain lies in another, and what of it does.
+//! The check that a chain lies in another, and their intersection if it doesn't.
 ghost use Rattle.std.specs.Prelude.{◌≡◌, ◌+◌, ◌*◌, ◌≤◌, ◌↔◌, length, IsOk, IfErr};
 ghost use Rattle.rpki_text.specs.Memory.{IfRefused};
 ghost use Rattle.rpki_chains.specs.Sets.{Covers, IsInside, IsChainOf};

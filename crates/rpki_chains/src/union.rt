@@ -1,4 +1,4 @@
-//! The numbers that one chain or another has.
+//! The union of two chains.
 ghost use Rattle.std.specs.Prelude.{◌≡◌, ℕ, ◌+◌, ◌≤◌, ◌↔◌, ◌⊎◌, [], Some, length, drop, IfOk, OnOk};
 ghost use Rattle.rpki_chains.specs.Joining.{IsHeld, IsBehind};
 ghost use Rattle.rpki_chains.specs.Sets.{IsWithin, Covers, IsChainOf, HoldsBlock, numbers};
@@ -10,8 +10,8 @@ use crate::reads::{Reads, read_at};
 use rpki_block::block::Block;
 use std::alloc::{AllocError, Allocator};
 
-/// Takes the next bounds into the run at hand: where they overlap or touch, it becomes the run over both. Else it is
-/// closed, which puts its block behind the chain, and the next bounds are the run at hand.
+/// Adds the next bounds to the current run. If they overlap or touch, the run becomes the one that covers both.
+/// Otherwise the block of the run is appended to the chain, and the next bounds are the current run.
 #[inline(always)]
 pub fn take_in<T: Block, A: Allocator>(
     chain: &mut Vec<T, A>,
@@ -48,8 +48,8 @@ fn earlier<T: Block>(block: (T::Item, T::Item), other: (T::Item, T::Item)) -> (T
     if block.0 <= other.0 { block } else { other }
 }
 
-/// The chain of what a chain and the run at hand hold, and of the blocks of another chain that are left. The first of
-/// them is at hand; those behind it are read once each.
+/// Returns the chain of the numbers of `chain`, of the current run, and of the blocks that are left in another chain.
+/// The first of these is `block`, and the blocks after it are read at most once each.
 fn close_with<T: Block, A: Allocator, R: Reads<T>>(
     mut chain: Vec<T, A>,
     mut run: (T::Item, T::Item),
@@ -66,10 +66,10 @@ fn close_with<T: Block, A: Allocator, R: Reads<T>>(
     ensures rest { IsReadOn (R.blocks rest.old) (R.blocks rest.new) at
         (R.count rest.old) (R.count rest.new) }
 {
-    // The length is asked for what its contract tells: that the blocks are a chain, of fewer than 2^64 blocks.
+    // `len` is called only for its contract: the blocks are a chain of fewer than 2^64 blocks.
     let _len = rest.len();
-    // The run begins no later than the block at hand, and all blocks of `chain` end before it and don't touch it. A
-    // turn takes that block in, so the walk ends, and nothing is left then.
+    // The run begins no later than `block`. All blocks of `chain` end before the run and don't touch it. Each iteration
+    // adds `block` to the run, so the loop ends, and nothing is left then.
     loop {
         take_in(&mut chain, &mut run, block)?;
         at += 1;
@@ -82,8 +82,13 @@ fn close_with<T: Block, A: Allocator, R: Reads<T>>(
     Ok(OwnedChain::from_vec_unchecked(chain))
 }
 
-/// The chain of the numbers that one chain or the other has, as [`crate::chain::Chain::union`] answers it. Both
-/// together are read no more often than they have blocks: each turn is done with one block, the one that begins first.
+/// Returns the chain of the numbers that at least one of both chains has, as [`crate::chain::Chain::union`] does. The
+/// number of reads of both chains together is at most the number of their blocks. Each iteration finishes one block,
+/// the one that begins first.
+///
+/// # Errors
+///
+/// [`AllocError`] if an allocation fails.
 pub fn union_counted<T: Block, A: Allocator, X: Reads<T>, Y: Reads<T>>(
     alloc: A,
     own: &mut X,
@@ -98,7 +103,7 @@ pub fn union_counted<T: Block, A: Allocator, X: Reads<T>, Y: Reads<T>>(
     ensures reads { X.count own.new + Y.count other.new ≤ X.count own.old + Y.count other.old +
         (length (X.blocks own.old) + length (Y.blocks other.old)) }
 {
-    // No more blocks than both have can come out, so the memory is taken once.
+    // The result has at most as many blocks as both chains, so the memory is allocated once.
     let mut chain = Vec::with_capacity(alloc, own.len().saturating_add(other.len()))?;
     let Some(own_block) = read_at(own, 0) else {
         let Some(block) = read_at(other, 0) else {
@@ -112,8 +117,8 @@ pub fn union_counted<T: Block, A: Allocator, X: Reads<T>, Y: Reads<T>>(
     union_behind(chain, own, own_block, other, other_block)
 }
 
-/// The chain of the numbers that one chain or the other has, where the first block of each was read. The blocks behind
-/// these are read once each.
+/// Returns the chain of the numbers that at least one of both chains has. The first block of each was read. The blocks
+/// after these are read at most once each.
 fn union_behind<T: Block, A: Allocator, X: Reads<T>, Y: Reads<T>>(
     mut chain: Vec<T, A>,
     own: &mut X,
@@ -131,14 +136,14 @@ fn union_behind<T: Block, A: Allocator, X: Reads<T>, Y: Reads<T>>(
     ensures other { IsReadOn (Y.blocks other.old) (Y.blocks other.new) 0
         (Y.count other.old) (Y.count other.new) }
 {
-    // Asked for what they tell, as in `close_with`.
+    // `len` is called only for its contract, as in `close_with`.
     let _own_len = own.len();
     let _other_len = other.len();
     let mut own_at = 0;
     let mut other_at = 0;
-    // A run is at hand, which begins no later than the blocks at hand; all blocks of `chain` end before it and don't
-    // touch it. At first it is the block that begins first, and the first turn takes it in once more. A turn is done
-    // with the block that begins first, so the walk ends, and nothing that comes later reaches a run that was closed.
+    // The run begins no later than both current blocks. All blocks of `chain` end before the run and don't touch it. At
+    // first the run is the block that begins first, and the first iteration adds this block again. Each iteration
+    // finishes the block that begins first. So the loop ends, and no later block reaches a closed run.
     let mut run = earlier::<T>(own_block, other_block);
     loop {
         if own_block.0 <= other_block.0 {

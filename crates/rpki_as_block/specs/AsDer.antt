@@ -18,13 +18,13 @@ abbrev pub IsAsBlock : List ℕ → AsBlock → Type 0
 IsAsBlock bytes (Id n) = IsAsNumber bytes n
 IsAsBlock bytes (Range r) = IsAsRange bytes r
 
--- an AS number, or a SEQUENCE of two, whichever is the greater
+-- an AS number, or a SEQUENCE of two in any order
 abbrev pub IsBlockInAnyOrder : List ℕ → Unit {0} → Type 0
 IsBlockInAnyOrder bytes u =
     ((n : ℕ) × IsAsNumber bytes n) ⊎
     ((content : List ℕ) × IsSequence bytes content × ((first : ℕ) × (second : ℕ) × Both IsAsNumber IsAsNumber content first second))
 
--- ---- what is written
+-- ---- encodings
 
 abbrev pub as_range_content : ℕ × ℕ → List ℕ
 as_range_content b = as_number_octets b.0 ++ as_number_octets b.1
@@ -32,7 +32,7 @@ as_range_content b = as_number_octets b.0 ++ as_number_octets b.1
 abbrev pub as_range_octets : ℕ × ℕ → List ℕ
 as_range_octets b = sequence_value (as_range_content b)
 
--- a block in its own form
+-- a block in the form that it has
 abbrev pub as_block_octets : AsBlock → List ℕ
 as_block_octets (Id n) = as_number_octets n
 as_block_octets (Range r) = as_range_octets (range_bounds r)

@@ -1,4 +1,4 @@
--- The readings of blocks of AS numbers find what the grammar says, and nothing else. Readers of lists rest on it.
+-- The readings of blocks of AS numbers find exactly what the grammar says. Readers of lists depend on this.
 use Rattle.std.proofs.Common.{◌≡◌, ℕ, ◌≤◌, ltb, List, Result, Ok, Err, refl, sym, ap, subst, ◌∙◌, arith, inl, inr}
 use Rattle.std.proofs.lemmas.Bool.{ltb-false, le-ltb}
 use Rattle.rpki_block.specs.Ranges.{RangeValue}
@@ -32,12 +32,12 @@ range_says min max r e =
     let g = passed (ltb max min) ReversedRange (Ok made) r e in
     (ltb-false max min g.0, sym (ok_is made r g.1))
 
--- and are read as it
+-- and are read as that range
 range_again : (min max : ℕ) (r : RangeValue) → IsBetween min max r → range_of min max ≡ Ok r
 unfolding range_of IsBetween
 range_again min max r (ordered, is) = rw (le-ltb max min ordered) (ap (λ (x : RangeValue). Ok x) (sym is))
 
--- two numbers say a range
+-- two numbers denote a range
 range_check : IsCheck IsBytes (SaysPair IsAsNumber IsBetween) as_range_in
 range_check = pair_check IsAsNumber IsBetween as_number_at range_of u32_reading range_says range_again
 
@@ -50,7 +50,7 @@ SaysId content b = (n : ℕ) × IsUnsigned content n × (b ≡ Id n)
 SaysRange : List ℕ → AsBlock → Type 0
 SaysRange content b = (r : RangeValue) × SaysPair IsAsNumber IsBetween content r × (b ≡ Range r)
 
--- what says a number says an AS number as it is spelled
+-- an INTEGER whose content denotes a number is an AS number
 number_spelled : (bytes content : List ℕ) (n : ℕ) → IsBytes bytes → IsValue bytes 2 content → IsUnsigned content n
     → IsAsNumber bytes n
 number_spelled bytes content n fits is says = (says.limit, subst (IsValue bytes 2) (unsigned_spelled content n (fits_content bytes 2 content is fits) says) is)
@@ -83,7 +83,7 @@ pub as_block_has_octets : HasOctets IsAsBlock
 as_block_has_octets front (Id n) is = value_has_octets front 2 (integer n) is.1
 as_block_has_octets front (Range r) is = value_has_octets front 48 is.1.0 is.1.1
 
--- ---- blocks that are passed over
+-- ---- skipped blocks
 
 -- two numbers in any order
 SaysTwo : List ℕ → Unit {0} → Type 0
@@ -103,7 +103,7 @@ unfolding SaysTwo
 skip_from bytes u (inl (n, is)) = (record { tag = 2; content = integer n }, is.1, inl (refl, (n, spelled_unsigned n is.0)))
 skip_from bytes u (inr (content, is, (first, second, both))) = (record { tag = 48; content = content }, is, inr (refl, (first, second, both, tt)))
 
--- a number of which nothing is remembered
+-- a number that is not stored
 skip_check : IsCheck IsBytes SaysAsNumber skip_number
 skip_check = record { takes = λ content u fits e. number_of content u (unsigned content) refl e; again = λ content u (n, says). rw (unsigned_check.again content n says) refl }
   where
@@ -112,7 +112,7 @@ skip_check = record { takes = λ content u fits e. number_of content u (unsigned
     number_of content u (Ok n) is e = (n, unsigned_check.takes content n tt is)
     number_of content u (Err d) is e = absurd cc
 
--- a block that is passed over
+-- a skipped block
 pub skip_reading : IsReading IsBlockInAnyOrder skip_block_at
 unfolding SaysTwo
 skip_reading =

@@ -1,4 +1,4 @@
--- What the readings of blocks of AS numbers find in either mode. Readers of lists rest on it.
+-- The results of the readings of blocks of AS numbers in either mode. Readers of lists depend on them.
 use Rattle.std.proofs.Common.{◌≡◌, ℕ, Bool, true, false, not, eqb, cond, Option, refl, sym, ap}
 use Rattle.std.proofs.lemmas.Bool.{eq-eqb}
 use Rattle.rpki_block.specs.Beyond.{IsBeyond, is_beyond}
@@ -35,7 +35,7 @@ is_new_form_of (Range r) e = by_test (eqb r.min r.max) e
 pub as_block_modal : IsModal IsStrictBlock as_block_at as_block_by
 as_block_modal = tested_modal IsAsBlock (IsNew as_bounds new_as_block) as_block_at (λ strict. as_block_at) is_new_form (plain_modal IsAsBlock as_block_at as_block_reading) new_form_is is_new_form_of
 
--- a block behind others
+-- a block after others
 pub next_block_modal : (before : Option ℕ)
     → IsModal (IsNextBlock before) as_block_at (λ strict. next_block_by strict before)
 next_block_modal before =

@@ -1,4 +1,4 @@
--- What strict cursors take of blocks of AS numbers.
+-- The blocks of AS numbers that strict cursors take.
 use Rattle.std.specs.Prelude.{ℕ, List, Option}
 use Rattle.rpki_block.specs.Beyond.{IsBeyond}
 use Rattle.rpki_block.specs.Bounds.{IsNew}
@@ -7,7 +7,7 @@ use Rattle.rpki_as_block.specs.AsDer.{IsAsBlock}
 use Rattle.rpki_as_block.specs.Blocks.{as_bounds, new_as_block}
 use Rattle.rpki_as_block.specs.declared.block.AsBlock.{AsBlock}
 
--- what strict cursors take
+-- the blocks that strict cursors take
 abbrev pub IsStrictBlock : List ℕ → AsBlock → Type 0
 IsStrictBlock = Where IsAsBlock (IsNew as_bounds new_as_block)
 

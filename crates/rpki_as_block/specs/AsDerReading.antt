@@ -1,4 +1,4 @@
--- Reading blocks of AS numbers from left to right, with the first fault that is met.
+-- Decoding of blocks of AS numbers from left to right, with the first fault.
 use Rattle.std.specs.Prelude.{ℕ, Bool, true, not, nat_lt, ◌==◌, if◌then◌else◌, List, Option, Result, Ok, Err}
 use Rattle.rpki_block.specs.Beyond.{is_beyond}
 use Rattle.rpki_block.specs.Ranges.{RangeValue}
@@ -38,15 +38,15 @@ abbrev pub is_new_form : AsBlock → Bool
 is_new_form (Id n) = true
 is_new_form (Range r) = not (r.min == r.max)
 
--- strictly, a block is in new form
+-- in strict mode a block is in new form
 abbrev pub as_block_by : Bool → List ℕ → Result (AsBlock × List ℕ) DerError
 as_block_by strict = refined as_block_at (passing strict is_new_form)
 
--- strictly, it also begins more than one above the greatest number before
+-- in strict mode it also begins more than one above the greatest number before
 abbrev pub next_block_by : Bool → Option ℕ → List ℕ → Result (AsBlock × List ℕ) DerError
 next_block_by strict before = refined (as_block_by strict) (passing strict (λ block. is_beyond before (as_bounds block).0))
 
--- ---- passed over
+-- ---- skipped blocks
 
 abbrev pub skip_pair : List ℕ → Result (Unit {0}) DerError
 skip_pair = pair_in as_number_at (λ first second. Ok tt)

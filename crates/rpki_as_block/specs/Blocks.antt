@@ -9,6 +9,6 @@ abbrev pub as_bounds : AsBlock → ℕ × ℕ
 as_bounds (Id n) = (n, n)
 as_bounds (Range r) = range_bounds r
 
--- the block of given bounds: an Id where they are one number, and else a Range
+-- the block with given bounds: an Id if they are the same, or else a Range
 abbrev pub new_as_block : ℕ × ℕ → AsBlock
 new_as_block b = if b.0 == b.1 then Id b.0 else Range (new_range b)

@@ -1,4 +1,4 @@
--- Sets of numbers as lists: all their numbers, ascending, and how many they are.
+-- Sets of numbers as lists: all their numbers, ascending, and how many there are.
 use Rattle.std.specs.Prelude.{◌≡◌, ℕ, zero, suc, ◌+◌, ◌-◌, ◌<◌, ◌↔◌, List, [], ◌∷◌, length, AllPairs, Option, Some, None}
 use Rattle.std.specs.List.{Contains, flat_map}
 use Rattle.rpki_block.specs.Ranges.{RangeValue, range_bounds}

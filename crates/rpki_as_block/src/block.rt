@@ -4,12 +4,12 @@ use crate::range::AsRange;
 use rpki_base::asn::Asn;
 use rpki_block::block::Block;
 
-/// One AS number, or the numbers of a range (RFC 3779, 3.2.3.5).
+/// A block of AS numbers: one number, or the numbers of a range (RFC 3779, 3.2.3.5).
 #[derive(Clone, Copy, Debug)]
 pub enum AsBlock {
     /// One number.
     Id(Asn),
-    /// The numbers of a range, which may be one.
+    /// The numbers of a range, which may have only one.
     Range(AsRange),
 }
 
@@ -19,7 +19,7 @@ impl AsBlock {
     ghost use Rattle.rpki_as_block.specs.Blocks.{as_bounds, new_as_block};
     ghost use Rattle.rpki_as_block.specs.Numbers.{IsListOf, IsSizeOf, numbers_within};
 
-    /// All AS numbers, 0 to 4294967295.
+    /// Returns the block of all AS numbers, 0 to 4294967295.
     pub fn all() -> AsBlock
         ensures bounds { as_bounds result ≡ (0, 4294967295) }
         ensures value { result ≡ new_as_block (0, 4294967295) }
@@ -27,8 +27,11 @@ impl AsBlock {
         AsBlock::Range(AsRange::all())
     }
 
-    /// The range from the first number of a pair to the second, which isn't below it. It is a Range also where both are
-    /// the same.
+    /// Returns the range from the first number of `pair` to the second. It is a Range even if both are the same.
+    ///
+    /// # Preconditions
+    ///
+    /// The second number isn't below the first.
     pub fn from_pair(pair: (Asn, Asn)) -> AsBlock
         requires { pair.0 ≤ pair.1 }
         ensures { result ≡ AsBlock.Range (record { min = pair.0; max = pair.1 }) }
@@ -36,7 +39,7 @@ impl AsBlock {
         AsBlock::Range(AsRange::new(pair.0, pair.1))
     }
 
-    /// The least number.
+    /// Returns the least number.
     pub fn min(&self) -> Asn
         ensures value { result ≡ (as_bounds self.now).0 }
         ensures in_order { (as_bounds self.now).0 ≤ (as_bounds self.now).1 }
@@ -47,7 +50,7 @@ impl AsBlock {
         }
     }
 
-    /// The greatest number.
+    /// Returns the greatest number.
     pub fn max(&self) -> Asn
         ensures value { result ≡ (as_bounds self.now).1 }
         ensures in_order { (as_bounds self.now).0 ≤ (as_bounds self.now).1 }
@@ -58,7 +61,7 @@ impl AsBlock {
         }
     }
 
-    /// How many numbers the block has, which is 1 to 2^32.
+    /// Returns how many numbers the block has, 1 to 2^32.
     #[tactic(auto, using(crate::proofs::NumberLemmas::interval_size))]
     pub fn asn_count(self) -> u64
         ensures from_bounds { result + (as_bounds self).0 ≡ (as_bounds self).1 + 1 }
@@ -70,8 +73,11 @@ impl AsBlock {
         }
     }
 
-    /// Makes a number the least one. The greatest one isn't below it. The block is an Id where both are one number, and
-    /// else a Range.
+    /// Sets the least number. The block becomes an Id if both bounds are the same, and a Range otherwise.
+    ///
+    /// # Preconditions
+    ///
+    /// `min` is at most the greatest number of the block.
     pub fn set_min(&mut self, min: Asn)
         requires { min ≤ (as_bounds self.old).1 }
         ensures bounds { as_bounds self.new ≡ (min, (as_bounds self.old).1) }
@@ -80,8 +86,11 @@ impl AsBlock {
         *self = <AsBlock as Block>::new(min, AsBlock::max(self));
     }
 
-    /// Makes a number the greatest one. The least one isn't above it. The block is an Id where both are one number, and
-    /// else a Range.
+    /// Sets the greatest number. The block becomes an Id if both bounds are the same, and a Range otherwise.
+    ///
+    /// # Preconditions
+    ///
+    /// `max` is at least the least number of the block.
     pub fn set_max(&mut self, max: Asn)
         requires { (as_bounds self.old).0 ≤ max }
         ensures bounds { as_bounds self.new ≡ ((as_bounds self.old).0, max) }
@@ -90,14 +99,14 @@ impl AsBlock {
         *self = <AsBlock as Block>::new(AsBlock::min(self), max);
     }
 
-    /// Whether the block has all AS numbers.
+    /// Returns whether the block has all AS numbers.
     pub fn is_whole_range(&self) -> bool
         ensures { IsTrue result ↔ (as_bounds self.now ≡ (0, 4294967295)) }
     {
         AsBlock::min(self) == Asn::MIN && AsBlock::max(self) == Asn::MAX
     }
 
-    /// The numbers one by one, ascending.
+    /// Iterates over the numbers, ascending.
     pub fn iter(self) -> AsBlockIter
         ensures numbers { IsListOf (IsWithin (as_bounds self)) result }
         ensures list { result ≡ numbers_within (as_bounds self) }
@@ -107,7 +116,7 @@ impl AsBlock {
     }
 }
 
-/// As a block, it is an Id where its bounds are one number, and else a Range.
+/// The form of `new` is an Id if both bounds are the same, and a Range otherwise.
 impl Block for AsBlock {
     ghost use Rattle.std.specs.Prelude.{refl};
     ghost use Rattle.rpki_as_block.specs.Blocks.{as_bounds, new_as_block};
@@ -172,7 +181,7 @@ impl Block for AsBlock {
     }
 }
 
-/// Blocks are equal where their bounds are, whatever their forms.
+/// Blocks are equal if and only if their bounds are, in any form.
 impl PartialEq for AsBlock {
     ghost use Rattle.std.specs.Prelude.{◌≡◌, ◌↔◌, IsTrue};
     ghost use Rattle.rpki_block.specs.Equality.{have_same_bounds};
@@ -220,7 +229,7 @@ impl From<AsRange> for AsBlock {
     }
 }
 
-/// The numbers one by one, ascending.
+/// Iterates over the numbers, ascending.
 impl IntoIterator for AsBlock {
     ghost use Rattle.rpki_block.specs.Bounds.{IsWithin};
     ghost use Rattle.rpki_as_block.specs.Blocks.{as_bounds};

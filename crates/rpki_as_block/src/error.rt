@@ -1,4 +1,4 @@
-//! What is wrong with a text of AS blocks.
+//! Errors of a text of AS blocks.
 ghost use Rattle.std.specs.Prelude.{◌≡◌, Some};
 ghost use Rattle.rpki_as_block.specs.Faults.{as_from_str_error_text};
 ghost use Rattle.rpki_as_block.specs.declared.error.FromStrError.TheVariants.{BadAsn};
@@ -12,9 +12,9 @@ use std::fmt;
 pub enum FromStrError {
     /// A text without a dash isn't an AS number.
     BadAsn,
-    /// A text with a dash isn't two AS numbers, the first at most the second, round its first dash.
+    /// A text with a dash isn't two AS numbers around its first dash, or the first number is above the second.
     BadRange,
-    /// Blocks that can't be read. No call answers it.
+    /// Blocks that can't be read. No call returns this error.
     BadBlocks,
 }
 

@@ -1,4 +1,4 @@
-//! The AS numbers of a block one by one, ascending. The iterator takes no memory.
+//! The iterator over the AS numbers of a block, ascending. It takes no memory.
 ghost use Rattle.std.specs.Prelude.{◌≡◌, []};
 ghost use Rattle.std.specs.Iterator.{YieldsFirst, item_count};
 
@@ -7,7 +7,7 @@ use rpki_base::asn::Asn;
 use rpki_block::block::Block;
 use std::marker::Model;
 
-/// The numbers of a block that are left. Contracts see it as their list.
+/// Iterates over the numbers of a block. Its model is the list of the numbers that are left.
 #[derive(Debug, Drop)]
 pub struct AsBlockIter {
     left: Option<AsRange>,
@@ -26,14 +26,14 @@ impl AsBlockIter {
     ghost use Rattle.rpki_block.specs.Ranges.{range_bounds};
     ghost use Rattle.rpki_as_block.specs.Numbers.{numbers_within};
 
-    /// The numbers of a range.
+    /// Returns an iterator over the numbers of a range.
     pub fn over(range: AsRange) -> AsBlockIter
         ensures { result ≡ numbers_within (range_bounds range) }
     {
         AsBlockIter { left: Some(range) }
     }
 
-    /// No numbers.
+    /// Returns an iterator over no numbers.
     pub fn none() -> AsBlockIter
         ensures { result ≡ [] }
     {

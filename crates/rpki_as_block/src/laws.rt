@@ -1,4 +1,4 @@
-//! What holds of ranges, and of the octets of blocks, each law as the contract of a function that does nothing.
+//! Lemmas about ranges and about the octets of blocks. Each is the contract of a function that does nothing.
 ghost use Rattle.std.specs.Prelude.{◌≡◌, ◌≢◌, ◌↔◌, ◌<◌, ℕ, List, Err, true, IsOk, IsTrue};
 ghost use Rattle.rpki_block.specs.Ranges.{RangeValue};
 ghost use Rattle.rpki_der.specs.Der.{OneFront};
@@ -11,7 +11,7 @@ ghost use Rattle.rpki_as_block.specs.declared.block.AsBlock.{AsBlock};
 
 use crate::range::AsRange;
 
-/// Ranges are equal exactly where their least and their greatest numbers are the same.
+/// Ranges are equal if and only if their least and their greatest numbers are the same.
 pub fn equal_where_the_same()
     ensures { (r s : RangeValue) → IsTrue (⟦<AsRange as PartialEq>⟧.eq r s) ↔ (r ≡ s) }
 {}
@@ -21,14 +21,14 @@ pub fn one_block()
     ensures { OneFront IsAsBlock }
 {}
 
-/// The octets that `encode` appends are the block.
+/// The octets that `encode` appends denote the block.
 #[tactic(auto, using(crate::proofs::AsDerLemmas::block_written))]
 pub fn written()
     ensures { (block : AsBlock) → HasAsNumbers block → IsAsBlock (as_block_octets block) block }
 {}
 
-/// A range is reversed exactly where it begins with two numbers of which the second is less than the first, whatever
-/// stands behind them, and a block exactly where it is a SEQUENCE that begins so.
+/// A range is reversed if and only if it begins with two numbers of which the second is less than the first. A block is
+/// reversed if and only if it is a SEQUENCE that begins so. The octets after the two numbers don't matter.
 #[tactic(auto, using(crate::proofs::DerFaults::block_fails, crate::proofs::DerFaults::range_fails))]
 pub fn reversed()
     ensures range { (content : List ℕ) → (as_range_in content ≡ Err ReversedRange)
@@ -37,8 +37,8 @@ pub fn reversed()
         ↔ BeginsWithValue 48 (BeginsWithTwo as_number_at (λ first second. second < first)) bytes }
 {}
 
-/// Octets are refused as not canonical by a strict cursor alone, and there only where a lenient one finds a block: each
-/// other fault of a block comes first.
+/// Only a strict cursor refuses octets as not canonical, and only if a lenient cursor finds a block there: any other
+/// fault of a block comes first.
 #[tactic(auto, using(crate::proofs::DerFaults::comes_last, crate::proofs::DerFaults::never_lenient))]
 pub fn not_canonical()
     ensures lenient { (bytes : List ℕ) → as_block_at bytes ≢ Err NotCanonical }

@@ -1,6 +1,6 @@
 //! Blocks of AS numbers (RFC 3779, 3.2.3.5 to 3.2.3.8): their bounds and numbers, their texts and their DER.
 //!
-//! A text is read as a block, and the block's numbers are counted, as in `test_values::as_blocks`:
+//! This code reads a block from a text and counts its numbers, as in `test_values::as_blocks`:
 //!
 //! ```rust
 //! match AsBlock::from_str(text) {

@@ -13,7 +13,7 @@ use rpki_text::list::read_list;
 use rpki_text::memory::OrMemory;
 use std::alloc::{AllocError, Allocator};
 
-/// The place behind a space, if one stands at the place, and else the place itself.
+/// Returns the index after a space if there is one at `start`, and `start` otherwise.
 fn after_space(text: &[u8], start: usize) -> usize
     requires { start ≤ length text.now }
     ensures { IsAfterSpace start result text.now }
@@ -25,7 +25,7 @@ fn after_space(text: &[u8], start: usize) -> usize
     }
 }
 
-/// Whether a list ends at the place, behind one space or none.
+/// Returns whether a list ends at the index `end`, or after one space there.
 fn is_end(text: &[u8], end: usize) -> bool
     requires { end ≤ length text.now }
     ensures { IsTrue result ↔ IsEndAt end text.now }
@@ -33,8 +33,8 @@ fn is_end(text: &[u8], end: usize) -> bool
     after_space(text, end) == text.len()
 }
 
-/// The blocks of a list whose elements all are of the usual form, each with one space before it or none, and the last
-/// with one behind it or none. None where the text is no such list.
+/// Returns the blocks of a list in the usual form, or None for any other text. All elements of such a list have the
+/// usual form. Each may have one space before it, and the last may have one after it.
 fn usual_blocks<A: Allocator>(alloc: A, text: &[u8]) -> Result<Option<Vec<AsBlock, A>>, AllocError>
     ensures { IfOk result (λ found. MatchOption found ((blocks : List AsBlock) → ¬ AreAsBlocksFrom 0 text.now blocks)
         (λ blocks. HaveValues (λ t b. ReadsAsBlock t (Ok b)) (elements text.now) blocks.items)) }
@@ -57,8 +57,13 @@ fn usual_blocks<A: Allocator>(alloc: A, text: &[u8]) -> Result<Option<Vec<AsBloc
     }
 }
 
-/// The blocks that the elements of a list write, as [`read_list`] answers. A list of the usual form is read at once,
-/// with no search for its commas.
+/// Returns the blocks that the elements of a list denote, as [`read_list`] does. A list in the usual form is read
+/// directly, with no search for its commas.
+///
+/// # Errors
+///
+/// - `Refused`: an element is not a block. The variant holds the fault of the first such element.
+/// - `Memory`: an allocation failed.
 pub fn read_blocks<A: Allocator + Copy>(
     alloc: A,
     text: &str,

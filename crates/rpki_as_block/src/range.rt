@@ -33,7 +33,11 @@ impl AsRange {
     ghost use Rattle.rpki_block.specs.Ranges.{range_bounds};
     ghost use Rattle.rpki_as_block.specs.Numbers.{IsSizeOf};
 
-    /// The range from the least number to the greatest, which isn't below it.
+    /// Returns the range from `min` to `max`.
+    ///
+    /// # Preconditions
+    ///
+    /// `max` isn't below `min`.
     pub fn new(min: Asn, max: Asn) -> AsRange
         requires { min ≤ max }
         ensures { result ≡ record { min = min; max = max } }
@@ -41,14 +45,14 @@ impl AsRange {
         AsRange { min, max }
     }
 
-    /// All AS numbers, 0 to 4294967295.
+    /// Returns the range of all AS numbers, 0 to 4294967295.
     pub fn all() -> AsRange
         ensures { result ≡ record { min = 0; max = 4294967295 } }
     {
         AsRange::new(Asn::MIN, Asn::MAX)
     }
 
-    /// The least number.
+    /// Returns the least number.
     pub fn min(self) -> Asn
         ensures value { result ≡ self.min }
         ensures in_order { self.min ≤ self.max }
@@ -56,7 +60,7 @@ impl AsRange {
         self.min
     }
 
-    /// The greatest number.
+    /// Returns the greatest number.
     pub fn max(self) -> Asn
         ensures value { result ≡ self.max }
         ensures in_order { self.min ≤ self.max }
@@ -64,7 +68,7 @@ impl AsRange {
         self.max
     }
 
-    /// How many numbers the range has, which is 1 to 2^32.
+    /// Returns how many numbers the range has, 1 to 2^32.
     #[tactic(auto, using(crate::proofs::NumberLemmas::interval_size))]
     pub fn asn_count(self) -> u64
         ensures from_bounds { result + self.min ≡ self.max + 1 }
@@ -74,7 +78,7 @@ impl AsRange {
     }
 }
 
-/// As a block, it has one form.
+/// A range has only one form as a block.
 impl Block for AsRange {
     ghost use Rattle.std.specs.Prelude.{refl};
     ghost use Rattle.rpki_block.specs.Ranges.{range_bounds, new_range};
@@ -129,7 +133,7 @@ impl Block for AsRange {
     }
 }
 
-/// Prints both numbers, also where they are the same, as `AS3-AS5`.
+/// Prints both numbers, even if they are the same, as `AS3-AS5`.
 impl fmt::Display for AsRange {
     ghost use Rattle.std.specs.Prelude.{Some};
     ghost use Rattle.rpki_as_block.specs.BlockText.{as_range_text};

@@ -11,7 +11,7 @@ use rpki_base::asn::Asn;
 use std::fmt;
 use std::str::FromStr;
 
-/// The range between the numbers of two texts, if both are AS numbers, the first at most the second.
+/// Returns the range between two AS numbers, if both texts are AS numbers and the first is at most the second.
 fn read_range(left: &str, right: &str) -> Option<AsRange>
     ensures { MatchOption result (NoRange left.now right.now)
         (λ r. IsAsRangeBetween left.now right.now (range_bounds r)) }
@@ -24,7 +24,7 @@ fn read_range(left: &str, right: &str) -> Option<AsRange>
     Some(AsRange::new(min, max))
 }
 
-/// The block that any text writes.
+/// Returns the block that a text in any form denotes.
 fn read_any(text: &str) -> Result<AsBlock, FromStrError>
     ensures { ReadsAsBlock text.now result }
 {
@@ -37,9 +37,13 @@ fn read_any(text: &str) -> Result<AsBlock, FromStrError>
     }
 }
 
-/// Reads `AS7` or `7` as an Id, and two such texts round the first dash as a Range. Refused by
-/// [`FromStrError::BadAsn`] where a text without a dash is no AS number, and by [`FromStrError::BadRange`] where one
-/// with a dash isn't two of them, the first at most the second.
+/// Reads `AS7` or `7` as an Id, and two such texts around the first dash as a Range.
+///
+/// # Errors
+///
+/// - [`FromStrError::BadAsn`]: the text has no dash, and is not an AS number.
+/// - [`FromStrError::BadRange`]: the texts around the first dash are not two AS numbers, or the first number is above
+///   the second.
 impl FromStr for AsBlock {
     type Err = FromStrError;
 

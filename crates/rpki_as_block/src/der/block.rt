@@ -25,23 +25,31 @@ impl AsBlock {
     ghost use Rattle.rpki_as_block.specs.AsDerReading.{as_block_at, as_block_by, skip_block_at};
     ghost use Rattle.rpki_as_block.specs.Blocks.{as_bounds, new_as_block};
 
-    /// Takes the next block; None at the end, and there alone.
+    /// Takes the next block. It returns None at the end, and only there.
     ///
-    /// The faults are those of [`Cursor::take_value`] and `BadInteger`; `BadTag` also where neither an INTEGER nor a
-    /// SEQUENCE stands there, `ReversedRange` where the first number of a range is above the second, and `TrailingData`
-    /// where more than two numbers are in it. From a strict cursor also `NotCanonical` for a range of one number.
+    /// # Errors
+    ///
+    /// The cursor is unchanged after an error.
+    ///
+    /// - a fault of [`Cursor::take_value`]
+    /// - `BadInteger`: an INTEGER isn't a number from 0 to 4294967295 in the fewest octets
+    /// - `BadTag`, also if the value is neither an INTEGER nor a SEQUENCE
+    /// - `ReversedRange`: the first number of a range is above the second
+    /// - `TrailingData`: a range has more than two numbers
+    /// - `NotCanonical`, from a strict cursor only: a range has only one number
     #[tactic(auto, using(crate::proofs::AsDerLemmas::block_back, crate::proofs::AsDerLemmas::set_block_reading, rpki_der::proofs::SequenceCursors::reads_optional_value_by))]
     pub fn take_opt_from(cursor: &mut Cursor<'_>) -> Result<Option<AsBlock>, DerError>
         ensures reads { Lenient cursor.old
             (ReadsOptional IsAsBlock (λ block. block) cursor.old cursor.new result) }
         ensures exact { Lenient cursor.old
             (Takes (λ block. block) cursor.old cursor.new result (optional as_block_at)) }
-        // What is written of a block is read as that block, whatever follows it; strictly, of one in new form.
+        // The encoding of a block is read as that block, with any octets after it. For a strict cursor this holds for a
+        // block in the form of `new`.
         ensures reads_back { (block : AsBlock) (rest : List ℕ) → HasAsNumbers block
             → (is_strict cursor.old ≡ true → IsNew as_bounds new_as_block block)
             → left cursor.old ≡ as_block_octets block ++ rest
             → (result ≡ Ok (Some block)) × (left cursor.new ≡ rest) }
-        // A strict cursor takes what is written of a block that sets have.
+        // A strict cursor takes exactly the encodings of the blocks that sets have.
         ensures strict { Strict cursor.old
             (ReadsOptional (Spells IsSetBlock as_block_octets) (λ block. block) cursor.old
             cursor.new result) }
@@ -54,8 +62,12 @@ impl AsBlock {
         AsBlock::next_opt(cursor)
     }
 
-    /// Passes over the next block; None at the end, and there alone. The faults are those of `take_opt_from` without
-    /// `ReversedRange`: the numbers of a range may be in any order.
+    /// Skips the next block. It returns None at the end, and only there.
+    ///
+    /// # Errors
+    ///
+    /// The errors of `take_opt_from` for a lenient cursor, except `ReversedRange`: the numbers of a range may be in any
+    /// order. The cursor is unchanged after an error.
     #[tactic(auto, using(crate::specs::AsDerLaws::skip_reading, rpki_der::proofs::SequenceCursors::reads_optional_value_by))]
     pub fn skip_opt_in(cursor: &mut Cursor<'_>) -> Result<Option<()>, DerError>
         ensures reads { ReadsOptional IsBlockInAnyOrder (λ u. u) cursor.old cursor.new result }
@@ -65,7 +77,7 @@ impl AsBlock {
         AsBlock::pass_over_opt(cursor)
     }
 
-    /// How many octets `encode` appends: at most 16.
+    /// Returns how many octets `encode` appends, at most 16.
     #[tactic(auto, using(crate::proofs::AsDerLemmas::header_lengths))]
     pub fn encoded_len(&self) -> usize
         ensures len { result ≡ length (as_block_octets self.now) }
@@ -80,8 +92,11 @@ impl AsBlock {
         }
     }
 
-    /// Appends the block in its own form. `AllocError` where there is no memory for it; then the octets stay as they
-    /// were.
+    /// Appends the block to `out`, in the form that it has.
+    ///
+    /// # Errors
+    ///
+    /// [`AllocError`] if an allocation fails. The octets of `out` are unchanged then.
     #[tactic(auto, using(crate::proofs::AsDerLemmas::read_again))]
     pub fn encode<A: Allocator>(&self, out: &mut Vec<u8, A>) -> Result<(), AllocError>
         ensures ok { OnOk result (out.new.items ≡ out.old.items ++ as_block_octets self.now) }
@@ -90,7 +105,7 @@ impl AsBlock {
             ≤ vec_capacity out.old → IsOk result }
         ensures capacity { vec_capacity out.old ≤ vec_capacity out.new }
         ensures numbers { HasAsNumbers self.now }
-        // It is read back, whatever follows it.
+        // The encoding is read back, with any octets after it.
         ensures read_back { (rest : List ℕ)
             → as_block_at (as_block_octets self.now ++ rest) ≡ Ok (self.now, rest) }
     {
@@ -99,7 +114,7 @@ impl AsBlock {
     }
 }
 
-// The readings and the writers behind the calls.
+// The private readers and writers of these calls.
 impl AsBlock {
     ghost use Rattle.std.specs.Prelude.{◌≡◌, ◌≤◌, ◌+◌, ◌++◌, length, vec_len, OnOk, OnErr, IsOk};
     ghost use Rattle.std.specs.Vec.{vec_capacity};
@@ -179,7 +194,7 @@ impl AsBlock {
         Ok(Some(block))
     }
 
-    // Whether the block is the one that is made of its bounds.
+    // Returns whether the block is in the form that `new` gives.
     fn is_new_form(&self) -> bool
         ensures { result ≡ is_new_form self.now }
     {
@@ -189,7 +204,7 @@ impl AsBlock {
         }
     }
 
-    // Whether the block begins more than one above the number.
+    // Returns whether the block begins more than one above the number.
     fn is_beyond(&self, before: Option<Asn>) -> bool
         ensures { result ≡ is_beyond before (as_bounds self.now).0 }
     {
@@ -227,7 +242,7 @@ impl AsBlock {
     }
 }
 
-/// The range in the content of a SEQUENCE.
+/// Returns the range in the content of a SEQUENCE.
 #[tactic(auto, unfolding(rpki_der::specs::SequenceReading::pair_in, crate::specs::AsDerReading::range_of), using(std::proofs::lemmas::Bool::Decides::nat_tests, std::proofs::lemmas::Grind::common_steps, std::proofs::lemmas::Result::err_from_is_err_and))]
 fn range_within(content: Cursor<'_>) -> Result<AsRange, DerError>
     ensures exact { Gives (λ range. range) result (as_range_in (left content.entry)) }
@@ -242,7 +257,7 @@ fn range_within(content: Cursor<'_>) -> Result<AsRange, DerError>
     Ok(AsRange::new(min, max))
 }
 
-/// Passes over two AS numbers in the content of a SEQUENCE.
+/// Skips two AS numbers in the content of a SEQUENCE.
 #[tactic(auto, unfolding(rpki_der::specs::SequenceReading::pair_in))]
 fn skip_pair_within(content: Cursor<'_>) -> Result<(), DerError>
     ensures exact { Gives (λ u. u) result (skip_pair (left content.entry)) }
@@ -253,7 +268,7 @@ fn skip_pair_within(content: Cursor<'_>) -> Result<(), DerError>
     inside.finish()
 }
 
-/// How many octets the content of a range has.
+/// Returns how many octets the content of a range has.
 fn range_content_len(range: &AsRange) -> usize
     ensures len { result ≡ length (as_range_content (range_bounds range.now)) }
     ensures short { result ≤ 14 }
@@ -261,8 +276,8 @@ fn range_content_len(range: &AsRange) -> usize
     AsRange::min(*range).encoded_len() + AsRange::max(*range).encoded_len()
 }
 
-/// Reads blocks one after another. From a strict cursor each begins more than one above the greatest number of the one
-/// before it.
+/// Reads blocks one after another. From a strict cursor each block begins more than one above the greatest number of
+/// the block before it.
 #[derive(Clone, Copy, Debug)]
 pub struct AsBlockReader;
 

@@ -1,4 +1,4 @@
--- Where a block may begin that follows another one in a chain.
+-- The numbers at which a block may begin that follows another block in a chain.
 use Rattle.std.specs.Prelude.{ℕ, ◌+◌, ◌<◌, Bool, true, nat_lt, Option, Some, None}
 
 -- n is more than one above the greatest number of the block before, if there is one
@@ -6,7 +6,7 @@ abbrev pub IsBeyond : Option ℕ → ℕ → Type 0
 IsBeyond None n = Unit {0}
 IsBeyond (Some greatest) n = greatest + 1 < n
 
--- whether it is
+-- the same as a truth value
 abbrev pub is_beyond : Option ℕ → ℕ → Bool
 is_beyond None n = true
 is_beyond (Some greatest) n = nat_lt (greatest + 1) n

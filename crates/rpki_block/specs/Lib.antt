@@ -1,4 +1,4 @@
--- Definitions: what the bounds of blocks say.
+-- Definitions: the bounds of blocks.
 pub mod Beyond
 pub mod Bounds
 pub mod Equality

@@ -1,4 +1,4 @@
--- Ranges of numbers, as contracts see a block that has one form.
+-- Ranges of numbers: the model of a block that has one form.
 use Rattle.std.specs.Prelude.{ℕ}
 
 -- a least and a greatest number

@@ -3,13 +3,13 @@ ghost use Rattle.std.specs.Prelude.{◌≡◌, ℕ, ◌+◌, ◌<◌, ◌≤◌,
 ghost use Rattle.std.specs.Ordering.{nat_cmp};
 ghost use Rattle.rpki_block.specs.Bounds.{IsWithin, IsBeside, IsNew};
 
-/// A range of items, from a minimum to a maximum with all between them (RFC 3779, sections 2 and 3).
+/// A range of items, from a minimum to a maximum with all items between them (RFC 3779, 2 and 3).
 ///
-/// An item stands for a whole number, and items compare as their numbers. The items of a kind stand for all whole
-/// numbers from the kind's first to its last. A type whose values have several forms, such as a single number and a
-/// range, is lawful as long as `new` always gives the same form for the same bounds.
+/// An item denotes a whole number, and items compare as their numbers. The items of a kind denote all whole numbers
+/// from the kind's first to its last. A type whose values have several forms, such as a single number and a range, is
+/// lawful as long as `new` always gives the same form for the same bounds.
 pub trait Block: Drop {
-    /// What a block is a range of.
+    /// The type of the items.
     type Item: Copy + Eq + Ord;
 
     /// The number of the kind's first item.
@@ -18,47 +18,51 @@ pub trait Block: Drop {
     /// The number of the kind's last item.
     ghost last: { ℕ };
 
-    /// The number that an item stands for.
+    /// The number that an item denotes.
     ghost number: { Self.Item → ℕ };
 
-    /// The item that stands for a number.
+    /// The item that denotes a number.
     ghost item_at: { ℕ → Self.Item };
 
     /// The numbers of the minimum and of the maximum.
     ghost bounds: { Self → ℕ × ℕ };
 
-    /// The block of given bounds, in the form that `new` gives.
+    /// The block with given bounds, in the form that `new` gives.
     ghost form: { ℕ × ℕ → Self };
 
-    /// The block from `min` to `max`, which must not be below `min`.
+    /// Returns the block from `min` to `max`.
+    ///
+    /// # Preconditions
+    ///
+    /// `max` isn't below `min`.
     fn new(min: Self::Item, max: Self::Item) -> Self
         requires { number min ≤ number max }
         ensures bounds { bounds result ≡ (number min, number max) }
         ensures value { result ≡ form (number min, number max) };
 
-    /// The smallest item. It is never above the largest.
+    /// Returns the smallest item. It is never above the largest.
     fn min(&self) -> Self::Item
         ensures value { number result ≡ (bounds self.now).0 }
         ensures from_first { first ≤ number result }
         ensures ordered { (bounds self.now).0 ≤ (bounds self.now).1 };
 
-    /// The largest item.
+    /// Returns the largest item. It is never below the smallest.
     fn max(&self) -> Self::Item
         ensures value { number result ≡ (bounds self.now).1 }
         ensures to_last { number result ≤ last }
         ensures ordered { (bounds self.now).0 ≤ (bounds self.now).1 };
 
-    /// The item that comes next; `None` for the kind's last item alone.
+    /// Returns the item after `item`, or None if and only if `item` is the kind's last.
     fn next(item: Self::Item) -> Option<Self::Item>
         ensures { MatchOption result (number item ≡ last)
             (λ next. (number item < last) × (number next ≡ number item + 1)) };
 
-    /// The item that comes before; `None` for the kind's first item alone.
+    /// Returns the item before `item`, or None if and only if `item` is the kind's first.
     fn previous(item: Self::Item) -> Option<Self::Item>
         ensures { MatchOption result (number item ≡ first)
             (λ previous. (first < number item) × (number previous + 1 ≡ number item)) };
 
-    /// The smallest and the largest item.
+    /// Returns the smallest and the largest item.
     fn bounds(&self) -> (Self::Item, Self::Item)
         ensures min { number result.0 ≡ (bounds self.now).0 }
         ensures max { number result.1 ≡ (bounds self.now).1 }
@@ -69,14 +73,14 @@ pub trait Block: Drop {
         (self.min(), self.max())
     }
 
-    /// Whether an item lies in the block.
+    /// Returns whether `item` lies in the block.
     fn contains(&self, item: Self::Item) -> bool
         ensures { IsTrue result ↔ IsWithin (bounds self.now) (number item) }
     {
         self.min() <= item && self.max() >= item
     }
 
-    /// Whether the blocks have an item in common.
+    /// Returns whether the blocks have an item in common.
     fn intersects(&self, other: &Self) -> bool
         ensures { IsTrue result ↔
             ((n : ℕ) × IsWithin (bounds self.now) n × IsWithin (bounds other.now) n) }
@@ -84,7 +88,7 @@ pub trait Block: Drop {
         self.min() <= other.max() && self.max() >= other.min()
     }
 
-    /// Whether each item of the block lies in the other.
+    /// Returns whether each item of the block lies in `other`.
     fn is_encompassed(&self, other: &Self) -> bool
         ensures { IsTrue result ↔
             ((n : ℕ) → IsWithin (bounds self.now) n → IsWithin (bounds other.now) n) }
@@ -92,7 +96,7 @@ pub trait Block: Drop {
         other.min() <= self.min() && other.max() >= self.max()
     }
 
-    /// The block over both where they overlap or touch, `None` where they are apart.
+    /// Returns the block that covers both if they overlap or touch, and None if they are apart.
     fn sum(&self, other: &Self) -> Option<Self>
         ensures over { IfSome result (λ sum. (n : ℕ) → IsWithin (bounds sum) n ↔
             (IsWithin (bounds self.now) n ⊎ IsWithin (bounds other.now) n)) }
@@ -116,7 +120,7 @@ pub trait Block: Drop {
         Some(Self::new(first, last))
     }
 
-    /// Whether the blocks have the same bounds, in whatever form they are.
+    /// Returns whether the blocks have the same bounds, in any form.
     fn is_equivalent(&self, other: &Self) -> bool
         ensures { IsTrue result ↔ (bounds self.now ≡ bounds other.now) }
     {
@@ -129,10 +133,10 @@ pub trait Block: Drop {
     /// Each number from the first to the last has an item.
     ghost no_gaps: { (n : ℕ) → first ≤ n → n ≤ last → number (item_at n) ≡ n };
 
-    /// An item is known by its number.
+    /// Items with the same number are the same.
     ghost one_item: { (x y : Self.Item) → number x ≡ number y → x ≡ y };
 
-    /// The block of given bounds has these bounds.
+    /// The block with given bounds has these bounds.
     ghost form_bounds: { (b : ℕ × ℕ) → first ≤ b.0 → b.0 ≤ b.1 → b.1 ≤ last →
         bounds (form b) ≡ b };
 }

@@ -13,7 +13,7 @@ use std::alloc::Allocator;
 
 /// Writes to `writer` the answer of `answers` to each line of `reader`, in order, as one line.
 ///
-/// The run answers a line as soon as it has read its end. It keeps only the bytes behind the last end, so its memory
+/// The run answers a line as soon as it has read its end. It keeps only the bytes after the last end, so its memory
 /// grows with the longest line, not with the input. It flushes `writer` once, after the last answer, and after an empty
 /// input. It never repeats a call that failed.
 ///
@@ -70,7 +70,7 @@ pub fn answer_as_read<A: Allocator + Copy, L: Answers, R: Source, W: Sink>(
     flush_all(writer)
 }
 
-/// Reads the input to its end, and answers each line whose end it reads. Returns the bytes behind the last end.
+/// Reads the input to its end, and answers each line whose end it reads. Returns the bytes after the last end.
 #[tactic(auto, using(crate::proofs::RunLemmas::unanswered))]
 fn answer_ended<A: Allocator + Copy, L: Answers, R: Source, W: Sink>(
     alloc: A,
@@ -158,7 +158,7 @@ fn answer_pieces<A: Allocator + Copy, L: Answers, R: Source, W: Sink>(
     }
 }
 
-/// Answers each line that ends in a piece, the first one behind the part that earlier pieces have of it. The part then
+/// Answers each line that ends in a piece. The first line begins with the part that earlier pieces have. The part then
 /// is what the piece has of a line whose end wasn't read.
 fn answer_piece<A: Allocator + Copy, L: Answers, W: Sink>(
     alloc: A,
@@ -261,7 +261,7 @@ fn answer_last<A: Allocator + Copy, L: Answers, W: Sink>(
     answer_line(alloc, answers, part, &mut told, writer)
 }
 
-/// The first line of a text without its end, and what stands behind that, if an end stands in the text.
+/// The first line of a text without its end, and the text after that end, if the text has an end of line.
 fn cut_ended(text: &[u8]) -> Option<(&[u8], &[u8])>
     ensures { MatchOption result (HasNo 10 text.now) (λ cut. IsCutAt 10 text.now cut.0.now cut.1.now) }
 {

@@ -17,3 +17,8 @@ expect() {
 needs_more() {
     [ -n "${UNPROVED-}" ] && echo "left out  $1: a program with run-time checks needs more memory"
 }
+
+# Whether a case is left out, and says so: a program with run-time checks takes minutes for its input.
+takes_long() {
+    [ -n "${UNPROVED-}" ] && echo "left out  $1: a program with run-time checks takes minutes"
+}

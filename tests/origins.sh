@@ -158,6 +158,7 @@ numbered 'AS%d,%s/32,32\n' >many.csv
 awk '{ print $2, $1 }' FS=, many.csv | sed 's/ /-32 /' >many.table
 printf '10.0.0.0/32 AS1\n10.0.255.255/32 AS65536\n10.1.0.0/32 AS65537\n10.1.255.255/32 AS131072\n' >asked
 printf '10.1.255.255/32 AS131071\n10.2.0.0/32 AS131073\n10.1.0.0/16 AS65537\n' >>asked
+takes_long "files of 131,072 VRPs" || {
 for file in many.csv many.json; do
     said=$("$program" "$file" <asked 2>&1)
     expect "routes by $file" 0 "valid
@@ -171,6 +172,7 @@ origins: $many payloads" $? "$said"
     said=$("$program" --table "$file" 2>count | cmp - many.table 2>&1)
     expect "the table of $file" 0 "origins: $many payloads" $? "$said$(cat count)"
 done
+}
 # Payloads 1 to n cover one route, each with its own AS. Their texts stand beside each other, the route's own first.
 for many in 1000 4000; do
     awk -v many=$many 'BEGIN { for (n = 1; n <= many; n++) printf "AS%d,192.0.2.0/24,24\n", n }' >covering

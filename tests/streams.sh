@@ -115,13 +115,17 @@ expect "places that can't be written" 1 "respath: write failed" $? "$said"
 
 # Streams above 64 MiB, in and out: one answer for each line.
 listed=$(awk 'BEGIN { for (at = 1; at < 20; at += 2) printf "%sAS42000000%02d", (at > 1 ? ", " : ""), at }')
-said=$(yes "norm as $listed" | head -n 500000 | { "$program"; echo "status $?"; } | uniq -c)
-expect "a stream of 73 MB, and answers of 69 MB" 0 "500000 $listed
+takes_long "a stream of 73 MB" || {
+    said=$(yes "norm as $listed" | head -n 500000 | { "$program"; echo "status $?"; } | uniq -c)
+    expect "a stream of 73 MB, and answers of 69 MB" 0 "500000 $listed
 1 status 0" $? "$(echo "$said" | sed 's/^ *//')"
+}
 origins=$top/crates/origins/out/origins
 route='TABLE_DUMP2|1732579200|B|203.0.113.1|64500|192.0.2.0/24|64500 64496|IGP|203.0.113.1|0|0||NAG||'
 why='valid match:192.0.2.0/23-24:AS64496 match:192.0.0.0/16-24:AS64496 match:192.0.0.0/8-24:AS64496'
-if [ -x "$origins" ]; then
+if takes_long "routes of 76 MB"; then
+    :
+elif [ -x "$origins" ]; then
     printf 'AS64496,192.0.%s,24\n' 0.0/8 0.0/16 2.0/23 >"$files/payloads"
     said=$(yes "$route" | head -n 800000 | { "$origins" "$files/payloads" 2>/dev/null; echo "status $?"; } | uniq -c)
     expect "routes of 76 MB" 0 "800000 valid

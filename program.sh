@@ -144,8 +144,8 @@ prove() {
     fi
 }
 
-# The seconds of one processor that the proof of each crate takes, measured on a quiet machine of four processors. They
-# are for the estimate alone: a crate that is missing here counts as a minute.
+# Rough guesses of the seconds of one processor that the proof of each crate takes. They were not measured one by one.
+# Only the estimate of the time that is left uses them. A crate that is missing here counts as a minute.
 seconds_of_crates() {
     cat <<'END'
 lines_engine 60

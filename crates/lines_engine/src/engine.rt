@@ -63,8 +63,10 @@ pub fn run<A: Allocator + Copy, L: Answers, R: Source, W: Sink>(
     ensures some_answered { IsErrOf result RunError.Memory → IfSome (R.left reader.old)
         (AnswersFirst (L.is_answer answers.now) (W.written writer.old) (W.written writer.new)) }
 
-    // Write: a write or the flush failed, or a write took nothing, and a beginning of the answers was written.
+    // Write: a write or the flush failed, or a write took nothing, and no read failed. A beginning of the answers was
+    // written.
     ensures write { IsErrOf result RunError.Write → W.mark writer.new ≡ true }
+    ensures no_read_failed { IsErrOf result RunError.Write → R.mark reader.new ≡ R.mark reader.old }
     ensures some_written { IsErrOf result RunError.Write → IfSome (R.left reader.old)
         (BeginsAnswers (L.is_answer answers.now) (W.written writer.old) (W.written writer.new)) }
 {

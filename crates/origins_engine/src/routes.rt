@@ -101,8 +101,11 @@ pub fn answer_routes<A: Allocator + Copy, P: Source, R: Source, W: Sink>(
         IfSome (R.left routes.old)
         (AnswersFirst (IsOriginAnswer why listed) (W.written writer.old) (W.written writer.new)))) }
 
-    // Write: a write or the flush failed, or a write took nothing, and a beginning of the answers was written.
+    // Write: a write or the flush failed, or a write took nothing, and no read failed. A beginning of the answers was
+    // written.
     ensures write { IsErrOf result (Run RunError.Write) → W.mark writer.new ≡ true }
+    ensures no_read_failed { IsErrOf result (Run RunError.Write) →
+        R.mark routes.new ≡ R.mark routes.old }
     ensures some_written { IsErrOf result (Run RunError.Write) → IfSome (P.left payloads.old) (ByFile (λ listed.
         IfSome (R.left routes.old)
         (BeginsAnswers (IsOriginAnswer why listed) (W.written writer.old) (W.written writer.new)))) }
@@ -143,6 +146,7 @@ fn answer_by<A: Allocator + Copy, R: Source, W: Sink>(
     ensures some_answered { IsErrOf result RunError.Memory → IfSome (R.left routes.old)
         (AnswersFirst (IsOriginAnswer why listed.now) (W.written writer.old) (W.written writer.new)) }
     ensures write { IsErrOf result RunError.Write → W.mark writer.new ≡ true }
+    ensures no_read_failed { IsErrOf result RunError.Write → R.mark routes.new ≡ R.mark routes.old }
     ensures some_written { IsErrOf result RunError.Write → IfSome (R.left routes.old)
         (BeginsAnswers (IsOriginAnswer why listed.now) (W.written writer.old) (W.written writer.new)) }
 {

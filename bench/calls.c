@@ -1,7 +1,7 @@
 /* One of the calls on two sets, made so many times: its arguments are `verify`, `union`, `intersection`, `difference` or
    `contains`, how often, a file of octets, and how long the first three of the values in it are: those of AS identifiers
    and of IP address blocks of an issuer or first set, then of a certificate or second set. What is printed is how many
-   octets all calls together tell; of `contains`, how many hold. */
+   octets all calls together write; of `contains`, how many hold. */
 #include "../foreign/pigyelund.h"
 #include <stdio.h>
 #include <stdlib.h>
@@ -24,26 +24,26 @@ static run read_file(const char *path) {
   return found;
 }
 
-static pg_operation *operation_of(const char *call) {
-  if (!strcmp(call, "union")) return pg_union;
-  if (!strcmp(call, "intersection")) return pg_intersection;
-  if (!strcmp(call, "difference")) return pg_difference;
+static pigy_operation *operation_of(const char *call) {
+  if (!strcmp(call, "union")) return pigy_union;
+  if (!strcmp(call, "intersection")) return pigy_intersection;
+  if (!strcmp(call, "difference")) return pigy_difference;
   exit(2);
 }
 
-/* what one call tells */
-static size_t told_by(const char *call, pg_set one, pg_set other, pg_room *room) {
+/* how many octets one call writes, or whether its test holds */
+static size_t octets_of_call(const char *call, pigy_set one, pigy_set other, pigy_buffers *out) {
   uint32_t status;
-  if (!strcmp(call, "contains")) return pg_test_sets(pg_contains, one, other, PG_LENIENT) == PG_OK;
-  if (!strcmp(call, "verify")) status = pg_verify_set(one, other, PG_LENIENT, PG_TRIM, room);
-  else status = pg_make_set(operation_of(call), one, other, PG_LENIENT, room);
-  if (status != PG_OK) exit(3);
-  return room->as_len + room->ip_len;
+  if (!strcmp(call, "contains")) return pigy_compare(pigy_contains, one, other, PIGY_LENIENT) == PIGY_OK;
+  if (!strcmp(call, "verify")) status = pigy_verify_set(one, other, PIGY_LENIENT, PIGY_TRIM, out);
+  else status = pigy_combine(operation_of(call), one, other, PIGY_LENIENT, out);
+  if (status != PIGY_OK) exit(3);
+  return out->as_len + out->ip_len;
 }
 
 int main(int count, char **words) {
   run in[4];
-  size_t told = 0;
+  size_t octets = 0;
   if (count != 7) return 2;
   run left = read_file(words[3]);
   for (int i = 0; i < 4; i++) {
@@ -52,13 +52,13 @@ int main(int count, char **words) {
     in[i] = (run){left.octets, length};
     left = (run){left.octets + length, left.length - length};
   }
-  pg_set one = {in[0].octets, in[0].length, in[1].octets, in[1].length};
-  pg_set other = {in[2].octets, in[2].length, in[3].octets, in[3].length};
-  pg_room room = {0, in[0].length + in[2].length, 0, 0, in[1].length + in[3].length, 0};
-  room.as = malloc(room.as_room + 1);
-  room.ip = malloc(room.ip_room + 1);
-  if (!room.as || !room.ip) return 2;
-  for (long times = strtol(words[2], 0, 10); times > 0; times--) told += told_by(words[1], one, other, &room);
-  printf("%zu\n", told);
+  pigy_set one = {in[0].octets, in[0].length, in[1].octets, in[1].length};
+  pigy_set other = {in[2].octets, in[2].length, in[3].octets, in[3].length};
+  pigy_buffers out = {0, in[0].length + in[2].length, 0, 0, in[1].length + in[3].length, 0};
+  out.as = malloc(out.as_capacity + 1);
+  out.ip = malloc(out.ip_capacity + 1);
+  if (!out.as || !out.ip) return 2;
+  for (long times = strtol(words[2], 0, 10); times > 0; times--) octets += octets_of_call(words[1], one, other, &out);
+  printf("%zu\n", octets);
   return 0;
 }

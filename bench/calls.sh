@@ -73,8 +73,8 @@ def shares(call, words):
     run = ["valgrind", "--tool=callgrind", f"--callgrind-out-file={log}", f"{folder}/calls", call, str(TIMES), *words]
     subprocess.run(run, check=True, capture_output=True)
     whole, own = (annotated(log, kind) for kind in ("yes", "no"))
-    all_of_it = sum(count for name, count in whole if re.fullmatch(r"pg_\w+", name))
-    border = sum(count for name, count in own if name.startswith(("pg_", "pigyelund_c::")))
+    all_of_it = sum(count for name, count in whole if re.fullmatch(r"pigy_\w+", name))
+    border = sum(count for name, count in own if name.startswith(("pigy_", "pigyelund_c::")))
     return all_of_it / TIMES / 1000, border / all_of_it
 
 

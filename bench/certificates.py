@@ -1,7 +1,7 @@
 #!/usr/bin/env python3
 """How the time of a path of ten certificates grows with the blocks of each: of N of AS numbers, of IPv4 and of IPv6.
 
-Each certificate claims a little less than its issuer. `octets` is one call of `pg_verify_path` over canonical octets,
+Each certificate claims a little less than its issuer. `octets` is one call of `pigy_verify_path` over canonical octets,
 in process; `lines` is one run of respath over the same path as three lines `path`, which are texts. Both must leave
 what the last certificate claims. Seconds of the processor, each the least of RUNS in turn, for N of 1,000 to 64,000 or
 those that are given. Growth per doubling is about 2.
@@ -19,7 +19,7 @@ from pathlib import Path
 TOP = Path(__file__).resolve().parent.parent
 sys.path.insert(0, str(TOP / "foreign" / "python"))
 
-from pigyelund import Certificate, Encoding, Extensions, Pigyelund, Resources, laid_out  # noqa: E402
+from pigyelund import Certificate, Encoding, Extensions, Pigyelund, Resources, concatenate  # noqa: E402
 
 RESPATH = TOP / "crates" / "respath" / "out" / "respath"
 LIBRARY = TOP / "crates" / "pigyelund_c" / "out" / "libpigyelund_c.a"
@@ -68,16 +68,16 @@ class OfOctets:
 
     def __init__(self, library: Pigyelund, claims: list[Resources]) -> None:
         self._library, self._anchor, self._last = library, claims[0], claims[-1]
-        self._run, self._places = laid_out(Certificate(Extensions(*claim)) for claim in claims[1:])
+        self._run, self._positions = concatenate(Certificate(Extensions(*claim)) for claim in claims[1:])
 
     def seconds(self) -> float:
         """How long it takes to verify it."""
-        rooms = (len(self._last.asn), len(self._last.ip))
+        lengths = (len(self._last.asn), len(self._last.ip))
         before = time.process_time()
-        told = self._library.raw.verify_path(self._anchor, self._run, self._places, Encoding.STRICT, rooms)
+        result = self._library.raw.verify_path(self._anchor, self._run, self._positions, Encoding.STRICT, lengths)
         took = time.process_time() - before
-        if told.status or told.held != self._last:
-            sys.exit(f"the octets are answered by status {told.status}")
+        if result.status or result.contents != self._last:
+            sys.exit(f"the octets are answered by status {result.status}")
         return took
 
 

@@ -1,5 +1,5 @@
 /* The tables of `crates/bench_growth/src/worst.rt` in rtrlib's pfx_table: what `bench/origins.sh` compares. Arguments:
- * `one` or `chain`, and how many payloads. It prints what the Rattle program prints. */
+ * `one` or `chain`, and how many VRPs. It prints what the Rattle program prints. */
 #include <rtrlib/rtrlib.h>
 #include <stdint.h>
 #include <stdio.h>

@@ -1,7 +1,7 @@
 #!/usr/bin/env python3
 """How long `origins` takes to answer routes by a validator's file, and in how much memory, beside rtrlib's table.
 
-Payloads and routes are made at random: flat, of which most are of 24 bits, and nested some 80 deep. Each answer is
+VRPs and routes are made at random: flat, of which most are of 24 bits, and nested some 80 deep. Each answer is
 compared with that of rtrlib (Debian's librtr-dev), where it is there; rtrlib's time is that of its table alone, in
 memory, without any reading. Seconds of the processor, the least of some runs, and the peak of memory in MiB.
 """
@@ -18,7 +18,7 @@ from pathlib import Path
 
 TOP = Path(__file__).resolve().parent.parent
 PROGRAM = TOP / "crates" / "origins" / "out" / "origins"
-Payload = tuple[int, int, int, int, int]  # bits of the family, the address, the length, the greatest length, the AS
+Vrp = tuple[int, int, int, int, int]  # bits of the family, the address, the length, the maximum length, the AS
 Route = tuple[int, int, int, int]
 
 
@@ -29,8 +29,8 @@ def address(bits: int, number: int) -> str:
     return ":".join(f"{number >> shift & 0xFFFF:x}" for shift in range(112, -1, -16))
 
 
-def flat(made: random.Random, count: int) -> Iterator[Payload]:
-    """Payloads of which four of five are of IPv4, most of 24 bits."""
+def flat(made: random.Random, count: int) -> Iterator[Vrp]:
+    """VRPs of which four of five are of IPv4, most of 24 bits."""
     for _ in range(count):
         bits = 32 if made.randrange(5) else 128
         length = (24 if made.randrange(5) else made.randint(16, 24)) if bits == 32 else made.randint(29, 48)
@@ -39,8 +39,8 @@ def flat(made: random.Random, count: int) -> Iterator[Payload]:
         yield bits, number, length, longest, made.randint(1, 70_000)
 
 
-def nested(made: random.Random, count: int) -> Iterator[Payload]:
-    """Payloads of IPv6 each of whose prefixes lies in some 80 others: chains of every length from 32 to 112 bits."""
+def nested(made: random.Random, count: int) -> Iterator[Vrp]:
+    """VRPs of IPv6 each of whose prefixes lies in some 80 others: chains of every length from 32 to 112 bits."""
     while count > 0:
         number = made.getrandbits(128)
         for length in range(32, min(113, 32 + count)):
@@ -49,10 +49,10 @@ def nested(made: random.Random, count: int) -> Iterator[Payload]:
         count -= 81
 
 
-def routes_of(made: random.Random, payloads: list[Payload], count: int) -> Iterator[Route]:
-    """Routes of which three of five are payloads', some of them longer or by another AS."""
+def routes_of(made: random.Random, vrps: list[Vrp], count: int) -> Iterator[Route]:
+    """Routes of which three of five are VRPs', some of them longer or by another AS."""
     for _ in range(count):
-        bits, number, length, longest, asn = made.choice(payloads)
+        bits, number, length, longest, asn = made.choice(vrps)
         if made.randrange(5) < 2:
             length = made.randint(8, 24) if bits == 32 else made.randint(24, 64)
             number, asn = made.getrandbits(length) << bits - length, made.randint(1, 70_000)
@@ -78,8 +78,8 @@ def run(words: list[object], stdin: Path | None, stdout: Path) -> tuple[float, f
     """Seconds of the processor and the peak of memory in MiB of a program."""
     with open(stdin or os.devnull, "rb") as given, open(stdout, "wb") as taken:
         small = [sys.executable, "-S", "-E", "-c", CHILD, *words]
-        told = subprocess.run(small, stdin=given, stdout=taken, stderr=subprocess.PIPE, text=True, check=True).stderr
-    status, seconds, memory = told.split()
+        measured = subprocess.run(small, stdin=given, stdout=taken, stderr=subprocess.PIPE, text=True, check=True).stderr
+    status, seconds, memory = measured.split()
     if status != "0":
         raise SystemExit(f"{words}: status {status}")
     return float(seconds), int(memory) / 1024
@@ -110,19 +110,19 @@ def word(answer: str) -> str:
     return answer.split("-")[0] if answer.startswith("invalid") else answer
 
 
-def prefix(one: Payload | Route) -> str:
-    """The prefix of a payload or a route."""
+def prefix(one: Vrp | Route) -> str:
+    """The prefix of a VRP or a route."""
     bits, number, length, *_ = one
     return f"{address(bits, number)}/{length}"
 
 
-def written(folder: Path, payloads: list[Payload], routes: list[Route]) -> None:
-    """The files that are asked: payloads in both forms, routes, and both as rtrlib's program reads them."""
-    write(folder / "csv", (f"AS{one[4]},{prefix(one)},{one[3]}" for one in payloads))
-    items = (f'{{"asn":{one[4]},"prefix":"{prefix(one)}","maxLength":{one[3]},"ta":"x"}}' for one in payloads)
+def written(folder: Path, vrps: list[Vrp], routes: list[Route]) -> None:
+    """The files that are asked: VRPs in both forms, routes, and both as rtrlib's program reads them."""
+    write(folder / "csv", (f"AS{one[4]},{prefix(one)},{one[3]}" for one in vrps))
+    items = (f'{{"asn":{one[4]},"prefix":"{prefix(one)}","maxLength":{one[3]},"ta":"x"}}' for one in vrps)
     (folder / "json").write_text('{"roas":[' + ",\n".join(items) + "]}", encoding="ascii")
     write(folder / "routes", (f"{prefix(one)} AS{one[3]}" for one in routes))
-    write(folder / "plain", (f"{prefix(one).replace('/', ' ')} {one[3]} {one[4]}" for one in payloads))
+    write(folder / "plain", (f"{prefix(one).replace('/', ' ')} {one[3]} {one[4]}" for one in vrps))
     write(folder / "wanted", (f"{prefix(one).replace('/', ' ')} {one[3]}" for one in routes))
 
 
@@ -131,8 +131,8 @@ def compare(name: str, asked: Path, folder: Path, found: list[str], runs: int) -
     times = []
     for _ in range(runs):
         words = [asked, *(folder / name for name in ("plain", "wanted", "expected"))]
-        told = subprocess.run(words, check=True, capture_output=True, text=True)
-        times.append([float(time) for time in told.stdout.split()])
+        measured = subprocess.run(words, check=True, capture_output=True, text=True)
+        times.append([float(time) for time in measured.stdout.split()])
     made_in, asked_in = min(times, key=sum)
     shown = f"(its table {made_in:.2f}, lookups {asked_in:.2f})"
     print(f"{name + ', rtrlib, in memory':<36}{made_in + asked_in:>8.2f}       - {shown}")
@@ -144,10 +144,10 @@ def compare(name: str, asked: Path, folder: Path, found: list[str], runs: int) -
         raise SystemExit(1)
 
 
-def measure(name: str, asked: Path | None, folder: Path, payloads: list[Payload], options: argparse.Namespace) -> None:
-    """Prints the lines of one kind of payloads."""
+def measure(name: str, asked: Path | None, folder: Path, vrps: list[Vrp], options: argparse.Namespace) -> None:
+    """Prints the lines of one kind of VRPs."""
     program, csv, answers = options.program, folder / "csv", folder / "answers"
-    written(folder, payloads, list(routes_of(random.Random(f"{name} routes"), payloads, options.routes)))
+    written(folder, vrps, list(routes_of(random.Random(f"{name} routes"), vrps, options.routes)))
     calls = {
         "csv, routes": ([program, csv], folder / "routes"),
         "csv, no routes": ([program, csv], None),
@@ -176,7 +176,7 @@ def measure_growth(program: Path, folder: Path, count: int) -> None:
 def main() -> int:
     """Reads the options and measures."""
     parser = argparse.ArgumentParser(description=__doc__.splitlines()[0])
-    parser.add_argument("--payloads", type=int, default=500_000)
+    parser.add_argument("--vrps", type=int, default=500_000)
     parser.add_argument("--routes", type=int, default=1_000_000)
     parser.add_argument("--runs", type=int, default=3)
     parser.add_argument("--program", type=Path, default=PROGRAM)
@@ -184,10 +184,10 @@ def main() -> int:
     with tempfile.TemporaryDirectory() as name:
         folder = Path(name)
         asked = rtrlib(folder)
-        print(f"{options.payloads} payloads, {options.routes} routes{'':<8}seconds     MiB")
+        print(f"{options.vrps} VRPs, {options.routes} routes{'':<8}seconds     MiB")
         for kind, make in (("nested", nested), ("flat", flat)):
-            payloads = list(make(random.Random(kind), options.payloads))
-            measure(kind, asked, folder, payloads, options)
+            vrps = list(make(random.Random(kind), options.vrps))
+            measure(kind, asked, folder, vrps, options)
         measure_growth(options.program, folder, options.routes)
     return 0
 

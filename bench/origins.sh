@@ -1,6 +1,6 @@
 #!/bin/sh
 # The tables that would slow a lookup most, beside rtrlib's pfx_table (Debian's librtr-dev): 40,000 AS numbers of one
-# prefix, prefixes of all lengths one in the other, and 40,000 payloads of these. Each is asked for a route that its
+# prefix, prefixes of all lengths one in the other, and 40,000 VRPs of these. Each is asked for a route that its
 # longest prefixes don't cover, for one that they cover and none matches, and for one that an AS may originate:
 # microseconds of the processor a lookup, the least of RUNS (5). Both have to answer alike.
 top=$(CDPATH= cd -- "$(dirname -- "$0")/.." && pwd) || exit 1
@@ -42,10 +42,10 @@ def asked(*command):
 print(f"{'':12}  {'beside':>16}  {'none matches':>16}  {'valid':>16}")
 print(f"{'':12}" + f"  {'ours':>7}  {'rtrlib':>7}" * 3)
 for name, word, count in TABLES:
-    told = [[asked(program, word, str(count)) for _ in range(runs)] for program in (ours, peer)]
-    answers = {answer for runs_of_one in told for answer, _ in runs_of_one}
+    measured = [[asked(program, word, str(count)) for _ in range(runs)] for program in (ours, peer)]
+    answers = {answer for runs_of_one in measured for answer, _ in runs_of_one}
     if len(answers) > 1:
         sys.exit(f"{name}: {answers}")
-    least = [[min(column) for column in zip(*(times for _, times in runs_of_one))] for runs_of_one in told]
+    least = [[min(column) for column in zip(*(times for _, times in runs_of_one))] for runs_of_one in measured]
     print(f"{name:12}" + "".join(f"  {one:7.2f}  {other:7.2f}" for one, other in zip(*least)))
 PROGRAM

@@ -18,8 +18,8 @@ static uint32_t next_number(void) { /* xorshift64* */
   return (uint32_t)((state * 0x2545f4914f6cdd1dull) >> 32);
 }
 
-static pg_payload made_vrp(uint32_t least_as) {
-  pg_payload vrp = {{0}, least_as + next_number() % 60000, PG_IPV4, 24, 24};
+static pigy_vrp made_vrp(uint32_t least_as) {
+  pigy_vrp vrp = {{0}, least_as + next_number() % 60000, PIGY_IPV4, 24, 24};
   uint32_t address = next_number();
   if (next_number() % 4 == 0) vrp.len = (uint8_t)(12 + next_number() % 12);
   address = address >> (32 - vrp.len) << (32 - vrp.len);
@@ -27,45 +27,45 @@ static pg_payload made_vrp(uint32_t least_as) {
   return vrp;
 }
 
-static void *room(size_t count, size_t size) {
+static void *allocate(size_t count, size_t size) {
   void *made = calloc(count + 1, size);
   if (!made) exit(2);
   return made;
 }
 
 /* the table with 300 VRPs announced, of AS numbers that it has not, and the first 300 of its VRPs withdrawn */
-static pg_table *changed(pg_table *table, const pg_payload *vrps) {
-  pg_payload fresh[CHANGES];
-  pg_table *next = 0;
-  size_t place;
+static pigy_table *changed(pigy_table *table, const pigy_vrp *vrps) {
+  pigy_vrp fresh[CHANGES];
+  pigy_table *next = 0;
+  size_t index;
   for (size_t i = 0; i < CHANGES; i++) fresh[i] = made_vrp(1000000 + 100000 * (uint32_t)i);
-  if (pg_table_changed(table, fresh, CHANGES, vrps, CHANGES, &next, &place) != PG_OK) exit(4);
-  pg_table_free(table);
+  if (pigy_table_changed(table, fresh, CHANGES, vrps, CHANGES, &next, &index) != PIGY_OK) exit(4);
+  pigy_table_free(table);
   return next;
 }
 
 int main(int count, char **words) {
   if (count != 4) return 2;
-  size_t vrp_count = strtoul(words[2], 0, 10), route_count = strtoul(words[3], 0, 10), place, len, valid = 0;
+  size_t vrp_count = strtoul(words[2], 0, 10), route_count = strtoul(words[3], 0, 10), index, len, valid = 0;
   size_t part = strcmp(words[1], "alone") ? route_count : 1;
-  pg_payload *vrps = room(vrp_count, sizeof *vrps);
-  pg_route *routes = room(route_count, sizeof *routes);
-  uint8_t *out = room(route_count, 1);
-  pg_table *table = 0;
+  pigy_vrp *vrps = allocate(vrp_count, sizeof *vrps);
+  pigy_route *routes = allocate(route_count, sizeof *routes);
+  uint8_t *out = allocate(route_count, 1);
+  pigy_table *table = 0;
   for (size_t i = 0; i < vrp_count; i++) vrps[i] = made_vrp(1);
   for (size_t i = 0; i < route_count; i++) {
-    pg_payload one = i % 2 ? vrps[next_number() % vrp_count] : made_vrp(1);
-    pg_route route = {{0}, one.asn, one.family, one.len};
+    pigy_vrp one = i % 2 ? vrps[next_number() % vrp_count] : made_vrp(1);
+    pigy_route route = {{0}, one.asn, one.family, one.len};
     memcpy(route.address, one.address, 16);
     routes[i] = route;
   }
-  if (pg_table_new(vrps, vrp_count, &table, &place) != PG_OK) return 3;
+  if (pigy_table_new(vrps, vrp_count, &table, &index) != PIGY_OK) return 3;
   if (!strcmp(words[1], "changed")) table = changed(table, vrps);
   for (size_t i = 0; i < route_count; i += part)
-    if (pg_table_origins(table, routes + i, part, out + i, part, &len, &place) != PG_OK || len != part) return 5;
-  for (size_t i = 0; i < route_count; i++) valid += out[i] == PG_VALID;
+    if (pigy_table_origins(table, routes + i, part, out + i, part, &len, &index) != PIGY_OK || len != part) return 5;
+  for (size_t i = 0; i < route_count; i++) valid += out[i] == PIGY_VALID;
   printf("%zu\n", valid);
-  pg_table_free(table);
+  pigy_table_free(table);
   free(vrps), free(routes), free(out);
   return 0;
 }

@@ -1,7 +1,7 @@
 /* What rtrlib's table says of routes: its seconds of the processor alone, and how many are valid, invalid and not found.
  *
- * rtrlib_origins PAYLOADS ROUTES ANSWERS: a payload a line, `ADDRESS LENGTH MAX ASN`; a route a line, `ADDRESS LENGTH
- * ASN`. All is read first; the first time told is that of adding the payloads, the second that of the lookups. */
+ * rtrlib_origins VRPS ROUTES ANSWERS: a VRP a line, `ADDRESS LENGTH MAX ASN`; a route a line, `ADDRESS LENGTH
+ * ASN`. All is read first; the first time told is that of adding the VRPs, the second that of the lookups. */
 #include <rtrlib/rtrlib.h>
 #include <stdio.h>
 #include <stdlib.h>
@@ -35,14 +35,14 @@ int main(int count, char **words) {
     if (count != 4)
         return 2;
 
-    struct pfx_record *payloads = NULL;
-    size_t payload_count = 0;
+    struct pfx_record *vrps = NULL;
+    size_t vrp_count = 0;
     FILE *file = fopen(words[1], "r");
     if (!file)
         return 1;
     while (fscanf(file, "%63s %u %u %u", text, &length, &max, &asn) == 4) {
-        payloads = more(payloads, payload_count, sizeof *payloads);
-        struct pfx_record *record = &payloads[payload_count++];
+        vrps = more(vrps, vrp_count, sizeof *vrps);
+        struct pfx_record *record = &vrps[vrp_count++];
         memset(record, 0, sizeof *record);
         if (lrtr_ip_str_to_addr(text, &record->prefix))
             return 1;
@@ -72,8 +72,8 @@ int main(int count, char **words) {
     struct pfx_table table;
     double began = now();
     pfx_table_init(&table, NULL);
-    for (size_t at = 0; at < payload_count; at++) {
-        int added = pfx_table_add(&table, &payloads[at]);
+    for (size_t at = 0; at < vrp_count; at++) {
+        int added = pfx_table_add(&table, &vrps[at]);
         if (added != PFX_SUCCESS && added != PFX_DUPLICATE_RECORD)
             return 1;
     }

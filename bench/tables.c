@@ -1,6 +1,6 @@
-/* tables [PAYLOADS ROUTES]: a table of payloads of pigyelund beside rtrlib's, in one run: how long it takes to make, to
+/* tables [VRPS ROUTES]: a table of VRPs of pigyelund beside rtrlib's, in one run: how long it takes to make, to
  * ask for all routes, one route a call, and after 300 changes; and how many routes have each validity by both. Most
- * payloads are of 24 bits, half of the routes are payloads. Times are the least of ROUNDS. */
+ * VRPs are of 24 bits, half of the routes are VRPs. Times are the least of ROUNDS. */
 #include "../foreign/pigyelund.h"
 #include <arpa/inet.h>
 #include <rtrlib/rtrlib.h>
@@ -26,13 +26,13 @@ static double now(void) {
   return (double)t.tv_sec * 1e3 + (double)t.tv_nsec / 1e6;
 }
 
-static pg_payload made_payload(void) {
-  pg_payload payload = {{0}, 1 + next_number() % 60000, PG_IPV4, 24, 24};
+static pigy_vrp made_vrp(void) {
+  pigy_vrp vrp = {{0}, 1 + next_number() % 60000, PIGY_IPV4, 24, 24};
   uint32_t address = next_number();
-  if (next_number() % 4 == 0) payload.len = (uint8_t)(12 + next_number() % 12);
-  address = address >> (32 - payload.len) << (32 - payload.len);
-  for (int i = 0; i < 4; i++) payload.address[i] = (uint8_t)(address >> (24 - 8 * i));
-  return payload;
+  if (next_number() % 4 == 0) vrp.len = (uint8_t)(12 + next_number() % 12);
+  address = address >> (32 - vrp.len) << (32 - vrp.len);
+  for (int i = 0; i < 4; i++) vrp.address[i] = (uint8_t)(address >> (24 - 8 * i));
+  return vrp;
 }
 
 static struct lrtr_ip_addr address_of(const uint8_t *octets) {
@@ -41,18 +41,18 @@ static struct lrtr_ip_addr address_of(const uint8_t *octets) {
   return address;
 }
 
-static struct pfx_record record_of(const pg_payload *payload) {
-  struct pfx_record record = {.asn = payload->asn, .min_len = payload->len, .max_len = payload->max_len};
-  record.prefix = address_of(payload->address);
+static struct pfx_record record_of(const pigy_vrp *vrp) {
+  struct pfx_record record = {.asn = vrp->asn, .min_len = vrp->len, .max_len = vrp->max_len};
+  record.prefix = address_of(vrp->address);
   return record;
 }
 
 /* the same as pigyelund numbers it */
 static uint8_t number_of(enum pfxv_state found) {
-  return found == BGP_PFXV_STATE_VALID ? PG_VALID : found == BGP_PFXV_STATE_INVALID ? PG_INVALID : PG_NOT_FOUND;
+  return found == BGP_PFXV_STATE_VALID ? PIGY_VALID : found == BGP_PFXV_STATE_INVALID ? PIGY_INVALID : PIGY_NOT_FOUND;
 }
 
-static void *room(size_t size) {
+static void *allocate(size_t size) {
   void *made = malloc(size);
   if (!made) exit(2);
   return made;
@@ -63,39 +63,39 @@ static void row(const char *what, double ours, double theirs) {
 }
 
 int main(int count, char **words) {
-  size_t payloads = count > 1 ? strtoul(words[1], 0, 10) : 500000;
+  size_t vrps = count > 1 ? strtoul(words[1], 0, 10) : 500000;
   size_t routes = count > 2 ? strtoul(words[2], 0, 10) : 1000000;
-  pg_payload *all = room(payloads * sizeof *all), *fresh = room(CHANGES * sizeof *fresh);
-  pg_route *asked = room(routes * sizeof *asked);
-  uint8_t *ours = room(routes), *theirs = room(routes), *alone = room(routes);
-  pg_table *table = 0, *next = 0;
+  pigy_vrp *all = allocate(vrps * sizeof *all), *fresh = allocate(CHANGES * sizeof *fresh);
+  pigy_route *asked = allocate(routes * sizeof *asked);
+  uint8_t *ours = allocate(routes), *theirs = allocate(routes), *alone = allocate(routes);
+  pigy_table *table = 0, *next = 0;
   struct pfx_table peer;
-  size_t len, place, differing = 0;
+  size_t len, index, differing = 0;
   double least[6] = {1e18, 1e18, 1e18, 1e18, 1e18, 1e18};
-  for (size_t i = 0; i < payloads; i++) all[i] = made_payload();
+  for (size_t i = 0; i < vrps; i++) all[i] = made_vrp();
   for (size_t i = 0; i < CHANGES; i++) {
-    fresh[i] = made_payload();
+    fresh[i] = made_vrp();
     fresh[i].asn += 1000000; /* so that none is there */
   }
   for (size_t i = 0; i < routes; i++) {
-    pg_payload one = i % 2 ? all[next_number() % payloads] : made_payload();
-    pg_route route = {{0}, one.asn, one.family, one.len};
+    pigy_vrp one = i % 2 ? all[next_number() % vrps] : made_vrp();
+    pigy_route route = {{0}, one.asn, one.family, one.len};
     memcpy(route.address, one.address, 16);
     asked[i] = route;
   }
   for (int round = 0; round < ROUNDS; round++) {
     double at = now(), times[6];
-    if (pg_table_new(all, payloads, &table, &place) != PG_OK) return 2;
+    if (pigy_table_new(all, vrps, &table, &index) != PIGY_OK) return 2;
     times[0] = now() - at;
     at = now();
     pfx_table_init(&peer, 0);
-    for (size_t i = 0; i < payloads; i++) {
+    for (size_t i = 0; i < vrps; i++) {
       struct pfx_record record = record_of(all + i);
       pfx_table_add(&peer, &record);
     }
     times[1] = now() - at;
     at = now();
-    if (pg_table_origins(table, asked, routes, ours, routes, &len, &place) != PG_OK) return 2;
+    if (pigy_table_origins(table, asked, routes, ours, routes, &len, &index) != PIGY_OK) return 2;
     times[2] = now() - at;
     at = now();
     for (size_t i = 0; i < routes; i++) {
@@ -107,18 +107,18 @@ int main(int count, char **words) {
     times[3] = now() - at;
     at = now();
     for (size_t i = 0; i < routes; i++)
-      if (pg_table_origins(table, asked + i, 1, alone + i, 1, &len, &place) != PG_OK) return 2;
+      if (pigy_table_origins(table, asked + i, 1, alone + i, 1, &len, &index) != PIGY_OK) return 2;
     times[4] = now() - at;
     at = now();
-    if (pg_table_changed(table, fresh, CHANGES, all, 0, &next, &place) != PG_OK) return 2;
+    if (pigy_table_changed(table, fresh, CHANGES, all, 0, &next, &index) != PIGY_OK) return 2;
     times[5] = now() - at;
     for (int i = 0; i < 6; i++) least[i] = times[i] < least[i] ? times[i] : least[i];
     for (size_t i = 0; i < routes; i++) differing += ours[i] != theirs[i] || ours[i] != alone[i];
-    pg_table_free(next);
-    pg_table_free(table);
+    pigy_table_free(next);
+    pigy_table_free(table);
     pfx_table_free(&peer);
   }
-  printf("%zu payloads, %zu routes, milliseconds\n", payloads, routes);
+  printf("%zu VRPs, %zu routes, milliseconds\n", vrps, routes);
   printf("%-22s %10s %10s %8s\n", "", "pigyelund", "rtrlib", "ratio");
   row("made", least[0], least[1]);
   row("all routes, one call", least[2], least[3]);

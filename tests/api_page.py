@@ -15,7 +15,7 @@ from functools import cache
 from pathlib import Path
 
 from api_paths import ITEM, Key, Module, meant_by, public_paths, root_of
-from rooms import ROOMS, about, crates_of, is_program, room_of, stands_on
+from groups import GROUPS, about, crates_of, group_of, is_program, stands_on
 
 TOP = Path(__file__).resolve().parent.parent
 DOCS = TOP / "docs"
@@ -67,16 +67,16 @@ INTERNAL = (
     "rpki_addr::addr::front",
     "rpki_addr::addr::print",
     "rpki_base::Asn::append",
-    "rpki_base::asn::place",
+    "rpki_base::asn::at_index",
     "rpki_base::asn::print",
-    "rpki_chains::reads::read_at",
-    "rpki_chains::shared::SharedChain::covered_by",
-    "rpki_chains::shared::SharedChain::from_vec",
-    "rpki_chains::shared::SharedChain::trim",
+    "rpki_chain_core::reads::read_at",
+    "rpki_chain_core::shared::SharedChain::covered_by",
+    "rpki_chain_core::shared::SharedChain::from_vec",
+    "rpki_chain_core::shared::SharedChain::trim_shared",
     "rpki_chain::BlockSet::as_chain",
     "rpki_chain::BlockSet::from_vec_unchecked",
     "rpki_chain::der",
-    "rpki_chain::path::Claims",
+    "rpki_chain::path::BlockClaim",
     "rpki_chain::resources::CollectBlocks",
     "rpki_as_block::AsBlockIter::none",
     "rpki_as_block::AsBlockIter::over",
@@ -90,9 +90,9 @@ INTERNAL = (
     "rpki_ip_block::SetPrefixes::over",
     "rpki_ip_block::der::IpBlockReader",
     "rpki_ip_block::list",
-    "rpki_ipres::OverclaimedIpResources::as_family",
+    "rpki_ipres::OverclaimedIpResources::display_with_family",
     "rpki_family::iter::BlockOfSet",
-    "route_calls",
+    "pigyelund_routes",
 )
 CLAUSE = re.compile(r"^\s*(?:ensures|requires|decreases|ghost)\b")
 MEMBER = re.compile(r"    pub (?:(const (?=[A-Z])|type )|(?:const )?fn )(\w+)")
@@ -288,12 +288,12 @@ def items_of(crate: str) -> list[Item]:
 
 def libraries() -> list[str]:
     """The libraries that others call, from the ground up."""
-    return [it for it in stands_on() if not is_program(it) and room_of(it).title not in ("rows", "tests", "benchmarks")]
+    return [it for it in stands_on() if not is_program(it) and group_of(it).title not in ("rows", "tests", "benchmarks")]
 
 
 def is_internal(path: str) -> bool:
     """Whether a path is of the internal API, as is each call that serves a proof alone."""
-    return path.endswith("::is_lawful") or any(path == it or path.startswith(f"{it}::") for it in INTERNAL)
+    return path.endswith("::recall_invariant") or any(path == it or path.startswith(f"{it}::") for it in INTERNAL)
 
 
 def parts_of(items: list[Item]) -> tuple[list[Item], list[Item], list[Item]]:
@@ -387,11 +387,11 @@ def page(crate: str) -> str:
 
 
 def index() -> str:
-    """The index: a row for each library, by rooms."""
+    """The index: a row for each library, by groups."""
     out = [HEAD]
-    for room in ROOMS:
-        title = room.title
-        for crate in (it for it in crates_of(room) if it in libraries()):
+    for group in GROUPS:
+        title = group.title
+        for crate in (it for it in crates_of(group) if it in libraries()):
             short = re.sub(r" \([^)]*\)", "", about(crate)).split(": ")[0].rstrip(".")
             counts = " | ".join(str(count_of(it)) for it in parts_of(items_of(crate)))
             out.append(f"| {title} | [{crate}](api/{crate}.md) | {short} | {counts} |")

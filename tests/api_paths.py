@@ -10,7 +10,7 @@ from dataclasses import dataclass, field
 from functools import cache
 from pathlib import Path
 
-from rooms import stands_on
+from groups import stands_on
 
 TOP = Path(__file__).resolve().parent.parent
 ITEM = re.compile(r"pub (?:struct|enum|trait|type) (\w+)|pub (?:const |extern \"C\" )?fn (\w+)|pub const (\w+)")

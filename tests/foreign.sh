@@ -60,7 +60,7 @@ of_install() {
     cmp LICENSE "$prefix/share/doc/pigyelund/LICENSE" || fail "the licence is installed"
     modes=$(cd "$prefix" && find . -type f ! -perm 644 -o -type d ! -perm 755)
     [ -z "$modes" ] || fail "files are installed with mode 644, folders with 755: $modes"
-    [ "$(nm -D --defined-only "$prefix/lib/libpigyelund.so" | awk '$3 !~ /^pg_/' | wc -l)" -eq 0 ] ||
+    [ "$(nm -D --defined-only "$prefix/lib/libpigyelund.so" | awk '$3 !~ /^pigy_/' | wc -l)" -eq 0 ] ||
         fail "the shared library exports its calls alone"
     if has "pigyelund.pc" pkg-config; then
         flags=$(PKG_CONFIG_PATH="$prefix/lib/pkgconfig" pkg-config --cflags --libs pigyelund) || fail "pkg-config"
@@ -72,7 +72,7 @@ of_install() {
 
 # Makes a library of that name in a folder, whose calls are of version 3.
 older() {
-    mkdir -p "$1" && echo 'unsigned pg_version(void) { return 3; }' |
+    mkdir -p "$1" && echo 'unsigned pigy_version(void) { return 3; }' |
         gcc -shared -fPIC -x c - -o "$1/libpigyelund.so" || fail "an older library"
 }
 

@@ -24,7 +24,7 @@ TOP = Path(__file__).resolve().parent.parent
 PAGE = TOP / "docs" / "FOREIGN.md"
 HEADER = TOP / "foreign" / "pigyelund.h"
 CRATE = TOP / "crates" / "pigyelund_c"
-ROUTES = TOP / "crates" / "route_calls"
+ROUTES = TOP / "crates" / "pigyelund_routes"
 # Which name in pigyelund.h is which one in the library's definitions.
 CHOICES = {
     "LENIENT": "encoding_number Any",
@@ -40,7 +40,7 @@ CHOICES = {
     "NOT_FOUND": "validity_number NotFound",
     "INVALID": "validity_number Invalid",
 }
-# Why a payload that covers a route doesn't match it: the first two cases of IsMismatch, and their sum is the third.
+# Why a VRP that covers a route doesn't match it: the first two cases of IsMismatch, and their sum is the third.
 MISMATCHES = {"OTHER_AS": 1, "TOO_LONG": 2}
 SOURCES = {"c": "program.c", "toml": "Cargo.toml", "rust": "src/main.rs", "python": "program.py"}
 
@@ -63,15 +63,15 @@ def of_library() -> dict[str, int]:
     specs = "".join(file.with_suffix(".antt").read_text() for file in named)
     choices = dict(re.findall(r"^(\w+_number \w+) = (\d+)$", specs, re.MULTILINE))
     found |= {name: int(choices[of]) for name, of in CHOICES.items()} | MISMATCHES
-    calls = (CRATE / "src" / "verify.rt").read_text()
-    version = re.search(r"fn pg_version\(\) -> u32\s+ensures \{ result ≡ (\d+) \}", calls)
+    calls = (CRATE / "src" / "verify_exports.rt").read_text()
+    version = re.search(r"fn pigy_version\(\) -> u32\s+ensures \{ result ≡ (\d+) \}", calls)
     return found | {"VERSION": int(version[1])} if version else found
 
 
 def of_header() -> set[str]:
     """The names that the header defines as numbers."""
     text = HEADER.read_text()
-    return set(re.findall(r"^#define PG_(\w+) \w+u\b", text, re.MULTILINE))
+    return set(re.findall(r"^#define PIGY_(\w+) \w+u\b", text, re.MULTILINE))
 
 
 def of_page(numbers: dict[str, int]) -> list[str]:
@@ -83,8 +83,8 @@ def of_page(numbers: dict[str, int]) -> list[str]:
         for number, names in rows
         if int(number, 0) != sum(numbers.get(name, -1) for name in names.split(" + "))
     ]
-    told = {name for _, names in rows for name in names.split(" + ")}
-    missing = numbers.keys() - CHOICES.keys() - MISMATCHES.keys() - {"VERSION"} - told
+    named = {name for _, names in rows for name in names.split(" + ")}
+    missing = numbers.keys() - CHOICES.keys() - MISMATCHES.keys() - {"VERSION"} - named
     return faults + [f"{PAGE.name} has no status {name}" for name in sorted(missing)]
 
 

@@ -4,11 +4,11 @@
 A row has a call and its numbers, joined by commas; four words that go in, in hexadecimal and - where there are no
 octets; the status, the two words that are told, and how many certificates of a path are verified. What goes in are the
 two extensions of the issuer, of the first set or of the anchor, and then those of the certificate or of the second set;
-or a run of octets and the certificates of a path, each as six numbers; or payloads, 23 octets each, and routes, 22 each:
-address, AS number, family, length, greatest length. Of these the last word is the place of the first that is none. Of a
-table the first word has its payloads; the third a route that is covered, whose answer has 24 octets for each payload, the
-last of them why it doesn't match; or the payloads that are announced, and the fourth those that are withdrawn: these are
-answered by all payloads of the next table. With --write the file is written anew. Status 1 where it differs.
+or a run of octets and the certificates of a path, each as six numbers; or VRPs, 23 octets each, and routes, 22 each:
+address, AS number, family, length, maximum length. Of these the last word is the place of the first that is none. Of a
+table the first word has its VRPs; the third a route that is covered, whose answer has 24 octets for each VRP, the
+last of them why it doesn't match; or the VRPs that are announced, and the fourth those that are withdrawn: these are
+answered by all VRPs of the next table. With --write the file is written anew. Status 1 where it differs.
 """
 
 import sys
@@ -48,9 +48,9 @@ ON_SETS = [*OPERATIONS, *TESTS]
 class Place(NamedTuple):
     """A certificate of a path: where the octets of its extensions begin, how many they are, and two numbers."""
 
-    as_at: int
+    as_start: int
     as_len: int
-    ip_at: int
+    ip_start: int
     ip_len: int
     present: int
     mode: int
@@ -70,7 +70,7 @@ class Answer(NamedTuple):
     """The status, the words that are told, and how many certificates of a path are verified, or which route is none."""
 
     status: int
-    told: Octets
+    written: Octets
     verified: int | None = None
 
 
@@ -166,11 +166,11 @@ def verified(question: Question) -> Triple:
 
 def issued_at(issuer: Triple, place: Place, run: bytes, strict: bool) -> Triple:
     """The same of a certificate whose octets stand in a run."""
-    ends = place.as_at + place.as_len, place.ip_at + place.ip_len
+    ends = place.as_start + place.as_len, place.ip_start + place.ip_len
     if max(ends) > len(run):
         raise Status(OUTSIDE)
     expect_numbers(place.present, place.mode)
-    octets = run[place.as_at : ends[0]], run[place.ip_at : ends[1]]
+    octets = run[place.as_start : ends[0]], run[place.ip_start : ends[1]]
     return issued(issuer, place.present, octets, strict, place.mode)
 
 
@@ -202,7 +202,7 @@ def cover_octets(question: Question) -> bytes:
 
 
 def prefix_of(octets: bytes, base: int) -> prefixes.Prefix:
-    """The prefix of a payload or of a route."""
+    """The prefix of a VRP or of a route."""
     number, length = octets[20:22]
     if number not in FAMILIES:
         raise Status(base + BAD_FAMILY)
@@ -213,93 +213,93 @@ def prefix_of(octets: bytes, base: int) -> prefixes.Prefix:
     return prefixes.Prefix(family, address, length)
 
 
-def payload_of(octets: bytes) -> prefixes.Payload:
-    """The payload that octets are."""
+def vrp_of(octets: bytes) -> prefixes.Vrp:
+    """The VRP that octets are."""
     prefix = prefix_of(octets, 0)
     if not prefix.length <= octets[22] <= prefix.family.bits:
         raise Status(BAD_MAX_LEN)
-    return prefixes.Payload(prefixes.MaxLenPrefix(prefix, octets[22]), int.from_bytes(octets[16:20], "big"))
+    return prefixes.Vrp(prefixes.MaxLenPrefix(prefix, octets[22]), int.from_bytes(octets[16:20], "big"))
 
 
 def origins_answer(question: Question) -> Answer:
-    """The validity of each route by the payloads."""
+    """The validity of each route by the VRPs."""
     found = bytearray()
-    payloads: list[prefixes.Payload] = []
+    vrps: list[prefixes.Vrp] = []
     place = 0
     try:
         for place, octets in enumerate(cut(question.first[0], 23)):
-            payloads.append(payload_of(octets))
+            vrps.append(vrp_of(octets))
         for place, octets in enumerate(cut(question.second[0], 22)):
             prefix, number = prefix_of(octets, SECOND), int.from_bytes(octets[16:20], "big")
-            found.append(VALIDITIES[prefixes.validity(prefix, number, payloads)])
+            found.append(VALIDITIES[prefixes.validity(prefix, number, vrps)])
     except Status as refusal:
         return Answer(refusal.number, (b"", b""), place)
     return Answer(OK, (bytes(found), b""), 0)
 
 
-def payload_octets(payload: prefixes.Payload) -> bytes:
-    """The octets that tell a payload."""
-    family, address, length = payload.prefix.prefix
-    octets = address.to_bytes(family.bits // 8, "big").ljust(16, b"\0") + payload.asn.to_bytes(4, "big")
-    return octets + bytes([1 if family is Family.V4 else 2, length, payload.prefix.resolved()])
+def vrp_octets(vrp: prefixes.Vrp) -> bytes:
+    """The octets that tell a VRP."""
+    family, address, length = vrp.prefix.prefix
+    octets = address.to_bytes(family.bits // 8, "big").ljust(16, b"\0") + vrp.asn.to_bytes(4, "big")
+    return octets + bytes([1 if family is Family.V4 else 2, length, vrp.prefix.resolved()])
 
 
-def table_place(payload: prefixes.Payload) -> tuple[int, ...]:
-    """Where a payload stands in a table: by family, address and length, the greatest AS number first, and then by the
-    greatest length."""
-    family, address, length = payload.prefix.prefix
-    return family.bits, address, length, -payload.asn, payload.prefix.resolved()
+def table_place(vrp: prefixes.Vrp) -> tuple[int, ...]:
+    """Where a VRP stands in a table: by family, address and length, the greatest AS number first, and then by the
+    maximum length."""
+    family, address, length = vrp.prefix.prefix
+    return family.bits, address, length, -vrp.asn, vrp.prefix.resolved()
 
 
-def payloads_in(octets: bytes, base: int = 0) -> list[prefixes.Payload]:
-    """The payloads of an array; a status, and the place, where one is none."""
+def vrps_in(octets: bytes, base: int = 0) -> list[prefixes.Vrp]:
+    """The VRPs of an array; a status, and the place, where one is none."""
     found = []
     for place, each in enumerate(cut(octets, 23)):
         try:
-            found.append(payload_of(each))
+            found.append(vrp_of(each))
         except Status as refusal:
             raise StatusAt(base + refusal.number, place) from None
     return found
 
 
-def covering_octets(route: bytes, payloads: list[prefixes.Payload]) -> bytes:
-    """The payloads that cover a route, the longest prefix first, and why each doesn't match it (RFC 6811, 2)."""
+def covering_octets(route: bytes, vrps: list[prefixes.Vrp]) -> bytes:
+    """The VRPs that cover a route, the longest prefix first, and why each doesn't match it (RFC 6811, 2)."""
     prefix, number = prefix_of(route, SECOND), int.from_bytes(route[16:20], "big")
-    found = sorted((one for one in payloads if one.prefix.prefix.covers(prefix)), key=table_place, reverse=True)
-    told = b""
-    for payload in found:
-        why = OTHER_AS * (payload.asn != number or number == 0) + TOO_LONG * (prefix.length > payload.prefix.resolved())
-        told += payload_octets(payload) + bytes([why])
-    return told
+    found = sorted((one for one in vrps if one.prefix.prefix.covers(prefix)), key=table_place, reverse=True)
+    octets = b""
+    for vrp in found:
+        why = OTHER_AS * (vrp.asn != number or number == 0) + TOO_LONG * (prefix.length > vrp.prefix.resolved())
+        octets += vrp_octets(vrp) + bytes([why])
+    return octets
 
 
-def changed_payloads(
-    payloads: list[prefixes.Payload], announced: list[prefixes.Payload], withdrawn: list[prefixes.Payload]
-) -> list[prefixes.Payload]:
-    """The payloads that a router has after changes (RFC 8210, 5.6 and 12): withdrawals are looked at first."""
-    left = set(payloads)
-    for place, payload in enumerate(withdrawn):
-        if payload not in left:
+def changed_vrps(
+    vrps: list[prefixes.Vrp], announced: list[prefixes.Vrp], withdrawn: list[prefixes.Vrp]
+) -> list[prefixes.Vrp]:
+    """The VRPs that a router has after changes (RFC 8210, 5.6 and 12): withdrawals are looked at first."""
+    left = set(vrps)
+    for place, vrp in enumerate(withdrawn):
+        if vrp not in left:
             raise StatusAt(UNKNOWN_WITHDRAWAL, place)
-        left.remove(payload)
-    for place, payload in enumerate(announced):
-        if payload in left:
+        left.remove(vrp)
+    for place, vrp in enumerate(announced):
+        if vrp in left:
             raise StatusAt(DUPLICATE_ANNOUNCEMENT, place)
-        left.add(payload)
-    return [one for one in payloads if one in left and one not in announced] + announced
+        left.add(vrp)
+    return [one for one in vrps if one in left and one not in announced] + announced
 
 
 def table_answer(question: Question) -> Answer:
-    """What is told of a table: what covers a route, its payloads, or those of the next one."""
+    """What is told of a table: what covers a route, its VRPs, or those of the next one."""
     try:
-        payloads = payloads_in(question.first[0])
+        vrps = vrps_in(question.first[0])
         match question.call:
             case "covering":
-                return Answer(OK, (covering_octets(question.second[0], payloads), b""), 0)
+                return Answer(OK, (covering_octets(question.second[0], vrps), b""), 0)
             case "changed":
-                announced, withdrawn = payloads_in(question.second[0]), payloads_in(question.second[1], SECOND)
-                payloads = changed_payloads(payloads, announced, withdrawn)
-        return Answer(OK, (b"".join(map(payload_octets, sorted(payloads, key=table_place))), b""), 0)
+                announced, withdrawn = vrps_in(question.second[0]), vrps_in(question.second[1], SECOND)
+                vrps = changed_vrps(vrps, announced, withdrawn)
+        return Answer(OK, (b"".join(map(vrp_octets, sorted(vrps, key=table_place))), b""), 0)
     except StatusAt as refusal:
         return Answer(refusal.number, (b"", b""), refusal.place)
     except Status as refusal:
@@ -329,7 +329,7 @@ def written(found: Triple) -> Octets:
     return resources.written_as_claim(paths.claim_of(found[0])), resources.written_families(families)
 
 
-def told(question: Question) -> Octets:
+def written_by(question: Question) -> Octets:
     """What is told where there is no reason why not."""
     match question.call:
         case "verify":
@@ -347,10 +347,10 @@ def answer(question: Question) -> Answer:
         return path_answer(question)
     if question.call == "origins":
         return origins_answer(question)
-    if question.call in ("covering", "payloads", "changed"):
+    if question.call in ("covering", "vrps", "changed"):
         return table_answer(question)
     try:
-        return Answer(OK, told(question))
+        return Answer(OK, written_by(question))
     except Status as refusal:
         return Answer(refusal.number, written(refusal.excess))
 
@@ -483,19 +483,19 @@ def of_paths() -> Iterator[Question]:
     run, places = packed([(ALL, BOTH, TRIM), (CERTIFICATES[6], BOTH, REFUSE)], source)
     first, second = places
     for place in (
-        second._replace(as_at=len(run) - second.as_len + 1),
+        second._replace(as_start=len(run) - second.as_len + 1),
         second._replace(ip_len=second.ip_len + len(run)),
-        second._replace(as_at=2**64 - 1),
+        second._replace(as_start=2**64 - 1),
         second._replace(as_len=2**64 - 1),
-        second._replace(ip_at=2**64 - 1, ip_len=2, present=NUMBERS),
-        second._replace(ip_at=0, ip_len=0, present=NUMBERS),
-        second._replace(as_at=len(run), as_len=0, present=ADDRESSES),
-        second._replace(as_at=len(run), as_len=0),
+        second._replace(ip_start=2**64 - 1, ip_len=2, present=NUMBERS),
+        second._replace(ip_start=0, ip_len=0, present=NUMBERS),
+        second._replace(as_start=len(run), as_len=0, present=ADDRESSES),
+        second._replace(as_start=len(run), as_len=0),
         second._replace(present=0),
         second._replace(present=4),
         second._replace(present=2**32 - 1, mode=2),
         second._replace(mode=2),
-        second._replace(as_at=first.as_at, as_len=first.as_len),
+        second._replace(as_start=first.as_start, as_len=first.as_len),
     ):
         for encoding in (LENIENT, STRICT):
             yield asked(encoding, ISSUER, run, (first, place))
@@ -525,32 +525,32 @@ def of_covers() -> Iterator[Question]:
 
 
 def routed(family: int, address: int, length: int, number: int, max_len: int | None = None) -> bytes:
-    """A payload, or a route, which has no greatest length."""
+    """A VRP, or a route, which has no maximum length."""
     width = 4 if family == 1 else 16
     octets = address.to_bytes(width, "big").ljust(16, b"\xff") + number.to_bytes(4, "big") + bytes([family, length])
     return octets if max_len is None else octets + bytes([max_len])
 
 
-def random_routed(source: Random, is_payload: bool) -> bytes:
-    """A payload or a route of a few addresses and AS numbers, so that many meet."""
+def random_routed(source: Random, is_vrp: bool) -> bytes:
+    """A VRP or a route of a few addresses and AS numbers, so that many meet."""
     family = source.choice((1, 2))
     bits = 32 if family == 1 else 128
     length = source.choice((0, 8, 9, 16, 24, bits - 1, bits))
     address = source.choice((10, 11, 0x20)) << bits - 8 | source.randrange(4) << bits - 16 | source.randrange(2)
-    max_len = source.randrange(length, bits + 1) if is_payload else None
+    max_len = source.randrange(length, bits + 1) if is_vrp else None
     return routed(family, address >> bits - length << bits - length, length, source.randrange(4), max_len)
 
 
 def of_origins() -> Iterator[Question]:
-    """Payloads and routes; payloads and routes that are none, at each place; numbers at their ends."""
+    """VRPs and routes; VRPs and routes that are none, at each place; numbers at their ends."""
     source = Random(6811)
 
-    def asked(payloads: list[bytes], routes: list[bytes]) -> Question:
-        return Question("origins", (), (b"".join(payloads), b""), (b"".join(routes), b""))
+    def asked(vrps: list[bytes], routes: list[bytes]) -> Question:
+        return Question("origins", (), (b"".join(vrps), b""), (b"".join(routes), b""))
 
     for count in (0, 1, 2, 3, 5, 9, 40) * 10:
-        payloads = [random_routed(source, True) for _ in range(count)]
-        yield asked(payloads, [random_routed(source, False) for _ in range(source.randrange(12))])
+        vrps = [random_routed(source, True) for _ in range(count)]
+        yield asked(vrps, [random_routed(source, False) for _ in range(source.randrange(12))])
     good = routed(1, 10 << 24, 8, 64496, 24)
     fine = routed(1, 10 << 24, 24, 64496)
     ends = [routed(1, 0, 0, 1, 32), routed(2, 0, 0, 2**32 - 1, 128), routed(2, 2**128 - 1, 128, 7, 128)]
@@ -570,33 +570,33 @@ def of_origins() -> Iterator[Question]:
         routed(2, 0, 0, 1, 129),
     ):
         for place in (0, 1, 2):
-            payloads, routes = [good, good], [fine, fine]
-            yield asked(payloads[:place] + [bad] + payloads[place:], routes)
-            yield asked(payloads, routes[:place] + [bad[:22]] + routes[place:])
-            yield asked([bad, *payloads], [bad[:22]])
+            vrps, routes = [good, good], [fine, fine]
+            yield asked(vrps[:place] + [bad] + vrps[place:], routes)
+            yield asked(vrps, routes[:place] + [bad[:22]] + routes[place:])
+            yield asked([bad, *vrps], [bad[:22]])
 
 
 def of_tables() -> Iterator[Question]:
-    """What covers routes; payloads in a table's order; changes, and what is none of them, at each place."""
+    """What covers routes; VRPs in a table's order; changes, and what is none of them, at each place."""
     source = Random(8210)
 
-    def asked(call: str, payloads: list[bytes], *others: list[bytes]) -> Question:
+    def asked(call: str, vrps: list[bytes], *others: list[bytes]) -> Question:
         second, fourth = (*map(b"".join, others), b"", b"")[:2]
-        return Question(call, (), (b"".join(payloads), b""), (second, fourth))
+        return Question(call, (), (b"".join(vrps), b""), (second, fourth))
 
     def distinct(count: int) -> list[bytes]:
-        """Payloads of which no two are the same."""
-        found: dict[prefixes.Payload, bytes] = {}
+        """VRPs of which no two are the same."""
+        found: dict[prefixes.Vrp, bytes] = {}
         while len(found) < count:
             octets = random_routed(source, True)
-            found.setdefault(payload_of(octets), octets)
+            found.setdefault(vrp_of(octets), octets)
         return list(found.values())
 
     for count in (0, 1, 2, 3, 5, 9, 40) * 4:
-        payloads = [random_routed(source, True) for _ in range(count)]
-        yield asked("payloads", payloads)
+        vrps = [random_routed(source, True) for _ in range(count)]
+        yield asked("vrps", vrps)
         for _ in range(3):
-            yield asked("covering", payloads, [random_routed(source, False)])
+            yield asked("covering", vrps, [random_routed(source, False)])
     for count in (1, 2, 4, 8, 24) * 4:
         all_of = distinct(count + 4)
         table, fresh = all_of[:count], all_of[count:]
@@ -615,7 +615,7 @@ def of_tables() -> Iterator[Question]:
         for length in (0, 24, 25, 32):
             yield asked("covering", chain, [routed(1, 0, length, asn)])
     for bad in (routed(0, 0, 0, 1, 0), routed(1, 1, 31, 1, 31), routed(1, 10 << 24, 8, 1, 33)):
-        yield asked("payloads", [good, bad])
+        yield asked("vrps", [good, bad])
         yield asked("covering", [bad], [fine])
         yield asked("covering", [good], [bad[:22]])
         yield asked("changed", [good], [bad], [bad])
@@ -654,7 +654,7 @@ def of_sets() -> Iterator[Question]:
     for at in range(200):
         first, second = random_set(source), random_set(source)
         if at % 2:  # one that has all of the other
-            first = answer(asked("union", LENIENT, first, second)).told
+            first = answer(asked("union", LENIENT, first, second)).written
         yield asked(ON_SETS[at % len(ON_SETS)], source.randrange(2), first, second)
 
 
@@ -677,7 +677,7 @@ def rows() -> Iterator[str]:
         if question.call == "path":
             words[-1] = joined((joined(place, ":") for place in question.places), ";")
         verified = "-" if found.verified is None else str(found.verified)
-        yield " ".join((*words, str(found.status), *map(hexadecimal, found.told), verified))
+        yield " ".join((*words, str(found.status), *map(hexadecimal, found.written), verified))
 
 
 def main() -> int:

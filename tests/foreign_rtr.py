@@ -32,7 +32,7 @@ LIMIT = 100
 COUNT = 400
 KEPT = 3  # of how many serial numbers StayRTR keeps what has changed since
 
-Entry = tuple[str, int, int]
+Vrp = tuple[str, int, int]
 
 
 # Linked with the router: counts the tables that it holds. It prints at its end how many are left, and the most at once.
@@ -42,32 +42,33 @@ COUNTER = r"""
 #include <stdlib.h>
 
 static unsigned held, most;
-uint32_t __real_pg_table_new(const pg_payload *, size_t, pg_table **, size_t *);
-uint32_t __real_pg_table_changed(const pg_table *, const pg_payload *, size_t, const pg_payload *, size_t, pg_table **,
-                                 size_t *);
-void __real_pg_table_free(pg_table *);
+uint32_t __real_pigy_table_new(const pigy_vrp *, size_t, pigy_table **, size_t *);
+uint32_t __real_pigy_table_changed(const pigy_table *, const pigy_vrp *, size_t, const pigy_vrp *, size_t,
+                                   pigy_table **, size_t *);
+void __real_pigy_table_free(pigy_table *);
 
 static void print(void) { fprintf(stderr, "tables held: %u, at most %u\n", held, most); }
 
 static uint32_t count(uint32_t status) {
   static int is_known;
   if (!is_known++) atexit(print);
-  if (status == PG_OK && ++held > most) most = held;
+  if (status == PIGY_OK && ++held > most) most = held;
   return status;
 }
 
-uint32_t __wrap_pg_table_new(const pg_payload *payloads, size_t len, pg_table **table, size_t *place) {
-  return count(__real_pg_table_new(payloads, len, table, place));
+uint32_t __wrap_pigy_table_new(const pigy_vrp *vrps, size_t len, pigy_table **table, size_t *index) {
+  return count(__real_pigy_table_new(vrps, len, table, index));
 }
 
-uint32_t __wrap_pg_table_changed(const pg_table *table, const pg_payload *announced, size_t announced_len,
-                                 const pg_payload *withdrawn, size_t withdrawn_len, pg_table **next, size_t *place) {
-  return count(__real_pg_table_changed(table, announced, announced_len, withdrawn, withdrawn_len, next, place));
+uint32_t __wrap_pigy_table_changed(const pigy_table *table, const pigy_vrp *announced, size_t announced_len,
+                                   const pigy_vrp *withdrawn, size_t withdrawn_len, pigy_table **next,
+                                   size_t *index) {
+  return count(__real_pigy_table_changed(table, announced, announced_len, withdrawn, withdrawn_len, next, index));
 }
 
-void __wrap_pg_table_free(pg_table *table) {
+void __wrap_pigy_table_free(pigy_table *table) {
   held -= table != 0;
-  __real_pg_table_free(table);
+  __real_pigy_table_free(table);
 }
 """
 
@@ -88,7 +89,7 @@ def build_router(library: str, folder: Path) -> None:
     router, counter = str(SOURCES / "router.c"), folder / "counter.c"
     subprocess.run([*CC, router, library, "-o", str(folder / "router")], check=True)
     counter.write_text(COUNTER)
-    wraps = [f"-Wl,--wrap=pg_table_{name}" for name in ("new", "changed", "free")]
+    wraps = [f"-Wl,--wrap=pigy_table_{name}" for name in ("new", "changed", "free")]
     words = [router, str(counter), f"-I{SOURCES.parent}", library, *wraps, "-o", str(folder / "counted")]
     subprocess.run([*CC, *words], check=True)
 
@@ -105,8 +106,8 @@ def free_port() -> int:
         return int(one.getsockname()[1])
 
 
-def made(source: Random) -> Entry:
-    """A payload of either family."""
+def made(source: Random) -> Vrp:
+    """A VRP of either family."""
     if source.random() < 0.7:
         length = source.randrange(8, 25)
         address = source.randrange(1 << length) << 32 - length
@@ -118,17 +119,17 @@ def made(source: Random) -> Entry:
     return f"{text}/{length}", 48, source.randrange(1, 70000)
 
 
-def line_of(entry: Entry) -> str:
-    """A payload as both programs print it."""
-    prefix, max_len, asn = entry
+def line_of(vrp: Vrp) -> str:
+    """A VRP as both programs print it."""
+    prefix, max_len, asn = vrp
     address, length = prefix.split("/")
     family = socket.AF_INET6 if ":" in address else socket.AF_INET
     return f"{socket.inet_ntop(family, socket.inet_pton(family, address))}/{length}-{max_len} AS{asn}"
 
 
-def write(path: Path, entries: list[Entry]) -> None:
+def write(path: Path, vrps: list[Vrp]) -> None:
     """The file of a cache, put in place at once."""
-    roas = [{"prefix": net, "maxLength": max_len, "asn": f"AS{asn}", "ta": "test"} for net, max_len, asn in entries]
+    roas = [{"prefix": net, "maxLength": max_len, "asn": f"AS{asn}", "ta": "test"} for net, max_len, asn in vrps]
     other = path.with_suffix(".new")
     other.write_text(json.dumps({"metadata": {"buildtime": "2026-01-01T00:00:00Z"}, "roas": roas}))
     other.replace(path)
@@ -173,7 +174,7 @@ NOTIFY, SERIAL_QUERY, RESET_QUERY, RESPONSE, V4, V6, END_OF_DATA, RESET, ERROR =
 CORRUPT, BAD_VERSION, BAD_TYPE, UNKNOWN_RECORD, DUPLICATE, OTHER_VERSION = 0, 4, 5, 6, 7, 8
 WITHDRAW, ANNOUNCE = 0, 1
 SESSION, OTHER_SESSION = 0x1234, 0x1235
-VRPS: list[Entry] = [("10.0.0.0/8", 16, 64496), ("2001:db8::/32", 48, 64497), ("10.0.0.0/8", 16, 64498)]
+VRPS: list[Vrp] = [("10.0.0.0/8", 16, 64496), ("2001:db8::/32", 48, 64497), ("10.0.0.0/8", 16, 64498)]
 A, B, C = VRPS
 
 
@@ -182,9 +183,9 @@ def pdu(kind: int, field: int = 0, body: bytes = b"", version: int = 1) -> bytes
     return struct.pack(">BBHI", version, kind, field, 8 + len(body)) + body
 
 
-def prefix(flags: int, entry: Entry) -> bytes:
+def prefix(flags: int, vrp: Vrp) -> bytes:
     """Returns a Prefix PDU (RFC 8210, 5.6 and 5.7)."""
-    net, max_len, asn = entry
+    net, max_len, asn = vrp
     address, length = net.split("/")
     family = socket.AF_INET6 if ":" in address else socket.AF_INET
     fields = struct.pack(">BBBB", flags, int(length), max_len, 0)
@@ -233,13 +234,13 @@ class Script(NamedTuple):
 
     name: str
     connections: list[list[bytes | Wants]]
-    tables: list[list[Entry]]
+    tables: list[list[Vrp]]
     most: int
 
 
-def announced(*entries: Entry) -> list[bytes]:
+def announced(*vrps: Vrp) -> list[bytes]:
     """Returns the Prefix PDUs that announce VRPs."""
-    return [prefix(ANNOUNCE, entry) for entry in entries]
+    return [prefix(ANNOUNCE, vrp) for vrp in vrps]
 
 
 FIRST: list[bytes | Wants] = [ALL, response(*announced(A, B), serial=7)]
@@ -423,7 +424,7 @@ def faults_of(script: Script, program: Path) -> list[str]:
     cache.join(timeout=20)
     wanted = ""
     for at, table in enumerate(script.tables, 1):
-        lines = [f"table {at}: {len(table)} payloads", *sorted(map(line_of, table)), "end"]
+        lines = [f"table {at}: {len(table)} VRPs", *sorted(map(line_of, table)), "end"]
         wanted += "".join(f"{line}\n" for line in lines)
     faults = list(cache.faults)
     if ran.returncode != 0 or ran.stdout != wanted:
@@ -442,10 +443,10 @@ def of_scripts(program: Path) -> list[str]:
 def of_stayrtr(folder: Path) -> list[str]:
     """Goes through the steps with StayRTR. Returns what differs."""
     source, faults, port = Random(8210), list[str](), free_port()
-    entries = [made(source) for _ in range(COUNT)]
-    changed = [*entries[COUNT // 4 :], *(made(source) for _ in range(COUNT // 3))]
-    steps = [entries, changed, changed[10:], changed[20:], [*changed[:50], *(made(source) for _ in range(COUNT))]]
-    write(folder / "cache.json", entries)
+    vrps = [made(source) for _ in range(COUNT)]
+    changed = [*vrps[COUNT // 4 :], *(made(source) for _ in range(COUNT // 3))]
+    steps = [vrps, changed, changed[10:], changed[20:], [*changed[:50], *(made(source) for _ in range(COUNT))]]
+    write(folder / "cache.json", vrps)
     cache = Cache(port, folder / "cache.json")
     words = [str(folder / "router"), str(port), str(len(steps)), str(LIMIT)]
     said = (folder / "said").open("w")
@@ -471,7 +472,7 @@ def of_stayrtr(folder: Path) -> list[str]:
             asked = subprocess.run([str(folder / "peer"), str(port), "20"], capture_output=True, text=True)
             peer = sorted(asked.stdout.splitlines())
             if not wanted == found == peer:
-                lengths = f"{len(wanted)} payloads, {len(found)} of the router, {len(peer)} of rtrlib"
+                lengths = f"{len(wanted)} VRPs, {len(found)} of the router, {len(peer)} of rtrlib"
                 faults.append(f"step {at}: {lengths}")
         if status := router.wait(timeout=20):
             faults.append(f"the router ended with status {status}")

@@ -120,7 +120,7 @@ for script in origins respath; do
 done
 of_no_rt origins
 of_no_rt respath
-said=$(run "$copy/origins" --table payloads)
+said=$(run "$copy/origins" --table vrps)
 expect "origins: a proof that fails" 1 "origins: the program was not built" $? "$(echo "$said" | tail -n 1)"
 
 # Names of files: each word stays one word.
@@ -138,7 +138,7 @@ expect "origins: names with a space and a star" 0 "ran
 [--diff]
 [a file]
 [*]" $? "$said"
-said=$(printf '#!/bin/sh\necho of the program; exit 3\n' >"$out/origins" && run "$copy/origins" --check payloads)
+said=$(printf '#!/bin/sh\necho of the program; exit 3\n' >"$out/origins" && run "$copy/origins" --check vrps)
 expect "origins: the status of the program" 3 "of the program" $? "$said"
 
 # Lines in place of files

@@ -27,7 +27,7 @@ from pathlib import Path
 TOP = Path(__file__).resolve().parent.parent
 ROW = re.compile(r"^(proves|same|refused|elsewhere|not-judged|not-source|not-run|untested|no-ensures) +(\S.*)$")
 MOST_FAULTS = 3  # of an error, each of which is planted alone
-TOLD = ("proves", "same", "no-ensures", "untested", "elsewhere", "not-judged", "not-run")
+REPORTED = ("proves", "same", "no-ensures", "untested", "elsewhere", "not-judged", "not-run")
 
 
 def parts_handed_back(bodies, of):
@@ -195,7 +195,7 @@ def main(words):
         count = collections.Counter(kind for kind, _ in rows)
         print(f"{crate}: " + (", ".join(f"{kind} {count[kind]}" for kind in sorted(count)) or "nothing to plant"))
         for kind, row in rows:
-            if shows_all or kind in TOLD:
+            if shows_all or kind in REPORTED:
                 print(f"  {kind:<10} {row}")
         sys.stdout.flush()
         if ran.returncode:

@@ -1,5 +1,5 @@
 #!/usr/bin/env python3
-"""Draws docs/layers.svg from crates.txt: each crate of the product above those that it stands on, by rooms, and three
+"""Draws docs/layers.svg from crates.txt: each crate of the product above those that it stands on, by groups, and three
 roads through them.
 
 A line leads to what a crate stands on, and to nothing that is reached through another. With --write the picture is
@@ -13,17 +13,17 @@ from functools import cache
 from itertools import pairwise
 from pathlib import Path
 
-from rooms import ROOMS, Room, crates_of, room_of, stands_on
+from groups import GROUPS, Group, crates_of, group_of, stands_on
 
 TOP = Path(__file__).resolve().parent.parent
 PICTURE = TOP / "docs" / "layers.svg"
-# A box, the way from one column or floor to the next, and what stands round the boxes of a room.
+# A box, the way from one column or floor to the next, and what stands round the boxes of a group.
 WIDE, HIGH, BESIDE, ABOVE, BELOW = 110, 24, 128, 34, 8
 LEFT, HEAD, TITLE, AROUND = 14, 74, 15, 6
 STYLE = (
     "<style>text{font:12px sans-serif}line{stroke:#b4bcc2}.box{fill:#fff;stroke:#456}.floor{fill:#f1f4f6}"
-    ".road{fill:none;stroke-width:3}.room,.beside{fill:#555;font-size:11px}"
-    ".room{paint-order:stroke;stroke:#f1f4f6;stroke-width:4}</style>"
+    ".road{fill:none;stroke-width:3}.group,.beside{fill:#555;font-size:11px}"
+    ".group{paint-order:stroke;stroke:#f1f4f6;stroke-width:4}</style>"
 )
 
 
@@ -43,7 +43,7 @@ ROADS = (
         "#1b6ca8",
         (
             ("respath", "respath_lines", "rpki_ipres", "rpki_ip_block", "rpki_ip", "rpki_addr", "rpki_text"),
-            ("rpki_ipres", "rpki_chain", "rpki_chains"),
+            ("rpki_ipres", "rpki_chain", "rpki_chain_core"),
         ),
     ),
     Road(
@@ -51,7 +51,7 @@ ROADS = (
         "#c8553d",
         (
             ("pigyelund_c", "rpki_extensions", "rpki_resources", "rpki_family", "rpki_ipres"),
-            ("rpki_ipres", "rpki_chain", "rpki_chains"),
+            ("rpki_ipres", "rpki_chain", "rpki_chain_core"),
             ("rpki_ipres", "rpki_ip_block", "rpki_ip", "rpki_der"),
         ),
     ),
@@ -61,7 +61,7 @@ ROADS = (
 
 def drawn() -> list[str]:
     """The crates of the product."""
-    return [name for name in stands_on() if room_of(name).column is not None]
+    return [name for name in stands_on() if group_of(name).column is not None]
 
 
 @cache
@@ -85,7 +85,7 @@ def least_floor(name: str) -> int:
 @cache
 def floor(name: str) -> int:
     """The floor on which a crate is drawn."""
-    if not room_of(name).is_high:
+    if not group_of(name).is_high:
         return least_floor(name)
     above = [floor(it) for it in drawn() if name in stands_on()[it]]
     return min(above) - 1 if above else top_floor()
@@ -100,8 +100,8 @@ def top_floor() -> int:
 @cache
 def cell(name: str) -> tuple[str, ...]:
     """The crates that share a column and a floor, one below the other."""
-    place = (room_of(name).column, floor(name))
-    return tuple(it for it in drawn() if (room_of(it).column, floor(it)) == place)
+    place = (group_of(name).column, floor(name))
+    return tuple(it for it in drawn() if (group_of(it).column, floor(it)) == place)
 
 
 @cache
@@ -115,7 +115,7 @@ def floor_top(level: int) -> int:
 
 def place(name: str) -> tuple[int, int]:
     """The upper left corner of a crate's box."""
-    column = room_of(name).column or 0
+    column = group_of(name).column or 0
     return LEFT + column * BESIDE, floor_top(floor(name)) + cell(name).index(name) * (HIGH + BELOW)
 
 
@@ -126,31 +126,31 @@ def text(x: float, y: float, words: str, name: str = "", anchor: str = "start") 
 
 
 @cache
-def fields() -> dict[Room, tuple[int, int]]:
-    """The upper and the lower end of each room's field, which is round its boxes; no two overlap."""
-    found: dict[Room, tuple[int, int]] = {}
-    for room in ROOMS:
-        if room.column is not None and (names := crates_of(room)):
+def fields() -> dict[Group, tuple[int, int]]:
+    """The upper and the lower end of each group's field, which is round its boxes; no two overlap."""
+    found: dict[Group, tuple[int, int]] = {}
+    for group in GROUPS:
+        if group.column is not None and (names := crates_of(group)):
             tops = [place(name)[1] for name in names]
-            found[room] = (min(tops) - TITLE - AROUND, max(tops) + HIGH + AROUND)
-    for room, (top, end) in found.items():
+            found[group] = (min(tops) - TITLE - AROUND, max(tops) + HIGH + AROUND)
+    for group, (top, end) in found.items():
         for other, (high, low) in found.items():
-            if room is not other and room.column == other.column and top < low and high < end:
-                raise SystemExit(f"tests/rooms.py: {room.title} and {other.title} overlap in a column")
+            if group is not other and group.column == other.column and top < low and high < end:
+                raise SystemExit(f"tests/groups.py: {group.title} and {other.title} overlap in a column")
     return found
 
 
-def of_rooms() -> Iterator[str]:
-    """The fields of the rooms."""
-    for room, (top, end) in fields().items():
-        x = LEFT + (room.column or 0) * BESIDE - AROUND
+def of_groups() -> Iterator[str]:
+    """The fields of the groups."""
+    for group, (top, end) in fields().items():
+        x = LEFT + (group.column or 0) * BESIDE - AROUND
         yield f'<rect x="{x}" y="{top}" width="{WIDE + 2 * AROUND}" height="{end - top}" rx="6" class="floor"/>'
 
 
 def of_titles() -> Iterator[str]:
-    """What the rooms are, and above all the roads."""
-    for room, (top, _) in fields().items():
-        yield text(LEFT + (room.column or 0) * BESIDE, top + TITLE, room.title, "room")
+    """What the groups are, and above all the roads."""
+    for group, (top, _) in fields().items():
+        yield text(LEFT + (group.column or 0) * BESIDE, top + TITLE, group.title, "group")
     for at, road in enumerate(ROADS):
         x = LEFT + at * 230
         yield f'<path d="M{x} 16 h26" stroke="{road.colour}" class="road"/>'
@@ -205,22 +205,22 @@ def of_boxes() -> Iterator[str]:
 
 
 def of_others() -> Iterator[str]:
-    """The rooms beside the product, a line for each."""
+    """The groups beside the product, a line for each."""
     y = floor_top(1) + HIGH + 40
-    for room in ROOMS:
-        if room.column is None:
-            yield text(LEFT, y, room.title, "beside")
-            yield text(LEFT + 80, y, ", ".join(crates_of(room)))
+    for group in GROUPS:
+        if group.column is None:
+            yield text(LEFT, y, group.title, "beside")
+            yield text(LEFT + 80, y, ", ".join(crates_of(group)))
             y += 20
 
 
 def picture() -> str:
     """The whole picture."""
-    beside = [room for room in ROOMS if room.column is None]
-    width = LEFT + (1 + max(room.column or 0 for room in ROOMS)) * BESIDE
+    beside = [group for group in GROUPS if group.column is None]
+    width = LEFT + (1 + max(group.column or 0 for group in GROUPS)) * BESIDE
     height = floor_top(1) + HIGH + 40 + 20 * len(beside)
     head = f'<svg xmlns="http://www.w3.org/2000/svg" width="{width}" height="{height}" viewBox="0 0 {width} {height}">'
-    parts = [*of_rooms(), *of_lines(), *of_roads(), *of_titles(), *of_boxes(), *of_others()]
+    parts = [*of_groups(), *of_lines(), *of_roads(), *of_titles(), *of_boxes(), *of_others()]
     return "\n".join([head, STYLE, '<rect width="100%" height="100%" fill="#fff"/>', *parts, "</svg>"]) + "\n"
 
 

@@ -18,8 +18,8 @@ from functools import cache
 from pathlib import Path
 
 from api_page import items_of, libraries
+from groups import group_of
 from proved_page import defines, definition_at, names_of
-from rooms import room_of
 
 TOP = Path(__file__).resolve().parent.parent
 CRATES = TOP / "crates"
@@ -189,7 +189,7 @@ def conditions_of(crate: str, meant: dict[str, str]) -> Iterator[str]:
 def faults_of_conditions() -> Iterator[tuple[int, str]]:
     """The calls with a condition that docs/CALLING.md doesn't have in its tables, and those of its tables with none."""
     meant: dict[str, str] = {}
-    crates = [it for it in libraries() if room_of(it).title != "examples"]
+    crates = [it for it in libraries() if group_of(it).title != "examples"]
     wanted = {call for crate in crates for call in conditions_of(crate, meant)}
     there: dict[str, int] = {}
     is_part = False

@@ -51,11 +51,11 @@ REFUSALS = (
 )
 PROVED = "must-fail small/turned.edit: NOT REFUSED: the crate is still proved with this edit"
 BAD = "must-fail small/turned.edit: BAD EDIT: an 'old:' text is in src/a.rt 0 times, and not once"
-TOLD = "must-fail small/turned.edit: refused, as it must be: src/a.rt:7:5: .."
+REPORT = "must-fail small/turned.edit: refused, as it must be: src/a.rt:7:5: .."
 # what the kit's must_fail returns, by a kit that says only whether an edit was refused and by one that has constants;
 # and the last line
 RESULTS = (
-    (True, "refused", TOLD, "1 refused (1 at a goal), 0 not"),
+    (True, "refused", REPORT, "1 refused (1 at a goal), 0 not"),
     (False, "proved", PROVED, "0 refused, 1 not"),
     (False, "bad", BAD, "0 refused, 1 not"),
 )

@@ -106,7 +106,7 @@ CASES = (
     Case("tests/layers_picture.py", "docs/layers.svg", "<line x1=", "<line x2=", "is not what crates.txt says"),
     Case("tests/layers_picture.py", "crates.txt", "\nrpki_cover:\n", "\nrpki_cover: rpki_addr\n", "is not what crates"),
     Case("tests/layers_picture.py", "crates.txt", "\nrpki_text: memchr\n", "\nrpki_text: memchr\nmoon:\n",
-         "moon is in no room"),
+         "moon is in no group"),
     Case("tests/edits_apply.py", "crates/rpki_cover/must-fail/cover_by_one_enclosing_prefix.edit", "old: ", "old: moon",
          "cover_by_one_enclosing_prefix.edit: "),
     Case("tests/edits_apply.py", "crates/rpki_cover/edits/last_number_is_left_out.edit", "file: ", "file: moon/",
@@ -117,7 +117,7 @@ CASES = (
          f"pub free_bits : {'(n : ℕ) → ' * 12}", "rpki_cover/specs/Walk.antt: 1 lines of statements"),
     Case(OF_C, "foreign/rows.txt", " 10 - - -\n", " 11 - - -\n", "row 1: another status"),
     Case(OF_C, "foreign/texts.txt", "out of memory", "out of mind", "another text of a status"),
-    Case(OF_REFUSALS, OF_C, "found == PG_MEMORY, q->row", "found != PG_MEMORY, q->row",
+    Case(OF_REFUSALS, OF_C, "found == PIGY_MEMORY, q->row", "found != PIGY_MEMORY, q->row",
          "row 1: another status where memory is refused"),
     Case(OF_PYTHON, "foreign/rows.txt", " 10 - - -\n", " 11 - - -\n", "another answer: verify 0,0,0"),
     Case(OF_PYTHON, "foreign/texts.txt", "out of memory", "out of mind", "status 2 is "),
@@ -207,12 +207,12 @@ def make_first(copy: Path, is_foreign: bool) -> None:
     page.write_text(page.read_text().partition("\n## `respath_lines`")[0])
     # Its words would be words that are there.
     (copy / "tests" / "of_tests.py").write_text("")
-    # A thousand payloads take the reference seconds, so the first two questions about origins are kept alone.
+    # A thousand VRPs take the reference seconds, so the first two questions about origins are kept alone.
     growth = copy / "crates" / "bench_growth"
-    asked, told = ((growth / file).read_text() for file in ("args", "stdout"))
+    asked, stored = ((growth / file).read_text() for file in ("args", "stdout"))
     few = "origins\n0\n0\n1\n2\n"
     (growth / "args").write_text(asked[: asked.index(few)] + few)
-    (growth / "stdout").write_text(told[: told.index("\n2000 routes: ") + 1])
+    (growth / "stdout").write_text(stored[: stored.index("\n2000 routes: ") + 1])
     if (TOP / RESPATH).is_file():
         (copy / RESPATH).parent.mkdir()
         shutil.copy2(TOP / RESPATH, copy / RESPATH)

@@ -13,7 +13,7 @@ cd "$files" || exit 1
 printf 'AS1,10.0.0.0/8,8\n' >one
 "$top/origins" --table one >/dev/null || exit 1
 
-printf 'ASN,IP Prefix,Max Length,Trust Anchor\nAS64497,2001:db8::/32,48,x\nAS64496,192.0.2.0/23,24,x\n' >payloads
+printf 'ASN,IP Prefix,Max Length,Trust Anchor\nAS64497,2001:db8::/32,48,x\nAS64496,192.0.2.0/23,24,x\n' >vrps
 printf 'AS64496,192.0.2.0/23,24\nAS64496,192.0.2.0/23,24\nAS64498,198.51.100.0/24,24\n' >next
 printf 'AS64496,192.0.2.0/23,24\nAS64496,192.0.2.1/24,24\n' >wrong
 printf '192.0.2.0/24 AS64496\n192.0.2.0/25 AS64496\n192.0.3.0/24 AS7\n10.0.0.0/8 AS1\n192.0.2.1/24 AS3' >routes
@@ -21,20 +21,20 @@ printf '192.0.2.0/24 AS64496\n10.0.0.0/8 AS1\n' >fine
 usage=$("$program" --help | sed -n '1,/^$/p' | sed '$d')
 
 # Routes
-said=$("$program" payloads <routes 2>&1)
+said=$("$program" vrps <routes 2>&1)
 expect "a word for each route" 0 "valid
 invalid-length
 invalid-as
 not-found
 error: invalid prefix: non-zero host portion
-origins: 2 payloads" $? "$said"
-said=$("$program" --why payloads <routes 2>/dev/null)
+origins: 2 VRPs" $? "$said"
+said=$("$program" --why vrps <routes 2>/dev/null)
 expect "why" 0 "valid match:192.0.2.0/23-24:AS64496
 invalid-length length:192.0.2.0/23-24:AS64496
 invalid-as as:192.0.2.0/23-24:AS64496
 not-found
 error: invalid prefix: non-zero host portion" $? "$said"
-said=$("$program" payloads 2>/dev/null <<'END'
+said=$("$program" vrps 2>/dev/null <<'END'
 192.0.2.0/24,AS64496
 TABLE_DUMP2|1732579200|B|203.0.113.1|64500|192.0.2.0/24|64500 (64512 64496)|IGP
 TABLE_DUMP2|1732579200|B|203.0.113.1|64500|192.0.2.0/24|64500 [64496]|IGP
@@ -45,50 +45,50 @@ expect "a comma for the space, and segments of a confederation" 0 "error: a comm
 invalid-as
 invalid-as
 valid" $? "$said"
-said=$("$program" payloads </dev/null 2>&1)
-expect "no route" 0 "origins: 2 payloads" $? "$said"
-said=$("$program" payloads --check <fine 2>/dev/null)
+said=$("$program" vrps </dev/null 2>&1)
+expect "no route" 0 "origins: 2 VRPs" $? "$said"
+said=$("$program" vrps --check <fine 2>/dev/null)
 expect "a check of routes that are valid or not found" 0 "valid
 not-found" $? "$said"
 for line in '192.0.2.0/25 AS64496' '192.0.2.0/24 AS7' '192.0.2.0/24' ''; do
-    said=$(printf '%s\n10.0.0.0/8 AS1\n' "$line" | "$program" --check -- payloads 2>/dev/null | wc -l)
+    said=$(printf '%s\n10.0.0.0/8 AS1\n' "$line" | "$program" --check -- vrps 2>/dev/null | wc -l)
     expect "lines of a check of '$line'" 0 "2" $? "$said"
-    printf '10.0.0.0/8 AS1\n%s\n' "$line" | "$program" --check payloads >/dev/null 2>&1
+    printf '10.0.0.0/8 AS1\n%s\n' "$line" | "$program" --check vrps >/dev/null 2>&1
     expect "a check of '$line'" 3 "" $? ""
-    printf '%s\n' "$line" | "$program" payloads >/dev/null 2>&1
+    printf '%s\n' "$line" | "$program" vrps >/dev/null 2>&1
     expect "no check of '$line'" 0 "" $? ""
 done
 
-# Payloads, and what changes
-said=$("$program" --table payloads 2>&1)
+# VRPs, and what changes
+said=$("$program" --table vrps 2>&1)
 expect "the table" 0 "192.0.2.0/23-24 AS64496
 2001:db8::/32-48 AS64497
-origins: 2 payloads" $? "$said"
-said=$("$program" --of AS64497 --table payloads 2>/dev/null)
+origins: 2 VRPs" $? "$said"
+said=$("$program" --of AS64497 --table vrps 2>/dev/null)
 expect "the table of an AS" 0 "2001:db8::/32-48 AS64497" $? "$said"
-said=$("$program" --table --of 7 payloads 2>/dev/null)
+said=$("$program" --table --of 7 vrps 2>/dev/null)
 expect "the table of an AS that has none" 0 "" $? "$said"
 said=$("$program" --table next 2>&1)
-expect "a payload that stands twice" 0 "192.0.2.0/23-24 AS64496
+expect "a VRP that stands twice" 0 "192.0.2.0/23-24 AS64496
 198.51.100.0/24-24 AS64498
-origins: 3 payloads" $? "$said"
-said=$("$program" --diff payloads next 2>&1)
+origins: 3 VRPs" $? "$said"
+said=$("$program" --diff vrps next 2>&1)
 expect "what changes" 0 "withdraw 2001:db8::/32-48 AS64497
 announce 198.51.100.0/24-24 AS64498
-origins: 2 payloads, and then 3" $? "$said"
+origins: 2 VRPs, and then 3" $? "$said"
 said=$("$program" --diff next next 2>/dev/null)
 expect "nothing changes" 0 "" $? "$said"
 
-# One payload is no plural.
+# One VRP is no plural.
 printf 'AS64496,192.0.2.0/23,24\n' >single
 said=$("$program" single <fine 2>&1 >/dev/null)
-expect "one payload, beside routes" 0 "origins: 1 payload" $? "$said"
+expect "one VRP, beside routes" 0 "origins: 1 VRP" $? "$said"
 said=$("$program" --table single 2>&1 >/dev/null)
-expect "one payload, beside a table" 0 "origins: 1 payload" $? "$said"
+expect "one VRP, beside a table" 0 "origins: 1 VRP" $? "$said"
 said=$("$program" --diff single next 2>&1 >/dev/null)
-expect "one payload, and then 3" 0 "origins: 1 payload, and then 3" $? "$said"
+expect "one VRP, and then 3" 0 "origins: 1 VRP, and then 3" $? "$said"
 said=$("$program" --diff next single 2>&1 >/dev/null)
-expect "3 payloads, and then one" 0 "origins: 3 payloads, and then 1" $? "$said"
+expect "3 VRPs, and then one" 0 "origins: 3 VRPs, and then 1" $? "$said"
 
 # Files that fail or are wrong: nothing is answered.
 for words in "none" "--table none" "--diff none next" "--diff next none"; do
@@ -118,35 +118,35 @@ said=$("$program" --diff next array 2>&1)
 expect "a JSON array" 1 "origins: array: a JSON array, where an object with the member roas is expected" $? "$said"
 : >empty
 said=$("$program" empty <routes 2>&1)
-expect "a file without payloads" 1 "origins: empty: no payload" $? "$said"
+expect "a file without VRPs" 1 "origins: empty: no VRP" $? "$said"
 
 # Streams that fail. A file that is opened where the standard input is closed isn't read in its place.
-said=$("$program" payloads <&- 2>&1 >/dev/null)
+said=$("$program" vrps <&- 2>&1 >/dev/null)
 expect "a read fails" 1 "origins: read failed" $? "$said"
-said=$("$program" --table payloads <&- 2>/dev/null)
+said=$("$program" --table vrps <&- 2>/dev/null)
 expect "nothing is to be read" 0 "192.0.2.0/23-24 AS64496
 2001:db8::/32-48 AS64497" $? "$said"
-for words in "payloads" "--table payloads" "--diff payloads next" "--help" "--version"; do
+for words in "vrps" "--table vrps" "--diff vrps next" "--help" "--version"; do
     # shellcheck disable=SC2086 # the words
     said=$("$program" $words <routes 2>&1 >/dev/full)
     expect "a write fails: $words" 1 "origins: write failed" $? "$said"
 done
-said=$("$program" payloads <routes 2>/dev/full)
+said=$("$program" vrps <routes 2>/dev/full)
 expect "nothing can be told on standard error" 0 "valid" $? "$(echo "$said" | head -n 1)"
-said=$({ yes '10.0.0.0/8 AS1' | { "$program" payloads 2>&3; echo "status $?" >&3; } | true; } 3>&1)
+said=$({ yes '10.0.0.0/8 AS1' | { "$program" vrps 2>&3; echo "status $?" >&3; } | true; } 3>&1)
 expect "a pipe whose reader has ended, and lines without end" 0 "origins: write failed
 status 1" $? "$said"
 needs_more "memory is refused" || {
-    said=$(head -c 67108864 /dev/zero | tr '\0' '1' | (ulimit -v 49152 && "$program" payloads) 2>&1 >/dev/null)
+    said=$(head -c 67108864 /dev/zero | tr '\0' '1' | (ulimit -v 49152 && "$program" vrps) 2>&1 >/dev/null)
     expect "memory is refused" 1 "origins: out of memory" $? "$said"
 }
 # The memory that the few VRPs need is enough for any number of routes.
 needs_more "routes take no memory" || {
-    said=$(yes '10.0.0.0/8 AS1' | head -n 4000000 | (ulimit -v 16384 && "$program" payloads) 2>/dev/null | uniq -c)
+    said=$(yes '10.0.0.0/8 AS1' | head -n 4000000 | (ulimit -v 16384 && "$program" vrps) 2>/dev/null | uniq -c)
     expect "routes take no memory" 0 "4000000 not-found" $? "$(echo "$said" | sed 's/^ *//')"
 }
 
-# Sizes. Payload n, from 0, is the address 10.0.0.0 + n with AS n + 1: as a line, as an item, and as a line of the table.
+# Sizes. VRP n, from 0, is the address 10.0.0.0 + n with AS n + 1: as a line, as an item, and as a line of the table.
 many=131072
 numbered() {
     awk -v many=$many -v form="$1" 'BEGIN { for (n = 0; n < many; n++) {
@@ -168,19 +168,19 @@ valid
 invalid-as
 not-found
 not-found
-origins: $many payloads" $? "$said"
+origins: $many VRPs" $? "$said"
     said=$("$program" --table "$file" 2>count | cmp - many.table 2>&1)
-    expect "the table of $file" 0 "origins: $many payloads" $? "$said$(cat count)"
+    expect "the table of $file" 0 "origins: $many VRPs" $? "$said$(cat count)"
 done
 }
-# Payloads 1 to n cover one route, each with its own AS. Their texts stand beside each other, the route's own first.
+# VRPs 1 to n cover one route, each with its own AS. Their texts stand beside each other, the route's own first.
 for many in 1000 4000; do
     awk -v many=$many 'BEGIN { for (n = 1; n <= many; n++) printf "AS%d,192.0.2.0/24,24\n", n }' >covering
     awk -v many=$many 'BEGIN { printf "valid match:192.0.2.0/24-24:AS1"
         for (n = 2; n <= many; n++) printf " as:192.0.2.0/24-24:AS%d", n
         print "" }' >explained
     said=$(echo '192.0.2.0/24 AS1' | "$program" --why covering 2>count | cmp - explained 2>&1)
-    expect "a route that $many payloads cover" 0 "origins: $many payloads" $? "$said$(cat count)"
+    expect "a route that $many VRPs cover" 0 "origins: $many VRPs" $? "$said$(cat count)"
 done
 size=$(wc -c <explained)
 expect "the last answer is longer than 64 KiB" 0 yes 0 "$([ "$size" -gt 65536 ] && echo yes || echo "$size")"
@@ -200,21 +200,21 @@ said=$( (ulimit -s "$stack" && "$program" --table deep.129) 2>&1)
 expect "JSON of 129 levels" 1 "origins: deep.129: not a JSON object" $? "$said"
 
 # Wrong usage
-for words in "" "--table" "--why" "--diff payloads" "payloads next" "--diff payloads next wrong" \
-    "--table --diff payloads next" "--of 1 payloads" "--table payloads --of" "--why --table payloads" \
-    "--check --diff payloads next" "--diff --of 1 payloads next"; do
+for words in "" "--table" "--why" "--diff vrps" "vrps next" "--diff vrps next wrong" \
+    "--table --diff vrps next" "--of 1 vrps" "--table vrps --of" "--why --table vrps" \
+    "--check --diff vrps next" "--diff --of 1 vrps next"; do
     # shellcheck disable=SC2086 # the words
     said=$("$program" $words <routes 2>&1)
     expect "wrong usage: $words" 2 "origins: wrong usage
 $usage" $? "$said"
 done
-said=$("$program" --strange payloads <routes 2>&1)
+said=$("$program" --strange vrps <routes 2>&1)
 expect "an unknown option" 2 "origins: unknown option: --strange
 $usage" $? "$said"
-said=$("$program" --table --of ASX payloads 2>&1)
+said=$("$program" --table --of ASX vrps 2>&1)
 expect "no AS number" 2 "origins: invalid AS number: ASX
 $usage" $? "$said"
-cp payloads ./--table
+cp vrps ./--table
 said=$("$program" -- --table <fine 2>/dev/null)
 expect "a file named as an option" 0 "valid
 not-found" $? "$said"
@@ -228,7 +228,7 @@ expect "the version" 0 "origins, version $version" $? "$said"
 revision=$(git -C "$top" rev-parse --short=12 HEAD 2>/dev/null) || revision=unknown
 said=$("$top/origins" --version | head -n 1)
 expect "the version by the script" 0 "origins, revision $revision" $? "$said"
-said=$("$top/origins" payloads <fine 2>/dev/null)
+said=$("$top/origins" vrps <fine 2>/dev/null)
 expect "routes by the script" 0 "valid
 not-found" $? "$said"
 

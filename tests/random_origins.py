@@ -1,7 +1,7 @@
 #!/usr/bin/env python3
 """Compares what the program `origins` prints with what the reference beside this file says.
 
-From a seed it makes files of payloads in each form that validators write, wrong ones too, and lines of routes; it asks
+From a seed it makes files of VRPs in each form that validators write, wrong ones too, and lines of routes; it asks
 the built program for answers, for what explains them, for tables and for what changes between two files. Status 1 where
 something differs.
 """
@@ -14,10 +14,10 @@ import tempfile
 from pathlib import Path
 from random import Random
 
-from reference import payload_files, route_lines
+from reference import route_lines, vrp_files
 from reference.addresses import Family, print_address
 from reference.faults import Fault
-from reference.prefixes import MaxLenPrefix, Payload, Prefix
+from reference.prefixes import MaxLenPrefix, Prefix, Vrp
 
 TOP = Path(__file__).resolve().parent.parent
 PROGRAM = TOP / "crates" / "origins" / "out" / "origins"
@@ -33,7 +33,7 @@ DAMAGE = "0123456789ASas.:/-+,|{} \t\"\u00a0\u0661"
 
 
 class Maker:
-    """Makes files of payloads and lines of routes that lie close together."""
+    """Makes files of VRPs and lines of routes that lie close together."""
 
     def __init__(self, seed: int) -> None:
         self.random = Random(seed)
@@ -56,11 +56,11 @@ class Maker:
         """One of few AS numbers, and sometimes AS0 or the last one."""
         return self.random.choice((64496, 64497, 64498, 64499, 0 if self.one_in(4) else 7, 2**32 - 1))
 
-    def payload(self) -> Payload:
-        """A payload."""
+    def vrp(self) -> Vrp:
+        """A VRP."""
         prefix = self.prefix()
         longest = min(prefix.family.bits, prefix.length + self.random.choice((0, 0, 1, 2, 8)))
-        return Payload(MaxLenPrefix(prefix, longest), self.asn())
+        return Vrp(MaxLenPrefix(prefix, longest), self.asn())
 
     def damaged(self, text: str) -> str:
         """A text with characters inserted, dropped or replaced."""
@@ -76,29 +76,29 @@ class Maker:
         more = self.random.choice(("", "x", '"a,b"', ",,"))
         return self.random.choice((",".join((row, more)), ",".join(fields[:-1]), fields[0], f"x,{row}"))
 
-    def file(self, payloads: list[Payload]) -> bytes:
-        """A file of payloads in one of the forms that validators write."""
-        return self.random.choice((self._plain, self._quoted, self._later, self._json, self._json))(payloads)
+    def file(self, vrps: list[Vrp]) -> bytes:
+        """A file of VRPs in one of the forms that validators write."""
+        return self.random.choice((self._plain, self._quoted, self._later, self._json, self._json))(vrps)
 
-    def _plain(self, payloads: list[Payload]) -> bytes:
+    def _plain(self, vrps: list[Vrp]) -> bytes:
         end = self.random.choice(("\n", "\r\n"))
         names = ("ASN,IP Prefix,Max Length,Trust Anchor", "ASN,Prefix,Max prefix length", "")
         name = self.random.choice(names)
         head, last = f"{name}{end}" if name else "", "" if name == names[1] else ",ripe"
-        lines = [f"AS{asn},{prefix.prefix.text()},{prefix.max_length}{last}" for prefix, asn in payloads]
+        lines = [f"AS{asn},{prefix.prefix.text()},{prefix.max_length}{last}" for prefix, asn in vrps]
         return (head + end.join(lines) + self.random.choice(("", end, end + end))).encode()
 
-    def _quoted(self, payloads: list[Payload]) -> bytes:
+    def _quoted(self, vrps: list[Vrp]) -> bytes:
         head = '"ASN","IP Prefix","Max Length","Trust Anchor"\n'
-        lines = [f'"{asn}","{prefix.prefix.text()}","{prefix.max_length}","x"\n' for prefix, asn in payloads]
+        lines = [f'"{asn}","{prefix.prefix.text()}","{prefix.max_length}","x"\n' for prefix, asn in vrps]
         return (head + "".join(lines)).encode()
 
-    def _later(self, payloads: list[Payload]) -> bytes:
+    def _later(self, vrps: list[Vrp]) -> bytes:
         head = "URI,ASN,IP Prefix,Max Length,Not Before,Not After\n"
-        lines = [f"rsync://x/,AS{asn},{prefix.prefix.text()},{prefix.max_length},a,b\n" for prefix, asn in payloads]
+        lines = [f"rsync://x/,AS{asn},{prefix.prefix.text()},{prefix.max_length},a,b\n" for prefix, asn in vrps]
         return (head + "".join(lines)).encode()
 
-    def _json(self, payloads: list[Payload]) -> bytes:
+    def _json(self, vrps: list[Vrp]) -> bytes:
         items = [
             {
                 "asn": asn if self.one_in(2) else f"AS{asn}",
@@ -106,14 +106,14 @@ class Maker:
                 "maxLength": prefix.max_length,
                 "ta": "ripe",
             }
-            for prefix, asn in payloads
+            for prefix, asn in vrps
         ]
         value = {"metadata": {"vrps": len(items)}, "roas": items, "bgpsec_keys": []}
         return json.dumps(value, indent=self.random.choice((None, 1))).encode()
 
-    def wrong(self, payloads: list[Payload]) -> bytes:
+    def wrong(self, vrps: list[Vrp]) -> bytes:
         """The same, damaged or cut, with a row of another length, or as an array."""
-        octets = self.file(payloads)
+        octets = self.file(vrps)
         if self.one_in(8):
             return self.random.choice((b"", b" \n\t", b"\xc2\xa0", b"x")) + b"[" + octets + b"]"
         if self.one_in(4):
@@ -149,27 +149,27 @@ def run(program: Path, words: list[str | Path], lines: bytes = b"") -> tuple[int
     return done.returncode, printed[:-1] if printed[-1] == "" else printed, done.stderr.decode("utf-8")
 
 
-def table(payloads: list[Payload]) -> list[Payload]:
-    """The payloads in order, each once."""
-    return sorted(set(payloads), key=lambda one: (*one.prefix.key(), one.asn))
+def table(vrps: list[Vrp]) -> list[Vrp]:
+    """The VRPs in order, each once."""
+    return sorted(set(vrps), key=lambda one: (*one.prefix.key(), one.asn))
 
 
-def answer(line: bytes, payloads: list[Payload], why: bool) -> str:
+def answer(line: bytes, vrps: list[Vrp], why: bool) -> str:
     """What is answered to a line."""
     try:
-        return route_lines.answer(payloads, line.decode("utf-8"), why)
+        return route_lines.answer(vrps, line.decode("utf-8"), why)
     except UnicodeDecodeError:
         return "error: not UTF-8"
 
 
-def counted(payloads: list[Payload]) -> str:
-    """How many payloads there are, in words."""
-    return "1 payload" if len(payloads) == 1 else f"{len(payloads)} payloads"
+def counted(vrps: list[Vrp]) -> str:
+    """How many VRPs there are, in words."""
+    return "1 VRP" if len(vrps) == 1 else f"{len(vrps)} VRPs"
 
 
-def text(payload: Payload) -> str:
-    """A payload as it is told."""
-    return f"{payload.prefix.text()} AS{payload.asn}"
+def text(vrp: Vrp) -> str:
+    """A VRP as it is told."""
+    return f"{vrp.prefix.text()} AS{vrp.asn}"
 
 
 class Comparison:
@@ -195,9 +195,9 @@ class Comparison:
 
     def routes(self, count: int) -> None:
         """Asks lines of routes by a file, in a word and why."""
-        payloads = [self.maker.payload() for _ in range(self.maker.random.choice((1, 5, 40, 200)))]
-        file = self.kept("payloads", self.maker.file(payloads))
-        listed = payload_files.read(file.read_bytes())
+        vrps = [self.maker.vrp() for _ in range(self.maker.random.choice((1, 5, 40, 200)))]
+        file = self.kept("vrps", self.maker.file(vrps))
+        listed = vrp_files.read(file.read_bytes())
         lines = [self.maker.line() for _ in range(count)]
         octets = b"\n".join(lines) + b"\n"
         for why in (False, True):
@@ -212,9 +212,9 @@ class Comparison:
     def tables(self) -> None:
         """Asks for tables, and for what changes between two files."""
         maker = self.maker
-        shared = [maker.payload() for _ in range(30)]
-        before = shared + [maker.payload() for _ in range(maker.random.randrange(20))] + shared[:3]
-        after = shared[5:] + [maker.payload() for _ in range(maker.random.randrange(20))]
+        shared = [maker.vrp() for _ in range(30)]
+        before = shared + [maker.vrp() for _ in range(maker.random.randrange(20))] + shared[:3]
+        after = shared[5:] + [maker.vrp() for _ in range(maker.random.randrange(20))]
         old, new = self.kept("old", maker.file(before)), self.kept("new", maker.file(after))
         status, found, said = run(self.program, ["--table", old])
         self.same("a table", (0, f"origins: {counted(before)}\n"), (status, said))
@@ -231,10 +231,10 @@ class Comparison:
 
     def wrong(self) -> None:
         """Asks by a file that may be wrong."""
-        payloads = [self.maker.payload() for _ in range(5)]
-        file = self.kept("wrong", self.maker.wrong(payloads))
+        vrps = [self.maker.vrp() for _ in range(5)]
+        file = self.kept("wrong", self.maker.wrong(vrps))
         try:
-            expected = (0, [text(one) for one in table(payload_files.read(file.read_bytes()))])
+            expected = (0, [text(one) for one in table(vrp_files.read(file.read_bytes()))])
             self.same(repr(file.read_bytes()), expected, run(self.program, ["--table", file])[:2])
         except Fault as fault:
             wanted = (1, [], f"origins: {file}: {fault}\n")

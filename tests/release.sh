@@ -55,7 +55,7 @@ END
         printf '#!/bin/sh\necho %s\n' "$name" >"$kit/proved/$name"
         chmod +x "$kit/proved/$name"
     done
-    echo 'unsigned pg_version(void) { return 4; }' | gcc -fPIC -c -x c - -o "$out/one.o" &&
+    echo 'unsigned pigy_version(void) { return 4; }' | gcc -fPIC -c -x c - -o "$out/one.o" &&
         echo 'unsigned of_kit(void) { return 1; }' | gcc -fPIC -c -x c - -o "$out/two.o" &&
         ar rcs "$kit/proved/libpigyelund_c.a" "$out/one.o" && ar rcs "$kit/c/liblibc_c.a" "$out/two.o"
 }
@@ -67,7 +67,7 @@ make_copy() {
     tar -cf - --exclude=out --exclude=rows.txt --exclude=__pycache__ .gitignore release program.sh respath origins \
         README.md CHANGELOG.md LICENSE foreign tests/foreign_page.py tests/foreign.sh tests/logic.sh \
         docs/FOREIGN.md docs/respath.1 docs/origins.1 crates/pigyelund_c/src crates/pigyelund_c/specs \
-        crates/route_calls/src crates/route_calls/specs | tar -xf - -C "$copy"
+        crates/pigyelund_routes/src crates/pigyelund_routes/specs | tar -xf - -C "$copy"
     (
         cd "$copy" || exit
         printf 'respath:\norigins:\n' >crates.txt
@@ -136,9 +136,9 @@ refuses_what_is_not_proved() {
 refuses_what_is_not_committed() {
     changed="files were changed since the last commit"
     refuses "a changed file" "$changed" 'echo >>README.md'
-    refuses "a new file" "$changed" 'echo >crates/route_calls/src/new.rt'
+    refuses "a new file" "$changed" 'echo >crates/pigyelund_routes/src/new.rt'
     refuses "a new file that the configuration hides" "$changed" \
-        'git config status.showUntrackedFiles no && echo >crates/route_calls/src/new.rt'
+        'git config status.showUntrackedFiles no && echo >crates/pigyelund_routes/src/new.rt'
     refuses "a staged file" "$changed" 'echo >>README.md && git add README.md'
     refuses "a change while it is proved" "$changed" "echo 'echo >>\"$copy/README.md\"' >'$kit/meanwhile'"
     refuses "another commit while it is proved" "there is another commit" \

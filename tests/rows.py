@@ -74,7 +74,7 @@ class Comparison:
         if self.differing <= SHOWN:
             print(f"{place}: {line}\n  the reference: {expected}\n  the program:   {found}")
 
-    def tell(self, name: str) -> bool:
+    def report(self, name: str) -> bool:
         """Prints what came out, and whether nothing differs."""
         print(f"{name}: {self.compared} answers compared, {self.differing} differ")
         for reason, count in sorted(self.not_said.items()):
@@ -99,7 +99,7 @@ def compare_program(name: str, answer: Callable[[str], str]) -> bool:
             comparison.add(f"{name}/stdin:{place}", line, answer(line), found)
         except NotSaid as reason:
             comparison.not_said[f"{line.split(' ')[0]}: {reason}"] += 1
-    return comparison.tell(name)
+    return comparison.report(name)
 
 
 def compare_holdings() -> bool:
@@ -112,7 +112,7 @@ def compare_holdings() -> bool:
         return False
     for place, (one, found) in enumerate(zip(expected, answered, strict=True), 1):
         comparison.add(f"example_holdings/stdout:{place}", asked[1], one, found)
-    return comparison.tell("example_holdings")
+    return comparison.report("example_holdings")
 
 
 def compare_verified_set() -> bool:
@@ -124,7 +124,7 @@ def compare_verified_set() -> bool:
     line = f"verified_octets {' ; '.join(lists)} | {mode} {' '.join(octets)}"
     (found,) = lines_of(folder / "stdout")
     comparison.add("example_verified_set/args", line, calls_of_callers.answer(line), found)
-    return comparison.tell("example_verified_set")
+    return comparison.report("example_verified_set")
 
 
 def asked_of_origins(given: list[str]) -> Iterator[tuple[str, list[str]]]:
@@ -150,7 +150,7 @@ def compare_growth() -> bool:
     answers = [(line, answer) for line, found in asked_of_origins(given) for answer in found]
     for (line, answer), found in zip(answers, printed, strict=True):
         comparison.add("bench_growth/args", line, answer, found)
-    return comparison.tell("bench_growth")
+    return comparison.report("bench_growth")
 
 
 def compare_stored() -> bool:
@@ -187,7 +187,7 @@ def compare_random(program: Path, seed: int, count: int, commands: list[str]) ->
             for line, found in zip(part, ask(program, part), strict=True):
                 shown = repr(line)
                 comparison.add(f"{command} of seed {seed}", shown, lines.answer(line), found)
-        results.append(comparison.tell(f"{command}, seed {seed}"))
+        results.append(comparison.report(f"{command}, seed {seed}"))
     return all(results)
 
 

@@ -126,11 +126,11 @@ why='valid match:192.0.2.0/23-24:AS64496 match:192.0.0.0/16-24:AS64496 match:192
 if takes_long "routes of 76 MB"; then
     :
 elif [ -x "$origins" ]; then
-    printf 'AS64496,192.0.%s,24\n' 0.0/8 0.0/16 2.0/23 >"$files/payloads"
-    said=$(yes "$route" | head -n 800000 | { "$origins" "$files/payloads" 2>/dev/null; echo "status $?"; } | uniq -c)
+    printf 'AS64496,192.0.%s,24\n' 0.0/8 0.0/16 2.0/23 >"$files/vrps"
+    said=$(yes "$route" | head -n 800000 | { "$origins" "$files/vrps" 2>/dev/null; echo "status $?"; } | uniq -c)
     expect "routes of 76 MB" 0 "800000 valid
 1 status 0" $? "$(echo "$said" | sed 's/^ *//')"
-    said=$(yes "$route" | head -n 800000 | { "$origins" --why "$files/payloads" 2>/dev/null; echo "status $?"; } |
+    said=$(yes "$route" | head -n 800000 | { "$origins" --why "$files/vrps" 2>/dev/null; echo "status $?"; } |
         uniq -c)
     expect "routes of 76 MB, and answers of 76 MB" 0 "800000 $why
 1 status 0" $? "$(echo "$said" | sed 's/^ *//')"

@@ -1,9 +1,9 @@
 /* test FOLDER stack: asks each row on a stack of its own. It fails if the calls use more of it than pigyelund.h states.
  *
- * test FOLDER, which has rows.txt and texts.txt: asks each row, with rooms of each length from 0 to what is wanted and
- * one more, and looks that nothing is written but what is told; with each of its requests for memory refused in turn;
- * then all rows on eight threads at once. Inputs and rooms are blocks of their own, so that valgrind sees an octet too
- * far. It is linked with --wrap=malloc,--wrap=realloc, which leads each request of the library here. */
+ * test FOLDER, which has rows.txt and texts.txt: asks each row, with buffers of each length from 0 to what is required
+ * and one more, and looks that nothing is written but what is expected; with each of its requests for memory refused in
+ * turn; then all rows on eight threads at once. Inputs and buffers are blocks of their own, so that valgrind sees an
+ * octet too far. It is linked with --wrap=malloc,--wrap=realloc, which leads each request of the library here. */
 #include "../pigyelund.h"
 #include <pthread.h>
 #include <stdatomic.h>
@@ -12,31 +12,32 @@
 #include <string.h>
 
 /* each name of the header has its number */
-#define NUMBER(name, value) _Static_assert(PG_##name == value##u, #name);
+#define NUMBER(name, value) _Static_assert(PIGY_##name == value##u, #name);
 #include "../numbers.txt"
-_Static_assert(PG_FAULT(PG_BAD_AS + 1u) == 1u && PG_FAULT(PG_SECOND + PG_BAD_IP + 14u) == 14u, "PG_FAULT");
-_Static_assert(PG_FAULT(PG_BAD_IP + 255u) == 255u, "PG_FAULT");
+_Static_assert(PIGY_FAULT(PIGY_BAD_AS + 1u) == 1u && PIGY_FAULT(PIGY_SECOND + PIGY_BAD_IP + 14u) == 14u, "PIGY_FAULT");
+_Static_assert(PIGY_FAULT(PIGY_BAD_IP + 255u) == 255u, "PIGY_FAULT");
 
-enum { MARK = 0xa5, LENGTH = 1 << 16, SMALL = 40, WORDS = 10, PLACES = 16, THREADS = 8, ANY = 77, MANY = 1 << 17 };
+enum { MARK = 0xa5, LENGTH = 1 << 16, SMALL = 40, WORDS = 10, LONGEST_PATH = 16, THREADS = 8, ANY = 77,
+      MANY = 1 << 17 };
 
 typedef struct {
   uint8_t *octets;
   size_t length;
 } run;
 
-typedef enum { VERIFY, PATH, MAKE, TEST, COVER, ANSWER, ORIGINS, COVERING, PAYLOADS, CHANGED } kind;
+typedef enum { VERIFY, PATH, MAKE, TEST, COVER, ANSWER, ORIGINS, COVERING, VRPS, CHANGED } kind;
 
-/* one row: a call, its numbers, what goes in, and what is told */
+/* one row: a call, its numbers, what goes in, and what is expected */
 typedef struct {
   unsigned row;
   kind call;
-  pg_operation *operation;
-  pg_test *test;
+  pigy_operation *operation;
+  pigy_comparison *test;
   uint32_t numbers[3], status;
-  run in[4], told[2];
-  pg_certificate *certificates;
-  pg_payload *payloads, *announced, *withdrawn;
-  pg_route *routes;
+  run in[4], expected[2];
+  pigy_certificate *certificates;
+  pigy_vrp *vrps, *announced, *withdrawn;
+  pigy_route *routes;
   size_t count, route_count, announced_count, withdrawn_count, verified;
 } question;
 
@@ -84,16 +85,16 @@ static void read_numbers(question *q, const char *word) {
 }
 
 static void read_certificates(question *q, const char *word) {
-  pg_certificate found[PLACES];
-  while (strcmp(word, "-") && q->count < PLACES) {
+  pigy_certificate found[LONGEST_PATH];
+  while (strcmp(word, "-") && q->count < LONGEST_PATH) {
     unsigned long numbers[6];
     char *end = 0;
     for (int i = 0; i < 6; i++, word = end + 1) numbers[i] = strtoul(word, &end, 10);
-    found[q->count++] = (pg_certificate){numbers[0], numbers[1], numbers[2], numbers[3],
-                                         (uint32_t)numbers[4], (uint32_t)numbers[5]};
+    found[q->count++] = (pigy_certificate){numbers[0], numbers[1], numbers[2], numbers[3],
+                                           (uint32_t)numbers[4], (uint32_t)numbers[5]};
     if (!*end) break;
   }
-  q->certificates = (pg_certificate *)(void *)block(q->count * sizeof *found);
+  q->certificates = (pigy_certificate *)(void *)block(q->count * sizeof *found);
   if (q->count) memcpy(q->certificates, found, q->count * sizeof *found);
 }
 
@@ -101,9 +102,9 @@ static uint32_t read_asn(const uint8_t *octets) {
   return (uint32_t)octets[0] << 24 | (uint32_t)octets[1] << 16 | (uint32_t)octets[2] << 8 | octets[3];
 }
 
-/* payloads of 23 octets each */
-static pg_payload *read_payloads(const run *in, size_t *count) {
-  pg_payload *found = (pg_payload *)(void *)block(in->length / 23 * sizeof *found);
+/* VRPs of 23 octets each */
+static pigy_vrp *read_vrps(const run *in, size_t *count) {
+  pigy_vrp *found = (pigy_vrp *)(void *)block(in->length / 23 * sizeof *found);
   *count = in->length / 23;
   for (size_t i = 0; i < *count; i++) {
     const uint8_t *octets = in->octets + 23 * i;
@@ -117,8 +118,8 @@ static pg_payload *read_payloads(const run *in, size_t *count) {
 }
 
 /* and routes of 22 */
-static pg_route *read_routes(const run *in, size_t *count) {
-  pg_route *found = (pg_route *)(void *)block(in->length / 22 * sizeof *found);
+static pigy_route *read_routes(const run *in, size_t *count) {
+  pigy_route *found = (pigy_route *)(void *)block(in->length / 22 * sizeof *found);
   *count = in->length / 22;
   for (size_t i = 0; i < *count; i++) {
     const uint8_t *octets = in->octets + 22 * i;
@@ -134,13 +135,13 @@ static void name_call(question *q, const char *call) {
   static const struct {
     const char *name;
     kind call;
-    pg_operation *operation;
-    pg_test *test;
+    pigy_operation *operation;
+    pigy_comparison *test;
   } names[] = {{"verify", VERIFY, 0, 0}, {"path", PATH, 0, 0}, {"cover", COVER, 0, 0}, {"answer", ANSWER, 0, 0},
-               {"origins", ORIGINS, 0, 0}, {"covering", COVERING, 0, 0}, {"payloads", PAYLOADS, 0, 0},
-               {"changed", CHANGED, 0, 0}, {"union", MAKE, pg_union, 0}, {"intersection", MAKE, pg_intersection, 0},
-               {"difference", MAKE, pg_difference, 0}, {"contains", TEST, 0, pg_contains},
-               {"equal", TEST, 0, pg_equal}};
+               {"origins", ORIGINS, 0, 0}, {"covering", COVERING, 0, 0}, {"vrps", VRPS, 0, 0},
+               {"changed", CHANGED, 0, 0}, {"union", MAKE, pigy_union, 0}, {"intersection", MAKE, pigy_intersection, 0},
+               {"difference", MAKE, pigy_difference, 0}, {"contains", TEST, 0, pigy_contains},
+               {"equal", TEST, 0, pigy_equal}};
   for (size_t i = 0; i < sizeof names / sizeof *names; i++)
     if (!strcmp(call, names[i].name)) {
       q->call = names[i].call;
@@ -153,50 +154,51 @@ static void name_call(question *q, const char *call) {
 
 /* ---- calls */
 
-/* the call itself, with such rooms; one that tells one run has one room */
-static uint32_t call_of(const question *q, uint8_t *as, size_t as_room, uint8_t *ip, size_t ip_room, size_t *as_len,
-                        size_t *ip_len, size_t *verified) {
+/* the call itself, with buffers of such capacities; one with one output has one buffer */
+static uint32_t call_of(const question *q, uint8_t *as, size_t as_capacity, uint8_t *ip, size_t ip_capacity,
+                        size_t *as_len, size_t *ip_len, size_t *verified) {
   const run *in = q->in;
   const uint32_t *n = q->numbers;
   switch (q->call) {
     case MAKE:
       return q->operation(in[0].octets, in[0].length, in[1].octets, in[1].length, in[2].octets, in[2].length,
-                          in[3].octets, in[3].length, n[0], as, as_room, ip, ip_room, as_len, ip_len);
+                          in[3].octets, in[3].length, n[0], as, as_capacity, ip, ip_capacity, as_len, ip_len);
     case PATH:
-      return pg_verify_path(in[0].octets, in[0].length, in[1].octets, in[1].length, in[2].octets, in[2].length,
-                            q->certificates, q->count, n[0], as, as_room, ip, ip_room, as_len, ip_len, verified);
+      return pigy_verify_path(in[0].octets, in[0].length, in[1].octets, in[1].length, in[2].octets, in[2].length,
+                              q->certificates, q->count, n[0], as, as_capacity, ip, ip_capacity, as_len, ip_len,
+                              verified);
     case COVER:
       *ip_len = 0;
-      return pg_cover(in[0].octets, in[0].length, n[0], n[1], as, as_room, as_len);
+      return pigy_cover(in[0].octets, in[0].length, n[0], n[1], as, as_capacity, as_len);
     case ORIGINS:
       *ip_len = 0;
-      return pg_origins(q->payloads, q->count, q->routes, q->route_count, as, as_room, as_len, verified);
+      return pigy_origins(q->vrps, q->count, q->routes, q->route_count, as, as_capacity, as_len, verified);
     case ANSWER:
       *ip_len = 0;
-      return pg_answer(in[0].octets, in[0].length, as, as_room, as_len);
+      return pigy_answer(in[0].octets, in[0].length, as, as_capacity, as_len);
     default:
-      return pg_verify(in[0].octets, in[0].length, in[1].octets, in[1].length, n[1], in[2].octets, in[2].length,
-                       in[3].octets, in[3].length, n[0], n[2], as, as_room, ip, ip_room, as_len, ip_len);
+      return pigy_verify(in[0].octets, in[0].length, in[1].octets, in[1].length, n[1], in[2].octets, in[2].length,
+                         in[3].octets, in[3].length, n[0], n[2], as, as_capacity, ip, ip_capacity, as_len, ip_len);
   }
 }
 
-/* one call with such rooms */
-static void ask(const question *q, size_t as_room, size_t ip_room) {
-  uint8_t *as = block(as_room), *ip = block(ip_room);
+/* one call with buffers of such capacities */
+static void ask(const question *q, size_t as_capacity, size_t ip_capacity) {
+  uint8_t *as = block(as_capacity), *ip = block(ip_capacity);
   size_t as_len = ANY, ip_len = ANY, verified = ANY;
-  const run *told = q->told;
-  int fits = told[0].length <= as_room && told[1].length <= ip_room;
-  uint32_t found = call_of(q, as, as_room, ip, ip_room, &as_len, &ip_len, &verified);
+  const run *expected = q->expected;
+  int fits = expected[0].length <= as_capacity && expected[1].length <= ip_capacity;
+  uint32_t found = call_of(q, as, as_capacity, ip, ip_capacity, &as_len, &ip_len, &verified);
   calls++;
-  expect(found == (fits ? q->status : PG_TOO_SMALL), q->row, "another status");
-  expect(as_len == told[0].length && ip_len == told[1].length, q->row, "other lengths");
-  expect(verified == (q->call == PATH || q->call == ORIGINS ? q->verified : ANY), q->row, "another place");
+  expect(found == (fits ? q->status : PIGY_TOO_SMALL), q->row, "another status");
+  expect(as_len == expected[0].length && ip_len == expected[1].length, q->row, "other lengths");
+  expect(verified == (q->call == PATH || q->call == ORIGINS ? q->verified : ANY), q->row, "another index");
   if (fits) {
-    expect(!memcmp(as, told[0].octets, told[0].length), q->row, "other octets in the first room");
-    expect(!memcmp(ip, told[1].octets, told[1].length), q->row, "other octets in the second room");
+    expect(!memcmp(as, expected[0].octets, expected[0].length), q->row, "other octets in the first buffer");
+    expect(!memcmp(ip, expected[1].octets, expected[1].length), q->row, "other octets in the second buffer");
   }
-  expect(is_marked(as, fits ? told[0].length : 0, as_room), q->row, "octets behind those in the first room");
-  expect(is_marked(ip, fits ? told[1].length : 0, ip_room), q->row, "octets behind those in the second room");
+  expect(is_marked(as, fits ? expected[0].length : 0, as_capacity), q->row, "octets behind those in the first buffer");
+  expect(is_marked(ip, fits ? expected[1].length : 0, ip_capacity), q->row, "octets behind those in the second buffer");
   free(as);
   free(ip);
 }
@@ -204,196 +206,196 @@ static void ask(const question *q, size_t as_room, size_t ip_room) {
 /* ---- tables */
 
 static int is_of_table(const question *q) {
-  return q->call == ORIGINS || q->call == COVERING || q->call == PAYLOADS || q->call == CHANGED;
+  return q->call == ORIGINS || q->call == COVERING || q->call == VRPS || q->call == CHANGED;
 }
 
-/* the octets that tell payloads, and what stands behind each */
-static uint8_t *put_payload(uint8_t *to, const uint8_t *address, uint32_t asn, const uint8_t *rest, size_t count) {
+/* the octets of VRPs as rows.txt has them, and what comes after each */
+static uint8_t *put_vrp(uint8_t *to, const uint8_t *address, uint32_t asn, const uint8_t *rest, size_t count) {
   memcpy(to, address, 16);
   for (int i = 0; i < 4; i++) to[16 + i] = (uint8_t)(asn >> (24 - 8 * i));
   memcpy(to + 20, rest, count);
   return to + 20 + count;
 }
 
-/* what a call is made on, and what it tells beside its status */
+/* what a call is made on, and what it returns besides its status */
 typedef struct {
   const question *row;
-  const pg_table *table;
-  size_t room, length, other_length, place;
+  const pigy_table *table;
+  size_t capacity, length, other_length, index;
   uint8_t *out, *other;
-  pg_table *made;
+  pigy_table *made;
 } attempt;
 
 static uint32_t of_covering(attempt *a) {
-  return pg_table_covering(a->table, a->row->routes, (pg_covering *)(void *)a->out, a->room / sizeof(pg_covering),
-                           &a->length);
+  return pigy_table_covering(a->table, a->row->routes, (pigy_covering *)(void *)a->out,
+                             a->capacity / sizeof(pigy_covering), &a->length);
 }
 
-static uint32_t of_payloads(attempt *a) {
-  return pg_table_payloads(a->table, (pg_payload *)(void *)a->out, a->room / sizeof(pg_payload), &a->length);
+static uint32_t of_vrps(attempt *a) {
+  return pigy_table_vrps(a->table, (pigy_vrp *)(void *)a->out, a->capacity / sizeof(pigy_vrp), &a->length);
 }
 
-_Static_assert(sizeof(pg_covering) == sizeof(pg_payload), "a payload that covers is one with one octet more");
+_Static_assert(sizeof(pigy_covering) == sizeof(pigy_vrp), "a VRP that covers is one with one octet more");
 
-/* a call whose room is for so many payloads, of each of which so many octets are told */
-static void ask_in_room(uint32_t (*call)(attempt *), const question *q, const pg_table *table, size_t count,
-                        size_t octets) {
-  size_t wanted = q->told[0].length / octets, length = count * sizeof(pg_covering);
+/* a call whose buffer has space for so many VRPs; rows.txt has so many octets of each */
+static void ask_with_capacity(uint32_t (*call)(attempt *), const question *q, const pigy_table *table, size_t count,
+                              size_t octets) {
+  size_t wanted = q->expected[0].length / octets, length = count * sizeof(pigy_covering);
   attempt a = {q, table, length, ANY, 0, 0, block(length), 0, 0};
-  const pg_covering *out = (pg_covering *)(void *)a.out;
-  uint8_t *told = block(count * octets), *at = told;
+  const pigy_covering *out = (pigy_covering *)(void *)a.out;
+  uint8_t *found = block(count * octets), *at = found;
   int fits = wanted <= count;
-  expect(call(&a) == (fits ? q->status : PG_TOO_SMALL), q->row, "another status");
+  expect(call(&a) == (fits ? q->status : PIGY_TOO_SMALL), q->row, "another status");
   expect(a.length == wanted, q->row, "another length");
   for (size_t i = 0; fits && i < wanted; i++)
-    at = put_payload(at, out[i].address, out[i].asn, &out[i].family, octets - 20);
-  expect(!fits || !memcmp(told, q->told[0].octets, q->told[0].length), q->row, "other payloads");
-  expect(is_marked(a.out, fits ? wanted * sizeof *out : 0, length), q->row, "payloads behind");
+    at = put_vrp(at, out[i].address, out[i].asn, &out[i].family, octets - 20);
+  expect(!fits || !memcmp(found, q->expected[0].octets, q->expected[0].length), q->row, "other VRPs");
+  expect(is_marked(a.out, fits ? wanted * sizeof *out : 0, length), q->row, "VRPs behind");
   free(a.out);
-  free(told);
+  free(found);
   calls++;
 }
 
-/* all payloads, with a room of each length up to what is wanted, of a long list with none and one of that length */
-static void ask_payloads(const question *q, const pg_table *table) {
-  size_t wanted = q->told[0].length / 23, len = ANY;
-  expect(pg_table_len(table, &len) == PG_OK && len == wanted, q->row, "another number of payloads");
-  for (size_t room = 0; room <= wanted + 1; room += room < wanted && wanted > SMALL ? wanted - room : 1)
-    ask_in_room(of_payloads, q, table, room, 23);
+/* all VRPs, with a buffer of each length up to the required one, of a long list with none and one of that length */
+static void ask_vrps(const question *q, const pigy_table *table) {
+  size_t wanted = q->expected[0].length / 23, len = ANY;
+  expect(pigy_table_len(table, &len) == PIGY_OK && len == wanted, q->row, "another number of VRPs");
+  for (size_t n = 0; n <= wanted + 1; n += n < wanted && wanted > SMALL ? wanted - n : 1)
+    ask_with_capacity(of_vrps, q, table, n, 23);
 }
 
 /* what covers the first route, likewise */
-static void ask_covering(const question *q, const pg_table *table) {
-  size_t wanted = q->told[0].length / 24;
-  for (size_t room = 0; room <= wanted + 1; room++) ask_in_room(of_covering, q, table, room, 24);
+static void ask_covering(const question *q, const pigy_table *table) {
+  size_t wanted = q->expected[0].length / 24;
+  for (size_t capacity = 0; capacity <= wanted + 1; capacity++) ask_with_capacity(of_covering, q, table, capacity, 24);
 }
 
 /* all routes, and then each alone */
-static void ask_origins(const question *q, const pg_table *table) {
-  size_t len = ANY, place = ANY, wanted = q->told[0].length;
+static void ask_origins(const question *q, const pigy_table *table) {
+  size_t len = ANY, index = ANY, wanted = q->expected[0].length;
   uint8_t *out = block(wanted + 1);
-  uint32_t found = pg_table_origins(table, q->routes, q->route_count, out, wanted + 1, &len, &place);
-  expect(found == q->status && len == wanted && place == q->verified, q->row, "another status by a table");
-  expect(!memcmp(out, q->told[0].octets, wanted), q->row, "other validities by a table");
+  uint32_t found = pigy_table_origins(table, q->routes, q->route_count, out, wanted + 1, &len, &index);
+  expect(found == q->status && len == wanted && index == q->verified, q->row, "another status by a table");
+  expect(!memcmp(out, q->expected[0].octets, wanted), q->row, "other validities by a table");
   expect(is_marked(out, wanted, wanted + 1), q->row, "octets behind validities by a table");
   if (wanted) {
     memset(out, MARK, wanted);
-    found = pg_table_origins(table, q->routes, q->route_count, out, wanted - 1, &len, &place);
-    expect(found == PG_TOO_SMALL && len == wanted && place == 0, q->row, "another status of a small room");
-    expect(is_marked(out, 0, wanted), q->row, "octets in a small room");
+    found = pigy_table_origins(table, q->routes, q->route_count, out, wanted - 1, &len, &index);
+    expect(found == PIGY_TOO_SMALL && len == wanted && index == 0, q->row, "another status of a small buffer");
+    expect(is_marked(out, 0, wanted), q->row, "octets in a small buffer");
   }
   for (size_t i = 0; i < wanted; i++) {
-    found = pg_table_origins(table, q->routes + i, 1, out, 1, &len, &place);
-    expect(found == PG_OK && len == 1 && out[0] == q->told[0].octets[i], q->row, "another validity alone");
+    found = pigy_table_origins(table, q->routes + i, 1, out, 1, &len, &index);
+    expect(found == PIGY_OK && len == 1 && out[0] == q->expected[0].octets[i], q->row, "another validity alone");
     calls++;
   }
   free(out);
 }
 
-/* a table of the payloads, unless one is none */
+/* a table of the VRPs, unless one is none */
 static void ask_table(const question *q) {
-  pg_table *table = 0, *next = 0;
-  size_t place = ANY;
-  int is_none = q->status != PG_OK && q->status < PG_SECOND && q->call != CHANGED;
-  uint32_t found = pg_table_new(q->payloads, q->count, &table, &place);
+  pigy_table *table = 0, *next = 0;
+  size_t index = ANY;
+  int is_none = q->status != PIGY_OK && q->status < PIGY_SECOND && q->call != CHANGED;
+  uint32_t found = pigy_table_new(q->vrps, q->count, &table, &index);
   calls++;
-  expect(found == (is_none ? q->status : PG_OK), q->row, "another status of a table");
-  expect(place == (is_none ? q->verified : 0), q->row, "another place of a table");
+  expect(found == (is_none ? q->status : PIGY_OK), q->row, "another status of a table");
+  expect(index == (is_none ? q->verified : 0), q->row, "another index of a table");
   expect((table == 0) == is_none, q->row, "another handle");
   if (table) {
     if (q->call == ORIGINS) ask_origins(q, table);
     if (q->call == COVERING) ask_covering(q, table);
-    if (q->call == PAYLOADS) ask_payloads(q, table);
+    if (q->call == VRPS) ask_vrps(q, table);
     if (q->call == CHANGED) {
       size_t before = ANY, after = ANY;
-      pg_table_len(table, &before);
-      found = pg_table_changed(table, q->announced, q->announced_count, q->withdrawn, q->withdrawn_count, &next,
-                               &place);
-      expect(found == q->status && place == q->verified, q->row, "another status of changes");
-      expect((next == 0) == (q->status != PG_OK), q->row, "another handle after changes");
-      if (next) ask_payloads(q, next);
-      pg_table_len(table, &after);
+      pigy_table_len(table, &before);
+      found = pigy_table_changed(table, q->announced, q->announced_count, q->withdrawn, q->withdrawn_count, &next,
+                                 &index);
+      expect(found == q->status && index == q->verified, q->row, "another status of changes");
+      expect((next == 0) == (q->status != PIGY_OK), q->row, "another handle after changes");
+      if (next) ask_vrps(q, next);
+      pigy_table_len(table, &after);
       expect(before == after && before == q->count, q->row, "the table has changed");
     }
   }
-  pg_table_free(next);
-  pg_table_free(table);
+  pigy_table_free(next);
+  pigy_table_free(table);
 }
 
 /* of null, each call but the first says that there is no table, and writes nothing */
 static void ask_null(void) {
   uint8_t octet = MARK;
-  pg_payload payload = {0};
-  pg_covering covering = {0};
-  pg_route route = {0};
-  pg_table *next = (pg_table *)(void *)&octet;
-  size_t len = ANY, place = ANY;
-  pg_table_free(0);
-  expect(pg_table_origins(0, &route, 1, &octet, 1, &len, &place) == PG_NO_TABLE, 0, "origins of null");
-  expect(!len && !place, 0, "a length of null");
+  pigy_vrp vrp = {0};
+  pigy_covering covering = {0};
+  pigy_route route = {0};
+  pigy_table *next = (pigy_table *)(void *)&octet;
+  size_t len = ANY, index = ANY;
+  pigy_table_free(0);
+  expect(pigy_table_origins(0, &route, 1, &octet, 1, &len, &index) == PIGY_NO_TABLE, 0, "origins of null");
+  expect(!len && !index, 0, "a length of null");
   expect(octet == MARK, 0, "an octet of null");
   len = ANY;
-  expect(pg_table_covering(0, &route, &covering, 1, &len) == PG_NO_TABLE && !len, 0, "what covers by null");
+  expect(pigy_table_covering(0, &route, &covering, 1, &len) == PIGY_NO_TABLE && !len, 0, "what covers by null");
   len = ANY;
-  expect(pg_table_len(0, &len) == PG_NO_TABLE && !len, 0, "the length of null");
+  expect(pigy_table_len(0, &len) == PIGY_NO_TABLE && !len, 0, "the length of null");
   len = ANY;
-  expect(pg_table_payloads(0, &payload, 1, &len) == PG_NO_TABLE && !len, 0, "payloads of null");
-  place = ANY;
-  expect(pg_table_changed(0, &payload, 1, &payload, 1, &next, &place) == PG_NO_TABLE, 0, "null is changed");
-  expect(!place && !next, 0, "a table after null");
+  expect(pigy_table_vrps(0, &vrp, 1, &len) == PIGY_NO_TABLE && !len, 0, "VRPs of null");
+  index = ANY;
+  expect(pigy_table_changed(0, &vrp, 1, &vrp, 1, &next, &index) == PIGY_NO_TABLE, 0, "null is changed");
+  expect(!index && !next, 0, "a table after null");
 }
 
-/* with rooms of each length */
-static void ask_rooms(const question *q) {
-  const run *told = q->told;
-  ask(q, told[0].length + 1, told[1].length + 1);
+/* with buffers of each length */
+static void ask_capacities(const question *q) {
+  const run *expected = q->expected;
+  ask(q, expected[0].length + 1, expected[1].length + 1);
   ask(q, 0, 0);
-  if (told[0].length + told[1].length <= SMALL || q->row % 8 == 0) {
-    for (size_t room = 0; room < told[0].length; room++) ask(q, room, told[1].length);
-    for (size_t room = 0; room <= told[1].length; room++) ask(q, told[0].length, room);
+  if (expected[0].length + expected[1].length <= SMALL || q->row % 8 == 0) {
+    for (size_t capacity = 0; capacity < expected[0].length; capacity++) ask(q, capacity, expected[1].length);
+    for (size_t capacity = 0; capacity <= expected[1].length; capacity++) ask(q, expected[0].length, capacity);
   }
 }
 
 /* ---- the functions of the header, with null where there are no octets, and any length beside it */
 
-static pg_set set_of(const run *in) {
-  pg_set set = {0, ANY, 0, ANY};
+static pigy_set set_of(const run *in) {
+  pigy_set set = {0, ANY, 0, ANY};
   if (in[0].length) set.as = in[0].octets, set.as_len = in[0].length;
   if (in[1].length) set.ip = in[1].octets, set.ip_len = in[1].length;
   return set;
 }
 
 /* the certificate has an extension where its pointer isn't null */
-static pg_set certificate_of(const question *q) {
-  pg_set set = {0, ANY, 0, ANY};
-  if (q->numbers[1] & PG_HAS_AS) set.as = q->in[2].octets, set.as_len = q->in[2].length;
-  if (q->numbers[1] & PG_HAS_IP) set.ip = q->in[3].octets, set.ip_len = q->in[3].length;
+static pigy_set certificate_of(const question *q) {
+  pigy_set set = {0, ANY, 0, ANY};
+  if (q->numbers[1] & PIGY_HAS_AS) set.as = q->in[2].octets, set.as_len = q->in[2].length;
+  if (q->numbers[1] & PIGY_HAS_IP) set.ip = q->in[3].octets, set.ip_len = q->in[3].length;
   return set;
 }
 
-static uint32_t call_in_short(const question *q, pg_room *out) {
-  pg_set a = set_of(q->in), b = set_of(q->in + 2);
+static uint32_t call_in_short(const question *q, pigy_buffers *out) {
+  pigy_set a = set_of(q->in), b = set_of(q->in + 2);
   calls++;
-  if (q->call == TEST) return pg_test_sets(q->test, a, b, q->numbers[0]);
-  if (q->call == MAKE) return pg_make_set(q->operation, a, b, q->numbers[0], out);
-  return pg_verify_set(a, certificate_of(q), q->numbers[0], q->numbers[2], out);
+  if (q->call == TEST) return pigy_compare(q->test, a, b, q->numbers[0]);
+  if (q->call == MAKE) return pigy_combine(q->operation, a, b, q->numbers[0], out);
+  return pigy_verify_set(a, certificate_of(q), q->numbers[0], q->numbers[2], out);
 }
 
-/* with rooms of the lengths that are told, null where they are 0; then with no rooms */
+/* with buffers of the expected lengths, null where these are 0; then with no buffers */
 static void ask_in_short(const question *q) {
-  const run *told = q->told;
-  pg_room out = {0, ANY, 0, 0, ANY, 0}, none = {0, ANY, 0, 0, ANY, 0};
+  const run *expected = q->expected;
+  pigy_buffers out = {0, ANY, 0, 0, ANY, 0}, none = {0, ANY, 0, 0, ANY, 0};
   if (q->call != VERIFY && q->call != MAKE && q->call != TEST) return;
-  if (q->call == VERIFY && q->numbers[1] > PG_HAS_BOTH) return;
-  if (told[0].length) out.as = block(out.as_room = told[0].length);
-  if (told[1].length) out.ip = block(out.ip_room = told[1].length);
+  if (q->call == VERIFY && q->numbers[1] > PIGY_HAS_BOTH) return;
+  if (expected[0].length) out.as = block(out.as_capacity = expected[0].length);
+  if (expected[1].length) out.ip = block(out.ip_capacity = expected[1].length);
   expect(call_in_short(q, &out) == q->status, q->row, "another status in short");
-  if (out.as) expect(!memcmp(out.as, told[0].octets, told[0].length), q->row, "other octets in short");
-  if (out.ip) expect(!memcmp(out.ip, told[1].octets, told[1].length), q->row, "other octets in short");
-  expect(call_in_short(q, &none) == (out.as || out.ip ? PG_TOO_SMALL : q->status), q->row, "another status of null");
+  if (out.as) expect(!memcmp(out.as, expected[0].octets, expected[0].length), q->row, "other octets in short");
+  if (out.ip) expect(!memcmp(out.ip, expected[1].octets, expected[1].length), q->row, "other octets in short");
+  expect(call_in_short(q, &none) == (out.as || out.ip ? PIGY_TOO_SMALL : q->status), q->row, "another status of null");
   if (q->call != TEST) {
-    expect(out.as_len == told[0].length && out.ip_len == told[1].length, q->row, "other lengths in short");
-    expect(none.as_len == told[0].length && none.ip_len == told[1].length, q->row, "other lengths of null");
+    expect(out.as_len == expected[0].length && out.ip_len == expected[1].length, q->row, "other lengths in short");
+    expect(none.as_len == expected[0].length && none.ip_len == expected[1].length, q->row, "other lengths of null");
   }
   free(out.as);
   free(out.ip);
@@ -421,27 +423,27 @@ void *__wrap_realloc(void *at, size_t length) { return is_refused() ? 0 : __real
 static uint32_t of_row(attempt *a) {
   const question *q = a->row;
   if (q->call == TEST) return call_in_short(q, 0);
-  return call_of(q, a->out, a->room, a->other, a->room, &a->length, &a->other_length, &a->place);
+  return call_of(q, a->out, a->capacity, a->other, a->capacity, &a->length, &a->other_length, &a->index);
 }
 
-static uint32_t of_new(attempt *a) { return pg_table_new(a->row->payloads, a->row->count, &a->made, &a->place); }
+static uint32_t of_new(attempt *a) { return pigy_table_new(a->row->vrps, a->row->count, &a->made, &a->index); }
 
 static uint32_t of_changed(attempt *a) {
   const question *q = a->row;
-  return pg_table_changed(a->table, q->announced, q->announced_count, q->withdrawn, q->withdrawn_count, &a->made,
-                          &a->place);
+  return pigy_table_changed(a->table, q->announced, q->announced_count, q->withdrawn, q->withdrawn_count, &a->made,
+                            &a->index);
 }
 
 static uint32_t of_origins(attempt *a) {
-  return pg_table_origins(a->table, a->row->routes, a->row->route_count, a->out, a->room, &a->length, &a->place);
+  return pigy_table_origins(a->table, a->row->routes, a->row->route_count, a->out, a->capacity, &a->length, &a->index);
 }
 
-/* a call with each of its requests refused in turn: it tells that memory is wanting, and nothing else; of how many
+/* a call with each of its requests refused in turn: it reports that it is out of memory, and nothing else; of how many
  * certificates were verified nothing is said then */
-static void ask_refused(uint32_t (*call)(attempt *), const question *q, const pg_table *table, size_t room) {
+static void ask_refused(uint32_t (*call)(attempt *), const question *q, const pigy_table *table, size_t capacity) {
   int is_refused_now = 1;
   for (size_t n = 0; is_refused_now; n++) {
-    attempt a = {q, table, room, 0, 0, 0, block(room), block(room), 0};
+    attempt a = {q, table, capacity, 0, 0, 0, block(capacity), block(capacity), 0};
     uint32_t found;
     was_refused = 0;
     granted = n;
@@ -451,53 +453,54 @@ static void ask_refused(uint32_t (*call)(attempt *), const question *q, const pg
     calls++;
     is_refused_now = was_refused;
     if (was_refused) {
-      expect(found == PG_MEMORY, q->row, "another status where memory is refused");
-      expect(!a.length && !a.other_length && !a.made, q->row, "something is told where memory is refused");
-      expect(!a.place || q->call == PATH, q->row, "a place where memory is refused");
-      expect(is_marked(a.out, 0, room) && is_marked(a.other, 0, room), q->row, "octets where memory is refused");
+      expect(found == PIGY_MEMORY, q->row, "another status where memory is refused");
+      expect(!a.length && !a.other_length && !a.made, q->row, "an output where memory is refused");
+      expect(!a.index || q->call == PATH, q->row, "an index where memory is refused");
+      expect(is_marked(a.out, 0, capacity) && is_marked(a.other, 0, capacity), q->row,
+             "octets where memory is refused");
     } else {
-      expect(found != PG_MEMORY, q->row, "memory is wanting that wasn't refused");
+      expect(found != PIGY_MEMORY, q->row, "out of memory though nothing was refused");
     }
-    pg_table_free(a.made);
+    pigy_table_free(a.made);
     free(a.out);
     free(a.other);
   }
 }
 
 static void ask_row_refused(const question *q) {
-  pg_table *table = 0;
-  size_t place;
-  if (q->call != COVERING && q->call != PAYLOADS && q->call != CHANGED)
-    ask_refused(of_row, q, 0, q->told[0].length + q->told[1].length);
+  pigy_table *table = 0;
+  size_t index;
+  if (q->call != COVERING && q->call != VRPS && q->call != CHANGED)
+    ask_refused(of_row, q, 0, q->expected[0].length + q->expected[1].length);
   if (!is_of_table(q)) return;
   ask_refused(of_new, q, 0, 0);
-  if (pg_table_new(q->payloads, q->count, &table, &place) != PG_OK) return;
+  if (pigy_table_new(q->vrps, q->count, &table, &index) != PIGY_OK) return;
   if (q->call == CHANGED) ask_refused(of_changed, q, table, 0);
   if (q->call == ORIGINS) ask_refused(of_origins, q, table, q->route_count);
-  if (q->call == COVERING) ask_refused(of_covering, q, table, 64 * sizeof(pg_covering));
-  if (q->call == PAYLOADS) ask_refused(of_payloads, q, table, q->count * sizeof(pg_payload));
-  pg_table_free(table);
+  if (q->call == COVERING) ask_refused(of_covering, q, table, 64 * sizeof(pigy_covering));
+  if (q->call == VRPS) ask_refused(of_vrps, q, table, q->count * sizeof(pigy_vrp));
+  pigy_table_free(table);
 }
 
-/* ---- many routes: each is a payload, half of them of its AS */
+/* ---- many routes: each is a VRP, half of them of its AS */
 
 static void ask_many(void) {
-  pg_payload *payloads = (pg_payload *)(void *)block(MANY * sizeof *payloads);
-  pg_route *routes = (pg_route *)(void *)block(MANY * sizeof *routes);
+  pigy_vrp *vrps = (pigy_vrp *)(void *)block(MANY * sizeof *vrps);
+  pigy_route *routes = (pigy_route *)(void *)block(MANY * sizeof *routes);
   uint8_t *out = block(MANY);
-  size_t len = ANY, place = ANY;
+  size_t len = ANY, index = ANY;
   int is_so = 1;
   for (uint32_t i = 0; i < MANY; i++) {
-    pg_payload payload = {{10, (uint8_t)(i >> 16), (uint8_t)(i >> 8), (uint8_t)i}, i + 1, PG_IPV4, 32, 32};
-    pg_route route = {{10, (uint8_t)(i >> 16), (uint8_t)(i >> 8), (uint8_t)i}, i % 2 ? i + 1 : i + 2, PG_IPV4, 32};
-    payloads[i] = payload;
+    pigy_vrp vrp = {{10, (uint8_t)(i >> 16), (uint8_t)(i >> 8), (uint8_t)i}, i + 1, PIGY_IPV4, 32, 32};
+    pigy_route route = {{10, (uint8_t)(i >> 16), (uint8_t)(i >> 8), (uint8_t)i}, i % 2 ? i + 1 : i + 2, PIGY_IPV4, 32};
+    vrps[i] = vrp;
     routes[i] = route;
   }
-  expect(pg_origins(payloads, MANY, routes, MANY, out, MANY, &len, &place) == PG_OK, 0, "many routes");
-  for (uint32_t i = 0; i < MANY; i++) is_so = is_so && out[i] == (i % 2 ? PG_VALID : PG_INVALID);
-  expect(is_so && len == MANY && place == 0, 0, "validities of many routes");
+  expect(pigy_origins(vrps, MANY, routes, MANY, out, MANY, &len, &index) == PIGY_OK, 0, "many routes");
+  for (uint32_t i = 0; i < MANY; i++) is_so = is_so && out[i] == (i % 2 ? PIGY_VALID : PIGY_INVALID);
+  expect(is_so && len == MANY && index == 0, 0, "validities of many routes");
   calls++;
-  free(payloads);
+  free(vrps);
   free(routes);
   free(out);
 }
@@ -517,28 +520,28 @@ static question question_of(unsigned row, char **words) {
   for (int i = 0; i < 4; i++) q.in[i] = read_run(q.call == PATH && i == 3 ? "-" : words[2 + i]);
   read_certificates(&q, q.call == PATH ? words[5] : "-");
   if (is_of_table(&q)) {
-    q.payloads = read_payloads(q.in, &q.count);
-    if (q.call == CHANGED) q.announced = read_payloads(q.in + 2, &q.announced_count);
-    if (q.call == CHANGED) q.withdrawn = read_payloads(q.in + 3, &q.withdrawn_count);
+    q.vrps = read_vrps(q.in, &q.count);
+    if (q.call == CHANGED) q.announced = read_vrps(q.in + 2, &q.announced_count);
+    if (q.call == CHANGED) q.withdrawn = read_vrps(q.in + 3, &q.withdrawn_count);
     if (q.call != CHANGED) q.routes = read_routes(q.in + 2, &q.route_count);
   }
   q.status = (uint32_t)strtoul(words[6], 0, 10);
-  for (int i = 0; i < 2; i++) q.told[i] = read_run(words[7 + i]);
+  for (int i = 0; i < 2; i++) q.expected[i] = read_run(words[7 + i]);
   q.verified = strtoul(words[9], 0, 10);
   return q;
 }
 
 static void end_question(question *q) {
   for (int i = 0; i < 4; i++) free(q->in[i].octets);
-  for (int i = 0; i < 2; i++) free(q->told[i].octets);
+  for (int i = 0; i < 2; i++) free(q->expected[i].octets);
   free(q->certificates);
-  free(q->payloads);
+  free(q->vrps);
   free(q->announced);
   free(q->withdrawn);
   free(q->routes);
 }
 
-static FILE *opened(const char *folder, const char *name) {
+static FILE *open_file(const char *folder, const char *name) {
   char path[LENGTH];
   FILE *file;
   snprintf(path, sizeof path, "%s/%s", folder, name);
@@ -549,7 +552,7 @@ static FILE *opened(const char *folder, const char *name) {
 
 static questions read_rows(const char *folder) {
   static char line[LENGTH];
-  FILE *file = opened(folder, "rows.txt");
+  FILE *file = open_file(folder, "rows.txt");
   questions found = {0, 0, 0};
   while (fgets(line, LENGTH, file)) {
     char *words[WORDS];
@@ -564,14 +567,14 @@ static questions read_rows(const char *folder) {
   return found;
 }
 
-/* each row once with rooms of the lengths that are told, from one row on and round to it */
+/* each row once with buffers of the expected lengths, from one row on and round to it */
 static void *ask_round(void *of) {
   const questions *q = (const questions *)of;
   for (unsigned i = 0; i < q->count; i++) {
     const question *one = q->all + (q->first + i) % q->count;
     if (is_of_table(one)) ask_table(one);
     else if (one->call == TEST) expect(call_in_short(one, 0) == one->status, one->row, "another status on a thread");
-    else ask(one, one->told[0].length, one->told[1].length);
+    else ask(one, one->expected[0].length, one->expected[1].length);
   }
   return 0;
 }
@@ -591,7 +594,7 @@ static void ask_on_threads(questions rows) {
 /* ---- the stack */
 
 /* the stack that the header states, what it says of these calls, and the stack of the thread, which is much larger */
-enum { STACK = 128 << 10, USED = 8 << 10, ROOM_OF_STACK = 8 << 20, ALIGNED = 4096 };
+enum { STACK = 128 << 10, USED = 8 << 10, STACK_OF_THREAD = 8 << 20, ALIGNED = 4096 };
 
 /* the rows, and where the frame of the first call is */
 typedef struct {
@@ -618,11 +621,11 @@ static void ask_stack(questions rows) {
   void *made = 0;
   const uint8_t *stack;
   size_t unused = 0, used;
-  if (posix_memalign(&made, ALIGNED, ROOM_OF_STACK)) exit(2);
-  stack = memset(made, MARK, ROOM_OF_STACK);
-  if (pthread_attr_init(&how) || pthread_attr_setstack(&how, made, ROOM_OF_STACK)) exit(2);
+  if (posix_memalign(&made, ALIGNED, STACK_OF_THREAD)) exit(2);
+  stack = memset(made, MARK, STACK_OF_THREAD);
+  if (pthread_attr_init(&how) || pthread_attr_setstack(&how, made, STACK_OF_THREAD)) exit(2);
   if (pthread_create(&thread, &how, ask_on_stack, &one) || pthread_join(thread, 0)) exit(2);
-  while (unused < ROOM_OF_STACK && stack[unused] == MARK) unused++;
+  while (unused < STACK_OF_THREAD && stack[unused] == MARK) unused++;
   used = (size_t)(one.frame - stack) - unused;
   expect(used < STACK && used < USED, 0, "the calls use more of the stack than the header says");
   expect(calls > rows.count && used > 0, 0, "no calls on the stack");
@@ -634,13 +637,13 @@ static void ask_stack(questions rows) {
 /* each line of texts.txt is a status and its text */
 static void ask_texts(const char *folder) {
   static char line[LENGTH];
-  FILE *file = opened(folder, "texts.txt");
+  FILE *file = open_file(folder, "texts.txt");
   unsigned count = 0;
   while (fgets(line, LENGTH, file)) {
     char *text;
     uint32_t status = (uint32_t)strtoul(line, &text, 10);
     text[strcspn(text, "\n")] = 0;
-    expect(*text == ' ' && !strcmp(pg_status_text(status), text + 1), 0, "another text of a status");
+    expect(*text == ' ' && !strcmp(pigy_status_text(status), text + 1), 0, "another text of a status");
     count++;
   }
   expect(count > 0, 0, "no texts");
@@ -650,7 +653,7 @@ static void ask_texts(const char *folder) {
 static void ask_all(questions rows) {
   for (unsigned i = 0; i < rows.count; i++) {
     if (is_of_table(rows.all + i)) ask_table(rows.all + i);
-    if (rows.all[i].call != TEST && rows.all[i].call <= ORIGINS) ask_rooms(rows.all + i);
+    if (rows.all[i].call != TEST && rows.all[i].call <= ORIGINS) ask_capacities(rows.all + i);
     ask_in_short(rows.all + i);
     ask_row_refused(rows.all + i);
   }
@@ -665,7 +668,7 @@ int main(int count, char **words) {
   if (is_of_stack) {
     ask_stack(rows);
   } else {
-    expect(pg_version() == PG_VERSION, 0, "another version");
+    expect(pigy_version() == PIGY_VERSION, 0, "another version");
     ask_texts(words[1]);
     ask_null();
     ask_many();

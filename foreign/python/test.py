@@ -11,37 +11,37 @@ from itertools import chain
 from pathlib import Path
 
 from pigyelund import (
-    BadChange,
-    BadNumber,
-    BadOctets,
-    BadOrigin,
+    BadNumberError,
     Certificate,
+    ChangeError,
+    Comparison,
+    DerError,
     Encoding,
     Extensions,
     Family,
-    Inherited,
+    InheritedError,
     Mismatch,
     Mode,
-    NoMemory,
     Operation,
-    Overclaimed,
-    Payload,
+    OriginError,
+    OutOfMemoryError,
+    OverclaimedError,
     Pigyelund,
-    Refused,
+    PigyelundError,
     Resources,
     Route,
     Status,
     Table,
-    Test,
     Validity,
+    Vrp,
     raw,
     status_text,
 )
-from pigyelund.raw import Pair, Present, Rooms, Told
-from pigyelund.reasons import refused
-from test_tables import OF_TABLES, OtherPayload
+from pigyelund.errors import error_for_status
+from pigyelund.raw import CallResult, Lengths, Pair, Present
+from test_tables import OF_TABLES, OtherVrp
 
-ROOM = 8192
+AMPLE = 8192
 
 
 def octets(word: str) -> bytes:
@@ -50,41 +50,41 @@ def octets(word: str) -> bytes:
 
 
 class Row:
-    """A row: a call, its numbers, what goes in, and what is told."""
+    """A row: a call, its numbers, what goes in, and what is expected."""
 
     def __init__(self, text: str) -> None:
         self.call, numbers, *words = text.split()
         self.numbers = [] if numbers == "-" else [int(number) for number in numbers.split(",")]
         self.certificates: list[raw.Certificate] = []
         if self.call == "path":
-            places = [] if words[3] == "-" else words[3].split(";")
-            self.certificates = [raw.Certificate(*map(int, place.split(":"))) for place in places]
+            ranges = [] if words[3] == "-" else words[3].split(";")
+            self.certificates = [raw.Certificate(*map(int, it.split(":"))) for it in ranges]
             words[3] = "-"
         self.first, self.second = (Resources(*map(octets, words[at : at + 2])) for at in (0, 2))
-        self.status, self.told = int(words[4]), Resources(*map(octets, words[5:7]))
+        self.status, self.expected = int(words[4]), Resources(*map(octets, words[5:7]))
         self.number = None if words[7] == "-" else int(words[7])
 
-    def is_told(self, call: Callable[[Rooms], Told]) -> bool:
-        """Whether a call answers so with ample rooms, with exact ones, and with none."""
-        told, one_room = self.told, self.call in ("cover", "origins", "answer")
-        lengths = len(told.asn), len(told.ip)
-        ample: Pair = told.asn.ljust(ROOM, b"\0"), b"" if one_room else told.ip.ljust(ROOM, b"\0")
+    def is_result(self, call: Callable[[Lengths], CallResult]) -> bool:
+        """Whether a call answers so with ample buffers, with exact ones, and with none."""
+        expected, has_one_buffer = self.expected, self.call in ("cover", "origins", "answer")
+        lengths = len(expected.asn), len(expected.ip)
+        ample: Pair = expected.asn.ljust(AMPLE, b"\0"), b"" if has_one_buffer else expected.ip.ljust(AMPLE, b"\0")
         too_small = Status.TOO_SMALL if any(lengths) else self.status
         return (
-            call((ROOM, ROOM)) == (self.status, lengths, ample, self.number)
-            and call(lengths) == (self.status, lengths, told, self.number)
+            call((AMPLE, AMPLE)) == (self.status, lengths, ample, self.number)
+            and call(lengths) == (self.status, lengths, expected, self.number)
             and call((0, 0)) == (too_small, lengths, (b"", b""), self.number)
         )
 
     def is_answer(self, call: Callable[[], Resources | bool]) -> bool:
-        """Whether a safe call answers so: with this set, with whether the status is 0, or by `Refused`."""
+        """Whether a safe call answers so: with this set, with whether the status is 0, or by `PigyelundError`."""
         try:
             found = call()
-        except Refused as reason:
-            number = reason.verified if reason.place is None else reason.place
-            return (reason.status, reason.excess, number) == (self.status, self.told, self.number)
+        except PigyelundError as reason:
+            number = reason.verified if reason.index is None else reason.index
+            return (reason.status, reason.excess, number) == (self.status, self.expected, self.number)
         if isinstance(found, Resources):
-            return (0, found) == (self.status, self.told)
+            return (0, found) == (self.status, self.expected)
         return self.status == (0 if found else Status.NO)
 
 
@@ -99,7 +99,7 @@ def is_verified(library: Pigyelund, row: Row) -> bool:
     """Whether the row of a certificate is answered as it says."""
     encoding, present, mode = row.numbers
     first, second = row.first, row.second
-    if not row.is_told(lambda rooms: library.raw.verify(first, present, second, encoding, mode, rooms)):
+    if not row.is_result(lambda capacities: library.raw.verify(first, present, second, encoding, mode, capacities)):
         return False
     if encoding > 1 or present > 3 or mode > 1:
         return True
@@ -107,31 +107,32 @@ def is_verified(library: Pigyelund, row: Row) -> bool:
     return row.is_answer(lambda: library.verify(first, certificate, Encoding(encoding), Mode(mode)))
 
 
-def certificate_at(run: bytes, place: raw.Certificate) -> Certificate | None:
-    """The certificate at a place of a run, None where it lies outside or has numbers that are none."""
-    ends = place.as_at + place.as_len, place.ip_at + place.ip_len
-    if max(ends) > len(run) or place.present > Present.HAS_BOTH or place.mode > Mode.TRIM:
+def certificate_at(run: bytes, position: raw.Certificate) -> Certificate | None:
+    """The certificate at a position of a run, None where it lies outside or has numbers that are none."""
+    ends = position.as_start + position.as_len, position.ip_start + position.ip_len
+    if max(ends) > len(run) or position.present > Present.HAS_BOTH or position.mode > Mode.TRIM:
         return None
-    octets = run[place.as_at : ends[0]], run[place.ip_at : ends[1]]
-    return Certificate(extensions_of(place.present, octets), Mode(place.mode))
+    octets = run[position.as_start : ends[0]], run[position.ip_start : ends[1]]
+    return Certificate(extensions_of(position.present, octets), Mode(position.mode))
 
 
 def is_verified_path(library: Pigyelund, row: Row) -> bool:
     """Whether the row of a path is answered as it says."""
     (encoding,), run = row.numbers, row.second.asn
-    if not row.is_told(lambda rooms: library.raw.verify_path(row.first, run, row.certificates, encoding, rooms)):
+    first, certificates = row.first, row.certificates
+    if not row.is_result(lambda lengths: library.raw.verify_path(first, run, certificates, encoding, lengths)):
         return False
-    certificates = [certificate_at(run, place) for place in row.certificates]
-    if encoding > 1 or None in certificates:
+    found = [certificate_at(run, it) for it in certificates]
+    if encoding > 1 or None in found:
         return True
-    path = [certificate for certificate in certificates if certificate]
+    path = [certificate for certificate in found if certificate]
     return row.is_answer(lambda: library.verify_path(row.first, path, Encoding(encoding)))
 
 
 def is_cover(library: Pigyelund, row: Row) -> bool:
     """Whether the row of a cover is answered as it says."""
     (encoding, family), ip = row.numbers, row.first.asn
-    if not row.is_told(lambda rooms: library.raw.cover(ip, encoding, family, rooms[0])):
+    if not row.is_result(lambda capacities: library.raw.cover(ip, encoding, family, capacities[0])):
         return False
     if encoding > 1 or family not in (1, 2):
         return True
@@ -152,14 +153,14 @@ def parts(octets: bytes, length: int) -> list[tuple[bytes, int, bytes]]:
 def are_origins(library: Pigyelund, row: Row) -> bool:
     """Whether the row of routes is answered as it says."""
 
-    def made(of: type[Payload] | type[Route], octets: bytes, length: int) -> list[Payload] | list[Route]:
+    def items_of(of: type[Vrp] | type[Route], octets: bytes, length: int) -> list[Vrp] | list[Route]:
         octet = of._fields_[0][1]
         return [of(octet(*address), asn, *others) for address, asn, others in parts(octets, length)]
 
-    payloads, routes = made(Payload, row.first.asn, 23), made(Route, row.second.asn, 22)
+    vrps, routes = items_of(Vrp, row.first.asn, 23), items_of(Route, row.second.asn, 22)
 
     def by_table() -> Resources:
-        with library.table(payloads) as table:
+        with library.table(vrps) as table:
             found = table.origins(routes)
             if [table.origin(route) for route in routes] != found:
                 return Resources(b"one by one")
@@ -168,48 +169,48 @@ def are_origins(library: Pigyelund, row: Row) -> bool:
             return Resources(bytes(found))
 
     return (
-        row.is_told(lambda rooms: library.raw.origins(payloads, routes, rooms[0]))
-        and row.is_answer(lambda: Resources(bytes(library.origins(payloads, routes))))
+        row.is_result(lambda capacities: library.raw.origins(vrps, routes, capacities[0]))
+        and row.is_answer(lambda: Resources(bytes(library.origins(vrps, routes))))
         and row.is_answer(by_table)
     )
 
 
-def buffer_of(items: list[Payload] | list[Route]) -> bytes:
-    """Payloads or routes side by side, as C lays them out."""
+def buffer_of(items: list[Vrp] | list[Route]) -> bytes:
+    """VRPs or routes side by side, as C lays them out."""
     return b"".join(map(bytes, items))
 
 
-def payload_octets(payload: object, rest: bytes) -> bytes:
-    """The octets that tell a payload."""
-    return bytes(payload.address) + payload.asn.to_bytes(4, "big") + rest
+def vrp_octets(vrp: object, rest: bytes) -> bytes:
+    """The octets of a VRP, as rows.txt has them."""
+    return bytes(vrp.address) + vrp.asn.to_bytes(4, "big") + rest
 
 
-def payloads_of(octets: bytes) -> list[Payload]:
-    """The payloads of a run."""
-    octet = Payload._fields_[0][1]
-    return [Payload(octet(*address), asn, *others) for address, asn, others in parts(octets, 23)]
+def vrps_of(octets: bytes) -> list[Vrp]:
+    """The VRPs of a run."""
+    octet = Vrp._fields_[0][1]
+    return [Vrp(octet(*address), asn, *others) for address, asn, others in parts(octets, 23)]
 
 
 def all_of(table: Table) -> Resources:
-    """The payloads of a table."""
-    found = [payload_octets(it, bytes([it.family, it.len, it.max_len])) for it in table]
+    """The VRPs of a table."""
+    found = [vrp_octets(it, bytes([it.family, it.len, it.max_len])) for it in table]
     return Resources(b"".join(found) if len(found) == len(table) else b"another length")
 
 
 def is_of_table(library: Pigyelund, row: Row) -> bool:
     """Whether the row of a table is answered as it says, by lists and by buffers."""
-    payloads = payloads_of(row.first.asn)
+    vrps = vrps_of(row.first.asn)
 
-    def covering(given: object) -> Resources:
+    def list_covering(given: object) -> Resources:
         (address, asn, others), = parts(row.second.asn, 22)
         with library.table(given) as table:
             route = Route(Route._fields_[0][1](*address), asn, *others)
-            status, held, length = table._ask(lambda handle: library.raw.table_covering(handle, route, 200))
+            status, held, length = table._with_handle(lambda handle: library.raw.table_covering(handle, route, 200))
             if status == Status.OK and len(table.covering(route)) != length:
                 return Resources(b"another length")
-            found = [payload_octets(it, bytes([it.family, it.len, it.max_len, it.mismatch])) for it in held[:length]]
-            told = table.covering(route)
-            if [it.mismatch for it in told] != [Mismatch(it.mismatch) for it in held[:length]]:
+            found = [vrp_octets(it, bytes([it.family, it.len, it.max_len, it.mismatch])) for it in held[:length]]
+            covering = table.covering(route)
+            if [it.mismatch for it in covering] != [Mismatch(it.mismatch) for it in held[:length]]:
                 return Resources(b"another reason")
             return Resources(b"".join(found))
 
@@ -218,7 +219,7 @@ def is_of_table(library: Pigyelund, row: Row) -> bool:
             return all_of(table)
 
     def changed(given: object) -> Resources:
-        announced, withdrawn = payloads_of(row.second.asn), payloads_of(row.second.ip)
+        announced, withdrawn = vrps_of(row.second.asn), vrps_of(row.second.ip)
         with library.table(given) as table:
             before = all_of(table)
             try:
@@ -227,14 +228,14 @@ def is_of_table(library: Pigyelund, row: Row) -> bool:
             finally:
                 assert all_of(table) == before
 
-    call = {"covering": covering, "payloads": listed, "changed": changed}[row.call]
-    return row.is_answer(lambda: call(payloads)) and row.is_answer(lambda: call(buffer_of(payloads)))
+    call = {"covering": list_covering, "vrps": listed, "changed": changed}[row.call]
+    return row.is_answer(lambda: call(vrps)) and row.is_answer(lambda: call(buffer_of(vrps)))
 
 
 def is_line(library: Pigyelund, row: Row) -> bool:
     """Whether the row of a line is answered as it says."""
     line = row.first.asn
-    if not row.is_told(lambda rooms: library.raw.answer(line, rooms[0])):
+    if not row.is_result(lambda capacities: library.raw.answer(line, capacities[0])):
         return False
     try:
         text = line.decode("utf-8")
@@ -246,19 +247,19 @@ def is_line(library: Pigyelund, row: Row) -> bool:
 def is_of_sets(library: Pigyelund, row: Row) -> bool:
     """Whether the row of a call on two sets is answered as it says."""
     (encoding,), first, second = row.numbers, row.first, row.second
-    name = f"pg_{row.call}"
-    if name in {test.value for test in Test}:
-        is_so = library.raw.tested(Test(name), first, second, encoding) == row.status
+    name = f"pigy_{row.call}"
+    if name in {it.value for it in Comparison}:
+        is_so = library.raw.compare(Comparison(name), first, second, encoding) == row.status
     else:
         operation = Operation(name)
-        is_so = row.is_told(lambda rooms: library.raw.made(operation, first, second, encoding, rooms))
+        is_so = row.is_result(lambda capacities: library.raw.combine(operation, first, second, encoding, capacities))
     if encoding > 1:
         return is_so
     return is_so and row.is_answer(lambda: getattr(library, row.call)(first, second, Encoding(encoding)))
 
 
 ASKED = {"verify": is_verified, "path": is_verified_path, "cover": is_cover, "origins": are_origins, "answer": is_line}
-ASKED |= {call: is_of_table for call in ("covering", "payloads", "changed")}
+ASKED |= {call: is_of_table for call in ("covering", "vrps", "changed")}
 
 
 # ---- what no row says: each test tells what is wrong
@@ -291,10 +292,10 @@ ISSUER = Resources(ip=bytes.fromhex("300c300a0402000130040302000a"))
 
 
 def too_great(library: Pigyelund) -> Iterator[Callable[[], object]]:
-    """Calls with a number that has no room where it goes."""
+    """Calls with a number that is too great for its parameter."""
     extensions, octets = Extensions(ip=ISSUER.ip), tuple(ISSUER)
     for number in (2**32, 2**32 + 1, 2**64, -1):
-        yield lambda: Payload.of(TEN, number)
+        yield lambda: Vrp.of(TEN, number)
         yield lambda: Route.of(TEN, number)
         yield lambda: library.verify(ISSUER, extensions, mode=number)
         yield lambda: library.verify(ISSUER, extensions, encoding=number)
@@ -306,16 +307,16 @@ def too_great(library: Pigyelund) -> Iterator[Callable[[], object]]:
         yield lambda: library.equal(ISSUER, ISSUER, number)
         yield lambda: setattr(Route.of(TEN, 1), "asn", number)
     for number in (2**64, 2**64 + 1, -1):
-        for name in ("as_at", "as_len", "ip_at", "ip_len"):
+        for name in ("as_start", "as_len", "ip_start", "ip_len"):
             yield lambda: raw.Certificate(**{name: number})
     for number in (256, 264, 272, 2**32 + 8, -1):
-        yield lambda: Payload.of(TEN, 1, number)
-        yield lambda: Payload(raw.address_of(TEN), 1, 1, number, 8)
+        yield lambda: Vrp.of(TEN, 1, number)
+        yield lambda: Vrp(raw.address_of(TEN), 1, 1, number, 8)
         yield lambda: Route(raw.address_of(TEN), 1, number, 8)
 
 
 def no_bits_are_dropped(library: Pigyelund, _: Path) -> Iterator[str]:
-    """A number that has no room where it goes is an error."""
+    """A number that is too great for its parameter is an error."""
     for at, call in enumerate(too_great(library)):
         try:
             yield f"number {at} that is too great answers {call()}"
@@ -324,14 +325,14 @@ def no_bits_are_dropped(library: Pigyelund, _: Path) -> Iterator[str]:
 
 
 def defaults(library: Pigyelund, _: Path) -> Iterator[str]:
-    """What stands for what isn't given: a payload's length, the encoding, the mode."""
+    """What stands for what isn't given: a VRP's length, the encoding, the mode."""
     long = IPv4Network("10.0.0.0/9")
     asked = [Route.of(TEN, 1), Route.of(long, 1)]
-    if library.origins([Payload.of(TEN, 1)], asked) != [Validity.VALID, Validity.INVALID]:
-        yield "the greatest length of a payload is not its own"
+    if library.origins([Vrp.of(TEN, 1)], asked) != [Validity.VALID, Validity.INVALID]:
+        yield "the maximum length of a VRP is not its own"
     routes = [Route.of(TEN, 1), Route.of(TEN, 2), Route.of(IPv6Network("::/0"), 1), Route.of(TEN, 0)]
     named = [Validity.VALID, Validity.INVALID, Validity.NOT_FOUND, Validity.INVALID]
-    if library.origins(iter([Payload.of(TEN, 1, 9)]), iter(routes)) != named:
+    if library.origins(iter([Vrp.of(TEN, 1, 9)]), iter(routes)) != named:
         yield "validities"
     claim = Extensions(ip=bytes.fromhex("3010300e0402000130080302000a0302000c"))
     for refused_call in (
@@ -340,7 +341,7 @@ def defaults(library: Pigyelund, _: Path) -> Iterator[str]:
     ):
         try:
             yield f"an excess answers {refused_call()}"
-        except Overclaimed as reason:
+        except OverclaimedError as reason:
             if reason.excess.ip.hex() != "300c300a0402000130040302000c":
                 yield "another excess"
 
@@ -358,14 +359,14 @@ def lenient(library: Pigyelund, _: Path) -> Iterator[str]:
         (lambda: library.difference(twice, twice), Resources()),
         (lambda: library.contains(twice, twice), True),
         (lambda: library.equal(twice, ISSUER), True),
-        (lambda: library.made(Operation.UNION, twice, twice), ISSUER),
-        (lambda: library.tested(Test.EQUAL, twice, ISSUER), True),
+        (lambda: library.combine(Operation.UNION, twice, twice), ISSUER),
+        (lambda: library.compare(Comparison.EQUAL, twice, ISSUER), True),
     ):
         if (found := call()) != answer:
             yield f"{found} in place of {answer}"
 
 
-def is_kept(reason: Refused) -> bool:
+def is_kept(reason: PigyelundError) -> bool:
     """Whether a reason is the same behind pickle."""
     other = pickle.loads(pickle.dumps(reason))
     return (type(other), other.__dict__, str(other)) == (type(reason), reason.__dict__, str(reason))
@@ -376,45 +377,50 @@ def reasons(library: Pigyelund, _: Path) -> Iterator[str]:
     claim = Extensions(ip=bytes.fromhex("3010300e0402000130080302000a0302000c"))
     path = [Certificate(Extensions(ip=ISSUER.ip)), Certificate(claim)]
     inherits = Resources(asn=bytes.fromhex("3004a0020500"))
-    payload = Payload.of(TEN, 1, 7)
-    asked: list[tuple[Callable[[], object], type[Refused], str]] = [
-        (lambda: library.verify(ISSUER, claim), Overclaimed, "overclaimed IPv4 resources"),
-        (lambda: library.verify_path(ISSUER, path), Overclaimed, "after 1 certificates: overclaimed IPv4 resources"),
-        (lambda: library.union(ISSUER, inherits), Inherited, "inherited resources in place of the second set"),
-        (lambda: library.union(Resources(b"\2"), ISSUER), BadOctets, "AS identifiers: truncated"),
-        (lambda: library.verify(ISSUER, claim, mode=Mode.TRIM + 1), BadNumber, "unknown mode"),
+    vrp = Vrp.of(TEN, 1, 7)
+    asked: list[tuple[Callable[[], object], type[PigyelundError], str]] = [
+        (lambda: library.verify(ISSUER, claim), OverclaimedError, "overclaimed IPv4 resources"),
         (
-            lambda: library.origins([Payload.of(TEN, 1), payload], []),
-            BadOrigin,
-            "at place 1: bad greatest length of a payload",
+            lambda: library.verify_path(ISSUER, path),
+            OverclaimedError,
+            "after 1 certificates: overclaimed IPv4 resources",
+        ),
+        (lambda: library.union(ISSUER, inherits), InheritedError, "inherited resources in place of the second set"),
+        (lambda: library.union(Resources(b"\2"), ISSUER), DerError, "AS identifiers: truncated"),
+        (lambda: library.verify(ISSUER, claim, mode=Mode.TRIM + 1), BadNumberError, "unknown mode"),
+        (
+            lambda: library.origins([Vrp.of(TEN, 1), vrp], []),
+            OriginError,
+            "at index 1: bad maximum length of a VRP",
         ),
     ]
     for call, kind, text in asked:
         try:
             yield f"{call()} in place of {text}"
-        except Refused as reason:
+        except PigyelundError as reason:
             if (type(reason), str(reason)) != (kind, text) or not is_kept(reason):
                 yield f"{reason!r} in place of {text}"
     for status in range(0x1300):
-        if not is_kept(refused(status, Resources(b"\1", b"\2"), 7)):
+        if not is_kept(error_for_status(status, Resources(b"\1", b"\2"), 7)):
             yield f"status {status} doesn't pickle"
-    if not isinstance(refused(Status.MEMORY, place=0), NoMemory) or str(refused(Status.MEMORY)) != "out of memory":
+    no_memory = error_for_status(Status.MEMORY, index=0)
+    if not isinstance(no_memory, OutOfMemoryError) or str(no_memory) != "out of memory":
         yield "want of memory"
 
 
 def tables(library: Pigyelund, _: Path) -> Iterator[str]:
     """What a table is beside rows: closed once for all, refused, of arrays and buffers, and empty."""
-    payloads = [Payload.of(TEN, 1, 9), Payload.of(IPv6Network("2001:db8::/32"), 2)]
-    table = library.table(payloads)
+    vrps = [Vrp.of(TEN, 1, 9), Vrp.of(IPv6Network("2001:db8::/32"), 2)]
+    table = library.table(vrps)
     if [it.prefix for it in table] != [TEN, IPv6Network("2001:db8::/32")] or len(table) != 2:
-        yield "the payloads of a table"
+        yield "the VRPs of a table"
     (covering,) = table.covering(Route.of(IPv4Network("10.0.0.0/24"), 2))
     if covering != (TEN, 9, 1, Mismatch.OTHER_AS | Mismatch.TOO_LONG):
         yield f"{covering} covers"
     try:
-        yield f"a duplicate answers {table.changed(payloads[:1])}"
-    except BadChange as reason:
-        if (reason.place, str(reason)) != (0, "at place 0: duplicate announcement of a payload"):
+        yield f"a duplicate answers {table.changed(vrps[:1])}"
+    except ChangeError as reason:
+        if (reason.index, str(reason)) != (0, "at index 0: duplicate announcement of a VRP"):
             yield f"{reason!r} of a duplicate"
     table.close()
     table.close()
@@ -423,13 +429,13 @@ def tables(library: Pigyelund, _: Path) -> Iterator[str]:
             yield f"a table that is closed answers {call()}"
         except ValueError:
             pass
-    array = (Payload * 2)(*payloads)
-    for given in (array, bytes(array), bytearray(bytes(array)), memoryview(bytes(array)), iter(payloads), []):
+    array = (Vrp * 2)(*vrps)
+    for given in (array, bytes(array), bytearray(bytes(array)), memoryview(bytes(array)), iter(vrps), []):
         with library.table(given) as of:
             if len(of) not in (2, 0 if given == [] else 2):
-                yield f"{len(of)} payloads of {type(given)}"
+                yield f"{len(of)} VRPs of {type(given)}"
     try:
-        yield f"a part of a payload answers {library.table(bytes(array)[:-1])}"
+        yield f"a part of a VRP answers {library.table(bytes(array)[:-1])}"
     except ValueError:
         pass
     if library.raw.table_origins(None, (Route * 1)(), 1, 1).status != Status.NO_TABLE:
@@ -437,15 +443,15 @@ def tables(library: Pigyelund, _: Path) -> Iterator[str]:
     library.raw.table_free(None)
 
 
-def items() -> list[raw.Fields]:
-    """Payloads and routes of which each two differ in one field or in their kind, and how they are told and covered."""
+def items() -> list[raw.Struct]:
+    """VRPs and routes of which each two differ in one field or in their kind, and how they cover."""
     six = IPv6Network("2001:db8::/32")
-    found: list[raw.Fields] = [Payload.of(TEN, 1, 9), Payload.of(TEN, 2, 9), Payload.of(TEN, 1), Payload.of(six, 1, 48)]
-    found += [Payload.of(IPv4Network("10.0.0.0/9"), 1, 9), Payload.of(IPv4Network("11.0.0.0/8"), 1, 9)]
-    found += [Payload(raw.address_of(TEN), 1, Family.V6, 8, 9), Payload(raw.address_of(TEN), 1, 7, 8, 9)]
+    found: list[raw.Struct] = [Vrp.of(TEN, 1, 9), Vrp.of(TEN, 2, 9), Vrp.of(TEN, 1), Vrp.of(six, 1, 48)]
+    found += [Vrp.of(IPv4Network("10.0.0.0/9"), 1, 9), Vrp.of(IPv4Network("11.0.0.0/8"), 1, 9)]
+    found += [Vrp(raw.address_of(TEN), 1, Family.V6, 8, 9), Vrp(raw.address_of(TEN), 1, 7, 8, 9)]
     found += [Route.of(TEN, 1), Route.of(TEN, 2), Route.of(six, 1), Route(raw.address_of(TEN), 1, 1, 40)]
     found += [raw.Covering(raw.address_of(TEN), 1, 1, 8, 9, why) for why in range(3)]
-    return found + [OtherPayload.of(TEN, 1, 9), raw.Certificate(0, 1, 1, 0, 1), raw.Certificate(0, 0, 0, 1, 1)]
+    return found + [OtherVrp.of(TEN, 1, 9), raw.Certificate(0, 1, 1, 0, 1), raw.Certificate(0, 0, 0, 1, 1)]
 
 
 def equal_fields(_: Pigyelund, __: Path) -> Iterator[str]:
@@ -455,25 +461,25 @@ def equal_fields(_: Pigyelund, __: Path) -> Iterator[str]:
             is_same = (item == other, not item != other, len({item, other}) == 1, repr(item) == repr(other))
             if is_same != (at == other_at,) * 4:
                 yield f"{item} and {other}: {is_same}"
-        behind = type(item).from_buffer_copy(bytes(item)[: item._count_].ljust(len(bytes(item)), b"\7"))
+        behind = type(item).from_buffer_copy(bytes(item)[: item._octet_count_].ljust(len(bytes(item)), b"\7"))
         if behind != item or hash(behind) != hash(item):
             yield f"octets behind {item} are looked at"
     if items()[0] == (raw.address_of(TEN), 1, 1, 8, 9) or items()[0] is None:
-        yield "a payload is a tuple"
+        yield "a VRP is a tuple"
 
 
 def item_texts(_: Pigyelund, __: Path) -> Iterator[str]:
-    """Of a payload and of a route Python prints what makes it again; of what has no prefix its fields."""
+    """Of a VRP and of a route Python prints what makes it again; of what has no prefix its fields."""
     six = IPv6Network("2001:db8::/32")
-    found = [Payload.of(TEN, 1, 9), Payload.of(TEN, 1), Payload.of(six, 2**32 - 1, 48)]
+    found = [Vrp.of(TEN, 1, 9), Vrp.of(TEN, 1), Vrp.of(six, 2**32 - 1, 48)]
     for item in (*found, Route.of(TEN, 1), Route.of(six, 0)):
         if eval(repr(item)) != item:
             yield f"{item} is another one"
-    no_prefix = Payload(raw.address_of(IPv4Network("10.1.0.0/16")), 1, 1, 8, 9)
+    no_prefix = Vrp(raw.address_of(IPv4Network("10.1.0.0/16")), 1, 1, 8, 9)
     no_family = Route(raw.address_of(TEN), 1, 7, 8)
     for item, text in (
-        (Payload.of(TEN, 1, 9), "Payload.of(prefix=IPv4Network('10.0.0.0/8'), asn=1, max_len=9)"),
-        (no_prefix, f"Payload(address=0a01{'00' * 14}, asn=1, family=1, len=8, max_len=9)"),
+        (Vrp.of(TEN, 1, 9), "Vrp.of(prefix=IPv4Network('10.0.0.0/8'), asn=1, max_len=9)"),
+        (no_prefix, f"Vrp(address=0a01{'00' * 14}, asn=1, family=1, len=8, max_len=9)"),
         (no_family, f"Route(address=0a{'00' * 15}, asn=1, family=7, len=8)"),
     ):
         if repr(item) != text:
@@ -482,8 +488,8 @@ def item_texts(_: Pigyelund, __: Path) -> Iterator[str]:
 
 def changes_by_sets(library: Pigyelund, _: Path) -> Iterator[str]:
     """What one list has and another one hasn't makes of the table of the one that of the other."""
-    old = [Payload.of(TEN, asn, 8 + asn % 3) for asn in range(1, 9)]
-    new = [Payload.of(TEN, asn, 8 + asn % 2) for asn in range(3, 12)]
+    old = [Vrp.of(TEN, asn, 8 + asn % 3) for asn in range(1, 9)]
+    new = [Vrp.of(TEN, asn, 8 + asn % 2) for asn in range(3, 12)]
     with library.table(old) as table, table.changed(set(new) - set(old), set(old) - set(new)) as following:
         with library.table(new) as wanted:
             if list(following) != list(wanted) or len(following) != len(new):
@@ -491,24 +497,24 @@ def changes_by_sets(library: Pigyelund, _: Path) -> Iterator[str]:
 
 
 def copies(library: Pigyelund, _: Path) -> Iterator[str]:
-    """A payload that is handed over twice is told twice; a withdrawal takes both, and names it once."""
-    twice, other = Payload.of(TEN, 1), Payload.of(TEN, 2)
+    """A VRP that is handed over twice is listed twice; a withdrawal takes both, and names it once."""
+    twice, other = Vrp.of(TEN, 1), Vrp.of(TEN, 2)
     with library.table([twice, other, twice]) as table:
         if len(table) != 3 or list(table).count(twice) != 2 or len(table.covering(Route.of(TEN, 1))) != 3:
             yield f"{list(table)} of copies"
-        for announced, withdrawn, told in (([], [twice], [other]), ([twice], [twice], [other, twice])):
+        for announced, withdrawn, expected in (([], [twice], [other]), ([twice], [twice], [other, twice])):
             with table.changed(announced, withdrawn) as following:
-                if list(following) != told:
+                if list(following) != expected:
                     yield f"{list(following)} after a withdrawal of copies"
-        for announced, withdrawn, status, place in (
+        for announced, withdrawn, status, index in (
             ([], [twice, twice], Status.UNKNOWN_WITHDRAWAL, 1),
             ([twice], [], Status.DUPLICATE_ANNOUNCEMENT, 0),
-            ([Payload.of(TEN, 3)] * 2, [], Status.DUPLICATE_ANNOUNCEMENT, 1),
+            ([Vrp.of(TEN, 3)] * 2, [], Status.DUPLICATE_ANNOUNCEMENT, 1),
         ):
             try:
                 yield f"copies answer {table.changed(announced, withdrawn)}"
-            except BadChange as reason:
-                if (reason.status, reason.place) != (status, place):
+            except ChangeError as reason:
+                if (reason.status, reason.index) != (status, index):
                     yield f"{reason!r} of copies"
 
 

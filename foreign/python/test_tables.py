@@ -12,43 +12,43 @@ from collections.abc import Callable, Iterator
 from ipaddress import IPv4Network
 from pathlib import Path
 
-from pigyelund import BadChange, BadOrigin, Payload, Pigyelund, Route, Table, Validity, raw
+from pigyelund import ChangeError, OriginError, Pigyelund, Route, Table, Validity, Vrp, raw
 
 TEN = IPv4Network("10.0.0.0/8")
-NO_COPY = "a Table can't be copied or pickled; table.changed() makes another one of the same payloads"
+NO_COPY = "a Table can't be copied or pickled; table.changed() makes another one of the same VRPs"
 
 
-class OtherPayload(Payload):
-    """Another kind with the fields of a payload."""
+class OtherVrp(Vrp):
+    """Another kind with the fields of a VRP."""
 
 
-class LongerPayload(Payload):
-    """A kind with another field behind those of a payload."""
+class LongerVrp(Vrp):
+    """A kind with another field behind those of a VRP."""
 
     _fields_ = [("more", ctypes.c_uint32)]
 
 
 def arrays(library: Pigyelund, _: Path) -> Iterator[str]:
-    """Arrays and buffers of payloads make the same table; those of another kind are a `TypeError`."""
-    payloads = [Payload.of(TEN, asn) for asn in range(3)]
-    of_kind = (Payload * 3)(*payloads)
+    """Arrays and buffers of VRPs make the same table; those of another kind are a `TypeError`."""
+    vrps = [Vrp.of(TEN, asn) for asn in range(3)]
+    of_kind = (Vrp * 3)(*vrps)
     octets = bytes(of_kind)
-    others = (OtherPayload * 3)(*(OtherPayload.of(TEN, asn) for asn in range(3)))
+    others = (OtherVrp * 3)(*(OtherVrp.of(TEN, asn) for asn in range(3)))
     numbers = array("I", memoryview(octets).cast("I"))
     run = ctypes.create_string_buffer(octets, len(octets))
     for given in (of_kind, memoryview(of_kind), others, octets, bytearray(octets), numbers, run):
         with library.table(given) as table:
             if sorted(it.asn for it in table) != [0, 1, 2]:
                 yield f"{list(table)} of {given!r}"
-    with library.table(memoryview(of_kind)[1:]) as table, library.table(payloads[1:]) as wanted:
+    with library.table(memoryview(of_kind)[1:]) as table, library.table(vrps[1:]) as wanted:
         if list(table) != list(wanted):
             yield f"{list(table)} of a part"
     routes = (Route * 3)(*(Route.of(TEN, asn) for asn in range(3)))
-    coverings, places = (raw.Covering * 3)(), (raw.Certificate * 3)()
-    with library.table(payloads) as table:
+    coverings, certificates = (raw.Covering * 3)(), (raw.Certificate * 3)()
+    with library.table(vrps) as table:
         wrong: list[tuple[Callable[[object], object], list[object]]] = [
-            (library.table, [routes, coverings, places, routes[0], (LongerPayload * 3)()]),
-            (table.origins, [of_kind, coverings, places, payloads[0]]),
+            (library.table, [routes, coverings, certificates, routes[0], (LongerVrp * 3)()]),
+            (table.origins, [of_kind, coverings, certificates, vrps[0]]),
             (table.changed, [routes]),
             (lambda it: table.changed((), it), [routes]),
         ]
@@ -58,7 +58,7 @@ def arrays(library: Pigyelund, _: Path) -> Iterator[str]:
                     yield f"{item!r} answers {call(item)}"
                 except TypeError:
                     pass
-    held, count = raw.array_of(Payload, of_kind)
+    held, count = raw.array_of(Vrp, of_kind)
     held[0].asn = 7
     if of_kind[0].asn == 7 or count != 3:
         yield "an array of a caller's is lent"
@@ -72,11 +72,11 @@ class Counted(raw.Library):
         self.held: list[int] = []
         self.faults: list[str] = []
 
-    def _table_told(self, name: str, words: list[object]) -> raw.TableTold:
-        told = super()._table_told(name, words)
-        if told.table is not None:
-            self.held.append(told.table)
-        return told
+    def _call_for_table(self, name: str, words: list[object]) -> raw.TableResult:
+        result = super()._call_for_table(name, words)
+        if result.table is not None:
+            self.held.append(result.table)
+        return result
 
     def table_free(self, table: int | None) -> None:
         if table in self.held:
@@ -99,11 +99,11 @@ def drop_in_a_cycle(table: Table) -> None:
 def drop_after_a_refusal(table: Table) -> None:
     """Closes a table while an error of its call is kept."""
     try:
-        table.changed([Payload.of(TEN, 1)])
-    except BadChange as reason:
+        table.changed([Vrp.of(TEN, 1)])
+    except ChangeError as reason:
         kept = reason
     table.close()
-    if not (isinstance(kept, BadChange) and table._library.held == []):
+    if not (isinstance(kept, ChangeError) and table._library.held == []):
         table._library.faults.append("an error keeps a table")
 
 
@@ -120,7 +120,7 @@ def drop_after_an_error(table: Table) -> None:
 
 def drop_a_following(table: Table) -> None:
     """Closes a table and the one that is made from it."""
-    with table, table.changed([Payload.of(TEN, 2)]) as following:
+    with table, table.changed([Vrp.of(TEN, 2)]) as following:
         if len(table._library.held) != 2 or len(following) != 2:
             table._library.faults.append(f"{table._library.held} of two tables")
 
@@ -139,25 +139,25 @@ def frees(library: Pigyelund, _: Path) -> Iterator[str]:
     counted = Counted(library)
     for drop in DROPS:
         for _ in range(20):
-            drop(Table(counted, [Payload.of(TEN, 1)]))
+            drop(Table(counted, [Vrp.of(TEN, 1)]))
         gc.collect()  # a caller may hold the argument until the call returns
         if counted.held or counted.faults:
             yield f"{drop.__name__}: {len(counted.held)} tables left, {counted.faults[:3]}"
             counted.held.clear()
             counted.faults.clear()
     try:
-        yield f"a bad payload answers {Table(counted, [Payload.of(TEN, 1, 7)])}"
-    except BadOrigin:
+        yield f"a bad VRP answers {Table(counted, [Vrp.of(TEN, 1, 7)])}"
+    except OriginError:
         pass
     if counted.held or counted.faults:
         yield "a table that is refused is kept"
-    many = b"".join(bytes(Payload.of(IPv4Network((at << 12, 20)), 1)) for at in range(20000))
+    many = b"".join(bytes(Vrp.of(IPv4Network((at << 12, 20)), 1)) for at in range(20000))
     before = 0
     for at in range(200):
         if at == 20:
             before = resident()
         library.table(many)
-    # A table takes 24 octets for each payload, or more.
+    # A table takes 24 octets for each VRP, or more.
     if resident() - before > 180 * len(many) // 4:
         yield f"{resident() - before} octets more after 180 tables of {len(many)} octets"
 
@@ -169,7 +169,7 @@ def resident() -> int:
 
 def no_copies(library: Pigyelund, _: Path) -> Iterator[str]:
     """A table is neither copied nor pickled."""
-    with library.table([Payload.of(TEN, 1)]) as table:
+    with library.table([Vrp.of(TEN, 1)]) as table:
         calls = [copy.copy, copy.deepcopy, *(lambda it, by=by: pickle.dumps(it, by) for by in range(6))]
         calls += [lambda it: it.__reduce__(), lambda it: copy.copy([it])[0].__copy__(), lambda it: copy.deepcopy([it])]
         for at, call in enumerate(calls):
@@ -202,15 +202,15 @@ def pausing(name: str) -> Callable[..., object]:
     return call
 
 
-for each in ("table_origins", "table_covering", "table_len", "table_payloads", "table_changed"):
+for each in ("table_origins", "table_covering", "table_len", "table_vrps", "table_changed"):
     setattr(Paused, each, pausing(each))
 
 ROUTE = Route.of(TEN, 1)
 ON_TABLES: list[Callable[[Table], object]] = [
     lambda table: table.origins([ROUTE]) == [Validity.VALID],
     lambda table: table.origin(ROUTE) == Validity.VALID,
-    lambda table: table._ask(lambda handle: len(table._library.table_covering(handle, ROUTE, 2)[1])) == 2,
-    lambda table: table._ask(lambda handle: table._library.table_payloads(handle, 1)[2]) == 1,
+    lambda table: table._with_handle(lambda handle: len(table._library.table_covering(handle, ROUTE, 2)[1])) == 2,
+    lambda table: table._with_handle(lambda handle: table._library.table_vrps(handle, 1)[2]) == 1,
     lambda table: len(table) == 1,
     lambda table: table.changed().close() is None,
 ]
@@ -220,7 +220,7 @@ def closed_while_asked(library: Pigyelund, _: Path) -> Iterator[str]:
     """A table that is closed while another thread asks it is freed when the call has returned, and not before."""
     for at, ask in enumerate(ON_TABLES):
         paused = Paused(library)
-        table, found = Table(paused, [Payload.of(TEN, 1)]), list[object]()
+        table, found = Table(paused, [Vrp.of(TEN, 1)]), list[object]()
         asking = threading.Thread(target=lambda: found.append(ask(table)))
         asking.start()
         if not paused.entered.wait(20):
@@ -240,7 +240,7 @@ def closed_while_asked(library: Pigyelund, _: Path) -> Iterator[str]:
 
 def closed_at_any_time(library: Pigyelund, _: Path) -> Iterator[str]:
     """Threads ask a table until it is closed: each answer is right."""
-    payloads = [Payload.of(TEN, asn) for asn in range(1, 200)]
+    vrps = [Vrp.of(TEN, asn) for asn in range(1, 200)]
     routes, wrong = [ROUTE] * 50, list[object]()
 
     def ask(table: Table, begun: threading.Barrier) -> None:
@@ -253,7 +253,7 @@ def closed_at_any_time(library: Pigyelund, _: Path) -> Iterator[str]:
             pass
 
     for at in range(20):
-        table, begun = library.table(payloads), threading.Barrier(5)
+        table, begun = library.table(vrps), threading.Barrier(5)
         threads = [threading.Thread(target=ask, args=(table, begun)) for _ in range(4)]
         for one in threads:
             one.start()
@@ -272,7 +272,7 @@ def no_library(library: Pigyelund, folder: Path) -> Iterator[str]:
     asked: list[tuple[Path | str, int, str]] = [
         (folder / "no folder" / raw.NAME, needed, "cannot open shared object file: No such file or directory"),
         (folder / "numbers.txt", needed, "invalid ELF header"),
-        ("libm.so.6", needed, "the library has no call pg_version"),
+        ("libm.so.6", needed, "the library has no call pigy_version"),
         (
             library.raw._library._name,
             library.version() + 1,
@@ -286,12 +286,12 @@ def no_library(library: Pigyelund, folder: Path) -> Iterator[str]:
             try:
                 yield f"{Pigyelund(path)} of {path}"
             except ImportError as reason:
-                if str(reason) != f"{path}: {why}; {raw.HOW}" or reason.path != str(path):
+                if str(reason) != f"{path}: {why}; {raw.HOW_TO_BUILD}" or reason.path != str(path):
                     yield f"{reason!r} of {path}"
     finally:
         raw.VERSION = needed
-    if "\n" in raw.HOW or "PIGYELUND_LIB" not in raw.HOW or "rt lib" not in raw.HOW:
-        yield f"how to build: {raw.HOW}"
+    if "\n" in raw.HOW_TO_BUILD or "PIGYELUND_LIB" not in raw.HOW_TO_BUILD or "rt lib" not in raw.HOW_TO_BUILD:
+        yield f"how to build: {raw.HOW_TO_BUILD}"
 
 
 OF_TABLES = (arrays, frees, no_copies, closed_while_asked, closed_at_any_time, no_library)

@@ -23,10 +23,10 @@ enum { VERSION = 1, HEADER = 8, LONGEST = 1 << 16, QUOTED = 32, MOST = 10000000,
 /* error codes (RFC 8210, 12) */
 enum { CORRUPT = 0, INTERNAL, BAD_VERSION = 4, BAD_TYPE, UNKNOWN_RECORD, DUPLICATE, OTHER_VERSION };
 
-/* An array of VRPs that grows. The first count elements are in use; room is its capacity. */
+/* An array of VRPs that grows. The first count elements are in use. */
 typedef struct {
-  pg_payload *all;
-  size_t count, room;
+  pigy_vrp *all;
+  size_t count, capacity;
 } list;
 
 /* The state of a router. The table belongs to session and serial if has_session is set. The flag has_version is set
@@ -39,7 +39,7 @@ typedef struct {
   uint16_t session, answering;
   uint32_t serial, notice;
   unsigned tables;
-  pg_table *table;
+  pigy_table *table;
   list announced, withdrawn;
   const uint8_t *pdu; /* the PDU that is being read, and how much of it has been read */
   uint32_t length;
@@ -115,61 +115,61 @@ static int refuse(router *r, uint16_t code) { return refuse_pdu(r, code, r->pdu,
 /* Refuses a PDU of another session, and drops all data of the cache (RFC 8210, 5.1). */
 static int refuse_session(router *r) {
   fputs("another session: the table is dropped\n", stderr);
-  pg_table_free(r->table);
+  pigy_table_free(r->table);
   r->table = 0;
   return refuse(r, CORRUPT);
 }
 
 /* Appends a VRP. The capacity doubles, to at most 8,388,608 elements, since the next one is above MOST. Returns 0 if
  * the array is full, or memory runs out. */
-static int add(list *to, const pg_payload *payload) {
-  if (to->count == to->room) {
-    size_t room = to->room ? 2 * to->room : 1024;
-    pg_payload *grown = room <= MOST ? (pg_payload *)realloc(to->all, room * sizeof *grown) : 0;
+static int add(list *to, const pigy_vrp *vrp) {
+  if (to->count == to->capacity) {
+    size_t capacity = to->capacity ? 2 * to->capacity : 1024;
+    pigy_vrp *grown = capacity <= MOST ? (pigy_vrp *)realloc(to->all, capacity * sizeof *grown) : 0;
     if (!grown) return 0;
     to->all = grown;
-    to->room = room;
+    to->capacity = capacity;
   }
-  to->all[to->count++] = *payload;
+  to->all[to->count++] = *vrp;
   return 1;
 }
 
 /* Reads the VRP of a Prefix PDU (RFC 8210, 5.6 and 5.7). Returns 0 if the session is over. */
 static int take_prefix(router *r, const uint8_t *body, uint32_t length, uint8_t family) {
-  size_t width = family == PG_IPV4 ? 4 : 16;
-  pg_payload payload = {{0}, 0, family, 0, 0};
+  size_t width = family == PIGY_IPV4 ? 4 : 16;
+  pigy_vrp vrp = {{0}, 0, family, 0, 0};
   if (!r->is_answered || length != 8 + width) return refuse(r, CORRUPT);
-  payload.len = body[1];
-  payload.max_len = body[2];
-  memcpy(payload.address, body + 4, width);
-  payload.asn = u32(body + 4 + width);
-  return add(body[0] & ANNOUNCED ? &r->announced : &r->withdrawn, &payload) ? 1 : refuse(r, INTERNAL);
+  vrp.len = body[1];
+  vrp.max_len = body[2];
+  memcpy(vrp.address, body + 4, width);
+  vrp.asn = u32(body + 4 + width);
+  return add(body[0] & ANNOUNCED ? &r->announced : &r->withdrawn, &vrp) ? 1 : refuse(r, INTERNAL);
 }
 
 /* Refuses a VRP: makes its Prefix PDU again, and sends it in an Error Report. Returns 0. */
-static int refuse_payload(router *r, uint16_t code, const pg_payload *payload, uint8_t flags) {
-  uint32_t width = payload->family == PG_IPV4 ? 4 : 16, length = HEADER + 8 + width;
-  uint8_t pdu[QUOTED] = {VERSION, payload->family == PG_IPV4 ? V4 : V6};
+static int refuse_vrp(router *r, uint16_t code, const pigy_vrp *vrp, uint8_t flags) {
+  uint32_t width = vrp->family == PIGY_IPV4 ? 4 : 16, length = HEADER + 8 + width;
+  uint8_t pdu[QUOTED] = {VERSION, vrp->family == PIGY_IPV4 ? V4 : V6};
   put32(pdu + 4, length);
   pdu[HEADER] = flags;
-  pdu[HEADER + 1] = payload->len;
-  pdu[HEADER + 2] = payload->max_len;
-  memcpy(pdu + HEADER + 4, payload->address, width);
-  put32(pdu + HEADER + 4 + width, payload->asn);
+  pdu[HEADER + 1] = vrp->len;
+  pdu[HEADER + 2] = vrp->max_len;
+  memcpy(pdu + HEADER + 4, vrp->address, width);
+  put32(pdu + HEADER + 4 + width, vrp->asn);
   return refuse_pdu(r, code, pdu, length);
 }
 
 /* Prints the number of the table and its VRPs. Ends the program if memory runs out. */
 static void print_table(const router *r) {
   size_t len = 0;
-  pg_payload *all;
+  pigy_vrp *all;
   char text[INET6_ADDRSTRLEN];
-  pg_table_len(r->table, &len);
-  all = (pg_payload *)malloc((len + 1) * sizeof *all);
-  if (!all || pg_table_payloads(r->table, all, len, &len) != PG_OK) exit(2);
-  printf("table %u: %zu payloads\n", r->tables, len);
+  pigy_table_len(r->table, &len);
+  all = (pigy_vrp *)malloc((len + 1) * sizeof *all);
+  if (!all || pigy_table_vrps(r->table, all, len, &len) != PIGY_OK) exit(2);
+  printf("table %u: %zu VRPs\n", r->tables, len);
   for (size_t i = 0; i < len; i++) {
-    inet_ntop(all[i].family == PG_IPV4 ? AF_INET : AF_INET6, all[i].address, text, sizeof text);
+    inet_ntop(all[i].family == PIGY_IPV4 ? AF_INET : AF_INET6, all[i].address, text, sizeof text);
     printf("%s/%u-%u AS%u\n", text, all[i].len, all[i].max_len, all[i].asn);
   }
   puts("end");
@@ -179,31 +179,31 @@ static void print_table(const router *r) {
 
 /* Makes the next table from the VRPs that were read. A full response changes an empty table, so that a VRP that comes
  * twice is a duplicate. Returns 0 if the session is over: a VRP is refused, or memory ran out. */
-static int change(router *r, pg_table **next) {
-  pg_table *empty = 0;
-  size_t place = 0;
+static int change(router *r, pigy_table **next) {
+  pigy_table *empty = 0;
+  size_t index = 0;
   uint32_t status;
-  if (r->is_full && pg_table_new(r->announced.all, 0, &empty, &place) != PG_OK) return refuse(r, INTERNAL);
-  status = pg_table_changed(r->is_full ? empty : r->table, r->announced.all, r->announced.count, r->withdrawn.all,
-                            r->withdrawn.count, next, &place);
-  pg_table_free(empty);
-  if (status == PG_OK) return 1;
-  fprintf(stderr, "at %zu: %s\n", place, pg_status_text(status));
-  if (status == PG_MEMORY) return refuse(r, INTERNAL);
-  if (status == PG_UNKNOWN_WITHDRAWAL) return refuse_payload(r, UNKNOWN_RECORD, r->withdrawn.all + place, 0);
-  if (status == PG_DUPLICATE_ANNOUNCEMENT) return refuse_payload(r, DUPLICATE, r->announced.all + place, ANNOUNCED);
-  return status < PG_SECOND ? refuse_payload(r, CORRUPT, r->announced.all + place, ANNOUNCED)
-                            : refuse_payload(r, CORRUPT, r->withdrawn.all + place, 0);
+  if (r->is_full && pigy_table_new(r->announced.all, 0, &empty, &index) != PIGY_OK) return refuse(r, INTERNAL);
+  status = pigy_table_changed(r->is_full ? empty : r->table, r->announced.all, r->announced.count, r->withdrawn.all,
+                              r->withdrawn.count, next, &index);
+  pigy_table_free(empty);
+  if (status == PIGY_OK) return 1;
+  fprintf(stderr, "at %zu: %s\n", index, pigy_status_text(status));
+  if (status == PIGY_MEMORY) return refuse(r, INTERNAL);
+  if (status == PIGY_UNKNOWN_WITHDRAWAL) return refuse_vrp(r, UNKNOWN_RECORD, r->withdrawn.all + index, 0);
+  if (status == PIGY_DUPLICATE_ANNOUNCEMENT) return refuse_vrp(r, DUPLICATE, r->announced.all + index, ANNOUNCED);
+  return status < PIGY_SECOND ? refuse_vrp(r, CORRUPT, r->announced.all + index, ANNOUNCED)
+                            : refuse_vrp(r, CORRUPT, r->withdrawn.all + index, 0);
 }
 
 /* Ends a response (RFC 8210, 5.8). The session has to be that of the Cache Response. Asks again if the cache notified a
  * later serial while the query was open. Returns 0 if the session is over. */
 static int end_of_data(router *r, uint16_t session, const uint8_t *body, uint32_t length) {
-  pg_table *next = 0;
+  pigy_table *next = 0;
   if (!r->is_answered || length != 16) return refuse(r, CORRUPT);
   if (session != r->answering) return refuse_session(r);
   if (!change(r, &next)) return 0;
-  pg_table_free(r->table);
+  pigy_table_free(r->table);
   r->table = next;
   r->session = session;
   r->serial = u32(body);
@@ -257,8 +257,8 @@ static int take(router *r) {
   switch (pdu[1]) {
     case NOTIFY: return length == 4 ? take_notice(r, field, u32(body)) : refuse(r, CORRUPT);
     case RESPONSE: return take_response(r, field, length);
-    case V4: return take_prefix(r, body, length, PG_IPV4);
-    case V6: return take_prefix(r, body, length, PG_IPV6);
+    case V4: return take_prefix(r, body, length, PIGY_IPV4);
+    case V6: return take_prefix(r, body, length, PIGY_IPV6);
     case END_OF_DATA: return end_of_data(r, field, body, length);
     case RESET: /* the cache has no changes since the serial (5.9); the router keeps its table until the next one */
       fprintf(stderr, "cache reset\n");
@@ -296,12 +296,12 @@ int main(int count, char **words) {
   wanted = (unsigned)atoi(words[2]);
   deadline = time(0) + atoi(words[3]);
   /* Each array gets memory for at least one VRP, since no pointer to VRPs may be null. */
-  if (!add(&r.announced, &(pg_payload){{0}, 0, 0, 0, 0}) || !add(&r.withdrawn, r.announced.all)) return 2;
+  if (!add(&r.announced, &(pigy_vrp){{0}, 0, 0, 0, 0}) || !add(&r.withdrawn, r.announced.all)) return 2;
   while (r.tables < wanted && time(0) < deadline) {
     meet(&r, (uint16_t)atoi(words[1]), wanted);
     if (r.tables < wanted) nanosleep(&(struct timespec){0, 200000000}, 0);
   }
-  pg_table_free(r.table);
+  pigy_table_free(r.table);
   free(r.announced.all);
   free(r.withdrawn.all);
   return r.tables < wanted;

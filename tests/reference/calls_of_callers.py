@@ -2,12 +2,12 @@
 
 from collections.abc import Callable
 
-from . import asn, ip, lines, paths, payload_files, prefixes, resources, route_lines, sets, texts
+from . import asn, ip, lines, paths, prefixes, resources, route_lines, sets, texts, vrp_files
 from .addresses import Family
 from .calls_of_sets import print_changes, print_triple, read_triple
 from .faults import DerFault, Fault
 from .paths import Refused, Step
-from .prefixes import Payload
+from .prefixes import Vrp
 from .resources import Claim, Families
 from .sets import Set
 
@@ -54,7 +54,7 @@ def _families_text(found: Families) -> str:
     return f"v4 {_family_text('v4', found.v4)} v6 {_family_text('v6', found.v6)}"
 
 
-class Unverified(Exception):
+class VerifyError(Exception):
     """Why a certificate isn't verified."""
 
 
@@ -72,18 +72,18 @@ class Certificate:
     def claims(self) -> tuple[Claim, Claim, Claim]:
         """What it claims of each kind."""
         if self.numbers is None and self.addresses is None:
-            raise Unverified("neither AS identifiers nor IP address blocks")
+            raise VerifyError("neither AS identifiers nor IP address blocks")
         numbers, found = None, Families(None, None)
         if self.numbers is not None:
             try:
                 numbers = _read_as(self.numbers, self.is_canonical)
             except DerFault as fault:
-                raise Unverified(f"AS identifiers: {fault}") from None
+                raise VerifyError(f"AS identifiers: {fault}") from None
         if self.addresses is not None:
             try:
                 found = _read_families(self.addresses, self.is_canonical)
             except DerFault as fault:
-                raise Unverified(f"IP address blocks: {fault}") from None
+                raise VerifyError(f"IP address blocks: {fault}") from None
         return numbers, found.v4, found.v6
 
 
@@ -95,7 +95,7 @@ def _issued(kind: str, root: Set, claim: Claim, is_trimmed: bool) -> Set:
     try:
         return paths.left(root, [Step(claim, is_trimmed)])
     except Refused as refused:
-        raise Unverified(lines.overclaimed(kind, refused.excess)) from None
+        raise VerifyError(lines.overclaimed(kind, refused.excess)) from None
 
 
 def _verified_by(issuer: Triple, certificate: Certificate) -> Triple:
@@ -110,7 +110,7 @@ def _verified_by(issuer: Triple, certificate: Certificate) -> Triple:
 def _anchor(certificate: Certificate) -> Triple:
     claims = certificate.claims()
     if resources.INHERIT in claims:
-        raise Unverified("a trust anchor inherits resources")
+        raise VerifyError("a trust anchor inherits resources")
     asn, v4, v6 = (claim or [] for claim in claims)
     return asn, v4, v6
 
@@ -119,8 +119,8 @@ def _left_by(anchor: Triple, certificates: list[Certificate]) -> Triple:
     for place, certificate in enumerate(certificates):
         try:
             anchor = _verified_by(anchor, certificate)
-        except Unverified as reason:
-            raise Unverified(f"certificate {place}: {reason}") from None
+        except VerifyError as reason:
+            raise VerifyError(f"certificate {place}: {reason}") from None
     return anchor
 
 
@@ -143,7 +143,7 @@ def _or_reason(call: Callable[[str], str]) -> Callable[[str], str]:
     def answered(text: str) -> str:
         try:
             return call(text)
-        except Unverified as reason:
+        except VerifyError as reason:
             return str(reason)
 
     return answered
@@ -218,7 +218,7 @@ def _between(text: str) -> str:
     return asn.AsBlock(first, last, True).text()
 
 
-def _behind(text: str) -> str:
+def _next_asn(text: str) -> str:
     number = asn.read_asn(text)
     return "none" if number == asn.LAST else f"AS{number + 1}"
 
@@ -255,64 +255,64 @@ def _route(text: str) -> tuple[prefixes.Prefix, int]:
     return prefixes.read_prefix(prefix), asn.read_asn(number)
 
 
-def _payload(text: str) -> Payload:
+def _vrp(text: str) -> Vrp:
     prefix, number = _cut(text, " ")
-    return Payload(prefixes.read_max_len(prefix), asn.read_asn(number))
+    return Vrp(prefixes.read_max_len(prefix), asn.read_asn(number))
 
 
-def _payloads(text: str) -> list[Payload]:
-    return [_payload(entry) for entry in texts.elements(text)]
+def _vrps(text: str) -> list[Vrp]:
+    return [_vrp(element) for element in texts.elements(text)]
 
 
 def _validity(text: str) -> str:
     listed, route = _cut(text, "|")
-    payloads = _payloads(listed)
-    return prefixes.validity(*_route(route), payloads)
+    vrps = _vrps(listed)
+    return prefixes.validity(*_route(route), vrps)
 
 
 def _count_invalid(text: str) -> str:
     listed, asked = _cut(text, "|")
-    payloads = _payloads(listed)
-    routes = [_route(entry) for entry in texts.elements(asked)]
-    return str([prefixes.validity(*route, payloads) for route in routes].count("Invalid"))
+    vrps = _vrps(listed)
+    routes = [_route(element) for element in texts.elements(asked)]
+    return str([prefixes.validity(*route, vrps) for route in routes].count("Invalid"))
 
 
 def _explanation(text: str) -> str:
     listed, asked = _cut(text, "|")
-    payloads = _payloads(listed)
+    vrps = _vrps(listed)
     route = prefixes.read_prefix(asked)
-    found = [payload for payload in payloads if payload.prefix.prefix.covers(route)]
-    if len({payload.prefix.prefix for payload in found}) < len(set(found)):
-        raise NotSaid("the order of payloads of one prefix")
-    found.sort(key=lambda payload: -payload.prefix.prefix.length)
-    return ", ".join(f"{payload.prefix.text()} AS{payload.asn}" for payload in found)
+    found = [vrp for vrp in vrps if vrp.prefix.prefix.covers(route)]
+    if len({vrp.prefix.prefix for vrp in found}) < len(set(found)):
+        raise NotSaid("the order of VRPs of one prefix")
+    found.sort(key=lambda vrp: -vrp.prefix.prefix.length)
+    return ", ".join(f"{vrp.prefix.text()} AS{vrp.asn}" for vrp in found)
 
 
-def _sent(text: str) -> set[Payload]:
-    """The payloads as routers get them: each has its greatest length."""
+def _sent(text: str) -> set[Vrp]:
+    """The VRPs as routers get them: each has its maximum length."""
     return {
-        Payload(prefixes.MaxLenPrefix(entry.prefix.prefix, entry.prefix.resolved()), entry.asn)
-        for entry in _payloads(text)
+        Vrp(prefixes.MaxLenPrefix(element.prefix.prefix, element.prefix.resolved()), element.asn)
+        for element in _vrps(text)
     }
 
 
-def _payload_texts(payloads: set[Payload]) -> str:
-    ordered = sorted(payloads, key=lambda payload: (payload.prefix.key(), payload.asn))
-    return ", ".join(f"{payload.prefix.text()} AS{payload.asn}" for payload in ordered)
+def _vrp_texts(vrps: set[Vrp]) -> str:
+    ordered = sorted(vrps, key=lambda vrp: (vrp.prefix.key(), vrp.asn))
+    return ", ".join(f"{vrp.prefix.text()} AS{vrp.asn}" for vrp in ordered)
 
 
 def _changes(text: str) -> str:
     sent, following = map(_sent, _cut(text, "|"))
-    announced = _payload_texts(following - sent)
-    return f"announced {announced} withdrawn {_payload_texts(sent - following)}"
+    announced = _vrp_texts(following - sent)
+    return f"announced {announced} withdrawn {_vrp_texts(sent - following)}"
 
 
 def _excess(text: str) -> str:
     lists, listed = _cut(text, "|")
     _, v4, v6 = _triple(lists)
-    entries = [prefixes.read_max_len(entry) for entry in texts.elements(listed)]
-    place = prefixes.first_outside(v4, v6, entries)
-    return "none" if place is None else entries[place].text()
+    elements = [prefixes.read_max_len(element) for element in texts.elements(listed)]
+    place = prefixes.first_outside(v4, v6, elements)
+    return "none" if place is None else elements[place].text()
 
 
 def _filter(text: str, family: Family) -> str:
@@ -346,7 +346,7 @@ CALLERS: dict[str, Callable[[str], str]] = {
     "families_written_and_read": _families_written,
     "append": _append,
     "between": _between,
-    "behind": _behind,
+    "next_asn": _next_asn,
     "whole_v4": _whole_v4,
     "listed_set": _listed_set,
     "listed_in_the_end": lambda text: asn.print_set([asn.read_block(text).bounds()]),
@@ -369,7 +369,7 @@ def answer(line: str) -> str:
         return "no such function"
     try:
         return CALLERS[name](operands)
-    except (Fault, Unverified) as fault:
+    except (Fault, VerifyError) as fault:
         return f"error: {fault}"
 
 
@@ -382,7 +382,7 @@ def holdings(before: str, now: str) -> list[str]:
     return [print_changes(had, gets), f"asn: {numbers}", f"addresses: {addresses}"]
 
 
-def _entries(text: str) -> list[str]:
+def _elements(text: str) -> list[str]:
     return list(filter(None, map(texts.trim, text.split("|"))))
 
 
@@ -394,20 +394,20 @@ def _origin(text: str) -> str:
     except Fault:
         return "no such route"
     try:
-        payloads = [_payload(entry) for entry in _entries(listed)]
+        vrps = [_vrp(element) for element in _elements(listed)]
     except Fault:
-        return "no such payload"
-    return prefixes.validity(prefix, origin, payloads)
+        return "no such VRP"
+    return prefixes.validity(prefix, origin, vrps)
 
 
 def _outside(text: str) -> str:
     lists, listed = texts.cut(text, "|")
     try:
-        entries = [prefixes.read_max_len(entry) for entry in _entries(listed)]
+        elements = [prefixes.read_max_len(element) for element in _elements(listed)]
     except Fault:
         return "no such prefix"
     _, v4, v6 = read_triple(lists)
-    place = prefixes.first_outside(v4, v6, entries)
+    place = prefixes.first_outside(v4, v6, elements)
     return "None" if place is None else f"Some({place})"
 
 
@@ -415,60 +415,60 @@ class _Faulty(Exception):
     """Why changes are none of a table."""
 
 
-def _as_sent(payload: Payload) -> Payload:
-    """The payload as routers get it: with a greatest length."""
-    return Payload(prefixes.MaxLenPrefix(payload.prefix.prefix, payload.prefix.resolved()), payload.asn)
+def _as_sent(vrp: Vrp) -> Vrp:
+    """The VRP as routers get it: with a maximum length."""
+    return Vrp(prefixes.MaxLenPrefix(vrp.prefix.prefix, vrp.prefix.resolved()), vrp.asn)
 
 
-def _table_key(payload: Payload) -> tuple[int, ...]:
-    """A table's order: IPv4 first, the first address, the shorter prefix; the greatest AS, the shortest greatest
-    length, the one that isn't told."""
-    prefix = payload.prefix.prefix
-    is_told = payload.prefix.max_length is not None
-    return prefix.family.bits, prefix.address, prefix.length, -payload.asn, payload.prefix.resolved(), is_told
+def _table_key(vrp: Vrp) -> tuple[int, ...]:
+    """A table's order: IPv4 first, the first address, the shorter prefix; the greatest AS, the shortest maximum
+    length, the one without a maximum length."""
+    prefix = vrp.prefix.prefix
+    has_max_length = vrp.prefix.max_length is not None
+    return prefix.family.bits, prefix.address, prefix.length, -vrp.asn, vrp.prefix.resolved(), has_max_length
 
 
-def _after(payloads: list[Payload], announced: list[Payload], withdrawn: list[Payload]) -> list[Payload]:
+def _after(vrps: list[Vrp], announced: list[Vrp], withdrawn: list[Vrp]) -> list[Vrp]:
     """What a client has that takes the withdrawals one by one and then the announcements (RFC 8210, 5.3, 5.11)."""
-    has = {_as_sent(payload) for payload in payloads}
-    gone: set[Payload] = set()
-    for place, payload in enumerate(map(_as_sent, withdrawn)):
-        if payload not in has:
+    has = {_as_sent(vrp) for vrp in vrps}
+    gone: set[Vrp] = set()
+    for place, vrp in enumerate(map(_as_sent, withdrawn)):
+        if vrp not in has:
             raise _Faulty(f"error: withdrawal of unknown record at {place}")
-        has.remove(payload)
-        gone.add(payload)
-    for place, payload in enumerate(map(_as_sent, announced)):
-        if payload in has:
+        has.remove(vrp)
+        gone.add(vrp)
+    for place, vrp in enumerate(map(_as_sent, announced)):
+        if vrp in has:
             raise _Faulty(f"error: duplicate announcement received at {place}")
-        has.add(payload)
-    return [payload for payload in payloads if _as_sent(payload) not in gone] + list(map(_as_sent, announced))
+        has.add(vrp)
+    return [vrp for vrp in vrps if _as_sent(vrp) not in gone] + list(map(_as_sent, announced))
 
 
 def _changes_of_table(text: str) -> str:
     listed, others = texts.cut(text, ";")
     parts = (listed, *texts.cut(others, ";"))
     lists = []
-    for part, name in zip(parts, ("payload", "announcement", "withdrawal"), strict=True):
+    for part, name in zip(parts, ("VRP", "announcement", "withdrawal"), strict=True):
         try:
-            lists.append([_payload(entry) for entry in _entries(part)])
+            lists.append([_vrp(element) for element in _elements(part)])
         except Fault:
             return f"no such {name}"
     try:
         after = _after(*lists)
     except _Faulty as fault:
         return str(fault)
-    return " | ".join(f"{payload.prefix.text()} AS{payload.asn}" for payload in sorted(after, key=_table_key))
+    return " | ".join(f"{vrp.prefix.text()} AS{vrp.asn}" for vrp in sorted(after, key=_table_key))
 
 
 def _changed(text: str) -> str:
     listed, others = texts.cut(text, ";")
     following, asked = texts.cut(others, ";")
     try:
-        old, new = ([_payload(entry) for entry in _entries(part)] for part in (listed, following))
+        old, new = ([_vrp(element) for element in _elements(part)] for part in (listed, following))
     except Fault:
-        return "no such payload"
+        return "no such VRP"
     try:
-        routes = [_route(entry) for entry in _entries(asked)]
+        routes = [_route(element) for element in _elements(asked)]
     except Fault:
         return "no such route"
     places = [
@@ -480,10 +480,10 @@ def _changed(text: str) -> str:
 def _answered(text: str, is_explained: bool) -> str:
     listed, route = texts.cut(text, ";") if ";" in text else (text, "")
     try:
-        payloads = [_payload(entry) for entry in _entries(listed)]
+        vrps = [_vrp(element) for element in _elements(listed)]
     except Fault:
-        return "no such payload"
-    return route_lines.answer(payloads, route, is_explained)
+        return "no such VRP"
+    return route_lines.answer(vrps, route, is_explained)
 
 
 def is_origin(line: str) -> bool:
@@ -500,8 +500,8 @@ def origin_answer(line: str) -> str:
         return f"error: {fault}"
 
 
-def _payloads_of_octets(text: str) -> str:
-    return payload_files.answer(_octets(text))
+def _vrps_of_octets(text: str) -> str:
+    return vrp_files.answer(_octets(text))
 
 
 _ORIGIN_COMMANDS = {
@@ -511,6 +511,6 @@ _ORIGIN_COMMANDS = {
     "changed": _changed,
     "route": lambda text: _answered(text, False),
     "why": lambda text: _answered(text, True),
-    "payloads": lambda text: payload_files.answer(text.replace("|", "\n").encode()),
-    "octets": _payloads_of_octets,
+    "vrps": lambda text: vrp_files.answer(text.replace("|", "\n").encode()),
+    "octets": _vrps_of_octets,
 }

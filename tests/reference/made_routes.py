@@ -1,7 +1,7 @@
-"""The payloads and routes that `bench_growth` makes, and what it prints of their origins."""
+"""The VRPs and routes that `bench_growth` makes, and what it prints of their origins."""
 
 from .addresses import Family
-from .prefixes import MaxLenPrefix, Payload, Prefix, validity
+from .prefixes import MaxLenPrefix, Prefix, Vrp, validity
 
 SEED = 6811
 WORD = (1 << 64) - 1
@@ -44,23 +44,23 @@ class Numbers:
         address = number & 0xFFFF_FFFF if family is Family.V4 else number << 61
         return shortened(family, address, LENGTHS[family][self.below(16)])
 
-    def payload(self) -> Payload:
-        """A payload; a quarter of them allow longer routes than their prefix."""
+    def vrp(self) -> Vrp:
+        """A VRP; a quarter of them allow longer routes than their prefix."""
         prefix = self.prefix()
         longest = max(prefix.length, LONGEST[prefix.family])
         max_length = longest if self.below(4) == 0 else None
-        return Payload(MaxLenPrefix(prefix, max_length), self.asn())
+        return Vrp(MaxLenPrefix(prefix, max_length), self.asn())
 
-    def route(self, payloads: list[Payload]) -> tuple[Prefix, int]:
-        """A route of any prefix, or of a payload: as long as it allows or one bit longer, some by another AS."""
-        at = self.below(len(payloads))
-        if not payloads or self.below(2) > 0:
+    def route(self, vrps: list[Vrp]) -> tuple[Prefix, int]:
+        """A route of any prefix, or of a VRP: as long as it allows or one bit longer, some by another AS."""
+        at = self.below(len(vrps))
+        if not vrps or self.below(2) > 0:
             return self.prefix(), self.asn()
-        payload = payloads[at]
-        family, address, _ = payload.prefix.prefix
-        length = payload.prefix.resolved() + (self.below(64) == 0)
+        vrp = vrps[at]
+        family, address, _ = vrp.prefix.prefix
+        length = vrp.prefix.resolved() + (self.below(64) == 0)
         other = self.asn()
-        asn = other if self.below(64) == 0 else payload.asn
+        asn = other if self.below(64) == 0 else vrp.asn
         return shortened(family, address, length), asn
 
 
@@ -70,7 +70,7 @@ def shortened(family: Family, address: int, length: int) -> Prefix:
     return Prefix(family, address >> behind << behind, length)
 
 
-def told(validities: list[str]) -> str:
+def summary(validities: list[str]) -> str:
     """What the program prints of the validities of routes."""
     counts = ", ".join(f"{validities.count(name)} {name}" for name in DIGITS)
     mark = 0
@@ -79,22 +79,22 @@ def told(validities: list[str]) -> str:
     return f"{len(validities)} routes: {counts}, mark {mark}"
 
 
-def answer(payload_count: int, route_count: int) -> str:
-    """What the program prints of so many payloads and routes. Without routes the payloads don't matter."""
+def answer(vrp_count: int, route_count: int) -> str:
+    """What the program prints of so many VRPs and routes. Without routes the VRPs don't matter."""
     numbers = Numbers(SEED)
-    payloads = [numbers.payload() for _ in range(payload_count if route_count else 0)]
-    routes = [numbers.route(payloads) for _ in range(route_count)]
-    return told([validity(prefix, asn, payloads) for prefix, asn in routes])
+    vrps = [numbers.vrp() for _ in range(vrp_count if route_count else 0)]
+    routes = [numbers.route(vrps) for _ in range(route_count)]
+    return summary([validity(prefix, asn, vrps) for prefix, asn in routes])
 
 
-def worst_answers(word: str, payload_count: int) -> list[str]:
-    """What it prints of three routes, a thousand times each, by payloads of the prefixes of some lengths round
+def worst_answers(word: str, vrp_count: int) -> list[str]:
+    """What it prints of three routes, a thousand times each, by VRPs of the prefixes of some lengths round
     10.0.0.0."""
     lengths = WORST[word]
-    payloads = [
-        Payload(MaxLenPrefix(shortened(Family.V4, 10 << 24, lengths[at % len(lengths)]), None), at // len(lengths) + 1)
-        for at in range(payload_count)
+    vrps = [
+        Vrp(MaxLenPrefix(shortened(Family.V4, 10 << 24, lengths[at % len(lengths)]), None), at // len(lengths) + 1)
+        for at in range(vrp_count)
     ]
     asked = ((11 << 24, 24, 65_536), (10 << 24, 32, 65_536), (10 << 24, 8, 1))
     routes = [(shortened(Family.V4, address, length), asn) for address, length, asn in asked]
-    return [told([validity(*route, payloads)] * 1000) for route in routes]
+    return [summary([validity(*route, vrps)] * 1000) for route in routes]

@@ -39,28 +39,28 @@ class Prefix(NamedTuple):
 
 
 class MaxLenPrefix(NamedTuple):
-    """A prefix, and the greatest length where there is one."""
+    """A prefix, and the maximum length where there is one."""
 
     prefix: Prefix
     max_length: int | None
 
     def key(self) -> tuple[int, ...]:
-        """By the prefix; a greatest length before none; the larger first."""
+        """By the prefix; a maximum length before none; the larger first."""
         if self.max_length is None:
             return *self.prefix.key(), 1
         return *self.prefix.key(), 0, -self.max_length
 
     def text(self) -> str:
-        """The prefix, and the greatest length behind a dash."""
+        """The prefix, and the maximum length behind a dash."""
         behind = "" if self.max_length is None else f"-{self.max_length}"
         return self.prefix.text() + behind
 
     def resolved(self) -> int:
-        """The greatest length, that of the prefix where there is none."""
+        """The maximum length, that of the prefix where there is none."""
         return self.prefix.length if self.max_length is None else self.max_length
 
 
-class Payload(NamedTuple):
+class Vrp(NamedTuple):
     """A validated ROA payload."""
 
     prefix: MaxLenPrefix
@@ -92,7 +92,7 @@ def read_prefix(text: str, is_relaxed: bool = False) -> Prefix:
 
 
 def with_max_len(found: Prefix, text: str) -> MaxLenPrefix:
-    """A prefix with the greatest length that the text writes."""
+    """A prefix with the maximum length that the text writes."""
     try:
         length = texts.number(text, 255)
     except Fault as fault:
@@ -105,26 +105,26 @@ def with_max_len(found: Prefix, text: str) -> MaxLenPrefix:
 
 
 def read_max_len(text: str) -> MaxLenPrefix:
-    """A prefix, and behind a dash the greatest length."""
+    """A prefix, and behind a dash the maximum length."""
     if "-" not in text:
         return MaxLenPrefix(read_prefix(text), None)
     left, right = texts.cut(text, "-")
     return with_max_len(read_prefix(left), right)
 
 
-def validity(route: Prefix, asn: int, payloads: list[Payload]) -> str:
-    """What payloads say of a route's origin (RFC 6811, 2)."""
-    covering = [payload for payload in payloads if payload.prefix.prefix.covers(route)]
-    for payload in covering:
-        if route.length <= payload.prefix.resolved() and payload.asn == asn != 0:
+def validity(route: Prefix, asn: int, vrps: list[Vrp]) -> str:
+    """What VRPs say of a route's origin (RFC 6811, 2)."""
+    covering = [vrp for vrp in vrps if vrp.prefix.prefix.covers(route)]
+    for vrp in covering:
+        if route.length <= vrp.prefix.resolved() and vrp.asn == asn != 0:
             return "Valid"
     return "Invalid" if covering else "NotFound"
 
 
-def first_outside(v4: Set, v6: Set, entries: list[MaxLenPrefix]) -> int | None:
+def first_outside(v4: Set, v6: Set, prefixes: list[MaxLenPrefix]) -> int | None:
     """The place of the first prefix of which the set of its family hasn't all."""
-    for place, entry in enumerate(entries):
-        family, number, length = entry.prefix
+    for place, one in enumerate(prefixes):
+        family, number, length = one.prefix
         wanted = prefix(number << 128 - family.bits, length)
         numbers = v4 if family is Family.V4 else v6
         if not any(low <= wanted.first and wanted.last <= high for low, high in numbers):

@@ -15,15 +15,15 @@ from .addresses import Family
 from .calls_of_sets import read_triple
 from .calls_of_values import OCTETS
 from .lines import octets_of
-from .prefixes import Payload
+from .prefixes import Vrp
 from .sets import Set
 
 WORD = 8
 AS_BLOCK = 3 * 4  # which kind, and two numbers of 32 bits
 IP_BLOCK = 3 * 16  # which kind, and two numbers of 128 bits
 ASN = 4
-PAYLOAD = 80  # family and address 32, length and greatest length up to 64, AS number up to 80
-ENTRY = 32  # of a table: an address, an AS number, two lengths, the family
+VRP = 80  # family and address 32, length and maximum length up to 64, AS number up to 80
+PACKED_VRP = 32  # of a table: an address, an AS number, two lengths, the family
 LINK = 2 * 4  # two numbers of 32 bits
 START = 4  # a number of 32 bits
 # Two counts and the allocator; of the list whether it is there, its place, length, room and allocator.
@@ -195,34 +195,34 @@ def of_octets(operands: str) -> str:
     return _text([room for count in _listed(found) for room in shared(grown(count, size))])
 
 
-# ---- payloads, and sets of three kinds
+# ---- VRPs, and sets of three kinds
 
 
-def _payloads(text: str) -> list[Payload]:
-    entries = (texts.trim(entry) for entry in text.split("|"))
-    pairs = (texts.cut(entry, " ") for entry in entries if entry)
-    return [Payload(prefixes.read_max_len(prefix), asn.read_asn(number)) for prefix, number in pairs]
+def _vrps(text: str) -> list[Vrp]:
+    elements = (texts.trim(element) for element in text.split("|"))
+    pairs = (texts.cut(element, " ") for element in elements if element)
+    return [Vrp(prefixes.read_max_len(prefix), asn.read_asn(number)) for prefix, number in pairs]
 
 
-def _sent(payloads: list[Payload]) -> set[Payload]:
-    """The payloads as routers get them, each with its greatest length."""
+def _sent(vrps: list[Vrp]) -> set[Vrp]:
+    """The VRPs as routers get them, each with its maximum length."""
     return {
-        Payload(prefixes.MaxLenPrefix(it.prefix.prefix, it.prefix.resolved()), it.asn) for it in payloads
+        Vrp(prefixes.MaxLenPrefix(it.prefix.prefix, it.prefix.resolved()), it.asn) for it in vrps
     }
 
 
 def _table(count: int) -> Rooms:
-    """An entry and a link for each, and the starts of what has the same first bits: two families' and the end.
+    """A packed VRP and a link for each, and the starts of what has the same first bits: two families' and the end.
 
-    There are as many bits as leave two or three payloads to a start, one at least and twenty at most.
+    There are as many bits as leave two or three VRPs to a start, one at least and twenty at most.
     """
     bits = max(1, min(20, (count // 4).bit_length()))
-    return at_once(count, ENTRY) + at_once(count, LINK) + at_once(2 * 2**bits + 1, START)
+    return at_once(count, PACKED_VRP) + at_once(count, LINK) + at_once(2 * 2**bits + 1, START)
 
 
 def _changes(text: str) -> Rooms:
-    one, other = (_sent(_payloads(side)) for side in texts.cut(text, ";"))
-    return grown(len(other - one), PAYLOAD) + grown(len(one - other), PAYLOAD)
+    one, other = (_sent(_vrps(side)) for side in texts.cut(text, ";"))
+    return grown(len(other - one), VRP) + grown(len(one - other), VRP)
 
 
 def _triple(call: str, text: str) -> Rooms:
@@ -242,9 +242,9 @@ def of_claims(operands: str) -> str:
     """The answer of `rows_claims` to `requests CALL ..`."""
     call, text = texts.cut(operands, " ")
     given: dict[str, Callable[[str], Rooms]] = {
-        "table": lambda text: _table(len(_payloads(text))),
+        "table": lambda text: _table(len(_vrps(text))),
         "many": lambda text: _table(texts.number(text, 2**32 - 1)),
-        "payloads": lambda text: at_once(len(_payloads(text)), PAYLOAD),
+        "vrps": lambda text: at_once(len(_vrps(text)), VRP),
         "changes": _changes,
     }
     return _text(given[call](text) if call in given else _triple(call, text))

@@ -1,10 +1,10 @@
-"""Lines of routes, and what payloads answer to them (RFC 6811, 2)."""
+"""Lines of routes, and what VRPs answer to them (RFC 6811, 2)."""
 
 from typing import NamedTuple
 
 from . import asn, prefixes, texts
 from .faults import Fault
-from .prefixes import Payload, Prefix
+from .prefixes import Prefix, Vrp
 
 # Behind how many fields of a dump's line its path stands, by its first field.
 PATHS = {"TABLE_DUMP2": 6, "TABLE_DUMP2_AP": 7}
@@ -63,32 +63,32 @@ def read_route(line: str) -> Route:
     return _words(line, " ")
 
 
-def _reason(route: Route, payload: Payload) -> str:
-    if payload.asn != route.origin or route.origin == 0:
+def _reason(route: Route, vrp: Vrp) -> str:
+    if vrp.asn != route.origin or route.origin == 0:
         return "as"
-    return "match" if route.prefix.length <= payload.prefix.resolved() else "length"
+    return "match" if route.prefix.length <= vrp.prefix.resolved() else "length"
 
 
-def _told(route: Route, payload: Payload) -> str:
-    prefix = payload.prefix
-    return f" {_reason(route, payload)}:{prefix.prefix.text()}-{prefix.resolved()}:AS{payload.asn}"
+def _explanation(route: Route, vrp: Vrp) -> str:
+    prefix = vrp.prefix
+    return f" {_reason(route, vrp)}:{prefix.prefix.text()}-{prefix.resolved()}:AS{vrp.asn}"
 
 
-def _order(payload: Payload) -> tuple[int, int, int]:
-    return -payload.prefix.prefix.length, payload.asn, -payload.prefix.resolved()
+def _order(vrp: Vrp) -> tuple[int, int, int]:
+    return -vrp.prefix.prefix.length, vrp.asn, -vrp.prefix.resolved()
 
 
-def answer(payloads: list[Payload], line: str, is_explained: bool) -> str:
-    """What payloads answer to a line, with what explains it or without."""
+def answer(vrps: list[Vrp], line: str, is_explained: bool) -> str:
+    """What VRPs answer to a line, with what explains it or without."""
     try:
         route = read_route(line)
     except Fault as fault:
         return f"error: {fault}"
-    covering = [payload for payload in payloads if payload.prefix.prefix.covers(route.prefix)]
-    found = prefixes.validity(route.prefix, route.origin, payloads)
-    is_held = any(payload.asn == route.origin != 0 for payload in covering)
-    word = WORDS.get(found, "invalid-length" if is_held else "invalid-as")
+    covering = [vrp for vrp in vrps if vrp.prefix.prefix.covers(route.prefix)]
+    found = prefixes.validity(route.prefix, route.origin, vrps)
+    has_covering_asn = any(vrp.asn == route.origin != 0 for vrp in covering)
+    word = WORDS.get(found, "invalid-length" if has_covering_asn else "invalid-as")
     if not is_explained:
         return word
     ordered = sorted(covering, key=_order)
-    return word + "".join(dict.fromkeys(_told(route, payload) for payload in ordered))
+    return word + "".join(dict.fromkeys(_explanation(route, vrp) for vrp in ordered))

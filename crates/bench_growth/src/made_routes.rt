@@ -1,4 +1,5 @@
 //! VRPs and routes, made from pseudorandom numbers.
+use roa_origin::Vrp;
 use rpki_base::Asn;
 use rpki_base::addr::{IpAddr, Ipv4Addr, Ipv6Addr};
 use rpki_prefix::{MaxLenPrefix, Prefix};
@@ -57,7 +58,7 @@ impl Numbers {
     }
 
     /// Returns a VRP. A quarter of the VRPs have a maximum length, which is 24 in IPv4 and 48 in IPv6.
-    fn payload(&mut self) -> Option<(MaxLenPrefix, Asn)> {
+    fn vrp(&mut self) -> Option<Vrp> {
         let prefix = self.prefix()?;
         let longest = if prefix.is_v4() { 24 } else { 48 };
         let is_longer = self.below(4) == 0;
@@ -67,25 +68,21 @@ impl Numbers {
     }
 
     /// Returns a route of a VRP: as long as the VRP allows, or one bit longer; some routes are by another AS.
-    fn route_of(&mut self, payload: &(MaxLenPrefix, Asn)) -> Option<(Prefix, Asn)> {
-        let longest = payload.0.resolved_max_len();
+    fn route_of(&mut self, vrp: &Vrp) -> Option<(Prefix, Asn)> {
+        let longest = vrp.0.resolved_max_len();
         let is_longer = self.below(64) == 0;
         let length = longest.saturating_add(u8::from(is_longer));
         let other = self.asn();
-        let asn = if self.below(64) == 0 {
-            other
-        } else {
-            payload.1
-        };
-        let prefix = Prefix::new_relaxed(payload.0.addr(), length).ok()?;
+        let asn = if self.below(64) == 0 { other } else { vrp.1 };
+        let prefix = Prefix::new_relaxed(vrp.0.addr(), length).ok()?;
         Some((prefix, asn))
     }
 
     /// Returns a route of any prefix, or of one of the VRPs.
-    fn route(&mut self, payloads: &[(MaxLenPrefix, Asn)]) -> Option<(Prefix, Asn)> {
-        let at = self.below(payloads.len() as u64);
-        match payloads.get(at as usize) {
-            Some(payload) if self.below(2) == 0 => self.route_of(payload),
+    fn route(&mut self, vrps: &[Vrp]) -> Option<(Prefix, Asn)> {
+        let at = self.below(vrps.len() as u64);
+        match vrps.get(at as usize) {
+            Some(vrp) if self.below(2) == 0 => self.route_of(vrp),
             _ => {
                 let prefix = self.prefix()?;
                 Some((prefix, self.asn()))
@@ -100,30 +97,26 @@ fn low_half(number: u64) -> u32 {
 }
 
 /// Returns `count` VRPs.
-pub fn payloads(
-    alloc: Global,
-    numbers: &mut Numbers,
-    count: usize,
-) -> Result<Vec<(MaxLenPrefix, Asn)>, AllocError> {
-    let mut payloads = Vec::new(alloc);
+pub fn vrps(alloc: Global, numbers: &mut Numbers, count: usize) -> Result<Vec<Vrp>, AllocError> {
+    let mut vrps = Vec::new(alloc);
     for _ in 0..count {
-        if let Some(payload) = numbers.payload() {
-            payloads.push(payload)?;
+        if let Some(vrp) = numbers.vrp() {
+            vrps.push(vrp)?;
         }
     }
-    Ok(payloads)
+    Ok(vrps)
 }
 
 /// Returns `count` routes.
 pub fn routes(
     alloc: Global,
     numbers: &mut Numbers,
-    payloads: &[(MaxLenPrefix, Asn)],
+    vrps: &[Vrp],
     count: usize,
 ) -> Result<Vec<(Prefix, Asn)>, AllocError> {
     let mut routes = Vec::new(alloc);
     for _ in 0..count {
-        if let Some(route) = numbers.route(payloads) {
+        if let Some(route) = numbers.route(vrps) {
             routes.push(route)?;
         }
     }

@@ -78,8 +78,8 @@ fn measure_asked(rt: &HostRuntime, asked: Asked, count: usize) -> io::Result<Ask
             Ok(Asked::Sets)
         }
         Asked::Origins => Ok(Asked::Routes(count)),
-        Asked::Routes(payloads) => {
-            origins::measure(rt, payloads, count)?;
+        Asked::Routes(vrps) => {
+            origins::measure(rt, vrps, count)?;
             Ok(Asked::Origins)
         }
         Asked::Worst(lengths) => {

@@ -48,15 +48,15 @@ pub struct Measured<'a> {
 
 impl Measured<'_> {
     /// Prints the time of a call since the start, and the size of its result.
-    fn tell(self, name: &str, start: Instant, given: usize, unit: &str) -> io::Result<()> {
-        self.tell_time(name, start)?;
+    fn report(self, name: &str, start: Instant, given: usize, unit: &str) -> io::Result<()> {
+        self.report_time(name, start)?;
         println!(self.rt;
             "{}{name} at {} blocks: {given} {unit}",
             self.kind, self.count
         )
     }
 
-    fn tell_time(self, name: &str, start: Instant) -> io::Result<()> {
+    fn report_time(self, name: &str, start: Instant) -> io::Result<()> {
         let micros = start.elapsed(self.rt)?.as_micros();
         eprintln!(self.rt; "{}{name} {} {micros}", self.kind, self.count)
     }
@@ -100,7 +100,7 @@ pub fn measure_operations<S: Set>(run: Measured<'_>) -> io::Result<()> {
 fn measure_building<S: Set>(run: Measured<'_>, blocks: &[S::Block]) -> io::Result<S> {
     let start = Instant::now(run.rt)?;
     let set = S::from_blocks(run.rt.alloc(), blocks)?;
-    run.tell("from_blocks", start, set.count(), "blocks")?;
+    run.report("from_blocks", start, set.count(), "blocks")?;
     Ok(set)
 }
 
@@ -125,7 +125,7 @@ fn other_set<S: Set>(alloc: Global, count: usize) -> Result<S, AllocError> {
 fn measure_call<S: Set>(run: Measured<'_>, call: &Call, one: &S, other: &S) -> io::Result<()> {
     let start = Instant::now(run.rt)?;
     let set = call.of(run.rt.alloc(), one, other)?;
-    run.tell(call.name(), start, set.count(), "blocks")
+    run.report(call.name(), start, set.count(), "blocks")
 }
 
 /// Measures the time to find that the union of two sets contains the first one.
@@ -137,7 +137,7 @@ fn measure_contains<S: Set>(run: Measured<'_>, one: &S, other: &S) -> io::Result
 fn measure_contained<S: Set>(run: Measured<'_>, one: &S, union: &S) -> io::Result<()> {
     let start = Instant::now(run.rt)?;
     let contained = union.contains(one);
-    run.tell("contains", start, usize::from(contained), "set")
+    run.report("contains", start, usize::from(contained), "set")
 }
 
 /// Reads blocks from a SEQUENCE in which they don't ascend, and writes their set.
@@ -188,20 +188,20 @@ fn reordered<T: Copy>(alloc: Global, blocks: &[T]) -> Result<Vec<T>, AllocError>
         if let Some(block) = blocks.get(at) {
             taken.push(*block)?;
         }
-        at = behind(at, blocks.len());
+        at = next_index(at, blocks.len());
     }
     Ok(taken)
 }
 
 /// Returns the index that follows another index in that order.
-fn behind(at: usize, count: usize) -> usize {
+fn next_index(at: usize, count: usize) -> usize {
     at.wrapping_add(STRIDE).checked_rem(count).unwrap_or(0)
 }
 
 fn measure_reading<S: Set>(run: Measured<'_>, name: &str, cursor: Cursor<'_>) -> io::Result<S> {
     let start = Instant::now(run.rt)?;
     let set: S = taken(run.rt.alloc(), cursor)?;
-    run.tell(name, start, set.count(), "blocks")?;
+    run.report(name, start, set.count(), "blocks")?;
     Ok(set)
 }
 
@@ -217,5 +217,5 @@ fn measure_writing<S: Set>(run: Measured<'_>, set: &S) -> io::Result<()> {
     let mut octets = Vec::new(run.rt.alloc());
     let start = Instant::now(run.rt)?;
     set.append(&mut octets)?;
-    run.tell("encode", start, octets.len(), "octets")
+    run.report("encode", start, octets.len(), "octets")
 }

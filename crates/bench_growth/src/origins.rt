@@ -1,8 +1,8 @@
 //! Measurements of a table.
 use crate::made_routes::{self, Numbers};
-use roa_origin::{OriginTable, Validity};
+use roa_origin::{OriginTable, Validity, Vrp};
 use rpki_base::Asn;
-use rpki_prefix::{MaxLenPrefix, Prefix};
+use rpki_prefix::Prefix;
 use std::io;
 use std::time::Instant;
 
@@ -13,9 +13,9 @@ const SEED: u64 = 6811;
 const CHANGED: usize = 150;
 
 /// Makes VRPs, their table and routes, looks up each route, and changes the table.
-pub fn measure(rt: &HostRuntime, payloads: usize, routes: usize) -> io::Result<()> {
+pub fn measure(rt: &HostRuntime, vrps: usize, routes: usize) -> io::Result<()> {
     let mut numbers = Numbers::after(SEED);
-    let listed = made_routes::payloads(rt.alloc(), &mut numbers, payloads)?;
+    let listed = made_routes::vrps(rt.alloc(), &mut numbers, vrps)?;
     let asked = made_routes::routes(rt.alloc(), &mut numbers, &listed, routes)?;
     measure_table(rt, &mut numbers, &listed, &asked)
 }
@@ -23,7 +23,7 @@ pub fn measure(rt: &HostRuntime, payloads: usize, routes: usize) -> io::Result<(
 fn measure_table(
     rt: &HostRuntime,
     numbers: &mut Numbers,
-    listed: &[(MaxLenPrefix, Asn)],
+    listed: &[Vrp],
     asked: &[(Prefix, Asn)],
 ) -> io::Result<()> {
     let table = measure_building(rt, listed)?;
@@ -31,10 +31,10 @@ fn measure_table(
     measure_changes(rt, &table, numbers, listed)
 }
 
-fn measure_building(rt: &HostRuntime, listed: &[(MaxLenPrefix, Asn)]) -> io::Result<OriginTable> {
+fn measure_building(rt: &HostRuntime, listed: &[Vrp]) -> io::Result<OriginTable> {
     let start = Instant::now(rt)?;
     let table = OriginTable::new(rt.alloc(), listed)?;
-    tell(rt, "payloads", listed.len(), start)?;
+    report(rt, "VRPs", listed.len(), start)?;
     Ok(table)
 }
 
@@ -43,9 +43,9 @@ fn measure_changes(
     rt: &HostRuntime,
     table: &OriginTable,
     numbers: &mut Numbers,
-    listed: &[(MaxLenPrefix, Asn)],
+    listed: &[Vrp],
 ) -> io::Result<()> {
-    let announced = made_routes::payloads(rt.alloc(), numbers, CHANGED)?;
+    let announced = made_routes::vrps(rt.alloc(), numbers, CHANGED)?;
     measure_next(rt, table, &announced, listed.get(..CHANGED).unwrap_or(&[]))
 }
 
@@ -53,12 +53,12 @@ fn measure_changes(
 fn measure_next(
     rt: &HostRuntime,
     table: &OriginTable,
-    announced: &[(MaxLenPrefix, Asn)],
-    withdrawn: &[(MaxLenPrefix, Asn)],
+    announced: &[Vrp],
+    withdrawn: &[Vrp],
 ) -> io::Result<()> {
     let start = Instant::now(rt)?;
     match table.with_changes(rt.alloc(), announced, withdrawn) {
-        Ok(next) => tell(rt, "changed", next.len(), start),
+        Ok(next) => report(rt, "changed", next.len(), start),
         Err(fault) => eprintln!(rt; "{fault}"),
     }
 }
@@ -71,7 +71,7 @@ pub fn measure_routes(
 ) -> io::Result<()> {
     let start = Instant::now(rt)?;
     let counts = Counts::of(table, routes);
-    tell(rt, "routes", routes.len(), start)?;
+    report(rt, "routes", routes.len(), start)?;
     println!(rt;
         "{} routes: {} Valid, {} Invalid, {} NotFound, mark {}",
         routes.len(),
@@ -126,7 +126,7 @@ impl Counts {
 }
 
 /// Prints the time since the start.
-fn tell(rt: &HostRuntime, name: &str, count: usize, start: Instant) -> io::Result<()> {
+fn report(rt: &HostRuntime, name: &str, count: usize, start: Instant) -> io::Result<()> {
     let micros = start.elapsed(rt)?.as_micros();
     eprintln!(rt; "{name} {count} {micros}")
 }

@@ -1,2 +1,2 @@
+pub mod BoxWords
 pub mod Common
-pub mod Words

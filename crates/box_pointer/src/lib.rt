@@ -1,7 +1,7 @@
 //! A box as two parts, its pointer and its allocator, which can become the box again.
 //!
 //! A program that hands a value to code outside of Rattle needs this: that code keeps only the pointer.
-//! `route_calls::table::made_table` makes a handle from it:
+//! `pigyelund_routes::table::made_table` makes a handle from it:
 //!
 //! ```rust
 //! Ok(boxed) => Ok(BoxPointer::of(boxed)),

@@ -1,3 +1,3 @@
 pub mod Common
 pub mod RouteLemmas
-pub mod TableLemmas
+pub mod SortedPrefixLemmas

@@ -1,6 +1,6 @@
 -- Routes that are counted one after another.
 use Rattle.example_calls.proofs.Common.{List, [], arith, get_or, length, refl, take, ℕ, ◌++◌, ◌+◌, ◌<◌, ◌∙◌, ◌∷◌, ◌≡◌, ◌≤◌, length_push, AreThose}
-use Rattle.roa_origin.proofs.Merges.{stays_at}
+use Rattle.roa_origin.proofs.SortedMerge.{stays_at}
 
 -- how many elements P holds of
 abbrev AreSoMany : {X : Type 0} → (X → Type 0) → List X → ℕ → Type 0

@@ -5,7 +5,7 @@ use Rattle.rpki_prefix.specs.Values.{FamilyPrefix}
 use Rattle.rpki_resources.specs.Triples.{Triple}
 use Rattle.roa_check.specs.Inside.{IsFirstOutside}
 use Rattle.roa_origin.specs.Coverings.{AreThose}
-use Rattle.roa_origin.specs.Payloads.{Payload}
+use Rattle.roa_origin.specs.Vrps.{Vrp}
 use Rattle.roa_origin.specs.Validities.{IsRouteCovered, IsMatched}
 
 -- the model of a route: its prefix, and the number of the AS that originates it
@@ -13,13 +13,13 @@ abbrev pub Route : Type 0
 Route = FamilyPrefix × ℕ
 
 -- some VRP covers the route, and none matches it (RFC 6811, 2: 'Invalid')
-abbrev pub IsInvalid : List Payload → Route → Type 0
-IsInvalid payloads route = IsRouteCovered route.0 payloads × ¬ IsMatched route.0 route.1 payloads
+abbrev pub IsInvalid : List Vrp → Route → Type 0
+IsInvalid vrps route = IsRouteCovered route.0 vrps × ¬ IsMatched route.0 route.1 vrps
 
 -- this number of the routes is invalid; a repeated route counts each time
-abbrev pub IsCountOfInvalid : List Payload → List Route → ℕ → Type 0
-IsCountOfInvalid payloads routes count = (invalid : List Route) × AreThose (IsInvalid payloads) routes invalid × (count ≡ length invalid)
+abbrev pub IsCountOfInvalid : List Vrp → List Route → ℕ → Type 0
+IsCountOfInvalid vrps routes count = (invalid : List Route) × AreThose (IsInvalid vrps) routes invalid × (count ≡ length invalid)
 
--- the entry is the first one whose prefix isn't inside its family's set
+-- the prefix is the first one that isn't inside its family's set
 abbrev pub IsFirstExcess : Triple → List MaxLenValue → MaxLenValue → Type 0
-IsFirstExcess set entries entry = (at : ℕ) × IsFirstOutside set entries (Some at) × HoldsAt (λ e. e ≡ entry) entries at
+IsFirstExcess set prefixes prefix = (at : ℕ) × IsFirstOutside set prefixes (Some at) × HoldsAt (λ e. e ≡ prefix) prefixes at

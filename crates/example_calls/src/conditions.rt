@@ -27,7 +27,7 @@ pub fn between(one: Asn, other: Asn) -> AsRange
 }
 
 /// Returns the next AS number, or None after the last one. [`Asn::add`] requires a sum that is an AS number.
-pub fn behind(asn: Asn) -> Option<Asn>
+pub fn next_asn(asn: Asn) -> Option<Asn>
     ensures { MatchOption result (asn ≡ 4294967295) (λ next. next ≡ asn + 1) }
 {
     if asn == Asn::MAX {

@@ -1,14 +1,14 @@
 //! Reads blocks through a reader of the caller's own, and counts the reads.
 ghost use Rattle.std.specs.Prelude.{◌≡◌, ◌+◌, ◌^◌, ◌<◌, ◌≤◌, ◌↔◌, ℕ, length, IsTrue, None};
 ghost use Rattle.rpki_as_block.specs.Blocks.{as_bounds};
-ghost use Rattle.rpki_chains.specs.Sets.{Covers};
+ghost use Rattle.rpki_chain_core.specs.Sets.{Covers};
 ghost use Rattle.example_calls.specs.Notes.{last_read};
-ghost use Rattle.rpki_chains.specs.View.{chain_blocks, counted_blocks, reads_of};
+ghost use Rattle.rpki_chain_core.specs.View.{chain_blocks, counted_blocks, reads_of};
 
-use rpki_chains::chain::Chain;
-use rpki_chains::contains_item_counted;
-use rpki_chains::counted::Counted;
-use rpki_chains::reads::Reads;
+use rpki_chain_core::chain::Chain;
+use rpki_chain_core::contains_item_counted;
+use rpki_chain_core::counted::Counted;
+use rpki_chain_core::reads::Reads;
 use rpki_resources::repository::resources::{AsBlock, Asn};
 
 /// A chain of AS numbers that records which of its blocks was read last.

@@ -4,12 +4,12 @@ ghost use Rattle.std.specs.Prelude.{All, IfOk, MatchOption, reverse};
 ghost use Rattle.std.specs.List.Sorted.{IsNonDecreasingBy};
 ghost use Rattle.roa_check.specs.Inside.{IsPrefixInside};
 ghost use Rattle.roa_origin.specs.Coverings.{AreThose};
-ghost use Rattle.roa_origin.specs.Payloads.{CoversRoute, prefix_len};
+ghost use Rattle.roa_origin.specs.Vrps.{CoversRoute, prefix_len};
 ghost use Rattle.roa_origin.specs.Validities.{IsValidity};
 ghost use Rattle.example_calls.specs.Routes.{IsCountOfInvalid, IsFirstExcess};
 
 use roa_check::{Validity, origin, outside};
-use roa_origin::OriginTable;
+use roa_origin::{OriginTable, Vrp};
 use rpki_resources::repository::resources::ResourceSet;
 use rpki_resources::resources::addr::{MaxLenPrefix, Prefix};
 use rpki_resources::resources::asn::Asn;
@@ -17,10 +17,10 @@ use std::alloc::{AllocError, Allocator};
 
 /// Returns the validity of the route to a prefix that an AS originates, by a list of VRPs. The call needs no memory,
 /// and suits a single route.
-pub fn by_list(route: Prefix, asn: Asn, payloads: &[(MaxLenPrefix, Asn)]) -> Validity
-    ensures { IsValidity route asn payloads.now result }
+pub fn by_list(route: Prefix, asn: Asn, vrps: &[Vrp]) -> Validity
+    ensures { IsValidity route asn vrps.now result }
 {
-    origin(route, asn, payloads)
+    origin(route, asn, vrps)
 }
 
 /// Returns the same by a table of the list. A router makes such a table once, and uses it for many routes.
@@ -32,12 +32,12 @@ pub fn by_table<A: Allocator + Copy>(
     alloc: A,
     route: Prefix,
     asn: Asn,
-    payloads: &[(MaxLenPrefix, Asn)],
+    vrps: &[Vrp],
 ) -> Result<Validity, AllocError>
-    ensures { IfOk result (IsValidity route asn payloads.now) }
+    ensures { IfOk result (IsValidity route asn vrps.now) }
 {
     roa_origin::laws::laws_of_validities(); // so that the proof sees that the table's order doesn't matter
-    let table = OriginTable::new(alloc, payloads)?;
+    let table = OriginTable::new(alloc, vrps)?;
     Ok(table.origin(route, asn))
 }
 
@@ -64,15 +64,15 @@ pub fn explanation<A: Allocator>(
     alloc: A,
     table: &OriginTable<A>,
     route: Prefix,
-) -> Result<Vec<(MaxLenPrefix, Asn), A>, AllocError>
+) -> Result<Vec<Vrp, A>, AllocError>
     ensures covering { IfOk result (λ found.
         AreThose (CoversRoute route) table.now (reverse found.items)) }
     ensures longest_first { IfOk result (λ found.
         IsNonDecreasingBy prefix_len (reverse found.items)) }
 {
     let mut found = Vec::new(alloc);
-    for payload in table.covering(route) {
-        found.push(payload)?;
+    for vrp in table.covering(route) {
+        found.push(vrp)?;
     }
     Ok(found)
 }
@@ -81,13 +81,13 @@ pub fn explanation<A: Allocator>(
 /// returns None if each one is inside: the certificate then has all addresses of the authorization (RFC 9582, 5).
 pub fn excess<A: Allocator>(
     resources: &ResourceSet<A>,
-    entries: &[MaxLenPrefix],
+    prefixes: &[MaxLenPrefix],
 ) -> Option<MaxLenPrefix>
-    ensures { MatchOption result (All (λ entry. IsPrefixInside resources.now entry.prefix) entries.now)
-        (IsFirstExcess resources.now entries.now) }
+    ensures { MatchOption result (All (λ prefix. IsPrefixInside resources.now prefix.prefix) prefixes.now)
+        (IsFirstExcess resources.now prefixes.now) }
 {
-    match outside(resources, entries) {
-        Some(at) => Some(entries[at]),
+    match outside(resources, prefixes) {
+        Some(at) => Some(prefixes[at]),
         None => None,
     }
 }

@@ -18,7 +18,7 @@ pub fn printed_and_read<A: Allocator + Copy>(
 {
     let shown = set.as_v6();
     let text = format!(in alloc; "{shown}")?;
-    set.is_lawful();
+    set.recall_invariant();
     match IpBlocks::from_str(alloc, text.as_str()) {
         Ok(read) => Ok(read),
         Err(OrMemory::Memory(error)) => Err(error),

@@ -35,7 +35,7 @@ fn between<A: Allocator + Copy>(
     ensures changes { IfOk result (AreChanges gets.now had.now) }
     ensures leads { IfOk result (λ changes. LeadsTo had.now changes gets.now) }
 {
-    gets.is_lawful();
+    gets.recall_invariant();
     laws_of_changes();
     gets.difference(alloc, had)
 }

@@ -6,7 +6,7 @@ ghost use Rattle.lines_engine.specs.Run.{HasWritten, HasAnsweredLine, AnswersAll
 use crate::answers::Answers;
 use crate::device::{DeviceFault, Sink, Source};
 use crate::error::RunError;
-use rpki_text::line::cut_line;
+use rpki_text::line::cut_at_line_end;
 use std::alloc::{AllocError, Allocator};
 
 /// The bytes that one read asks for.
@@ -134,11 +134,11 @@ fn answer_lines<A: Allocator + Copy, L: Answers, W: Sink>(
         → BeginsAnswers (L.is_answer answers.now) (W.written writer.old) (W.written writer.new) text.now }
     ensures not_read { IsErrOf result RunError.Read → ⊥ }
 {
-    let mut told = String::new(alloc);
+    let mut answer = String::new(alloc);
     let mut rest = text;
     while !rest.is_empty() {
-        let (line, after) = cut_line(rest);
-        answer_line(alloc, answers, line, &mut told, writer)?;
+        let (line, after) = cut_at_line_end(rest);
+        answer_line(alloc, answers, line, &mut answer, writer)?;
         rest = after;
     }
     Ok(())

@@ -114,7 +114,7 @@ fn answer_pieces<A: Allocator + Copy, L: Answers, R: Source, W: Sink>(
     reader: &mut R,
     writer: &mut W,
 ) -> Result<Vec<u8, A>, RunError>
-    requires has_room { 0 < length piece.old }
+    requires not_empty { 0 < length piece.old }
     requires reader_clear { R.mark reader.old ≡ false }
     requires writer_clear { W.mark writer.old ≡ false }
     ensures unmarked { OnOk result ((R.mark reader.new ≡ R.mark reader.old)
@@ -137,7 +137,7 @@ fn answer_pieces<A: Allocator + Copy, L: Answers, R: Source, W: Sink>(
         (BeginsAnswers (L.is_answer answers.now) (W.written writer.old) (W.written writer.new)) }
 {
     let mut part = Vec::new(alloc);
-    let mut told = String::new(alloc);
+    let mut answer = String::new(alloc);
     let mut total: usize = 0;
     loop {
         let count = match reader.read(piece) {
@@ -156,7 +156,7 @@ fn answer_pieces<A: Allocator + Copy, L: Answers, R: Source, W: Sink>(
             answers,
             &mut part,
             &piece[..count],
-            &mut told,
+            &mut answer,
             writer,
         )?;
     }
@@ -190,7 +190,7 @@ fn answer_piece<A: Allocator + Copy, L: Answers, W: Sink>(
     ensures not_read { IsErrOf result RunError.Read → ⊥ }
 {
     let mut rest = piece;
-    while let Some((line, behind)) = cut_ended(rest) {
+    while let Some((line, behind)) = split_at_newline(rest) {
         answer_joined(alloc, answers, part, line, text, writer)?;
         rest = behind;
     }
@@ -261,12 +261,12 @@ fn answer_last<A: Allocator + Copy, L: Answers, W: Sink>(
     if part.is_empty() {
         return Ok(());
     }
-    let mut told = String::new(alloc);
-    answer_line(alloc, answers, part, &mut told, writer)
+    let mut answer = String::new(alloc);
+    answer_line(alloc, answers, part, &mut answer, writer)
 }
 
 /// The first line of a text without its end, and the text after that end, if the text has an end of line.
-fn cut_ended(text: &[u8]) -> Option<(&[u8], &[u8])>
+fn split_at_newline(text: &[u8]) -> Option<(&[u8], &[u8])>
     ensures { MatchOption result (HasNo 10 text.now) (λ cut. IsCutAt 10 text.now cut.0.now cut.1.now) }
 {
     let at = text.iter().position(|byte| *byte == b'\n')?;

@@ -1,6 +1,6 @@
 //! The error messages of the program.
 use lines_engine::error::RunError;
-use origins_engine::error::PayloadsError;
+use origins_lines::error::ReadVrpsError;
 use std::fmt;
 
 /// Why the program has no answer, or not all of them.
@@ -11,7 +11,7 @@ pub enum Failure<'a> {
     /// A file can't be opened.
     NotOpened(&'a str),
     /// The VRPs of a file could not be read.
-    Payloads(&'a str, PayloadsError),
+    Vrps(&'a str, ReadVrpsError),
     /// A step after reading the VRPs failed.
     Run(RunError),
 }
@@ -21,9 +21,9 @@ impl fmt::Display for Failure<'_> {
         match self {
             Failure::Words => f.write_str("the words behind the name can't be read"),
             Failure::NotOpened(name) => write!(f, "{name}: can't be opened"),
-            Failure::Payloads(name, PayloadsError::Read) => write!(f, "{name}: read failed"),
-            Failure::Payloads(name, PayloadsError::File(fault)) => write!(f, "{name}: {fault}"),
-            Failure::Payloads(_, PayloadsError::Memory) => f.write_str("out of memory"),
+            Failure::Vrps(name, ReadVrpsError::Read) => write!(f, "{name}: read failed"),
+            Failure::Vrps(name, ReadVrpsError::File(fault)) => write!(f, "{name}: {fault}"),
+            Failure::Vrps(_, ReadVrpsError::Memory) => f.write_str("out of memory"),
             Failure::Run(error) => write!(f, "{error}"),
         }
     }

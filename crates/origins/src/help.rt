@@ -4,14 +4,14 @@
 pub const VERSION: &str = "0.1.0";
 
 /// The forms of a call of the program.
-pub const USAGE: &str = "usage: origins [--why] [--check] PAYLOADS < ROUTES
-       origins --table [--of ASN] PAYLOADS
+pub const USAGE: &str = "usage: origins [--why] [--check] VRPS < ROUTES
+       origins --table [--of ASN] VRPS
        origins --diff OLD NEW
        origins --help | --version";
 
 /// The description of the program, its options and its exit statuses.
 pub const HELP: &str = "
-Validate the origin of BGP routes (RFC 6811) against validated ROA payloads (VRPs). PAYLOADS, OLD and
+Validate the origin of BGP routes (RFC 6811) against validated ROA payloads (VRPs). VRPS, OLD and
 NEW are files of VRPs, which rpki-client, FORT, Routinator or another validator wrote as CSV or JSON.
 The program prints one line for each line of ROUTES:
 

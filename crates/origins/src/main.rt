@@ -3,24 +3,24 @@
 
 ghost use Rattle.std.specs.Prelude.{◌≡◌, false, IfOk};
 
-mod counted;
 mod failure;
 mod help;
 mod options;
+mod vrp_count;
 
-use crate::counted::Counted;
 use crate::failure::Failure;
 use crate::help::{HELP, USAGE, VERSION};
 use crate::options::{Task, parse};
+use crate::vrp_count::Counted;
 use lines_engine::adapters::{FromRead, IntoWrite};
 use lines_engine::device::Source;
 use lines_engine::error::RunError;
-use origins_engine::error::{ChangesError, OriginsError};
-use origins_engine::retrying::Retrying;
-use origins_engine::routes::answer_routes;
-use origins_engine::tables::{write_changes, write_table};
-use origins_engine::until_end::UntilEnd;
-use origins_engine::watched::Watched;
+use origins_lines::check_sink::Watched;
+use origins_lines::error::{ChangesError, OriginsError};
+use origins_lines::retrying::Retrying;
+use origins_lines::routes::answer_routes;
+use origins_lines::tables::{write_changes, write_table};
+use origins_lines::until_end::UntilEnd;
 use rpki_base::Asn;
 use std::fs::File;
 use std::io::{BufWriter, Stdout};
@@ -61,20 +61,16 @@ fn fail(rt: &HostRuntime, failure: Failure<'_>) -> ExitCode {
 /// Performs `task`, and returns the exit status.
 fn serve<'a>(rt: &HostRuntime, task: Task<'a>) -> Result<u8, Failure<'a>> {
     match task {
-        Task::Answer {
-            payloads,
-            why,
-            check,
-        } => answer(rt, payloads, why, check),
-        Task::Table { payloads, of } => tell_table(rt, payloads, of),
-        Task::Changes { old, new } => tell_changes(rt, old, new),
-        Task::Help => told(println!(rt; "{USAGE}\n{HELP}")),
-        Task::Version => told(println!(rt; "origins, version {VERSION}")),
+        Task::Answer { vrps, why, check } => answer(rt, vrps, why, check),
+        Task::Table { vrps, of } => print_table(rt, vrps, of),
+        Task::Changes { old, new } => print_changes(rt, old, new),
+        Task::Help => status_after_print(println!(rt; "{USAGE}\n{HELP}")),
+        Task::Version => status_after_print(println!(rt; "origins, version {VERSION}")),
     }
 }
 
 /// Returns the exit status after a text was printed.
-fn told<'a>(printed: io::Result<()>) -> Result<u8, Failure<'a>> {
+fn status_after_print<'a>(printed: io::Result<()>) -> Result<u8, Failure<'a>> {
     match printed {
         Ok(()) => Ok(0),
         Err(_) => Err(Failure::Run(RunError::Write)),
@@ -84,36 +80,36 @@ fn told<'a>(printed: io::Result<()>) -> Result<u8, Failure<'a>> {
 /// Answers the routes of the standard input by the VRPs of a file. The file is closed before any route is read. If the
 /// standard input is closed, the file is then not taken for it.
 fn answer<'a>(rt: &HostRuntime, name: &'a str, why: bool, check: bool) -> Result<u8, Failure<'a>> {
-    let mut payloads = open(rt, name)?;
+    let mut vrps = open(rt, name)?;
     let mut routes = FromRead::new(Retrying::new(rt.stdin()));
     let mut writer = Watched::new(IntoWrite::new(buffered(rt)?));
-    match answer_routes(rt.alloc(), &mut payloads, why, &mut routes, &mut writer) {
+    match answer_routes(rt.alloc(), &mut vrps, why, &mut routes, &mut writer) {
         Ok(count) => {
             let _ = eprintln!(rt; "origins: {}", Counted(count));
             Ok(if check && writer.has_found() { 3 } else { 0 })
         }
-        Err(OriginsError::Payloads(error)) => Err(Failure::Payloads(name, error)),
+        Err(OriginsError::Vrps(error)) => Err(Failure::Vrps(name, error)),
         Err(OriginsError::Run(error)) => Err(Failure::Run(error)),
     }
 }
 
 /// Prints the VRPs of a file.
-fn tell_table<'a>(rt: &HostRuntime, name: &'a str, of: Option<u32>) -> Result<u8, Failure<'a>> {
+fn print_table<'a>(rt: &HostRuntime, name: &'a str, of: Option<u32>) -> Result<u8, Failure<'a>> {
     let of = of.map(Asn::from_u32);
-    let mut payloads = open(rt, name)?;
+    let mut vrps = open(rt, name)?;
     let mut writer = IntoWrite::new(buffered(rt)?);
-    match write_table(rt.alloc(), &mut payloads, of, &mut writer) {
+    match write_table(rt.alloc(), &mut vrps, of, &mut writer) {
         Ok(count) => {
             let _ = eprintln!(rt; "origins: {}", Counted(count));
             Ok(0)
         }
-        Err(OriginsError::Payloads(error)) => Err(Failure::Payloads(name, error)),
+        Err(OriginsError::Vrps(error)) => Err(Failure::Vrps(name, error)),
         Err(OriginsError::Run(error)) => Err(Failure::Run(error)),
     }
 }
 
 /// Prints the changes from one file to another.
-fn tell_changes<'a>(rt: &HostRuntime, old: &'a str, new: &'a str) -> Result<u8, Failure<'a>> {
+fn print_changes<'a>(rt: &HostRuntime, old: &'a str, new: &'a str) -> Result<u8, Failure<'a>> {
     let mut before = open(rt, old)?;
     let mut after = open(rt, new)?;
     let mut writer = IntoWrite::new(buffered(rt)?);
@@ -122,8 +118,8 @@ fn tell_changes<'a>(rt: &HostRuntime, old: &'a str, new: &'a str) -> Result<u8, 
             let _ = eprintln!(rt; "origins: {}, and then {next}", Counted(count));
             Ok(0)
         }
-        Err(ChangesError::Old(error)) => Err(Failure::Payloads(old, error)),
-        Err(ChangesError::New(error)) => Err(Failure::Payloads(new, error)),
+        Err(ChangesError::Old(error)) => Err(Failure::Vrps(old, error)),
+        Err(ChangesError::New(error)) => Err(Failure::Vrps(new, error)),
         Err(ChangesError::Run(error)) => Err(Failure::Run(error)),
     }
 }

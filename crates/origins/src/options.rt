@@ -9,7 +9,7 @@ pub enum Task<'a> {
     /// Answer routes by the VRPs of a file.
     Answer {
         /// The VRP file.
-        payloads: &'a str,
+        vrps: &'a str,
         /// Whether to print the VRPs that cover a route.
         why: bool,
         /// Whether the exit status reports an invalid route or a faulty line.
@@ -18,7 +18,7 @@ pub enum Task<'a> {
     /// Print the VRPs of a file.
     Table {
         /// The VRP file.
-        payloads: &'a str,
+        vrps: &'a str,
         /// The AS whose VRPs alone are printed, if one is requested.
         of: Option<u32>,
     },
@@ -130,13 +130,13 @@ fn with_name<'a>(names: Names<'a>, name: &'a str) -> Names<'a> {
 fn asked_for<'a>(options: Options, names: Names<'a>) -> Result<Task<'a>, Misuse<'a>> {
     let answers = options.why || options.check;
     match names {
-        Names::One(payloads) if options.table && !options.diff && !answers => Ok(Task::Table {
-            payloads,
+        Names::One(vrps) if options.table && !options.diff && !answers => Ok(Task::Table {
+            vrps,
             of: options.of,
         }),
-        Names::One(payloads) if !options.table && !options.diff && options.of.is_none() => {
+        Names::One(vrps) if !options.table && !options.diff && options.of.is_none() => {
             Ok(Task::Answer {
-                payloads,
+                vrps,
                 why: options.why,
                 check: options.check,
             })

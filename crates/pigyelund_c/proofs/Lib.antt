@@ -1,2 +1,2 @@
-pub mod CoverLemmas
-pub mod PathLemmas
+pub mod CertificatePathLemmas
+pub mod CoverExportLemmas

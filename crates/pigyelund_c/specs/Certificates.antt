@@ -7,8 +7,8 @@ use Rattle.rpki_extensions.specs.declared.extensions.Extensions.{Extensions}
 use Rattle.pigyelund_c.specs.Numbers.{addresses_there, mode_number, numbers_there, present_number}
 use Rattle.pigyelund_c.specs.declared.certificate.Certificate.{Certificate}
 use Rattle.pigyelund_c.specs.declared.encodings.Present.{Present}
-use Rattle.pigyelund_c.specs.declared.refusal.Misasked.{Misasked}
-use Rattle.pigyelund_c.specs.declared.refusal.Misasked.TheVariants.{NoEncoding, NoMode, NoPresence, NoFamily, Outside}
+use Rattle.pigyelund_c.specs.declared.refusal.ArgumentError.{ArgumentError}
+use Rattle.pigyelund_c.specs.declared.refusal.ArgumentError.TheVariants.{NoEncoding, NoMode, NoPresence, NoFamily, Outside}
 
 -- ---- as octets and numbers
 
@@ -22,30 +22,30 @@ pub record IsCertificate (present : ℕ) (numbers addresses : List ℕ) (encodin
   pub is_mode : mode ≡ mode_number certificate.mode
 
 -- The number of the extensions is invalid; if it is valid, the number of the mode is invalid.
-abbrev pub IsMisasked : ℕ → ℕ → Misasked → Type 0
-IsMisasked present mode NoPresence = (there : Present) → present ≢ present_number there
-IsMisasked present mode NoMode = ((there : Present) × (present ≡ present_number there)) × ((m : Overclaim) → mode ≢ mode_number m)
-IsMisasked present mode NoEncoding = ⊥
-IsMisasked present mode NoFamily = ⊥
-IsMisasked present mode Outside = ⊥
+abbrev pub IsArgumentError : ℕ → ℕ → ArgumentError → Type 0
+IsArgumentError present mode NoPresence = (there : Present) → present ≢ present_number there
+IsArgumentError present mode NoMode = ((there : Present) × (present ≡ present_number there)) × ((m : Overclaim) → mode ≢ mode_number m)
+IsArgumentError present mode NoEncoding = ⊥
+IsArgumentError present mode NoFamily = ⊥
+IsArgumentError present mode Outside = ⊥
 
 -- ---- as ranges of a run of octets
 
 -- Both ranges lie in the run.
 pub record LiesInRun (run : List ℕ) (c : Certificate) : Type 0 where
-  pub numbers : c.as_at + c.as_len ≤ length run
-  pub addresses : c.ip_at + c.ip_len ≤ length run
+  pub numbers : c.as_start + c.as_len ≤ length run
+  pub addresses : c.ip_start + c.ip_len ≤ length run
 
 -- The certificate has the octets of the two ranges.
 pub record IsCertificateAt (run : List ℕ) (encoding : Encoding) (c : Certificate) (certificate : Extensions) : Type 0 where
   pub inside : LiesInRun run c
-  pub says : IsCertificate c.present (slice_range run c.as_at (c.as_at + c.as_len))
-      (slice_range run c.ip_at (c.ip_at + c.ip_len)) encoding c.mode certificate
+  pub says : IsCertificate c.present (slice_range run c.as_start (c.as_start + c.as_len))
+      (slice_range run c.ip_start (c.ip_start + c.ip_len)) encoding c.mode certificate
 
 -- A range lies outside of the run; if both lie in it, a number is invalid.
-abbrev pub IsMisaskedAt : List ℕ → Certificate → Misasked → Type 0
-IsMisaskedAt run c Outside = (length run < c.as_at + c.as_len) ⊎ (length run < c.ip_at + c.ip_len)
-IsMisaskedAt run c NoPresence = LiesInRun run c × IsMisasked c.present c.mode NoPresence
-IsMisaskedAt run c NoMode = LiesInRun run c × IsMisasked c.present c.mode NoMode
-IsMisaskedAt run c NoEncoding = ⊥
-IsMisaskedAt run c NoFamily = ⊥
+abbrev pub IsArgumentErrorAt : List ℕ → Certificate → ArgumentError → Type 0
+IsArgumentErrorAt run c Outside = (length run < c.as_start + c.as_len) ⊎ (length run < c.ip_start + c.ip_len)
+IsArgumentErrorAt run c NoPresence = LiesInRun run c × IsArgumentError c.present c.mode NoPresence
+IsArgumentErrorAt run c NoMode = LiesInRun run c × IsArgumentError c.present c.mode NoMode
+IsArgumentErrorAt run c NoEncoding = ⊥
+IsArgumentErrorAt run c NoFamily = ⊥

@@ -10,12 +10,12 @@ use Rattle.rpki_der.specs.declared.family.AddressFamily.TheVariants.{Ipv4, Ipv6}
 use Rattle.rpki_resources.specs.Triples.{Triple, set_of_family}
 use Rattle.rpki_extensions.specs.declared.encoding.Encoding.{Encoding}
 use Rattle.pigyelund_c.specs.Numbers.{encoding_number}
-use Rattle.route_calls.specs.Families.{family_number}
+use Rattle.pigyelund_routes.specs.Families.{family_number}
 use Rattle.pigyelund_c.specs.Sets.{IsNoSet, IsSet}
-use Rattle.pigyelund_c.specs.Statuses.{misasked_status, unread_status}
-use Rattle.pigyelund_c.specs.declared.cover.Uncovered.{Uncovered}
-use Rattle.pigyelund_c.specs.declared.cover.Uncovered.TheVariants.{Asked, Unread}
-use Rattle.pigyelund_c.specs.declared.refusal.Misasked.TheVariants.{NoEncoding, NoFamily}
+use Rattle.pigyelund_c.specs.Statuses.{argument_error_status, read_set_error_status}
+use Rattle.pigyelund_c.specs.declared.cover.CoverError.{CoverError}
+use Rattle.pigyelund_c.specs.declared.cover.CoverError.TheVariants.{Asked, Unread}
+use Rattle.pigyelund_c.specs.declared.refusal.ArgumentError.TheVariants.{NoEncoding, NoFamily}
 
 -- A prefix: the octets of its address, and then its length. An IPv4 address is the first 32 of 128 bits.
 abbrev pub prefix_octets : AddressFamily → PrefixValue → List ℕ
@@ -41,13 +41,13 @@ IsCover addresses encoding family octets =
     (way : Encoding) × (encoding ≡ encoding_number way) × ((kind : AddressFamily) × (family ≡ family_number kind) × IsCoverIn way kind addresses octets)
 
 -- The number of the encoding is invalid, or else the number of the family is, or else the octets list no set.
-abbrev pub IsNoCover : List ℕ → ℕ → ℕ → Uncovered → Type 0
+abbrev pub IsNoCover : List ℕ → ℕ → ℕ → CoverError → Type 0
 IsNoCover addresses encoding family (Asked why) =
     ((why ≡ NoEncoding) × ((way : Encoding) → encoding ≢ encoding_number way))
     ⊎ ((why ≡ NoFamily) × ((way : Encoding) × (encoding ≡ encoding_number way)) × ((kind : AddressFamily) → family ≢ family_number kind))
 IsNoCover addresses encoding family (Unread reason) =
     (way : Encoding) × (encoding ≡ encoding_number way) × ((kind : AddressFamily) × (family ≡ family_number kind)) × IsNoSet way [] addresses reason
 
-abbrev pub uncovered_status : Uncovered → ℕ
-uncovered_status (Asked why) = misasked_status why
-uncovered_status (Unread reason) = unread_status reason
+abbrev pub cover_error_status : CoverError → ℕ
+cover_error_status (Asked why) = argument_error_status why
+cover_error_status (Unread reason) = read_set_error_status reason

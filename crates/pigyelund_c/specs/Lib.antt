@@ -6,5 +6,5 @@ pub mod Pairs
 pub mod Paths
 pub mod Sets
 pub mod Statuses
-pub mod Unverified
 pub mod Verified
+pub mod VerifyErrors

@@ -7,8 +7,8 @@ use Rattle.pigyelund_c.specs.Sets.{IsNoSet, IsSet}
 use Rattle.pigyelund_c.specs.declared.operations.Operation.{Operation}
 use Rattle.pigyelund_c.specs.declared.operations.Operation.TheVariants.{Union, Intersection, Difference}
 use Rattle.pigyelund_c.specs.declared.pair.Pair.{Pair}
-use Rattle.pigyelund_c.specs.declared.pair.Unpaired.{Unpaired}
-use Rattle.pigyelund_c.specs.declared.pair.Unpaired.TheVariants.{NoEncoding, First, Second}
+use Rattle.pigyelund_c.specs.declared.pair.ReadPairError.{ReadPairError}
+use Rattle.pigyelund_c.specs.declared.pair.ReadPairError.TheVariants.{NoEncoding, First, Second}
 
 -- ---- read
 
@@ -17,7 +17,7 @@ abbrev pub AreTwo : Encoding → List ℕ → List ℕ → List ℕ → List ℕ
 AreTwo encoding a_as a_ip b_as b_ip pair = IsSet encoding a_as a_ip pair.first × IsSet encoding b_as b_ip pair.second
 
 -- The first octets list no set; if they do, the second octets list no set.
-abbrev pub AreNotTwo : Encoding → List ℕ → List ℕ → List ℕ → List ℕ → Unpaired → Type 0
+abbrev pub AreNotTwo : Encoding → List ℕ → List ℕ → List ℕ → List ℕ → ReadPairError → Type 0
 AreNotTwo encoding a_as a_ip b_as b_ip NoEncoding = ⊥
 AreNotTwo encoding a_as a_ip b_as b_ip (First reason) = IsNoSet encoding a_as a_ip reason
 AreNotTwo encoding a_as a_ip b_as b_ip (Second reason) = ((a : Triple) × IsSet encoding a_as a_ip a) × IsNoSet encoding b_as b_ip reason
@@ -27,7 +27,7 @@ abbrev pub AreRead : List ℕ → List ℕ → List ℕ → List ℕ → ℕ →
 AreRead a_as a_ip b_as b_ip encoding pair = (way : Encoding) × (encoding ≡ encoding_number way) × AreTwo way a_as a_ip b_as b_ip pair
 
 -- The number is invalid, or there is such a reason.
-abbrev pub AreNotRead : List ℕ → List ℕ → List ℕ → List ℕ → ℕ → Unpaired → Type 0
+abbrev pub AreNotRead : List ℕ → List ℕ → List ℕ → List ℕ → ℕ → ReadPairError → Type 0
 AreNotRead a_as a_ip b_as b_ip encoding reason =
     ((reason ≡ NoEncoding) × ((e : Encoding) → encoding ≢ encoding_number e))
     ⊎ ((way : Encoding) × (encoding ≡ encoding_number way) × AreNotTwo way a_as a_ip b_as b_ip reason)

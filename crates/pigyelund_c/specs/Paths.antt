@@ -6,12 +6,12 @@ use Rattle.rpki_resources.specs.Triples.{Triple}
 use Rattle.rpki_extensions.specs.Issued.{IsVerified}
 use Rattle.rpki_extensions.specs.declared.encoding.Encoding.{Encoding}
 use Rattle.rpki_extensions.specs.declared.extensions.Extensions.{Extensions}
-use Rattle.pigyelund_c.specs.Certificates.{IsCertificateAt, IsMisaskedAt}
+use Rattle.pigyelund_c.specs.Certificates.{IsCertificateAt, IsArgumentErrorAt}
 use Rattle.pigyelund_c.specs.Numbers.{encoding_number}
 use Rattle.pigyelund_c.specs.Sets.{IsNoSet, IsSet}
-use Rattle.pigyelund_c.specs.Verified.{HasNoEncoding, IsToldUnverified, OfIssuer, OfMisasked}
+use Rattle.pigyelund_c.specs.Verified.{HasNoEncoding, IsVerifyRefusal, OfIssuer, OfArgumentError}
 use Rattle.pigyelund_c.specs.declared.certificate.Certificate.{Certificate}
-use Rattle.pigyelund_c.specs.declared.path.Stopped.{Stopped}
+use Rattle.pigyelund_c.specs.declared.path.PathError.{PathError}
 use Rattle.pigyelund_c.specs.declared.refusal.Refusal.{Refusal}
 
 -- The set is what one certificate claims of its issuer's set.
@@ -22,8 +22,8 @@ IsCertificateStep run encoding issuer c set =
 -- A range or a number of the certificate is invalid, or its issuer's set does not verify it.
 abbrev pub IsNoCertificateStep : List ℕ → Encoding → Triple → Certificate → Refusal → Type 0
 IsNoCertificateStep run encoding issuer c reason =
-    OfMisasked (IsMisaskedAt run c) reason
-    ⊎ ((certificate : Extensions) × IsCertificateAt run encoding c certificate × IsToldUnverified issuer certificate reason)
+    OfArgumentError (IsArgumentErrorAt run c) reason
+    ⊎ ((certificate : Extensions) × IsCertificateAt run encoding c certificate × IsVerifyRefusal issuer certificate reason)
 
 -- The set is what all certificates leave of the anchor's set. Each is verified by what the ones before it leave.
 abbrev pub IsLeftOnPath : List ℕ → Encoding → Triple → List Certificate → Triple → Type 0
@@ -31,10 +31,10 @@ IsLeftOnPath run encoding anchor [] set = set ≡ anchor
 IsLeftOnPath run encoding anchor (c ∷ cs) set = (next : Triple) × IsCertificateStep run encoding anchor c next × IsLeftOnPath run encoding next cs set
 
 -- The number of verified certificates, and the reason why the next one is not verified.
-abbrev pub IsFirstRefused : List ℕ → Encoding → Triple → List Certificate → Stopped → Type 0
-IsFirstRefused run encoding anchor cs stopped =
-    (c : Certificate) × (stopped.verified < length cs) × (slice_index_or cs stopped.verified c ≡ c)
-    × ((issuer : Triple) × IsLeftOnPath run encoding anchor (take stopped.verified cs) issuer × IsNoCertificateStep run encoding issuer c stopped.reason)
+abbrev pub IsFirstRefused : List ℕ → Encoding → Triple → List Certificate → PathError → Type 0
+IsFirstRefused run encoding anchor cs error =
+    (c : Certificate) × (error.verified < length cs) × (slice_index_or cs error.verified c ≡ c)
+    × ((issuer : Triple) × IsLeftOnPath run encoding anchor (take error.verified cs) issuer × IsNoCertificateStep run encoding issuer c error.reason)
 
 -- ---- from the anchor's octets
 
@@ -43,30 +43,30 @@ IsPathOutcomeIn anchor_as anchor_ip run cs encoding set =
     (anchor : Triple) × IsSet encoding anchor_as anchor_ip anchor × IsLeftOnPath run encoding anchor cs set
 
 -- The anchor's octets list no set, or a certificate is not verified.
-abbrev pub IsNoPathOutcomeIn : List ℕ → List ℕ → List ℕ → List Certificate → Encoding → Stopped → Type 0
-IsNoPathOutcomeIn anchor_as anchor_ip run cs encoding stopped =
-    ((stopped.verified ≡ 0) × OfIssuer (IsNoSet encoding anchor_as anchor_ip) stopped.reason)
-    ⊎ ((anchor : Triple) × IsSet encoding anchor_as anchor_ip anchor × IsFirstRefused run encoding anchor cs stopped)
+abbrev pub IsNoPathOutcomeIn : List ℕ → List ℕ → List ℕ → List Certificate → Encoding → PathError → Type 0
+IsNoPathOutcomeIn anchor_as anchor_ip run cs encoding error =
+    ((error.verified ≡ 0) × OfIssuer (IsNoSet encoding anchor_as anchor_ip) error.reason)
+    ⊎ ((anchor : Triple) × IsSet encoding anchor_as anchor_ip anchor × IsFirstRefused run encoding anchor cs error)
 
 abbrev pub IsPathOutcome : List ℕ → List ℕ → List ℕ → List Certificate → ℕ → Triple → Type 0
 IsPathOutcome anchor_as anchor_ip run cs encoding set =
     (way : Encoding) × (encoding ≡ encoding_number way) × IsPathOutcomeIn anchor_as anchor_ip run cs way set
 
-abbrev pub IsNoPathOutcome : List ℕ → List ℕ → List ℕ → List Certificate → ℕ → Stopped → Type 0
-IsNoPathOutcome anchor_as anchor_ip run cs encoding stopped =
-    ((stopped.verified ≡ 0) × HasNoEncoding encoding stopped.reason)
-    ⊎ ((way : Encoding) × (encoding ≡ encoding_number way) × IsNoPathOutcomeIn anchor_as anchor_ip run cs way stopped)
+abbrev pub IsNoPathOutcome : List ℕ → List ℕ → List ℕ → List Certificate → ℕ → PathError → Type 0
+IsNoPathOutcome anchor_as anchor_ip run cs encoding error =
+    ((error.verified ≡ 0) × HasNoEncoding encoding error.reason)
+    ⊎ ((way : Encoding) × (encoding ≡ encoding_number way) × IsNoPathOutcomeIn anchor_as anchor_ip run cs way error)
 
 -- ---- reported
 
 -- The number of verified certificates: all n with a set, and 0 if memory runs out.
-abbrev pub verified_count : ℕ → Result Triple (OrMemory Stopped) → ℕ
+abbrev pub verified_count : ℕ → Result Triple (OrMemory PathError) → ℕ
 verified_count n (Ok set) = n
-verified_count n (Err (Refused stopped)) = stopped.verified
+verified_count n (Err (Refused error)) = error.verified
 verified_count n (Err (Memory error)) = 0
 
 -- The outcome without this number.
-abbrev pub outcome_alone : Result Triple (OrMemory Stopped) → Result Triple (OrMemory Refusal)
+abbrev pub outcome_alone : Result Triple (OrMemory PathError) → Result Triple (OrMemory Refusal)
 outcome_alone (Ok set) = Ok set
-outcome_alone (Err (Refused stopped)) = Err (Refused stopped.reason)
+outcome_alone (Err (Refused error)) = Err (Refused error.reason)
 outcome_alone (Err (Memory error)) = Err (Memory error)

@@ -5,9 +5,9 @@ use Rattle.rpki_resources.specs.Triples.{AreListed, IsOneInherited, Triple}
 use Rattle.rpki_extensions.specs.Claims.{AreAddressClaims, HasAddressesFault, HasNumbersFault, IsNumbersClaim}
 use Rattle.rpki_extensions.specs.Written.{written_addresses, written_numbers}
 use Rattle.rpki_extensions.specs.declared.encoding.Encoding.{Encoding}
-use Rattle.route_calls.specs.Told.{IsPut}
-use Rattle.pigyelund_c.specs.declared.refusal.Unread.{Unread}
-use Rattle.pigyelund_c.specs.declared.refusal.Unread.TheVariants.{Numbers, Addresses, Inherited}
+use Rattle.pigyelund_routes.specs.Written.{IsPut}
+use Rattle.pigyelund_c.specs.declared.refusal.ReadSetError.{ReadSetError}
+use Rattle.pigyelund_c.specs.declared.refusal.ReadSetError.TheVariants.{Numbers, Addresses, Inherited}
 
 -- ---- read
 
@@ -33,7 +33,7 @@ pub record AreInherited (encoding : Encoding) (numbers addresses : List ℕ) : T
   pub inherited : IsOneInherited asn ip.0 ip.1
 
 -- The first reason why the octets list no set.
-abbrev pub IsNoSet : Encoding → List ℕ → List ℕ → Unread → Type 0
+abbrev pub IsNoSet : Encoding → List ℕ → List ℕ → ReadSetError → Type 0
 IsNoSet encoding numbers addresses (Numbers fault) = HasNumbersFault encoding (some_octets numbers) fault
 IsNoSet encoding numbers addresses (Addresses fault) =
     ((asn : Claim) × IsNumbersClaim encoding (some_octets numbers) asn) × HasAddressesFault encoding (some_octets addresses) fault
@@ -56,8 +56,8 @@ ip_value t = octets_or_none (written_addresses t.ipv4 t.ipv6)
 
 -- A status and a set are returned. The set is written whole, or the buffers are unchanged. If they are unchanged, the
 -- status is 1 and the lengths are the required ones, or the status is 2 and the lengths are 0.
-abbrev pub IsTold : ℕ → Triple → List ℕ → List ℕ → List ℕ → List ℕ → ℕ → ℕ → ℕ → Type 0
-IsTold status set as_before ip_before as_after ip_after as_len ip_len result =
+abbrev pub IsSetReturned : ℕ → Triple → List ℕ → List ℕ → List ℕ → List ℕ → ℕ → ℕ → ℕ → Type 0
+IsSetReturned status set as_before ip_before as_after ip_after as_len ip_len result =
     ((result ≡ 2) × (as_after ≡ as_before) × (ip_after ≡ ip_before) × (as_len ≡ 0) × (ip_len ≡ 0))
     ⊎ (((result ≡ 1) × (as_after ≡ as_before) × (ip_after ≡ ip_before)
     × (as_len ≡ length (as_value set)) × (ip_len ≡ length (ip_value set))

@@ -2,26 +2,26 @@
 -- 4), and the reasons why an issuer does not verify them.
 use Rattle.std.specs.Prelude.{◌≡◌, ◌≢◌, ◌⊎◌, ℕ, List}
 use Rattle.rpki_resources.specs.Triples.{Triple}
-use Rattle.rpki_extensions.specs.Issued.{IsUnverified, IsVerified}
+use Rattle.rpki_extensions.specs.Issued.{HasVerifyError, IsVerified}
 use Rattle.rpki_extensions.specs.declared.encoding.Encoding.{Encoding}
 use Rattle.rpki_extensions.specs.declared.extensions.Extensions.{Extensions}
-use Rattle.pigyelund_c.specs.Certificates.{IsCertificate, IsMisasked}
+use Rattle.pigyelund_c.specs.Certificates.{IsCertificate, IsArgumentError}
 use Rattle.pigyelund_c.specs.Numbers.{encoding_number}
 use Rattle.pigyelund_c.specs.Sets.{IsNoSet, IsSet}
-use Rattle.pigyelund_c.specs.declared.refusal.Misasked.{Misasked}
-use Rattle.pigyelund_c.specs.declared.refusal.Misasked.TheVariants.{NoEncoding}
+use Rattle.pigyelund_c.specs.declared.refusal.ArgumentError.{ArgumentError}
+use Rattle.pigyelund_c.specs.declared.refusal.ArgumentError.TheVariants.{NoEncoding}
 use Rattle.pigyelund_c.specs.declared.refusal.Refusal.{Refusal}
 use Rattle.pigyelund_c.specs.declared.refusal.Refusal.TheVariants.{Asked, Issuer, Unverified}
-use Rattle.pigyelund_c.specs.declared.refusal.Unread.{Unread}
+use Rattle.pigyelund_c.specs.declared.refusal.ReadSetError.{ReadSetError}
 
 -- ---- a certificate
 
 -- The issuer's set does not verify the certificate, for the given reason: there are no claims, or they list more than
 -- the issuer has.
-abbrev pub IsToldUnverified : Triple → Extensions → Refusal → Type 0
-IsToldUnverified issuer certificate (Asked why) = ⊥
-IsToldUnverified issuer certificate (Issuer reason) = ⊥
-IsToldUnverified issuer certificate (Unverified reason) = IsUnverified issuer certificate reason
+abbrev pub IsVerifyRefusal : Triple → Extensions → Refusal → Type 0
+IsVerifyRefusal issuer certificate (Asked why) = ⊥
+IsVerifyRefusal issuer certificate (Issuer reason) = ⊥
+IsVerifyRefusal issuer certificate (Unverified reason) = HasVerifyError issuer certificate reason
 
 -- ---- of an issuer's set that is octets
 
@@ -31,7 +31,7 @@ IsLeftByOctets issuer_as issuer_ip encoding certificate set =
     (issuer : Triple) × IsSet encoding issuer_as issuer_ip issuer × IsVerified issuer certificate set
 
 -- P holds for the error in the issuer's octets.
-abbrev pub OfIssuer : (Unread → Type 0) → Refusal → Type 0
+abbrev pub OfIssuer : (ReadSetError → Type 0) → Refusal → Type 0
 OfIssuer P (Asked why) = ⊥
 OfIssuer P (Issuer reason) = P reason
 OfIssuer P (Unverified reason) = ⊥
@@ -40,15 +40,15 @@ OfIssuer P (Unverified reason) = ⊥
 abbrev pub IsNotLeftByOctets : List ℕ → List ℕ → Encoding → Extensions → Refusal → Type 0
 IsNotLeftByOctets issuer_as issuer_ip encoding certificate reason =
     OfIssuer (IsNoSet encoding issuer_as issuer_ip) reason
-    ⊎ ((issuer : Triple) × IsSet encoding issuer_as issuer_ip issuer × IsToldUnverified issuer certificate reason)
+    ⊎ ((issuer : Triple) × IsSet encoding issuer_as issuer_ip issuer × IsVerifyRefusal issuer certificate reason)
 
 -- ---- and of a certificate that is octets and numbers
 
 -- P holds for an invalid number.
-abbrev pub OfMisasked : (Misasked → Type 0) → Refusal → Type 0
-OfMisasked P (Asked why) = P why
-OfMisasked P (Issuer reason) = ⊥
-OfMisasked P (Unverified reason) = ⊥
+abbrev pub OfArgumentError : (ArgumentError → Type 0) → Refusal → Type 0
+OfArgumentError P (Asked why) = P why
+OfArgumentError P (Issuer reason) = ⊥
+OfArgumentError P (Unverified reason) = ⊥
 
 abbrev pub IsOutcomeIn : List ℕ → List ℕ → ℕ → List ℕ → List ℕ → Encoding → ℕ → Triple → Type 0
 IsOutcomeIn issuer_as issuer_ip present cert_as cert_ip encoding mode set =
@@ -58,7 +58,7 @@ IsOutcomeIn issuer_as issuer_ip present cert_as cert_ip encoding mode set =
 -- A number is invalid, or there is such a reason.
 abbrev pub IsNoOutcomeIn : List ℕ → List ℕ → ℕ → List ℕ → List ℕ → Encoding → ℕ → Refusal → Type 0
 IsNoOutcomeIn issuer_as issuer_ip present cert_as cert_ip encoding mode reason =
-    OfMisasked (IsMisasked present mode) reason
+    OfArgumentError (IsArgumentError present mode) reason
     ⊎ ((certificate : Extensions) × IsCertificate present cert_as cert_ip encoding mode certificate
     × IsNotLeftByOctets issuer_as issuer_ip encoding certificate reason)
 

@@ -1,9 +1,9 @@
 //! A certificate's extensions as a caller passes them.
 ghost use Rattle.std.specs.Prelude.{◌≡◌, ◌+◌, ◌<◌, ◌≤◌, length, slice_range, MatchOption, MatchResult};
-ghost use Rattle.pigyelund_c.specs.Certificates.{IsCertificate, IsCertificateAt, IsMisasked, IsMisaskedAt};
+ghost use Rattle.pigyelund_c.specs.Certificates.{IsCertificate, IsCertificateAt, IsArgumentError, IsArgumentErrorAt};
 
 use crate::encodings::{mode_of, present_of};
-use crate::refusal::Misasked;
+use crate::refusal::ArgumentError;
 use rpki_extensions::encoding::Encoding;
 use rpki_extensions::extensions::Extensions;
 
@@ -16,15 +16,15 @@ pub(crate) fn extensions_of<'a>(
     addresses: &'a [u8],
     encoding: Encoding,
     mode: u32,
-) -> Result<Extensions<'a>, Misasked>
+) -> Result<Extensions<'a>, ArgumentError>
     ensures { MatchResult result (IsCertificate present numbers.now addresses.now encoding mode)
-        (IsMisasked present mode) }
+        (IsArgumentError present mode) }
 {
     let Some(present) = present_of(present) else {
-        return Err(Misasked::NoPresence);
+        return Err(ArgumentError::NoPresence);
     };
     let Some(mode) = mode_of(mode) else {
-        return Err(Misasked::NoMode);
+        return Err(ArgumentError::NoMode);
     };
     Ok(Extensions {
         numbers: present.numbers(numbers),
@@ -36,17 +36,17 @@ pub(crate) fn extensions_of<'a>(
 
 /// A certificate of a path: the ranges of its extensions in a run of octets, and two numbers.
 ///
-/// The ranges are `as_len` octets from `as_at` and `ip_len` octets from `ip_at`. Both lie in the run, also that of an
-/// absent extension.
+/// The ranges are `as_len` octets from `as_start` and `ip_len` octets from `ip_start`. Both lie in the run, also that
+/// of an absent extension.
 #[repr(C)]
 #[derive(Clone, Copy)]
 pub struct Certificate {
     /// Index of the first octet of AS identifiers, from 0.
-    pub as_at: usize,
+    pub as_start: usize,
     /// Number of octets of AS identifiers.
     pub as_len: usize,
     /// Index of the first octet of IP address blocks, from 0.
-    pub ip_at: usize,
+    pub ip_start: usize,
     /// Number of octets of IP address blocks.
     pub ip_len: usize,
     /// Extensions that are present: 1 for AS identifiers, 2 for IP address blocks, 3 for both, 0 for neither.
@@ -64,15 +64,15 @@ impl Certificate {
         &self,
         run: &'a [u8],
         encoding: Encoding,
-    ) -> Result<Extensions<'a>, Misasked>
+    ) -> Result<Extensions<'a>, ArgumentError>
         ensures { MatchResult result (IsCertificateAt run.now encoding self.now)
-            (IsMisaskedAt run.now self.now) }
+            (IsArgumentErrorAt run.now self.now) }
     {
-        let Some(numbers) = octets_at(run, self.as_at, self.as_len) else {
-            return Err(Misasked::Outside);
+        let Some(numbers) = octets_at(run, self.as_start, self.as_len) else {
+            return Err(ArgumentError::Outside);
         };
-        let Some(addresses) = octets_at(run, self.ip_at, self.ip_len) else {
-            return Err(Misasked::Outside);
+        let Some(addresses) = octets_at(run, self.ip_start, self.ip_len) else {
+            return Err(ArgumentError::Outside);
         };
         extensions_of(self.present, numbers, addresses, encoding, self.mode)
     }

@@ -2,13 +2,13 @@
 ghost use Rattle.std.specs.Prelude.{◌≡◌, [], ◌++◌, IfOk, OnOk, MatchResult};
 ghost use Rattle.rpki_text.specs.Memory.{IfRefused};
 ghost use Rattle.rpki_der.specs.declared.family.AddressFamily.TheVariants.{Ipv4, Ipv6};
-ghost use Rattle.pigyelund_c.specs.Covers.{IsCoverIn, IsCover, IsNoCover, AreCoverOctets, prefix_octets, uncovered_status};
+ghost use Rattle.pigyelund_c.specs.Covers.{IsCoverIn, IsCover, IsNoCover, AreCoverOctets, prefix_octets, cover_error_status};
 ghost use Rattle.pigyelund_c.specs.Sets.{IsNoSet};
 
 use crate::encodings::encoding_of;
 use crate::read::set_of;
-use crate::refusal::{Misasked, Unread};
-use route_calls::family::family_of;
+use crate::refusal::{ArgumentError, ReadSetError};
+use pigyelund_routes::family::family_of;
 use rpki_extensions::encoding::Encoding;
 use rpki_family::blocks::FamilyBlocks;
 use rpki_family::family::Family;
@@ -18,21 +18,21 @@ use std::alloc::{AllocError, Global};
 
 /// Reason why there is no cover.
 #[derive(Drop)]
-pub(crate) enum Uncovered {
+pub(crate) enum CoverError {
     /// A number that the caller passed is invalid.
-    Asked(Misasked),
+    Asked(ArgumentError),
     /// The octets list no set.
-    Unread(Unread),
+    Unread(ReadSetError),
 }
 
-impl Uncovered {
+impl CoverError {
     /// Returns the status of this reason.
     pub(crate) fn status(&self) -> u32
-        ensures { result ≡ uncovered_status self.now }
+        ensures { result ≡ cover_error_status self.now }
     {
         match self {
-            Uncovered::Asked(reason) => reason.status(),
-            Uncovered::Unread(reason) => reason.status(),
+            CoverError::Asked(reason) => reason.status(),
+            CoverError::Unread(reason) => reason.status(),
         }
     }
 }
@@ -86,7 +86,7 @@ fn cover_in(
     addresses: &[u8],
     encoding: Encoding,
     family: AddressFamily,
-) -> Result<Vec<u8, Global>, OrMemory<Unread>>
+) -> Result<Vec<u8, Global>, OrMemory<ReadSetError>>
     ensures { MatchResult result
         (λ octets. IsCoverIn encoding family addresses.now octets.items)
         (IfRefused (IsNoSet encoding [] addresses.now)) }
@@ -105,19 +105,19 @@ pub(crate) fn cover(
     addresses: &[u8],
     encoding: u32,
     family: u32,
-) -> Result<Vec<u8, Global>, OrMemory<Uncovered>>
+) -> Result<Vec<u8, Global>, OrMemory<CoverError>>
     ensures { MatchResult result (λ octets. IsCover addresses.now encoding family octets.items)
         (IfRefused (IsNoCover addresses.now encoding family)) }
 {
     let Some(encoding) = encoding_of(encoding) else {
-        return Err(OrMemory::Refused(Uncovered::Asked(Misasked::NoEncoding)));
+        return Err(OrMemory::Refused(CoverError::Asked(ArgumentError::NoEncoding)));
     };
     let Some(family) = family_of(family) else {
-        return Err(OrMemory::Refused(Uncovered::Asked(Misasked::NoFamily)));
+        return Err(OrMemory::Refused(CoverError::Asked(ArgumentError::NoFamily)));
     };
     match cover_in(alloc, addresses, encoding, family) {
         Ok(octets) => Ok(octets),
-        Err(OrMemory::Refused(reason)) => Err(OrMemory::Refused(Uncovered::Unread(reason))),
+        Err(OrMemory::Refused(reason)) => Err(OrMemory::Refused(CoverError::Unread(reason))),
         Err(OrMemory::Memory(error)) => Err(OrMemory::Memory(error)),
     }
 }

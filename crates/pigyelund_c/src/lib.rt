@@ -5,31 +5,31 @@
 //! of RFC 3779: AS identifiers (3.2.3) and IP address blocks (2.2.3). Length 0 means that the set has no resources of
 //! that kind. No call has a precondition in its contract: invalid arguments are rejected.
 //!
-//! This is the body of `pg_verify_path`:
+//! This is the body of `pigy_verify_path`:
 //!
 //! ```rust
 //! let outcome = path_answered(alloc, anchor_as, anchor_ip, run, encoding, certificates);
 //! let (count, outcome) = counted(certificates, outcome);
 //! *verified = count;
-//! tell_outcome(alloc, outcome, as_out, ip_out, as_len, ip_len)
+//! write_outcome(alloc, outcome, as_out, ip_out, as_len, ip_len)
 //! ```
 #![tactic(auto)]
 
-mod ask;
 mod certificate;
 mod cover;
-mod covers;
+mod cover_exports;
 mod encodings;
-mod lines;
+mod line_exports;
 mod operations;
-mod origins;
+mod origin_exports;
 mod outcome;
 mod pair;
 mod path;
 mod read;
 mod refusal;
-mod sets;
+mod set_exports;
 mod status;
-mod tables;
-mod tell;
-mod verify;
+mod table_exports;
+mod verification;
+mod verify_exports;
+mod write;

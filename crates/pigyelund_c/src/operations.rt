@@ -4,7 +4,7 @@ ghost use Rattle.rpki_text.specs.Memory.{IfRefused};
 ghost use Rattle.rpki_resources.specs.Triples.{HasEachOf};
 ghost use Rattle.pigyelund_c.specs.Pairs.{AreNotRead, AreSame, IsBy, IsMade, IsTested};
 
-use crate::pair::{Unpaired, pair_of};
+use crate::pair::{ReadPairError, pair_of};
 use rpki_resources::OrMemory;
 use rpki_resources::repository::resources::ResourceSet;
 use std::alloc::{AllocError, Global};
@@ -44,7 +44,7 @@ pub(crate) fn made(
     b_as: &[u8],
     b_ip: &[u8],
     encoding: u32,
-) -> Result<ResourceSet, OrMemory<Unpaired>>
+) -> Result<ResourceSet, OrMemory<ReadPairError>>
     ensures { MatchResult result
         (IsMade (IsBy operation) a_as.now a_ip.now b_as.now b_ip.now encoding)
         (IfRefused (AreNotRead a_as.now a_ip.now b_as.now b_ip.now encoding)) }
@@ -66,7 +66,7 @@ pub(crate) fn has_each(
     b_as: &[u8],
     b_ip: &[u8],
     encoding: u32,
-) -> Result<bool, OrMemory<Unpaired>>
+) -> Result<bool, OrMemory<ReadPairError>>
     ensures { MatchResult result
         (IsTested HasEachOf a_as.now a_ip.now b_as.now b_ip.now encoding)
         (IfRefused (AreNotRead a_as.now a_ip.now b_as.now b_ip.now encoding)) }
@@ -85,7 +85,7 @@ pub(crate) fn are_same(
     b_as: &[u8],
     b_ip: &[u8],
     encoding: u32,
-) -> Result<bool, OrMemory<Unpaired>>
+) -> Result<bool, OrMemory<ReadPairError>>
     ensures { MatchResult result
         (IsTested AreSame a_as.now a_ip.now b_as.now b_ip.now encoding)
         (IfRefused (AreNotRead a_as.now a_ip.now b_as.now b_ip.now encoding)) }

@@ -1,11 +1,11 @@
 //! The report of an outcome to the caller.
 ghost use Rattle.std.specs.Prelude.{◌≡◌, IfOk};
-ghost use Rattle.pigyelund_c.specs.Sets.{IsTold};
-ghost use Rattle.pigyelund_c.specs.Statuses.{status_of, told_set};
+ghost use Rattle.pigyelund_c.specs.Sets.{IsSetReturned};
+ghost use Rattle.pigyelund_c.specs.Statuses.{status_of, returned_set};
 
 use crate::refusal::Refusal;
 use crate::status;
-use crate::tell::tell;
+use crate::write::write_set;
 use rpki_resources::OrMemory;
 use rpki_resources::repository::resources::ResourceSet;
 use std::alloc::{AllocError, Global};
@@ -13,8 +13,10 @@ use std::alloc::{AllocError, Global};
 /// Returns the status of an outcome, and the set that is returned with it.
 ///
 /// Returns `AllocError` if std cannot share the overclaimed resources.
-fn told(outcome: Result<ResourceSet, OrMemory<Refusal>>) -> Result<(u32, ResourceSet), AllocError>
-    ensures { IfOk result (λ pair. pair ≡ (status_of outcome, told_set outcome)) }
+fn status_and_set(
+    outcome: Result<ResourceSet, OrMemory<Refusal>>,
+) -> Result<(u32, ResourceSet), AllocError>
+    ensures { IfOk result (λ pair. pair ≡ (status_of outcome, returned_set outcome)) }
 {
     match outcome {
         Ok(set) => Ok((status::OK, set)),
@@ -27,7 +29,7 @@ fn told(outcome: Result<ResourceSet, OrMemory<Refusal>>) -> Result<(u32, Resourc
 }
 
 /// Reports the status of an outcome, and its set or the overclaimed resources.
-pub(crate) fn tell_outcome(
+pub(crate) fn write_outcome(
     alloc: Global,
     outcome: Result<ResourceSet, OrMemory<Refusal>>,
     as_out: &mut [u8],
@@ -35,11 +37,11 @@ pub(crate) fn tell_outcome(
     as_len: &mut usize,
     ip_len: &mut usize,
 ) -> u32
-    ensures { IsTold (status_of outcome) (told_set outcome) as_out.old ip_out.old as_out.new
+    ensures { IsSetReturned (status_of outcome) (returned_set outcome) as_out.old ip_out.old as_out.new
         ip_out.new as_len.new ip_len.new result }
 {
-    match told(outcome) {
-        Ok((status, set)) => tell(alloc, status, &set, as_out, ip_out, as_len, ip_len),
+    match status_and_set(outcome) {
+        Ok((status, set)) => write_set(alloc, status, &set, as_out, ip_out, as_len, ip_len),
         Err(_) => {
             *as_len = 0;
             *ip_len = 0;

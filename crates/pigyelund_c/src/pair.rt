@@ -2,11 +2,11 @@
 ghost use Rattle.std.specs.Prelude.{◌≡◌, MatchResult};
 ghost use Rattle.rpki_text.specs.Memory.{IfRefused};
 ghost use Rattle.pigyelund_c.specs.Pairs.{AreNotRead, AreNotTwo, AreRead, AreTwo};
-ghost use Rattle.pigyelund_c.specs.PairStatuses.{made_set, made_status, test_status, unpaired_status};
+ghost use Rattle.pigyelund_c.specs.PairStatuses.{made_set, made_status, test_status, read_pair_error_status};
 
 use crate::encodings::encoding_of;
 use crate::read::set_of;
-use crate::refusal::Unread;
+use crate::refusal::ReadSetError;
 use crate::status;
 use rpki_extensions::encoding::Encoding;
 use rpki_resources::repository::resources::ResourceSet;
@@ -22,24 +22,24 @@ pub(crate) struct Pair {
 
 /// Reason why the octets of two sets are not two sets.
 #[derive(Drop)]
-pub(crate) enum Unpaired {
+pub(crate) enum ReadPairError {
     /// The number of the encoding is invalid.
     NoEncoding,
     /// The octets of the first list no set.
-    First(Unread),
+    First(ReadSetError),
     /// The octets of the second list no set.
-    Second(Unread),
+    Second(ReadSetError),
 }
 
-impl Unpaired {
+impl ReadPairError {
     /// Returns the status of this reason.
     fn status(&self) -> u32
-        ensures { result ≡ unpaired_status self.now }
+        ensures { result ≡ read_pair_error_status self.now }
     {
         match self {
-            Unpaired::NoEncoding => status::BAD_ENCODING,
-            Unpaired::First(reason) => reason.status(),
-            Unpaired::Second(reason) => status::SECOND + reason.status(),
+            ReadPairError::NoEncoding => status::BAD_ENCODING,
+            ReadPairError::First(reason) => reason.status(),
+            ReadPairError::Second(reason) => status::SECOND + reason.status(),
         }
     }
 }
@@ -55,17 +55,17 @@ fn two(
     b_as: &[u8],
     b_ip: &[u8],
     encoding: Encoding,
-) -> Result<Pair, OrMemory<Unpaired>>
+) -> Result<Pair, OrMemory<ReadPairError>>
     ensures { MatchResult result (AreTwo encoding a_as.now a_ip.now b_as.now b_ip.now)
         (IfRefused (AreNotTwo encoding a_as.now a_ip.now b_as.now b_ip.now)) }
 {
     let first = refused_as(
         set_of(alloc, a_as, a_ip, encoding),
-        |reason| Unpaired::First(reason),
+        |reason| ReadPairError::First(reason),
     )?;
     let second = refused_as(
         set_of(alloc, b_as, b_ip, encoding),
-        |reason| Unpaired::Second(reason),
+        |reason| ReadPairError::Second(reason),
     )?;
     Ok(Pair { first, second })
 }
@@ -78,18 +78,20 @@ pub(crate) fn pair_of(
     b_as: &[u8],
     b_ip: &[u8],
     encoding: u32,
-) -> Result<Pair, OrMemory<Unpaired>>
+) -> Result<Pair, OrMemory<ReadPairError>>
     ensures { MatchResult result (AreRead a_as.now a_ip.now b_as.now b_ip.now encoding)
         (IfRefused (AreNotRead a_as.now a_ip.now b_as.now b_ip.now encoding)) }
 {
     match encoding_of(encoding) {
         Some(encoding) => two(alloc, a_as, a_ip, b_as, b_ip, encoding),
-        None => Err(OrMemory::Refused(Unpaired::NoEncoding)),
+        None => Err(OrMemory::Refused(ReadPairError::NoEncoding)),
     }
 }
 
 /// Returns the status of a set that was made of two, and the set that is returned with it.
-pub(crate) fn set_told(outcome: Result<ResourceSet, OrMemory<Unpaired>>) -> (u32, ResourceSet)
+pub(crate) fn status_and_made_set(
+    outcome: Result<ResourceSet, OrMemory<ReadPairError>>,
+) -> (u32, ResourceSet)
     ensures { result ≡ (made_status outcome, made_set outcome) }
 {
     match outcome {
@@ -100,7 +102,7 @@ pub(crate) fn set_told(outcome: Result<ResourceSet, OrMemory<Unpaired>>) -> (u32
 }
 
 /// Returns the status of a test of two sets.
-pub(crate) fn test_told(outcome: Result<bool, OrMemory<Unpaired>>) -> u32
+pub(crate) fn status_of_test(outcome: Result<bool, OrMemory<ReadPairError>>) -> u32
     ensures { result ≡ test_status outcome }
 {
     match outcome {

@@ -3,11 +3,11 @@ ghost use Rattle.std.specs.Prelude.{◌≡◌, length, MatchResult};
 ghost use Rattle.rpki_text.specs.Memory.{IfRefused};
 ghost use Rattle.pigyelund_c.specs.Paths.{IsFirstRefused, IsLeftOnPath, IsNoPathOutcome, IsNoPathOutcomeIn, IsPathOutcome, IsPathOutcomeIn, IsNoCertificateStep, IsCertificateStep, outcome_alone, verified_count};
 
-use crate::ask::verified;
 use crate::certificate::Certificate;
 use crate::encodings::encoding_of;
 use crate::read::set_of;
-use crate::refusal::{Misasked, Refusal};
+use crate::refusal::{ArgumentError, Refusal};
+use crate::verification::verified;
 use rpki_extensions::encoding::Encoding;
 use rpki_resources::OrMemory;
 use rpki_resources::repository::resources::ResourceSet;
@@ -15,19 +15,19 @@ use std::alloc::Global;
 
 /// Reason why a path is not verified.
 #[derive(Drop)]
-pub(crate) struct Stopped {
+pub(crate) struct PathError {
     /// Number of verified certificates: the next one is not verified.
     pub(crate) verified: usize,
     /// The reason.
     pub(crate) reason: Refusal,
 }
 
-impl Stopped {
+impl PathError {
     /// Returns the refusal for a reason that comes before the first certificate.
-    fn at_first(reason: Refusal) -> Stopped
+    fn at_first(reason: Refusal) -> PathError
         ensures { result ≡ record { verified = 0; reason = reason } }
     {
-        Stopped {
+        PathError {
             verified: 0,
             reason,
         }
@@ -61,7 +61,7 @@ fn left_on_path(
     run: &[u8],
     encoding: Encoding,
     certificates: &[Certificate],
-) -> Result<ResourceSet, OrMemory<Stopped>>
+) -> Result<ResourceSet, OrMemory<PathError>>
     ensures { MatchResult result (IsLeftOnPath run.now encoding anchor certificates.now)
         (IfRefused (IsFirstRefused run.now encoding anchor certificates.now)) }
 {
@@ -70,7 +70,7 @@ fn left_on_path(
         match step(alloc, &issuer, run, encoding, certificate) {
             Ok(set) => issuer = set,
             Err(OrMemory::Refused(reason)) => {
-                return Err(OrMemory::Refused(Stopped {
+                return Err(OrMemory::Refused(PathError {
                     verified: at,
                     reason,
                 }));
@@ -89,7 +89,7 @@ fn path_answered_in(
     run: &[u8],
     encoding: Encoding,
     certificates: &[Certificate],
-) -> Result<ResourceSet, OrMemory<Stopped>>
+) -> Result<ResourceSet, OrMemory<PathError>>
     ensures { MatchResult result
         (IsPathOutcomeIn anchor_as.now anchor_ip.now run.now certificates.now encoding)
         (IfRefused
@@ -98,7 +98,7 @@ fn path_answered_in(
     match set_of(alloc, anchor_as, anchor_ip, encoding) {
         Ok(anchor) => left_on_path(alloc, anchor, run, encoding, certificates),
         Err(OrMemory::Refused(reason)) => {
-            Err(OrMemory::Refused(Stopped::at_first(Refusal::Issuer(reason))))
+            Err(OrMemory::Refused(PathError::at_first(Refusal::Issuer(reason))))
         }
         Err(OrMemory::Memory(error)) => Err(OrMemory::Memory(error)),
     }
@@ -112,7 +112,7 @@ pub(crate) fn path_answered(
     run: &[u8],
     encoding: u32,
     certificates: &[Certificate],
-) -> Result<ResourceSet, OrMemory<Stopped>>
+) -> Result<ResourceSet, OrMemory<PathError>>
     ensures { MatchResult result
         (IsPathOutcome anchor_as.now anchor_ip.now run.now certificates.now encoding)
         (IfRefused
@@ -127,22 +127,22 @@ pub(crate) fn path_answered(
             encoding,
             certificates,
         ),
-        None => Err(OrMemory::Refused(Stopped::at_first(Refusal::Asked(Misasked::NoEncoding)))),
+        None => Err(OrMemory::Refused(PathError::at_first(Refusal::Asked(
+            ArgumentError::NoEncoding,
+        )))),
     }
 }
 
 /// Returns the number of verified certificates of a path, and the outcome without this number.
 pub(crate) fn counted(
     certificates: &[Certificate],
-    outcome: Result<ResourceSet, OrMemory<Stopped>>,
+    outcome: Result<ResourceSet, OrMemory<PathError>>,
 ) -> (usize, Result<ResourceSet, OrMemory<Refusal>>)
     ensures { result ≡ (verified_count (length certificates.now) outcome, outcome_alone outcome) }
 {
     match outcome {
         Ok(set) => (certificates.len(), Ok(set)),
-        Err(OrMemory::Refused(stopped)) => {
-            (stopped.verified, Err(OrMemory::Refused(stopped.reason)))
-        }
+        Err(OrMemory::Refused(error)) => { (error.verified, Err(OrMemory::Refused(error.reason))) }
         Err(OrMemory::Memory(error)) => (0, Err(OrMemory::Memory(error))),
     }
 }

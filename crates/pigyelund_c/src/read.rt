@@ -3,9 +3,9 @@ ghost use Rattle.std.specs.Prelude.{◌≡◌, MatchResult, option_map};
 ghost use Rattle.rpki_text.specs.Memory.{IfRefused};
 ghost use Rattle.pigyelund_c.specs.Sets.{IsNoSet, IsSet, some_octets};
 
-use crate::refusal::Unread;
+use crate::refusal::ReadSetError;
 use rpki_extensions::encoding::Encoding;
-use rpki_extensions::read::{address_claims, numbers_claim};
+use rpki_extensions::read::{read_optional_as_claim, read_optional_ip_claims};
 use rpki_resources::OrMemory;
 use rpki_resources::repository::resources::ResourceSet;
 use std::alloc::Global;
@@ -28,23 +28,27 @@ pub(crate) fn set_of(
     numbers: &[u8],
     addresses: &[u8],
     encoding: Encoding,
-) -> Result<ResourceSet, OrMemory<Unread>>
+) -> Result<ResourceSet, OrMemory<ReadSetError>>
     ensures { MatchResult result (IsSet encoding numbers.now addresses.now)
         (IfRefused (IsNoSet encoding numbers.now addresses.now)) }
 {
-    let asn = match numbers_claim(alloc, some_octets(numbers), encoding) {
+    let asn = match read_optional_as_claim(alloc, some_octets(numbers), encoding) {
         Ok(asn) => asn,
-        Err(OrMemory::Refused(fault)) => return Err(OrMemory::Refused(Unread::Numbers(fault))),
+        Err(OrMemory::Refused(fault)) => return Err(OrMemory::Refused(ReadSetError::Numbers(
+            fault,
+        ))),
         Err(OrMemory::Memory(error)) => return Err(OrMemory::Memory(error)),
     };
-    let (v4, v6) = match address_claims(alloc, some_octets(addresses), encoding) {
+    let (v4, v6) = match read_optional_ip_claims(alloc, some_octets(addresses), encoding) {
         Ok(claims) => claims,
-        Err(OrMemory::Refused(fault)) => return Err(OrMemory::Refused(Unread::Addresses(fault))),
+        Err(OrMemory::Refused(fault)) => return Err(OrMemory::Refused(ReadSetError::Addresses(
+            fault,
+        ))),
         Err(OrMemory::Memory(error)) => return Err(OrMemory::Memory(error)),
     };
     match ResourceSet::from_resources(&asn, &v4, &v6) {
         Ok(set) => Ok(set),
-        Err(OrMemory::Refused(_)) => Err(OrMemory::Refused(Unread::Inherited)),
+        Err(OrMemory::Refused(_)) => Err(OrMemory::Refused(ReadSetError::Inherited)),
         Err(OrMemory::Memory(error)) => Err(OrMemory::Memory(error)),
     }
 }

@@ -1,17 +1,17 @@
 //! Reasons why a call returns no requested set, the status of each, and the set that it returns instead.
 ghost use Rattle.std.specs.Prelude.{◌≡◌, ◌<◌, IfOk};
-ghost use Rattle.pigyelund_c.specs.Statuses.{excess_of, misasked_status, refusal_status, unread_status};
-ghost use Rattle.pigyelund_c.specs.Unverified.{unverified_excess, unverified_status};
+ghost use Rattle.pigyelund_c.specs.Statuses.{excess_of, argument_error_status, refusal_status, read_set_error_status};
+ghost use Rattle.pigyelund_c.specs.VerifyErrors.{verify_error_excess, verify_error_status};
 
 use crate::status;
 use rpki_der::DerError;
-use rpki_extensions::error::Unverified;
+use rpki_extensions::error::VerifyError;
 use rpki_resources::repository::resources::{AsBlocks, Ipv4Blocks, Ipv6Blocks, ResourceSet};
 use std::alloc::AllocError;
 
 /// The number that a caller passed and that is invalid.
 #[derive(Clone, Copy)]
-pub(crate) enum Misasked {
+pub(crate) enum ArgumentError {
     /// The encoding.
     NoEncoding,
     /// The mode.
@@ -24,24 +24,24 @@ pub(crate) enum Misasked {
     Outside,
 }
 
-impl Misasked {
+impl ArgumentError {
     /// Returns the status of this reason.
     pub(crate) fn status(self) -> u32
-        ensures { result ≡ misasked_status self }
+        ensures { result ≡ argument_error_status self }
     {
         match self {
-            Misasked::NoEncoding => status::BAD_ENCODING,
-            Misasked::NoMode => status::BAD_MODE,
-            Misasked::NoPresence => status::BAD_PRESENT,
-            Misasked::NoFamily => status::BAD_FAMILY,
-            Misasked::Outside => status::OUTSIDE,
+            ArgumentError::NoEncoding => status::BAD_ENCODING,
+            ArgumentError::NoMode => status::BAD_MODE,
+            ArgumentError::NoPresence => status::BAD_PRESENT,
+            ArgumentError::NoFamily => status::BAD_FAMILY,
+            ArgumentError::Outside => status::OUTSIDE,
         }
     }
 }
 
 /// Reason why the octets of both extensions list no set.
 #[derive(Drop)]
-pub(crate) enum Unread {
+pub(crate) enum ReadSetError {
     /// The AS identifiers are invalid, with their first error.
     Numbers(DerError),
     /// The IP address blocks are invalid, with their first error.
@@ -50,53 +50,53 @@ pub(crate) enum Unread {
     Inherited,
 }
 
-impl Unread {
+impl ReadSetError {
     /// Returns the status of this reason, below 4096.
     pub(crate) fn status(&self) -> u32
-        ensures value { result ≡ unread_status self.now }
+        ensures value { result ≡ read_set_error_status self.now }
         ensures small { result < 4096 }
     {
         match self {
-            Unread::Numbers(fault) => status::BAD_AS + u32::from(fault.number()),
-            Unread::Addresses(fault) => status::BAD_IP + u32::from(fault.number()),
-            Unread::Inherited => status::INHERITED,
+            ReadSetError::Numbers(fault) => status::BAD_AS + u32::from(fault.number()),
+            ReadSetError::Addresses(fault) => status::BAD_IP + u32::from(fault.number()),
+            ReadSetError::Inherited => status::INHERITED,
         }
     }
 }
 
 /// Returns the status of the reason why an issuer does not verify a certificate's extensions.
-fn unverified_status(reason: &Unverified) -> u32
-    ensures { result ≡ unverified_status reason.now }
+fn verify_error_status(reason: &VerifyError) -> u32
+    ensures { result ≡ verify_error_status reason.now }
 {
     match reason {
-        Unverified::Absent => status::ABSENT,
-        Unverified::AsOctets(fault) => status::SECOND + status::BAD_AS + u32::from(fault.number()),
-        Unverified::AddressOctets(fault) => {
+        VerifyError::Absent => status::ABSENT,
+        VerifyError::AsOctets(fault) => status::SECOND + status::BAD_AS + u32::from(fault.number()),
+        VerifyError::AddressOctets(fault) => {
             status::SECOND + status::BAD_IP + u32::from(fault.number())
         }
-        Unverified::Inherited => status::SECOND + status::INHERITED,
-        Unverified::Asn(_) => status::OVERCLAIM_AS,
-        Unverified::Ipv4(_) => status::OVERCLAIM_V4,
-        Unverified::Ipv6(_) => status::OVERCLAIM_V6,
+        VerifyError::Inherited => status::SECOND + status::INHERITED,
+        VerifyError::Asn(_) => status::OVERCLAIM_AS,
+        VerifyError::Ipv4(_) => status::OVERCLAIM_V4,
+        VerifyError::Ipv6(_) => status::OVERCLAIM_V6,
     }
 }
 
 /// Returns the overclaimed resources as a set; no resources for any other reason.
 ///
 /// Returns `AllocError` if std cannot share them.
-fn unverified_excess(reason: &Unverified) -> Result<ResourceSet, AllocError>
-    ensures { IfOk result (λ set. set ≡ unverified_excess reason.now) }
+fn verify_error_excess(reason: &VerifyError) -> Result<ResourceSet, AllocError>
+    ensures { IfOk result (λ set. set ≡ verify_error_excess reason.now) }
 {
     match reason {
-        Unverified::Asn(fault) => {
+        VerifyError::Asn(fault) => {
             let asn = fault.excess().clone()?;
             Ok(ResourceSet::new(asn, Ipv4Blocks::empty(), Ipv6Blocks::empty()))
         }
-        Unverified::Ipv4(fault) => {
+        VerifyError::Ipv4(fault) => {
             let ipv4 = Ipv4Blocks::from_excess(fault)?;
             Ok(ResourceSet::new(AsBlocks::empty(), ipv4, Ipv6Blocks::empty()))
         }
-        Unverified::Ipv6(fault) => {
+        VerifyError::Ipv6(fault) => {
             let ipv6 = Ipv6Blocks::from_excess(fault)?;
             Ok(ResourceSet::new(AsBlocks::empty(), Ipv4Blocks::empty(), ipv6))
         }
@@ -108,11 +108,11 @@ fn unverified_excess(reason: &Unverified) -> Result<ResourceSet, AllocError>
 #[derive(Drop)]
 pub(crate) enum Refusal {
     /// A number that the caller passed is invalid.
-    Asked(Misasked),
+    Asked(ArgumentError),
     /// The issuer's octets list no set.
-    Issuer(Unread),
+    Issuer(ReadSetError),
     /// The issuer's set does not verify the certificate's extensions.
-    Unverified(Unverified),
+    Unverified(VerifyError),
 }
 
 impl Refusal {
@@ -123,18 +123,18 @@ impl Refusal {
         match self {
             Refusal::Asked(reason) => reason.status(),
             Refusal::Issuer(reason) => reason.status(),
-            Refusal::Unverified(reason) => unverified_status(reason),
+            Refusal::Unverified(reason) => verify_error_status(reason),
         }
     }
 
     /// Returns the overclaimed resources as a set; no resources for any other reason.
     ///
-    /// Returns `AllocError` as `unverified_excess` does.
+    /// Returns `AllocError` as `verify_error_excess` does.
     pub(crate) fn excess(&self) -> Result<ResourceSet, AllocError>
         ensures { IfOk result (λ set. set ≡ excess_of self.now) }
     {
         match self {
-            Refusal::Unverified(reason) => unverified_excess(reason),
+            Refusal::Unverified(reason) => verify_error_excess(reason),
             _ => Ok(ResourceSet::empty()),
         }
     }

@@ -1,6 +1,6 @@
 //! The statuses. A number, once it is given out, never changes its meaning.
 //!
-//! The statuses of routes and tables are in `route_calls`.
+//! The statuses of routes and tables are in `pigyelund_routes`.
 
 /// Success. For tests of two sets: yes.
 pub const OK: u32 = 0;

@@ -4,7 +4,7 @@ use Rattle.std.specs.Str.{IsCharBoundary, IsUtf8}
 use Rattle.std.proofs.lemmas.Bool.Decides.{nat_tests}
 use Rattle.std.proofs.lemmas.List.Sums.{passes_at_first}
 use Rattle.std.proofs.lemmas.Str.{IsCharBoundary-after_ascii, IsCharBoundary-before_ascii}
-use Rattle.respath_lines.specs.Command.{is_space}
+use Rattle.rpki_text.specs.Cuts.{is_space}
 
 pub cut_before : (text : List ℕ) (at : ℕ) → at ≡ position_or_len is_space text → at < length text
     → IsCharBoundary text at

@@ -1,7 +1,7 @@
 pub mod CommandLemmas
 pub mod Common
-pub mod CoverLemmas
-pub mod DerLemmas
+pub mod CoverCommandLemmas
+pub mod DerCommandLemmas
 pub mod HexadecimalLemmas
-pub mod PathLemmas
-pub mod ReadLemmas
+pub mod PathCommandLemmas
+pub mod ReadCommandLemmas

@@ -1,10 +1,7 @@
 -- The command, the kind and the argument of a line.
-use Rattle.std.specs.Prelude.{ℕ, Bool, List, ◌==◌}
+use Rattle.std.specs.Prelude.{ℕ, List}
 use Rattle.std.specs.List.{before_first, after_first}
-
--- the space, which ends a word
-abbrev pub is_space : ℕ → Bool
-is_space byte = byte == 32
+use Rattle.rpki_text.specs.Cuts.{is_space}
 
 -- the line up to its first space
 abbrev pub command_of : List ℕ → List ℕ

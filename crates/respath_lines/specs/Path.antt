@@ -23,7 +23,7 @@ use Rattle.rpki_der.specs.declared.family.AddressFamily.TheVariants.{Ipv4, Ipv6}
 use Rattle.rpki_ip_block.specs.ListText.{HasBlocks, HasBlocksFault}
 use Rattle.rpki_ipres.specs.SetText as IpTexts
 use Rattle.rpki_ipres.specs.SetText.{IsSetOf, set_text}
-use Rattle.respath_lines.specs.Command.{is_space}
+use Rattle.rpki_text.specs.Cuts.{is_space}
 use Rattle.respath_lines.specs.Shown.{error_line}
 use Rattle.respath_lines.specs.declared.steps.PartFault.{PartFault}
 use Rattle.respath_lines.specs.declared.steps.PartFault.TheVariants.{BadList, UnknownStep}

@@ -1,7 +1,7 @@
 //! Cuts a line into words.
 ghost use Rattle.std.specs.Prelude.{◌≡◌};
 ghost use Rattle.std.specs.List.{before_first, after_first, position_or_len};
-ghost use Rattle.respath_lines.specs.Command.{is_space};
+ghost use Rattle.rpki_text.specs.Cuts.{is_space};
 
 /// Returns the index of the first space of a text, or the length of the text if it has none. Words are short, so the
 /// bytes are examined one by one.
@@ -18,7 +18,7 @@ fn first_space(text: &[u8]) -> usize
 
 /// Returns the text before the first space, and the text after it, which is empty if there is no space.
 #[tactic(auto, using(crate::proofs::CommandLemmas::cut_before, crate::proofs::CommandLemmas::cut_behind))]
-pub(crate) fn cut_word(text: &str) -> (&str, &str)
+pub(crate) fn cut_at_space(text: &str) -> (&str, &str)
     ensures word { result.0.now ≡ before_first is_space text.now }
     ensures rest { result.1.now ≡ after_first is_space text.now }
 {

@@ -6,7 +6,7 @@ ghost use Rattle.rpki_cover.specs.Prefixes.{PrefixValue};
 ghost use Rattle.respath_lines.specs.Cover.{IsCoverAnswer, IsCoverIp, listed_text, cover_text};
 
 use crate::kind::{Kind, kind_named};
-use crate::shown::{tell, tell_fault};
+use crate::write_answer::{write_fault, write_text};
 use rpki_addr::addr::print::{PREFIX_ROOM, put, put_with_length, write_front};
 use rpki_base::memory::OrMemory;
 use rpki_ip::family::AddressFamily;
@@ -28,7 +28,7 @@ pub(crate) fn cover<A: Allocator + Copy>(
     match kind_named(kind) {
         Some(Kind::V4) => cover_ip(alloc, AddressFamily::Ipv4, list, answer),
         Some(Kind::V6) => cover_ip(alloc, AddressFamily::Ipv6, list, answer),
-        Some(Kind::As) | None => tell(answer, "error: unknown kind"),
+        Some(Kind::As) | None => write_text(answer, "error: unknown kind"),
     }
 }
 
@@ -41,9 +41,9 @@ fn cover_ip<A: Allocator + Copy>(
 ) -> Result<(), AllocError>
     ensures { OnOk result (IsCoverIp family list.now (string_bytes answer.new)) }
 {
-    match IpBlocks::from_family_str(alloc, family, list) {
+    match IpBlocks::from_str_with_family(alloc, family, list) {
         Ok(set) => print_prefixes(answer, family, set.prefixes()),
-        Err(OrMemory::Refused(fault)) => tell_fault(answer, &fault),
+        Err(OrMemory::Refused(fault)) => write_fault(answer, &fault),
         Err(OrMemory::Memory(error)) => Err(error),
     }
 }
@@ -117,7 +117,7 @@ impl fmt::Display for Listed {
 }
 
 /// Appends a prefix to the printed ones, after a comma and a space unless it is the first.
-#[tactic(auto, using(crate::proofs::CoverLemmas::more_text))]
+#[tactic(auto, using(crate::proofs::CoverCommandLemmas::more_text))]
 fn append<A: Allocator>(
     text: &mut String<A>,
     family: AddressFamily,

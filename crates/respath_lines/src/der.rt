@@ -10,7 +10,7 @@ ghost use Rattle.respath_lines.specs.Hexadecimal.{lower_hexadecimal};
 
 use crate::hexadecimal::hexadecimal_of;
 use crate::kind::{Kind, kind_named};
-use crate::shown::{tell, tell_fault};
+use crate::write_answer::{write_fault, write_text};
 use rpki_as::resources::AsResources;
 use rpki_base::memory::OrMemory;
 use rpki_ip::error::FromStrError;
@@ -33,17 +33,17 @@ pub(crate) fn der<A: Allocator + Copy>(
         Some(Kind::As) => der_as(alloc, list, answer),
         Some(Kind::V4) => der_ip(alloc, AddressFamily::Ipv4, list, answer),
         Some(Kind::V6) => der_ip(alloc, AddressFamily::Ipv6, list, answer),
-        None => tell(answer, "error: unknown kind"),
+        None => write_text(answer, "error: unknown kind"),
     }
 }
 
 /// Returns the emptied buffer of an answer. The answer is empty and has no buffer afterwards.
-fn room_of<A: Allocator>(alloc: A, answer: &mut String<A>) -> Vec<u8, A>
+fn buffer_of<A: Allocator>(alloc: A, answer: &mut String<A>) -> Vec<u8, A>
     ensures { result.items ≡ [] }
 {
-    let mut room = replace(answer, String::new(alloc)).into_bytes();
-    room.clear();
-    room
+    let mut buffer = replace(answer, String::new(alloc)).into_bytes();
+    buffer.clear();
+    buffer
 }
 
 /// Answers with the octets of the AS resources in a text, or with the fault of the text.
@@ -55,14 +55,14 @@ fn der_as<A: Allocator + Copy>(
     ensures { OnOk result (IsDerAs list.now (string_bytes answer.new)) }
 {
     match AsResources::from_str(alloc, list) {
-        Ok(resources) => tell_as(alloc, resources, answer),
-        Err(OrMemory::Refused(fault)) => tell_fault(answer, &fault),
+        Ok(resources) => write_as(alloc, resources, answer),
+        Err(OrMemory::Refused(fault)) => write_fault(answer, &fault),
         Err(OrMemory::Memory(error)) => Err(error),
     }
 }
 
 /// Answers with octets. Their digits are written to the buffer of `octets`.
-fn tell_octets<A: Allocator>(octets: Vec<u8, A>, answer: &mut String<A>) -> Result<(), AllocError>
+fn write_octets<A: Allocator>(octets: Vec<u8, A>, answer: &mut String<A>) -> Result<(), AllocError>
     ensures { OnOk result (string_bytes answer.new ≡ lower_hexadecimal octets.items) }
 {
     *answer = hexadecimal_of(octets)?;
@@ -70,7 +70,7 @@ fn tell_octets<A: Allocator>(octets: Vec<u8, A>, answer: &mut String<A>) -> Resu
 }
 
 /// Answers with the octets of AS resources.
-fn tell_as<A: Allocator + Copy>(
+fn write_as<A: Allocator + Copy>(
     alloc: A,
     resources: AsResources<A>,
     answer: &mut String<A>,
@@ -78,10 +78,10 @@ fn tell_as<A: Allocator + Copy>(
     ensures { OnOk result (string_bytes answer.new ≡ octets_text as_resources_octets resources) }
 {
     if resources.is_missing() {
-        return tell(answer, "missing");
+        return write_text(answer, "missing");
     }
     let octets = as_octets(alloc, resources, answer)?;
-    tell_octets(octets, answer)
+    write_octets(octets, answer)
 }
 
 /// Returns the octets of AS resources, which aren't missing, in the buffer of an answer. The resources are dropped.
@@ -93,7 +93,7 @@ fn as_octets<A: Allocator + Copy>(
     requires { resources ≢ Missing }
     ensures { IfOk result (λ octets. octets.items ≡ as_resources_octets resources) }
 {
-    let mut octets = room_of(alloc, answer);
+    let mut octets = buffer_of(alloc, answer);
     resources.encode(&mut octets)?;
     Ok(octets)
 }
@@ -108,14 +108,14 @@ fn der_ip<A: Allocator + Copy>(
     ensures { OnOk result (IsDerIp family list.now (string_bytes answer.new)) }
 {
     match ip_resources(alloc, family, list) {
-        Ok(resources) => tell_ip(alloc, family, resources, answer),
-        Err(OrMemory::Refused(fault)) => tell_fault(answer, &fault),
+        Ok(resources) => write_ip(alloc, family, resources, answer),
+        Err(OrMemory::Refused(fault)) => write_fault(answer, &fault),
         Err(OrMemory::Memory(error)) => Err(error),
     }
 }
 
 /// Returns the resources of a family in a text: inherited ones for `inherit`, and else those of the list.
-#[tactic(auto, using(crate::proofs::DerLemmas::listed_resources, rpki_as::proofs::ResourcesTexts::not_true))]
+#[tactic(auto, using(crate::proofs::DerCommandLemmas::listed_resources, rpki_as::proofs::AsResourcesTexts::not_true))]
 fn ip_resources<A: Allocator + Copy>(
     alloc: A,
     family: AddressFamily,
@@ -139,12 +139,12 @@ fn listed<A: Allocator + Copy>(
     ensures { MatchResult result (IsListed family list.now)
         (IfRefused (HasBlocksFault family list.now)) }
 {
-    let set = IpBlocks::from_family_str(alloc, family, list)?;
+    let set = IpBlocks::from_str_with_family(alloc, family, list)?;
     Ok(IpResources::blocks(set))
 }
 
 /// Answers with the octets of a list of families in which only this family has resources.
-fn tell_ip<A: Allocator + Copy>(
+fn write_ip<A: Allocator + Copy>(
     alloc: A,
     family: AddressFamily,
     resources: IpResources<A>,
@@ -154,10 +154,10 @@ fn tell_ip<A: Allocator + Copy>(
         ≡ octets_text (one_family_der family) resources) }
 {
     if resources.is_missing() {
-        return tell(answer, "missing");
+        return write_text(answer, "missing");
     }
     let octets = ip_octets(alloc, family, resources, answer)?;
-    tell_octets(octets, answer)
+    write_octets(octets, answer)
 }
 
 /// Returns the octets of a list of families in which only this family has resources, in the buffer of an answer. The
@@ -171,7 +171,7 @@ fn ip_octets<A: Allocator + Copy>(
     requires { resources ≢ Missing }
     ensures { IfOk result (λ octets. octets.items ≡ one_family_der family resources) }
 {
-    let mut octets = room_of(alloc, answer);
+    let mut octets = buffer_of(alloc, answer);
     encode_alone(family, &resources, &mut octets)?;
     Ok(octets)
 }

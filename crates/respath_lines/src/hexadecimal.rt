@@ -2,7 +2,7 @@
 ghost use Rattle.std.specs.Prelude.{◌≡◌, ◌*◌, ◌<◌, ℕ, length, List, take, IfOk, IsTrue, IsFalse, MatchOption};
 ghost use Rattle.std.specs.Char.{digit_char};
 ghost use Rattle.std.specs.String.{string_bytes};
-ghost use Rattle.rpki_addr.specs.AddressReading.{hex_value};
+ghost use Rattle.rpki_addr.specs.ReaderResults.{hex_value};
 ghost use Rattle.respath_lines.specs.Hexadecimal.{IsHexadecimal, IsPairOf, lower_hexadecimal};
 
 use std::alloc::{AllocError, Allocator};

@@ -23,18 +23,18 @@ mod lists;
 mod norm;
 mod path;
 mod read;
-mod shown;
 mod steps;
+mod write_answer;
 
-use command::cut_word;
+use command::cut_at_space;
 use cover::cover;
 use der::der;
 pub use lines::run;
 use norm::norm;
 use path::path;
 use read::read;
-use shown::tell;
 use std::alloc::{AllocError, Allocator};
+use write_answer::write_text;
 
 /// The initial capacity of an answer in bytes. A short answer isn't moved as it grows.
 const ROOM: usize = 64;
@@ -68,16 +68,16 @@ pub fn put_answer<A: Allocator + Copy>(
     ensures { OnOk result (IsAnswer line.now (string_bytes answer.new)) }
 {
     let Ok(text) = str::from_utf8(line) else {
-        return tell(answer, "error: not UTF-8");
+        return write_text(answer, "error: not UTF-8");
     };
-    let (command, rest) = cut_word(text);
-    let (kind, argument) = cut_word(rest);
+    let (command, rest) = cut_at_space(text);
+    let (kind, argument) = cut_at_space(rest);
     match command {
         "norm" => norm(alloc, kind, argument, answer),
         "der" => der(alloc, kind, argument, answer),
         "read" => read(alloc, kind, argument, answer),
         "cover" => cover(alloc, kind, argument, answer),
         "path" => path(alloc, kind, argument, answer),
-        _ => tell(answer, "error: unknown command"),
+        _ => write_text(answer, "error: unknown command"),
     }
 }

@@ -117,7 +117,7 @@ impl<A: Allocator + Copy> Lists<A> for IpLists {
     ghost claim = { λ claim. claim };
 
     fn read(&self, alloc: A, list: &str) -> Result<IpBlocks<A>, OrMemory<FromStrError>> {
-        IpBlocks::from_family_str(alloc, self.family, list)
+        IpBlocks::from_str_with_family(alloc, self.family, list)
     }
 
     fn listed(set: IpBlocks<A>) -> IpResources<A> {

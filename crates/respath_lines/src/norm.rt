@@ -4,7 +4,7 @@ ghost use Rattle.std.specs.String.{string_bytes};
 ghost use Rattle.respath_lines.specs.Norm.{IsNormAnswer, IsNormAs, IsNormIp};
 
 use crate::kind::{Kind, kind_named};
-use crate::shown::{print_set, show, tell, tell_fault};
+use crate::write_answer::{print_set, show, write_fault, write_text};
 use rpki_as::blocks::AsBlocks;
 use rpki_base::memory::OrMemory;
 use rpki_ip::family::AddressFamily;
@@ -24,7 +24,7 @@ pub(crate) fn norm<A: Allocator + Copy>(
         Some(Kind::As) => norm_as(alloc, list, answer),
         Some(Kind::V4) => norm_ip(alloc, AddressFamily::Ipv4, list, answer),
         Some(Kind::V6) => norm_ip(alloc, AddressFamily::Ipv6, list, answer),
-        None => tell(answer, "error: unknown kind"),
+        None => write_text(answer, "error: unknown kind"),
     }
 }
 
@@ -48,9 +48,9 @@ fn norm_ip<A: Allocator + Copy>(
 ) -> Result<(), AllocError>
     ensures { OnOk result (IsNormIp family list.now (string_bytes answer.new)) }
 {
-    match IpBlocks::from_family_str(alloc, family, list) {
+    match IpBlocks::from_str_with_family(alloc, family, list) {
         Ok(set) => print_set(answer, family, &set),
-        Err(OrMemory::Refused(fault)) => tell_fault(answer, &fault),
+        Err(OrMemory::Refused(fault)) => write_fault(answer, &fault),
         Err(OrMemory::Memory(error)) => Err(error),
     }
 }

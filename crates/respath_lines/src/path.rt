@@ -9,8 +9,8 @@ ghost use Rattle.respath_lines.specs.Shown.{error_line};
 
 use crate::kind::{Kind, kind_named};
 use crate::lists::{AsLists, IpLists};
-use crate::shown::{print, print_set, tell, tell_fault};
 use crate::steps::{PartFault, read_path};
+use crate::write_answer::{print, print_set, write_fault, write_text};
 use rpki_as::blocks::AsBlocks;
 use rpki_as::verify::OverclaimedAsResources;
 use rpki_base::memory::OrMemory;
@@ -34,7 +34,7 @@ pub(crate) fn path<A: Allocator + Copy>(
         Some(Kind::As) => path_as(alloc, path, answer),
         Some(Kind::V4) => path_ip(alloc, AddressFamily::Ipv4, path, answer),
         Some(Kind::V6) => path_ip(alloc, AddressFamily::Ipv6, path, answer),
-        None => tell(answer, "error: unknown kind"),
+        None => write_text(answer, "error: unknown kind"),
     }
 }
 
@@ -47,8 +47,8 @@ fn path_as<A: Allocator + Copy>(
     ensures { OnOk result (IsPathAs path.now (string_bytes answer.new)) }
 {
     match read_path(alloc, &AsLists, path) {
-        Ok((root, steps)) => told_as(root.verify_path(alloc, steps.as_slice()), answer),
-        Err(OrMemory::Refused(fault)) => unread(fault, answer),
+        Ok((root, steps)) => write_left_as(root.verify_path(alloc, steps.as_slice()), answer),
+        Err(OrMemory::Refused(fault)) => write_part_fault(fault, answer),
         Err(OrMemory::Memory(error)) => Err(error),
     }
 }
@@ -64,15 +64,19 @@ fn path_ip<A: Allocator + Copy>(
     ensures { OnOk result (IsPathIp family path.now (string_bytes answer.new)) }
 {
     match read_path(alloc, &IpLists { family }, path) {
-        Ok((root, steps)) => told_ip(family, root.verify_path(alloc, steps.as_slice()), answer),
-        Err(OrMemory::Refused(fault)) => unread(fault, answer),
+        Ok((root, steps)) => write_left_ip(
+            family,
+            root.verify_path(alloc, steps.as_slice()),
+            answer,
+        ),
+        Err(OrMemory::Refused(fault)) => write_part_fault(fault, answer),
         Err(OrMemory::Memory(error)) => Err(error),
     }
 }
 
 /// Prints the AS numbers that remain after a path, or the first refusal. Returns `AllocError` if memory ran out
 /// for the AS numbers or for the text.
-fn told_as<A: Allocator>(
+fn write_left_as<A: Allocator>(
     left: Result<AsBlocks<A>, OrMemory<PathRefusal<OverclaimedAsResources<A>>>>,
     answer: &mut String<A>,
 ) -> Result<(), AllocError>
@@ -86,7 +90,7 @@ fn told_as<A: Allocator>(
 }
 
 /// Does the same for addresses, which are printed as those of a family.
-fn told_ip<A: Allocator>(
+fn write_left_ip<A: Allocator>(
     family: AddressFamily,
     left: Result<IpBlocks<A>, OrMemory<PathRefusal<OverclaimedIpResources<A>>>>,
     answer: &mut String<A>,
@@ -97,7 +101,7 @@ fn told_ip<A: Allocator>(
     match left {
         Ok(set) => print_set(answer, family, &set),
         Err(OrMemory::Refused(PathRefusal { step, fault })) => {
-            let fault = fault.as_family(family);
+            let fault = fault.display_with_family(family);
             refused(PathRefusal { step, fault }, answer)
         }
         Err(OrMemory::Memory(error)) => Err(error),
@@ -119,7 +123,7 @@ fn refused<F: fmt::Display + Drop, A: Allocator>(
 }
 
 /// Prints the fault of an invalid part.
-fn unread<E: fmt::Display + Drop, A: Allocator>(
+fn write_part_fault<E: fmt::Display + Drop, A: Allocator>(
     fault: PartFault<E>,
     answer: &mut String<A>,
 ) -> Result<(), AllocError>
@@ -128,7 +132,7 @@ fn unread<E: fmt::Display + Drop, A: Allocator>(
         → OnOk result (string_bytes answer.new ≡ error_line (part_fault_text fault_text fault)) }
 {
     match fault {
-        PartFault::UnknownStep => tell(answer, "error: unknown step"),
-        PartFault::BadList(fault) => tell_fault(answer, &fault),
+        PartFault::UnknownStep => write_text(answer, "error: unknown step"),
+        PartFault::BadList(fault) => write_fault(answer, &fault),
     }
 }

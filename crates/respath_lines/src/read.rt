@@ -11,7 +11,7 @@ ghost use Rattle.respath_lines.specs.Read.{HasFault, IsEnded, IsReadAnswer, IsRe
 
 use crate::hexadecimal::octets_of;
 use crate::kind::{Kind, kind_named};
-use crate::shown::{print_set, show, tell, tell_fault};
+use crate::write_answer::{print_set, show, write_fault, write_text};
 use rpki_as::resources::AsResources;
 use rpki_base::memory::OrMemory;
 use rpki_der::{Cursor, DerError};
@@ -33,7 +33,7 @@ pub(crate) fn read<A: Allocator + Copy>(
         Some(Kind::As) => read_as(alloc, text, answer),
         Some(Kind::V4) => read_ip(alloc, AddressFamily::Ipv4, text, answer),
         Some(Kind::V6) => read_ip(alloc, AddressFamily::Ipv6, text, answer),
-        None => tell(answer, "error: unknown kind"),
+        None => write_text(answer, "error: unknown kind"),
     }
 }
 
@@ -46,7 +46,7 @@ fn read_as<A: Allocator + Copy>(
     ensures { OnOk result (IsReadAs text.now (string_bytes answer.new)) }
 {
     let Some(octets) = octets_of(alloc, text)? else {
-        return tell(answer, "error: bad hex");
+        return write_text(answer, "error: bad hex");
     };
     show(answer, as_resources_in(alloc, octets.as_slice()))
 }
@@ -90,7 +90,7 @@ fn read_ip<A: Allocator + Copy>(
     ensures { OnOk result (IsReadIp family text.now (string_bytes answer.new)) }
 {
     let Some(octets) = octets_of(alloc, text)? else {
-        return tell(answer, "error: bad hex");
+        return write_text(answer, "error: bad hex");
     };
     family_in(alloc, family, octets.as_slice(), answer)
 }
@@ -106,7 +106,7 @@ fn family_in<A: Allocator + Copy>(
 {
     match families_in(alloc, octets) {
         Ok(families) => print_resources(family, resources_of(families, family), answer),
-        Err(OrMemory::Refused(fault)) => tell_fault(answer, &fault),
+        Err(OrMemory::Refused(fault)) => write_fault(answer, &fault),
         Err(OrMemory::Memory(error)) => Err(error),
     }
 }
@@ -147,13 +147,13 @@ fn print_resources<A: Allocator>(
     ensures { OnOk result (string_bytes answer.new ≡ family_text family resources) }
 {
     let Some(resources) = resources else {
-        return tell(answer, "missing");
+        return write_text(answer, "missing");
     };
     if resources.is_missing() {
-        return tell(answer, "missing");
+        return write_text(answer, "missing");
     }
     match IpBlocks::from_resources(resources) {
         Ok(set) => print_set(answer, family, &set),
-        Err(_) => tell(answer, "inherit"),
+        Err(_) => write_text(answer, "inherit"),
     }
 }

@@ -4,7 +4,7 @@ ghost use Rattle.rpki_text.specs.Lists.{HaveValues, HasFirstFault};
 ghost use Rattle.rpki_text.specs.Memory.{IfRefused};
 ghost use Rattle.respath_lines.specs.Path.{ArePath, HasRootFault, HasStepFault, HavePathFault, IsMode, IsStepText, parts_of};
 
-use crate::command::cut_word;
+use crate::command::cut_at_space;
 use crate::lists::Lists;
 use rpki_base::memory::OrMemory;
 use rpki_chain::path::{Overclaim, Step};
@@ -102,7 +102,7 @@ fn read_step<A: Allocator + Copy, L: Lists<A>>(
             mode: Overclaim::Refuse,
         });
     }
-    let (word, list) = cut_word(text);
+    let (word, list) = cut_at_space(text);
     let Some(mode) = mode_named(word) else {
         return Err(OrMemory::Refused(PartFault::UnknownStep));
     };

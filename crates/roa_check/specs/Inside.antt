@@ -4,7 +4,7 @@ use Rattle.std.specs.List.{AllWithin}
 use Rattle.rpki_addr.specs.declared.addr.IpAddr.{IpAddr}
 use Rattle.rpki_addr.specs.declared.addr.IpAddr.TheVariants.{V4, V6}
 use Rattle.rpki_cover.specs.Prefixes.{last_of}
-use Rattle.rpki_chains.specs.Sets.{IsWithin}
+use Rattle.rpki_chain_core.specs.Sets.{IsWithin}
 use Rattle.rpki_chain.specs.Runs.{Holds}
 use Rattle.rpki_ip.specs.AddrText.{family_of}
 use Rattle.rpki_prefix.specs.MaxLen.{MaxLenValue}
@@ -26,6 +26,6 @@ IsPrefixInside set p = (n : ℕ) → IsWithin (prefix_numbers p) n → Holds (se
 
 -- the lowest index whose prefix isn't inside, or None if all are inside
 abbrev pub IsFirstOutside : Triple → List MaxLenValue → Option ℕ → Type 0
-IsFirstOutside set entries found =
-    MatchOption found (All (λ e. IsPrefixInside set e.prefix) entries)
-    (λ at. (at < length entries) × HoldsAt (λ e. ¬ IsPrefixInside set e.prefix) entries at × AllWithin (λ e. IsPrefixInside set e.prefix) entries 0 at)
+IsFirstOutside set prefixes found =
+    MatchOption found (All (λ e. IsPrefixInside set e.prefix) prefixes)
+    (λ at. (at < length prefixes) × HoldsAt (λ e. ¬ IsPrefixInside set e.prefix) prefixes at × AllWithin (λ e. IsPrefixInside set e.prefix) prefixes 0 at)

@@ -4,8 +4,8 @@
 //! `example_calls::routes::excess`:
 //!
 //! ```rust
-//! match outside(resources, entries) {
-//!     Some(at) => Some(entries[at]),
+//! match outside(resources, prefixes) {
+//!     Some(at) => Some(prefixes[at]),
 //!     None => None,
 //! }
 //! ```
@@ -14,7 +14,7 @@
 //! `roa_origin`).
 #![tactic(auto)]
 
-pub mod entries;
+pub mod roa_prefixes;
 
-pub use entries::outside;
 pub use roa_origin::{Validity, origin};
+pub use roa_prefixes::outside;

@@ -20,18 +20,18 @@ pub use denote.Ref.{Bor}
 pub use Rattle.rpki_addr.specs.declared.addr.IpAddr.{IpAddr}
 pub use Rattle.rpki_addr.specs.declared.addr.IpAddr.TheVariants.{V4}
 pub use Rattle.rpki_cover.specs.Prefixes.{IsPrefix, PrefixValue}
-pub use Rattle.rpki_prefix.proofs.Covering.{covers_round, round_covers}
+pub use Rattle.rpki_prefix.proofs.PrefixCovering.{covers_round, round_covers}
 pub use Rattle.rpki_prefix.specs.MaxLen.{MaxLenValue, max_len_cmp}
 pub use Rattle.rpki_prefix.specs.Values.{CoversPrefix, FamilyPrefix, IsFamilyPrefix, address_number, interval, is_v6, width}
 pub use Rattle.roa_origin.specs.Coverings.{AreThose, IsWalk, covering_before, covers_route}
-pub use Rattle.roa_origin.specs.Entries.{addr_of}
+pub use Rattle.roa_origin.specs.PackedVrps.{addr_of}
 pub use Rattle.roa_origin.specs.Links.{AreLater, AreLinks, AreUpTo, IsGroup, IsInOrder, IsLastOf, IsLink, NoneCovers}
-pub use Rattle.roa_origin.specs.Payloads.{CoversRoute, HasAs, IsLawfulPayload, Matches, Payload, longest, prefix_len}
-pub use Rattle.roa_origin.specs.Places.{family_place, payload_place, place, rank, sent_place, table_place, told}
+pub use Rattle.roa_origin.specs.Vrps.{CoversRoute, HasAs, IsLawfulVrp, Matches, Vrp, longest, prefix_len}
+pub use Rattle.roa_origin.specs.Places.{family_place, vrp_place, place, rank, sent_place, table_place, max_len_flag}
 pub use Rattle.roa_origin.specs.Starts.{IsStart, first_bits}
-pub use Rattle.roa_origin.specs.Tables.{as_sent, payload_cmp}
-pub use Rattle.roa_origin.specs.Updates.{AreChangesOf, AreSorted, IsDuplicateRecord, IsFirstPlace, IsLawfulChange, IsMergedOf, IsOf, IsOfBefore, IsSearched, IsSentIn, IsUnknownRecord, IsUpdated, change_place, sent_change}
-pub use Rattle.roa_origin.specs.Validities.{IsHeldBy, IsMatched, IsRouteCovered, IsValidity}
+pub use Rattle.roa_origin.specs.Tables.{as_sent, vrp_cmp}
+pub use Rattle.roa_origin.specs.Updates.{AreChangesOf, AreSorted, IsDuplicateAnnouncement, IsFirstPlace, IsLawfulChange, IsMergedOf, IsOf, IsOfBefore, IsSearched, IsSentIn, IsUnknownWithdrawal, IsUpdated, change_place, sent_change}
+pub use Rattle.roa_origin.specs.Validities.{HasCoveringAsn, IsMatched, IsRouteCovered, IsValidity}
 pub use Rattle.roa_origin.specs.declared.links.Link.{Link}
 pub use Rattle.roa_origin.specs.declared.updates.Change.{Change}
 pub use Rattle.roa_origin.specs.declared.validation.Validity.{Validity}

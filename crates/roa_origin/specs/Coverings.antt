@@ -4,7 +4,7 @@ use Rattle.std.specs.List.{filter}
 use Rattle.rpki_prefix.specs.Order.{last_bits}
 use Rattle.rpki_prefix.specs.Values.{FamilyPrefix, IsFamilyPrefix, address_number, width}
 use Rattle.roa_origin.specs.Links.{AreUpTo, IsTable}
-use Rattle.roa_origin.specs.Payloads.{Payload}
+use Rattle.roa_origin.specs.Vrps.{Vrp}
 use Rattle.roa_origin.specs.declared.links.Link.{Link}
 
 -- ys are the elements of xs for which P holds, in their order, each as often as it is there
@@ -13,17 +13,17 @@ AreThose P [] ys = ys ≡ []
 AreThose {X} P (x ∷ xs) ys = (P x × (zs : List X) × (ys ≡ x ∷ zs) × AreThose P xs zs) ⊎ ((¬ P x) × AreThose P xs ys)
 
 -- whether a VRP covers the route: it is of the route's family, and its addresses include the route's
-abbrev pub covers_route : FamilyPrefix → Payload → Bool
-covers_route route payload =
-    (width payload.0.prefix.addr == width route.addr)
-    && (nat_le (address_number payload.0.prefix.addr) (address_number route.addr) && nat_le (last_bits route) (last_bits payload.0.prefix))
+abbrev pub covers_route : FamilyPrefix → Vrp → Bool
+covers_route route vrp =
+    (width vrp.0.prefix.addr == width route.addr)
+    && (nat_le (address_number vrp.0.prefix.addr) (address_number route.addr) && nat_le (last_bits route) (last_bits vrp.0.prefix))
 
 -- those of the first n VRPs that cover the route, the last first
-abbrev pub covering_before : FamilyPrefix → List Payload → ℕ → List Payload
+abbrev pub covering_before : FamilyPrefix → List Vrp → ℕ → List Vrp
 covering_before route xs n = reverse (filter (covers_route route) (take n xs))
 
 -- a traversal of a table from its first n VRPs on, which come no later than the route
-pub record IsWalk (xs : List Payload) (links : List Link) (n : ℕ) (route : FamilyPrefix) : Type 0 where
+pub record IsWalk (xs : List Vrp) (links : List Link) (n : ℕ) (route : FamilyPrefix) : Type 0 where
   pub table : IsTable xs links
   pub within : n ≤ length xs
   pub up_to : AreUpTo xs n route

@@ -1,12 +1,12 @@
 -- The routes whose validity changes from one table to the next (RFC 6811, 4).
 use Rattle.std.specs.Prelude.{◌≢◌, ◌↔◌, ℕ, ◌<◌, List, AllPairs, Contains, length, slice_index_or}
 use Rattle.rpki_prefix.specs.Values.{FamilyPrefix}
-use Rattle.roa_origin.specs.Payloads.{Payload}
+use Rattle.roa_origin.specs.Vrps.{Vrp}
 use Rattle.roa_origin.specs.Validities.{IsValidity}
 use Rattle.roa_origin.specs.declared.validation.Validity.{Validity}
 
 -- the route of an AS has different validities by two lists of VRPs
-pub record HasChanged (old new : List Payload) (route : FamilyPrefix) (asn : ℕ) : Type 0 where
+pub record HasChanged (old new : List Vrp) (route : FamilyPrefix) (asn : ℕ) : Type 0 where
   pub before : Validity
   pub after : Validity
   pub was : IsValidity route asn old before
@@ -14,12 +14,12 @@ pub record HasChanged (old new : List Payload) (route : FamilyPrefix) (asn : ℕ
   pub differ : before ≢ after
 
 -- the route at this index is such a route
-pub record IsChangedAt (old new : List Payload) (routes : List (FamilyPrefix × ℕ)) (place : ℕ) : Type 0 where
+pub record IsChangedAt (old new : List Vrp) (routes : List (FamilyPrefix × ℕ)) (place : ℕ) : Type 0 where
   pub within : place < length routes
   pub changed : (d : FamilyPrefix × ℕ)
       → HasChanged old new (slice_index_or routes place d).0 (slice_index_or routes place d).1
 
 -- the indices of these routes, ascending
-pub record AreChanged (old new : List Payload) (routes : List (FamilyPrefix × ℕ)) (places : List ℕ) : Type 0 where
+pub record AreChanged (old new : List Vrp) (routes : List (FamilyPrefix × ℕ)) (places : List ℕ) : Type 0 where
   pub ascending : AllPairs (λ i j. i < j) places
   pub members : (place : ℕ) → Contains places place ↔ IsChangedAt old new routes place

@@ -4,31 +4,31 @@ use Rattle.std.specs.Ordering.{on, then_cmp, nat_cmp}
 use Rattle.std.specs.declared.cmp.Ordering.{Ordering}
 use Rattle.std.specs.declared.cmp.Ordering.TheVariants.{Less}
 use Rattle.rpki_prefix.specs.MaxLen.{max_len_cmp, resolved}
-use Rattle.roa_origin.specs.Payloads.{Payload}
+use Rattle.roa_origin.specs.Vrps.{Vrp}
 
 -- a VRP as it is sent: with a maximum length, which is its prefix length if it has none
-abbrev pub as_sent : Payload → Payload
-as_sent payload = (record { prefix = payload.0.prefix; max_len = Some (resolved payload.0.prefix payload.0.max_len) }, payload.1)
+abbrev pub as_sent : Vrp → Vrp
+as_sent vrp = (record { prefix = vrp.0.prefix; max_len = Some (resolved vrp.0.prefix vrp.0.max_len) }, vrp.1)
 
 -- by the prefix with its maximum length, then by the AS number
-abbrev pub payload_cmp : Payload → Payload → Ordering
-payload_cmp = then_cmp (on (λ p. p.0) max_len_cmp) (on (λ p. p.1) nat_cmp)
+abbrev pub vrp_cmp : Vrp → Vrp → Ordering
+vrp_cmp = then_cmp (on (λ p. p.0) max_len_cmp) (on (λ p. p.1) nat_cmp)
 
 -- each VRP is less than those after it
-abbrev pub IsAscending : List Payload → Type 0
-IsAscending = AllPairs (λ p q. payload_cmp p q ≡ Less)
+abbrev pub IsAscending : List Vrp → Type 0
+IsAscending = AllPairs (λ p q. vrp_cmp p q ≡ Less)
 
 -- the table has the VRPs of the list as they are sent, ascending, and so each once
-pub record IsTableOf (payloads table : List Payload) : Type 0 where
+pub record IsTableOf (vrps table : List Vrp) : Type 0 where
   pub ascending : IsAscending table
-  pub members : (p : Payload) → Contains table p ↔ Contains (map as_sent payloads) p
+  pub members : (p : Vrp) → Contains table p ↔ Contains (map as_sent vrps) p
 
 -- the list has the VRPs that are in one and not in other, ascending
-pub record IsWithout (one other left : List Payload) : Type 0 where
+pub record IsWithout (one other left : List Vrp) : Type 0 where
   pub ascending : IsAscending left
-  pub members : (p : Payload) → Contains left p ↔ (Contains one p × ¬ Contains other p)
+  pub members : (p : Vrp) → Contains left p ↔ (Contains one p × ¬ Contains other p)
 
 -- an ascending list of the VRPs of the table that aren't withdrawn, and of those that are announced
-pub record IsAfter (table announced withdrawn set : List Payload) : Type 0 where
+pub record IsAfter (table announced withdrawn set : List Vrp) : Type 0 where
   pub ascending : IsAscending set
-  pub members : (p : Payload) → Contains set p ↔ ((Contains table p × ¬ Contains withdrawn p) ⊎ Contains announced p)
+  pub members : (p : Vrp) → Contains set p ↔ ((Contains table p × ¬ Contains withdrawn p) ⊎ Contains announced p)

@@ -2,28 +2,28 @@
 use Rattle.std.specs.Prelude.{◌≡◌, ℕ, ◌+◌, ◌*◌, ◌^◌, ◌<◌, ◌≤◌, ◌⊎◌, List, ◌++◌, All, Any, length, map, slice_index_or, take}
 use Rattle.std.specs.List.Sorted.{IsNonDecreasingBy, IsPermutation}
 use Rattle.roa_origin.specs.Coverings.{AreThose}
-use Rattle.roa_origin.specs.Payloads.{IsLawfulPayload, Payload}
-use Rattle.roa_origin.specs.Places.{sent_place, told}
+use Rattle.roa_origin.specs.Vrps.{IsLawfulVrp, Vrp}
+use Rattle.roa_origin.specs.Places.{sent_place, max_len_flag}
 use Rattle.roa_origin.specs.Tables.{as_sent}
 use Rattle.roa_origin.specs.declared.updates.Change.{Change}
 use Rattle.roa_origin.specs.declared.updates.ChangeFault.{ChangeFault}
 use Rattle.roa_origin.specs.declared.updates.ChangeFault.TheVariants.{DuplicateAnnouncement, UnknownWithdrawal}
 
 -- the list has the VRP, compared as VRPs are sent
-abbrev pub IsSentIn : List Payload → Payload → Type 0
-IsSentIn payloads p = Any (λ q. as_sent q ≡ as_sent p) payloads
+abbrev pub IsSentIn : List Vrp → Vrp → Type 0
+IsSentIn vrps p = Any (λ q. as_sent q ≡ as_sent p) vrps
 
 -- the VRP withdrawn at this index isn't in the table, or is withdrawn before ('Withdrawal of Unknown Record')
-pub record IsUnknownRecord (table withdrawn : List Payload) (n : ℕ) : Type 0 where
+pub record IsUnknownWithdrawal (table withdrawn : List Vrp) (n : ℕ) : Type 0 where
   pub within : n < length withdrawn
-  pub unknown : (d : Payload)
+  pub unknown : (d : Vrp)
       → (¬ IsSentIn table (slice_index_or withdrawn n d)) ⊎ IsSentIn (take n withdrawn) (slice_index_or withdrawn n d)
 
 -- the VRP announced at this index is in the table and isn't withdrawn, or is announced before ('Duplicate Announcement
 -- Received')
-pub record IsDuplicateRecord (table announced withdrawn : List Payload) (n : ℕ) : Type 0 where
+pub record IsDuplicateAnnouncement (table announced withdrawn : List Vrp) (n : ℕ) : Type 0 where
   pub within : n < length announced
-  pub duplicate : (d : Payload)
+  pub duplicate : (d : Vrp)
       → (IsSentIn table (slice_index_or announced n d) × ¬ IsSentIn withdrawn (slice_index_or announced n d))
       ⊎ IsSentIn (take n announced) (slice_index_or announced n d)
 
@@ -33,19 +33,19 @@ pub record IsFirst (P : ℕ → Type 0) (n : ℕ) : Type 0 where
   pub none : (k : ℕ) → k < n → ¬ P k
 
 -- the first fault of changes: withdrawals come first, each list in its order
-abbrev pub HasChangeFault : List Payload → List Payload → List Payload → ChangeFault → Type 0
-HasChangeFault table announced withdrawn (UnknownWithdrawal n) = IsFirst (IsUnknownRecord table withdrawn) n
-HasChangeFault table announced withdrawn (DuplicateAnnouncement n) = ((k : ℕ) → ¬ IsUnknownRecord table withdrawn k) × IsFirst (IsDuplicateRecord table announced withdrawn) n
+abbrev pub HasChangeFault : List Vrp → List Vrp → List Vrp → ChangeFault → Type 0
+HasChangeFault table announced withdrawn (UnknownWithdrawal n) = IsFirst (IsUnknownWithdrawal table withdrawn) n
+HasChangeFault table announced withdrawn (DuplicateAnnouncement n) = ((k : ℕ) → ¬ IsUnknownWithdrawal table withdrawn k) × IsFirst (IsDuplicateAnnouncement table announced withdrawn) n
 
 -- changes without a fault
-pub record AreUpdates (table announced withdrawn : List Payload) : Type 0 where
-  pub known : (n : ℕ) → ¬ IsUnknownRecord table withdrawn n
-  pub fresh : (n : ℕ) → ¬ IsDuplicateRecord table announced withdrawn n
+pub record AreUpdates (table announced withdrawn : List Vrp) : Type 0 where
+  pub known : (n : ℕ) → ¬ IsUnknownWithdrawal table withdrawn n
+  pub fresh : (n : ℕ) → ¬ IsDuplicateAnnouncement table announced withdrawn n
 
 -- the next table has the VRPs of the table that aren't withdrawn, as often as they are listed, and the announced VRPs
 -- as they are sent
-pub record IsUpdated (table announced withdrawn next : List Payload) : Type 0 where
-  pub kept : List Payload
+pub record IsUpdated (table announced withdrawn next : List Vrp) : Type 0 where
+  pub kept : List Vrp
   pub stays : AreThose (λ p. ¬ IsSentIn withdrawn p) table kept
   pub has : IsPermutation (kept ++ map as_sent announced) next
 
@@ -53,23 +53,23 @@ pub record IsUpdated (table announced withdrawn next : List Payload) : Type 0 wh
 
 -- a VRP as it is sent, and an index of a list
 pub record IsLawfulChange (change : Change) : Type 0 where
-  pub payload : IsLawfulPayload change.entry
-  pub sent : told change.entry.0.max_len ≡ 1
+  pub vrp : IsLawfulVrp change.vrp
+  pub sent : max_len_flag change.vrp.0.max_len ≡ 1
   pub number : change.place < 2 ^ 64
 
 -- a sort key: by the VRP, then by the index
 abbrev pub change_place : Change → ℕ
-change_place change = sent_place change.entry * 2 ^ 64 + change.place
+change_place change = sent_place change.vrp * 2 ^ 64 + change.place
 
 -- changes of the VRPs of a list, each with its index there
-pub record AreChangesOf (payloads : List Payload) (changes : List Change) : Type 0 where
+pub record AreChangesOf (vrps : List Vrp) (changes : List Change) : Type 0 where
   pub lawful : All IsLawfulChange changes
-  pub entries : IsPermutation (map as_sent payloads) (map (λ change. change.entry) changes)
+  pub permutation : IsPermutation (map as_sent vrps) (map (λ change. change.vrp) changes)
   pub at_place : All
-      (λ change. (change.place < length payloads)
-      × ((d : Payload) → as_sent (slice_index_or payloads change.place d) ≡ change.entry)) changes
-  pub each : (n : ℕ) (d : Payload) → n < length payloads
-      → Any (λ change. (change.entry ≡ as_sent (slice_index_or payloads n d)) × (change.place ≡ n)) changes
+      (λ change. (change.place < length vrps)
+      × ((d : Vrp) → as_sent (slice_index_or vrps change.place d) ≡ change.vrp)) changes
+  pub each : (n : ℕ) (d : Vrp) → n < length vrps
+      → Any (λ change. (change.vrp ≡ as_sent (slice_index_or vrps n d)) × (change.place ≡ n)) changes
 
 -- changes in order
 pub record AreSorted (changes : List Change) : Type 0 where
@@ -78,7 +78,7 @@ pub record AreSorted (changes : List Change) : Type 0 where
 
 -- the sort key of a change's VRP as it is sent
 abbrev pub sent_change : Change → ℕ
-sent_change change = sent_place change.entry
+sent_change change = sent_place change.vrp
 
 -- a search in a list for a number stops at an index: before it the numbers are less, and from it on they aren't
 pub record IsSearched {X : Type 0} (f : X → ℕ) (xs : List X) (t at : ℕ) : Type 0 where
@@ -86,19 +86,19 @@ pub record IsSearched {X : Type 0} (f : X → ℕ) (xs : List X) (t at : ℕ) : 
   pub from : (k : ℕ) (d : X) → at ≤ k → k < length xs → t ≤ f (slice_index_or xs k d)
 
 -- a change is one of the VRP; the second also requires that its index is lower than n
-abbrev pub IsOf : Payload → Change → Type 0
-IsOf p change = sent_place change.entry ≡ sent_place p
+abbrev pub IsOf : Vrp → Change → Type 0
+IsOf p change = sent_place change.vrp ≡ sent_place p
 
-abbrev pub IsOfBefore : Payload → ℕ → Change → Type 0
+abbrev pub IsOfBefore : Vrp → ℕ → Change → Type 0
 IsOfBefore p n change = IsOf p change × (change.place < n)
 
 -- the lowest index of a change of a VRP
-pub record IsFirstPlace (changes : List Change) (p : Payload) (n : ℕ) : Type 0 where
+pub record IsFirstPlace (changes : List Change) (p : Vrp) (n : ℕ) : Type 0 where
   pub there : Any (λ change. IsOf p change × (change.place ≡ n)) changes
   pub first : All (λ change. IsOf p change → n ≤ change.place) changes
 
 -- the list has the VRPs of the table that no withdrawn change is of, and the VRPs of the announced changes
-pub record IsMergedOf (table : List Payload) (withdrawn announced : List Change) (next : List Payload) : Type 0 where
-  pub kept : List Payload
+pub record IsMergedOf (table : List Vrp) (withdrawn announced : List Change) (next : List Vrp) : Type 0 where
+  pub kept : List Vrp
   pub stays : AreThose (λ p. ¬ Any (IsOf p) withdrawn) table kept
-  pub has : IsPermutation (kept ++ map (λ change. change.entry) announced) next
+  pub has : IsPermutation (kept ++ map (λ change. change.vrp) announced) next

@@ -2,7 +2,7 @@
 ghost use Rattle.std.specs.Prelude.{◌≡◌, ◌↔◌, ◌⊎◌, List, [], Contains, map, ℕ};
 ghost use Rattle.std.specs.List.Sorted.{IsPermutation};
 ghost use Rattle.rpki_prefix.specs.Values.{FamilyPrefix};
-ghost use Rattle.roa_origin.specs.Payloads.{IsLawfulPayload, Payload};
+ghost use Rattle.roa_origin.specs.Vrps.{IsLawfulVrp, Vrp};
 ghost use Rattle.roa_origin.specs.Places.{table_place};
 ghost use Rattle.roa_origin.specs.Tables.{IsAfter, IsAscending, IsTableOf, IsWithout, as_sent};
 ghost use Rattle.roa_origin.specs.Updates.{IsSentIn, IsUpdated};
@@ -12,28 +12,28 @@ use crate::validation::Validity;
 
 /// A route has at most one validity by a list of VRPs, and the order of the list doesn't matter.
 pub fn laws_of_validities()
-    ensures one { (route : FamilyPrefix) (asn : ℕ) (payloads : List Payload) (v w : Validity)
-        → IsValidity route asn payloads v → IsValidity route asn payloads w → v ≡ w }
-    ensures any_order { (route : FamilyPrefix) (asn : ℕ) (payloads others : List Payload)
-        (validity : Validity) → IsPermutation payloads others →
-        IsValidity route asn payloads validity ↔ IsValidity route asn others validity }
+    ensures one { (route : FamilyPrefix) (asn : ℕ) (vrps : List Vrp) (v w : Validity)
+        → IsValidity route asn vrps v → IsValidity route asn vrps w → v ≡ w }
+    ensures any_order { (route : FamilyPrefix) (asn : ℕ) (vrps others : List Vrp)
+        (validity : Validity) → IsPermutation vrps others →
+        IsValidity route asn vrps validity ↔ IsValidity route asn others validity }
 {}
 
 /// A list of VRPs has at most one table, and tables with the same VRPs are equal.
 pub fn laws_of_tables()
-    ensures one { (payloads table other : List Payload) → IsTableOf payloads table
-        → IsTableOf payloads other → table ≡ other }
-    ensures members { (table other : List Payload) → IsAscending table → IsAscending other
-        → ((p : Payload) → Contains table p ↔ Contains other p) → table ≡ other }
+    ensures one { (vrps table other : List Vrp) → IsTableOf vrps table
+        → IsTableOf vrps other → table ≡ other }
+    ensures members { (table other : List Vrp) → IsAscending table → IsAscending other
+        → ((p : Vrp) → Contains table p ↔ Contains other p) → table ≡ other }
 {}
 
 /// A table without the withdrawn VRPs, and with the announced ones, is the next table. From a table to itself nothing
 /// changes.
 pub fn laws_of_changes()
-    ensures leads { (table next announced withdrawn set : List Payload) → IsAscending next
+    ensures leads { (table next announced withdrawn set : List Vrp) → IsAscending next
         → IsWithout next table announced → IsWithout table next withdrawn
         → IsAfter table announced withdrawn set → set ≡ next }
-    ensures none { (table left : List Payload) → IsWithout table table left → left ≡ [] }
+    ensures none { (table left : List Vrp) → IsWithout table table left → left ≡ [] }
 {}
 
 /// A table after changes has the VRPs of the old table that aren't withdrawn, and the announced VRPs. VRPs are compared
@@ -42,20 +42,20 @@ pub fn laws_of_changes()
 /// The next table lists the old VRPs as they were listed, and the announced ones as they are sent. Changes lead to one
 /// list, except for its order.
 pub fn laws_of_updates()
-    ensures sent { (table announced withdrawn next : List Payload) → IsUpdated table announced withdrawn next
-        → (p : Payload) → IsSentIn next p ↔ ((IsSentIn table p × ¬ IsSentIn withdrawn p) ⊎ IsSentIn announced p) }
-    ensures listed { (table announced withdrawn next : List Payload) → IsUpdated table announced withdrawn next
-        → (p : Payload) → Contains next p
+    ensures sent { (table announced withdrawn next : List Vrp) → IsUpdated table announced withdrawn next
+        → (p : Vrp) → IsSentIn next p ↔ ((IsSentIn table p × ¬ IsSentIn withdrawn p) ⊎ IsSentIn announced p) }
+    ensures listed { (table announced withdrawn next : List Vrp) → IsUpdated table announced withdrawn next
+        → (p : Vrp) → Contains next p
         ↔ ((Contains table p × ¬ IsSentIn withdrawn p) ⊎ Contains (map as_sent announced) p) }
-    ensures one { (table announced withdrawn next other : List Payload)
+    ensures one { (table announced withdrawn next other : List Vrp)
         → IsUpdated table announced withdrawn next → IsUpdated table announced withdrawn other
         → IsPermutation next other }
 {}
 
 /// Two VRPs are equal if their sort keys in a table are equal.
 ///
-/// Their order is therefore unique: for the same listed VRPs, `OriginTable::payloads` and `OriginTable::covering` each
+/// Their order is therefore unique: for the same listed VRPs, `OriginTable::vrps` and `OriginTable::covering` each
 /// give one list.
 pub fn laws_of_places()
-    ensures { (p q : Payload) → IsLawfulPayload p → IsLawfulPayload q → table_place p ≡ table_place q → p ≡ q }
+    ensures { (p q : Vrp) → IsLawfulVrp p → IsLawfulVrp q → table_place p ≡ table_place q → p ≡ q }
 {}

@@ -1,8 +1,8 @@
 //! Route origin validation (RFC 6811, RFC 9582), and the tables of VRPs that caches and routers exchange (RFC 8210).
 //!
 //! [`origin`] returns the validity of one route by a list of VRPs. An [`OriginTable`] does so for many routes, and
-//! follows the changes that a cache sends. A [`PayloadTable`] holds what a cache sends to routers.
-//! [`PayloadTable::changes_to`] finds the VRPs to announce and to withdraw from one table to the next.
+//! follows the changes that a cache sends. A [`VrpTable`] holds what a cache sends to routers.
+//! [`VrpTable::changes_to`] finds the VRPs to announce and to withdraw from one table to the next.
 //!
 //! Use [`origin`] for a list that you already have. For many routes make a table once and look them up in it, as in
 //! `example_calls::routes::count_invalid`:
@@ -19,7 +19,7 @@
 //!
 //! ```rust
 //! let changes = sent.changes_to(alloc, next)?;
-//! told(
+//! changes_text(
 //!     alloc,
 //!     changes.announced.as_slice(),
 //!     changes.withdrawn.as_slice(),
@@ -29,24 +29,26 @@
 
 mod changes;
 pub mod covering;
-mod entry;
 pub mod laws;
 mod links;
 mod listing;
-mod payloads;
+pub mod lookup;
+mod packed_vrp;
 mod reevaluation;
-pub mod sought;
 mod starts;
 pub mod table;
 mod updates;
 pub mod validation;
+mod vrp;
+mod vrp_table;
 
-pub use changes::PayloadChanges;
+pub use changes::VrpChanges;
 pub use covering::Covering;
-pub use listing::TablePayloads;
-pub use payloads::PayloadTable;
-pub use reevaluation::changed;
-pub use sought::Sought;
+pub use listing::TableVrps;
+pub use lookup::Lookup;
+pub use reevaluation::changed_routes;
 pub use table::OriginTable;
 pub use updates::ChangeFault;
 pub use validation::{Validity, origin};
+pub use vrp::Vrp;
+pub use vrp_table::VrpTable;

@@ -2,9 +2,9 @@
 ghost use Rattle.std.specs.Prelude.{◌≡◌, ◌-◌, ◌^◌, ◌<◌, ◌≤◌, ◌⊎◌, IfOk, length, slice_index_or};
 ghost use Rattle.rpki_prefix.specs.Values.{IsFamilyPrefix};
 ghost use Rattle.roa_origin.specs.Links.{AreLinks, AreUpTo, IsInOrder, IsLink, IsTable, NoneCovers};
-ghost use Rattle.roa_origin.specs.Payloads.{CoversRoute, Payload};
+ghost use Rattle.roa_origin.specs.Vrps.{CoversRoute, Vrp};
 
-use crate::entry::Entry;
+use crate::packed_vrp::PackedVrp;
 use std::alloc::{AllocError, Allocator};
 
 /// The most VRPs that a table can have. With this limit its links and starts take half the memory.
@@ -35,21 +35,21 @@ impl Link {
 /// Returns how many of the first `from` VRPs are left when the last ones that don't cover the route are dropped.
 ///
 /// Each step gets to a shorter prefix, so there are at most 129.
-pub(crate) fn nearest(payloads: &[Entry], links: &[Link], from: usize, route: &Entry) -> usize
-    requires in_order { IsInOrder payloads.now }
+pub(crate) fn nearest(vrps: &[PackedVrp], links: &[Link], from: usize, route: &PackedVrp) -> usize
+    requires in_order { IsInOrder vrps.now }
     requires is_prefix { IsFamilyPrefix route.now.0.prefix }
-    requires up_to { AreUpTo payloads.now from route.now.0.prefix }
-    requires linked { AreLinks payloads.now links.now }
+    requires up_to { AreUpTo vrps.now from route.now.0.prefix }
+    requires linked { AreLinks vrps.now links.now }
     requires within { from ≤ length links.now }
-    requires as_many { length links.now ≤ length payloads.now }
+    requires as_many { length links.now ≤ length vrps.now }
     ensures back { result ≤ from }
-    ensures none { NoneCovers payloads.now route.now.0.prefix result from }
-    ensures found { (d : Payload) → 0 < result →
-        CoversRoute route.now.0.prefix (slice_index_or payloads.now (result - 1) d) }
+    ensures none { NoneCovers vrps.now route.now.0.prefix result from }
+    ensures found { (d : Vrp) → 0 < result →
+        CoversRoute route.now.0.prefix (slice_index_or vrps.now (result - 1) d) }
 {
     let mut at = from;
     while at > 0 {
-        if payloads[at - 1].covers(route) {
+        if vrps[at - 1].covers(route) {
             break;
         }
         at = links[at - 1].back as usize;
@@ -58,22 +58,22 @@ pub(crate) fn nearest(payloads: &[Entry], links: &[Link], from: usize, route: &E
 }
 
 /// Returns the link of the VRP at index `at`, by the links of the earlier VRPs.
-fn next_link(payloads: &[Entry], links: &[Link], at: usize) -> Link
-    requires in_order { IsInOrder payloads.now }
-    requires within { at < length payloads.now }
-    requires few { length payloads.now < 2 ^ 32 }
+fn next_link(vrps: &[PackedVrp], links: &[Link], at: usize) -> Link
+    requires in_order { IsInOrder vrps.now }
+    requires within { at < length vrps.now }
+    requires few { length vrps.now < 2 ^ 32 }
     requires as_many { length links.now ≡ at }
-    requires linked { AreLinks payloads.now links.now }
-    ensures { (d : Payload) → IsLink payloads.now at (slice_index_or payloads.now at d) result }
+    requires linked { AreLinks vrps.now links.now }
+    ensures { (d : Vrp) → IsLink vrps.now at (slice_index_or vrps.now at d) result }
 {
     if at == 0 {
         return Link { first: 0, back: 0 };
     }
-    let payload = &payloads[at];
-    if payloads[at - 1].has_prefix_of(payload) {
+    let vrp = &vrps[at];
+    if vrps[at - 1].has_prefix_of(vrp) {
         return links[at - 1];
     }
-    let back = nearest(payloads, links, at, payload);
+    let back = nearest(vrps, links, at, vrp);
     Link {
         first: at as u32,
         back: back as u32,
@@ -81,17 +81,17 @@ fn next_link(payloads: &[Entry], links: &[Link], at: usize) -> Link
 }
 
 /// Returns the link of each VRP, or `AllocError` if an allocation fails or there are more than [`MOST`] VRPs.
-pub(crate) fn links<A: Allocator>(alloc: A, payloads: &[Entry]) -> Result<Vec<Link, A>, AllocError>
-    requires { IsInOrder payloads.now }
-    ensures links { IfOk result (λ links. IsTable payloads.now links.items) }
-    ensures few { IfOk result (λ _. length payloads.now < 2 ^ 32) }
+pub(crate) fn links<A: Allocator>(alloc: A, vrps: &[PackedVrp]) -> Result<Vec<Link, A>, AllocError>
+    requires { IsInOrder vrps.now }
+    ensures links { IfOk result (λ links. IsTable vrps.now links.items) }
+    ensures few { IfOk result (λ _. length vrps.now < 2 ^ 32) }
 {
-    if payloads.len() > MOST {
+    if vrps.len() > MOST {
         return Err(AllocError);
     }
-    let mut links = Vec::with_capacity(alloc, payloads.len())?;
-    for at in 0..payloads.len() {
-        let link = next_link(payloads, links.as_slice(), at);
+    let mut links = Vec::with_capacity(alloc, vrps.len())?;
+    for at in 0..vrps.len() {
+        let link = next_link(vrps, links.as_slice(), at);
         links.push(link)?;
     }
     Ok(links)

@@ -2,57 +2,54 @@
 ghost use Rattle.std.specs.Prelude.{◌≡◌};
 ghost use Rattle.std.specs.Iterator.{YieldsFirst, item_count};
 
-use crate::entry::Entry;
-use rpki_base::Asn;
-use rpki_prefix::MaxLenPrefix;
+use crate::packed_vrp::PackedVrp;
+use crate::vrp::Vrp;
 use std::fmt;
 use std::marker::Model;
 
 /// An iterator over the VRPs of a table, in its order. Its value in contracts is the list of the VRPs that are left.
 ///
-/// This iterator borrows an [`crate::OriginTable`]. A [`crate::PayloadTable`] owns its VRPs, each once, as a cache
+/// This iterator borrows an [`crate::OriginTable`]. A [`crate::VrpTable`] owns its VRPs, each once, as a cache
 /// sends them.
 #[derive(Drop)]
-pub struct TablePayloads<'a> {
-    entries: &'a [Entry],
+pub struct TableVrps<'a> {
+    vrps: &'a [PackedVrp],
 }
 
-impl<'a> Model for TablePayloads<'a> {
+impl<'a> Model for TableVrps<'a> {
     ghost use Rattle.std.specs.Prelude.{List};
-    ghost use Rattle.roa_origin.specs.Payloads.{Payload};
+    ghost use Rattle.roa_origin.specs.Vrps.{Vrp};
 
-    ghost Value = { List Payload };
+    ghost Value = { List Vrp };
 
-    ghost view = { λ payloads. payloads.entries.now };
+    ghost view = { λ vrps. vrps.vrps.now };
 }
 
-impl<'a> TablePayloads<'a> {
-    pub(crate) fn of(entries: &'a [Entry]) -> TablePayloads<'a>
-        ensures { result ≡ entries.now }
+impl<'a> TableVrps<'a> {
+    pub(crate) fn of(vrps: &'a [PackedVrp]) -> TableVrps<'a>
+        ensures { result ≡ vrps.now }
     {
-        TablePayloads { entries }
+        TableVrps { vrps }
     }
 }
 
 /// Lists the VRPs that are left.
-impl fmt::Debug for TablePayloads<'_> {
+impl fmt::Debug for TableVrps<'_> {
     fn fmt<W: fmt::Write>(&self, f: &mut fmt::Formatter<W>) -> fmt::Result {
-        f.debug_list()
-            .entries(TablePayloads::of(self.entries))
-            .finish()
+        f.debug_list().entries(TableVrps::of(self.vrps)).finish()
     }
 }
 
-impl Iterator for TablePayloads<'_> {
-    type Item = (MaxLenPrefix, Asn);
+impl Iterator for TableVrps<'_> {
+    type Item = Vrp;
 
-    ghost next_gives = { YieldsFirst (λ payloads. payloads) };
+    ghost next_gives = { YieldsFirst (λ vrps. vrps) };
 
-    ghost remaining = { item_count (λ payloads. payloads) };
+    ghost remaining = { item_count (λ vrps. vrps) };
 
-    fn next(&mut self) -> Option<(MaxLenPrefix, Asn)> {
-        let (first, rest) = self.entries.split_first()?;
-        self.entries = rest;
-        Some(first.payload())
+    fn next(&mut self) -> Option<Vrp> {
+        let (first, rest) = self.vrps.split_first()?;
+        self.vrps = rest;
+        Some(first.vrp())
     }
 }

@@ -13,12 +13,12 @@ use std::alloc::{AllocError, Allocator};
 /// `routes` has a prefix and an origin AS for each route. A router evaluates the returned routes anew when it replaces
 /// `old` by `new`. All other routes keep their validity (RFC 6811, 4).
 ///
-/// This call compares the validity of routes. [`crate::PayloadTable::changes_to`] compares the VRPs of two tables.
+/// This call compares the validity of routes. [`crate::VrpTable::changes_to`] compares the VRPs of two tables.
 ///
 /// # Errors
 ///
 /// [`AllocError`] if an allocation for the list fails.
-pub fn changed<A: Allocator>(
+pub fn changed_routes<A: Allocator>(
     alloc: A,
     old: &OriginTable<A>,
     new: &OriginTable<A>,

@@ -4,15 +4,14 @@ ghost use Rattle.std.specs.List.Sorted.{IsPermutation};
 ghost use Rattle.std.specs.Ordering.{nat_cmp};
 ghost use Rattle.rpki_text.specs.Memory.{IfRefused};
 ghost use Rattle.roa_origin.specs.Links.{IsInOrder};
-ghost use Rattle.roa_origin.specs.Payloads.{Payload};
+ghost use Rattle.roa_origin.specs.Vrps.{Vrp};
 ghost use Rattle.roa_origin.specs.Places.{sent_place, table_place};
 ghost use Rattle.roa_origin.specs.Tables.{as_sent};
-ghost use Rattle.roa_origin.specs.Updates.{AreChangesOf, AreSorted, AreUpdates, HasChangeFault, IsDuplicateRecord, IsFirst, IsFirstPlace, IsLawfulChange, IsMergedOf, IsOf, IsOfBefore, IsSearched, IsSentIn, IsUnknownRecord, IsUpdated, change_place, sent_change};
+ghost use Rattle.roa_origin.specs.Updates.{AreChangesOf, AreSorted, AreUpdates, HasChangeFault, IsDuplicateAnnouncement, IsFirst, IsFirstPlace, IsLawfulChange, IsMergedOf, IsOf, IsOfBefore, IsSearched, IsSentIn, IsUnknownWithdrawal, IsUpdated, change_place, sent_change};
 
-use crate::entry::Entry;
-use crate::payloads::with_greatest_length;
-use rpki_base::Asn;
-use rpki_prefix::MaxLenPrefix;
+use crate::packed_vrp::PackedVrp;
+use crate::vrp::Vrp;
+use crate::vrp_table::with_max_len;
 use rpki_text::memory::OrMemory;
 use std::alloc::{AllocError, Allocator};
 use std::cmp::Ordering;
@@ -35,19 +34,19 @@ pub enum ChangeFault {
 /// A VRP that is announced or withdrawn, as it is sent, with its index in its list.
 #[derive(Clone, Copy)]
 pub(crate) struct Change {
-    pub(crate) entry: Entry,
+    pub(crate) vrp: PackedVrp,
     pub(crate) place: usize,
 }
 
 impl Change {
     /// Returns the change of the VRP at an index of a list.
-    fn new(payload: &(MaxLenPrefix, Asn), place: usize) -> Change
-        ensures entry { result.entry ≡ as_sent payload.now }
+    fn new(vrp: &Vrp, place: usize) -> Change
+        ensures vrp { result.vrp ≡ as_sent vrp.now }
         ensures place { result.place ≡ place }
         ensures lawful { IsLawfulChange result }
     {
         Change {
-            entry: Entry::new(with_greatest_length(payload)),
+            vrp: PackedVrp::new(with_max_len(vrp)),
             place,
         }
     }
@@ -57,7 +56,7 @@ impl Change {
         ensures { result ≡ nat_cmp (change_place self.now) (change_place other.now) }
     {
         let by_place = cmp_numbers(self.place, other.place);
-        self.entry.cmp_sent(&other.entry).then(by_place)
+        self.vrp.cmp_sent(&other.vrp).then(by_place)
     }
 }
 
@@ -71,28 +70,22 @@ fn cmp_numbers(one: usize, other: usize) -> Ordering
 }
 
 /// Returns the changes of a list of VRPs, in its order.
-fn listed_changes<A: Allocator>(
-    alloc: A,
-    payloads: &[(MaxLenPrefix, Asn)],
-) -> Result<Vec<Change, A>, AllocError>
-    ensures { IfOk result (λ changes. AreChangesOf payloads.now changes.items) }
+fn listed_changes<A: Allocator>(alloc: A, vrps: &[Vrp]) -> Result<Vec<Change, A>, AllocError>
+    ensures { IfOk result (λ changes. AreChangesOf vrps.now changes.items) }
 {
-    let mut changes = Vec::with_capacity(alloc, payloads.len())?;
-    for (place, payload) in payloads.iter().enumerate() {
-        changes.push(Change::new(payload, place))?;
+    let mut changes = Vec::with_capacity(alloc, vrps.len())?;
+    for (place, vrp) in vrps.iter().enumerate() {
+        changes.push(Change::new(vrp, place))?;
     }
     Ok(changes)
 }
 
 /// Returns the changes of a list of VRPs, in the order of the VRPs.
-fn sorted_changes<A: Allocator>(
-    alloc: A,
-    payloads: &[(MaxLenPrefix, Asn)],
-) -> Result<Vec<Change, A>, AllocError>
-    ensures changes { IfOk result (λ changes. AreChangesOf payloads.now changes.items) }
+fn sorted_changes<A: Allocator>(alloc: A, vrps: &[Vrp]) -> Result<Vec<Change, A>, AllocError>
+    ensures changes { IfOk result (λ changes. AreChangesOf vrps.now changes.items) }
     ensures in_order { IfOk result (λ changes. AreSorted changes.items) }
 {
-    let mut changes = listed_changes(alloc, payloads)?;
+    let mut changes = listed_changes(alloc, vrps)?;
     sort_changes(&mut changes);
     Ok(changes)
 }
@@ -111,130 +104,126 @@ fn sort_changes<A: Allocator>(changes: &mut Vec<Change, A>)
 }
 
 /// Returns whether the change at an index is one of the VRP.
-fn stands_at(changes: &[Change], at: usize, payload: &Entry) -> bool
+fn stands_at(changes: &[Change], at: usize, vrp: &PackedVrp) -> bool
     ensures { IsTrue result ↔ ((at < length changes.now)
-        × ((d : Change) → IsOf payload.now (slice_index_or changes.now at d))) }
+        × ((d : Change) → IsOf vrp.now (slice_index_or changes.now at d))) }
 {
-    at < changes.len() && changes[at].entry.is_sent_as(payload)
+    at < changes.len() && changes[at].vrp.is_sent_as(vrp)
 }
 
 /// Returns the index up to which changes are of VRPs that come earlier, by a binary search.
-fn place_of(changes: &[Change], payload: &Entry) -> usize
+fn place_of(changes: &[Change], vrp: &PackedVrp) -> usize
     requires { AreSorted changes.now }
     ensures within { result ≤ length changes.now }
-    ensures searched { IsSearched sent_change changes.now (sent_place payload.now) result }
+    ensures searched { IsSearched sent_change changes.now (sent_place vrp.now) result }
 {
     changes.partition_point(
         |change: &Change| -> bool
-            ensures { result ≡ nat_lt (sent_place change.now.entry) (sent_place payload.entry.now) }
-        { change.entry.is_sent_before(payload) },
+            ensures { result ≡ nat_lt (sent_place change.now.vrp) (sent_place vrp.entry.now) }
+        { change.vrp.is_sent_before(vrp) },
     )
 }
 
 /// Returns the lowest index at which a list has the VRP, by the changes of the list.
-#[tactic(auto, using(crate::proofs::Listed::first_of, crate::proofs::Listed::none_of))]
-fn first_place(changes: &[Change], payload: &Entry) -> Option<usize>
+#[tactic(auto, using(crate::proofs::ChangesAsListed::first_of, crate::proofs::ChangesAsListed::none_of))]
+fn first_place(changes: &[Change], vrp: &PackedVrp) -> Option<usize>
     requires { AreSorted changes.now }
-    ensures { MatchOption result (All (λ change. ¬ IsOf payload.now change) changes.now)
-        (IsFirstPlace changes.now payload.now) }
+    ensures { MatchOption result (All (λ change. ¬ IsOf vrp.now change) changes.now)
+        (IsFirstPlace changes.now vrp.now) }
 {
-    let at = place_of(changes, payload);
-    if stands_at(changes, at, payload) {
+    let at = place_of(changes, vrp);
+    if stands_at(changes, at, vrp) {
         return Some(changes[at].place);
     }
     None
 }
 
 /// Returns whether a list has the VRP before an index, by the changes of the list.
-fn is_listed_before(changes: &[Change], payload: &Entry, place: usize) -> bool
+fn is_listed_before(changes: &[Change], vrp: &PackedVrp, place: usize) -> bool
     requires { AreSorted changes.now }
-    ensures { IsTrue result ↔ Any (IsOfBefore payload.now place) changes.now }
+    ensures { IsTrue result ↔ Any (IsOfBefore vrp.now place) changes.now }
 {
-    match first_place(changes, payload) {
+    match first_place(changes, vrp) {
         Some(first) => first < place,
         None => false,
     }
 }
 
 /// Returns whether a list has the VRP, by the changes of the list.
-fn is_listed(changes: &[Change], payload: &Entry) -> bool
+fn is_listed(changes: &[Change], vrp: &PackedVrp) -> bool
     requires { AreSorted changes.now }
-    ensures { IsTrue result ↔ Any (IsOf payload.now) changes.now }
+    ensures { IsTrue result ↔ Any (IsOf vrp.now) changes.now }
 {
-    first_place(changes, payload).is_some()
+    first_place(changes, vrp).is_some()
 }
 
 /// Returns the index up to which a table's VRPs, as they are sent, come earlier, by a binary search.
-fn place_in(table: &[Entry], payload: &Entry) -> usize
+fn place_in(table: &[PackedVrp], vrp: &PackedVrp) -> usize
     requires { IsInOrder table.now }
     ensures within { result ≤ length table.now }
-    ensures searched { IsSearched sent_place table.now (sent_place payload.now) result }
+    ensures searched { IsSearched sent_place table.now (sent_place vrp.now) result }
 {
     table.partition_point(
-        |entry: &Entry| -> bool
-            ensures { result ≡ nat_lt (sent_place entry.now) (sent_place payload.entry.now) }
-        { entry.is_sent_before(payload) },
+        |other: &PackedVrp| -> bool
+            ensures { result ≡ nat_lt (sent_place other.now) (sent_place vrp.entry.now) }
+        { other.is_sent_before(vrp) },
     )
 }
 
 /// Returns whether a table has the VRP, compared as VRPs are sent.
-#[tactic(auto, using(crate::proofs::Sent::sent_there, crate::proofs::Sent::same_sent))]
-fn has(table: &[Entry], payload: &Entry) -> bool
+#[tactic(auto, using(crate::proofs::SentVrps::sent_there, crate::proofs::SentVrps::same_sent))]
+fn has(table: &[PackedVrp], vrp: &PackedVrp) -> bool
     requires { IsInOrder table.now }
-    ensures { IsTrue result ↔ IsSentIn table.now payload.now }
+    ensures { IsTrue result ↔ IsSentIn table.now vrp.now }
 {
-    let at = place_in(table, payload);
-    at < table.len() && table[at].is_sent_as(payload)
+    let at = place_in(table, vrp);
+    at < table.len() && table[at].is_sent_as(vrp)
 }
 
 /// Returns whether a table doesn't have the VRP, or a list has it before an index.
-fn is_unknown(table: &[Entry], changes: &[Change], payload: &Entry, place: usize) -> bool
+fn is_unknown(table: &[PackedVrp], changes: &[Change], vrp: &PackedVrp, place: usize) -> bool
     requires table { IsInOrder table.now }
     requires changes { AreSorted changes.now }
-    ensures { IsTrue result ↔ ((¬ IsSentIn table.now payload.now)
-        ⊎ Any (IsOfBefore payload.now place) changes.now) }
+    ensures { IsTrue result ↔ ((¬ IsSentIn table.now vrp.now)
+        ⊎ Any (IsOfBefore vrp.now place) changes.now) }
 {
-    if has(table, payload) {
-        return is_listed_before(changes, payload, place);
+    if has(table, vrp) {
+        return is_listed_before(changes, vrp, place);
     }
     true
 }
 
 /// Returns whether a table has the VRP and it isn't withdrawn, or a list has it before an index.
 fn is_duplicate(
-    table: &[Entry],
+    table: &[PackedVrp],
     withdrawn: &[Change],
     changes: &[Change],
-    payload: &Entry,
+    vrp: &PackedVrp,
     place: usize,
 ) -> bool
     requires table { IsInOrder table.now }
     requires withdrawn { AreSorted withdrawn.now }
     requires changes { AreSorted changes.now }
-    ensures { IsTrue result ↔ ((IsSentIn table.now payload.now × ¬ Any (IsOf payload.now) withdrawn.now)
-        ⊎ Any (IsOfBefore payload.now place) changes.now) }
+    ensures { IsTrue result ↔ ((IsSentIn table.now vrp.now × ¬ Any (IsOf vrp.now) withdrawn.now)
+        ⊎ Any (IsOfBefore vrp.now place) changes.now) }
 {
-    if has(table, payload) && !is_listed(withdrawn, payload) {
+    if has(table, vrp) && !is_listed(withdrawn, vrp) {
         return true;
     }
-    is_listed_before(changes, payload, place)
+    is_listed_before(changes, vrp, place)
 }
 
 /// Returns the first index at which a VRP is withdrawn that isn't in the table, or that is withdrawn before.
-fn first_unknown(
-    table: &[Entry],
-    withdrawn: &[(MaxLenPrefix, Asn)],
-    changes: &[Change],
-) -> Option<usize>
+fn first_unknown(table: &[PackedVrp], withdrawn: &[Vrp], changes: &[Change]) -> Option<usize>
     requires table { IsInOrder table.now }
     requires changes { AreChangesOf withdrawn.now changes.now }
     requires in_order { AreSorted changes.now }
-    ensures { MatchOption result ((n : ℕ) → ¬ IsUnknownRecord table.now withdrawn.now n)
-        (IsFirst (IsUnknownRecord table.now withdrawn.now)) }
+    ensures { MatchOption result ((n : ℕ) → ¬ IsUnknownWithdrawal table.now withdrawn.now n)
+        (IsFirst (IsUnknownWithdrawal table.now withdrawn.now)) }
 {
-    for (place, payload) in withdrawn.iter().enumerate() {
-        let entry = Entry::new(*payload);
-        if is_unknown(table, changes, &entry, place) {
+    for (place, vrp) in withdrawn.iter().enumerate() {
+        let packed = PackedVrp::new(*vrp);
+        if is_unknown(table, changes, &packed, place) {
             return Some(place);
         }
     }
@@ -244,22 +233,22 @@ fn first_unknown(
 /// Returns the first index at which a VRP is announced that is in the table and isn't withdrawn, or that is announced
 /// before.
 fn first_duplicate(
-    table: &[Entry],
+    table: &[PackedVrp],
     withdrawn: &[Change],
-    announced: &[(MaxLenPrefix, Asn)],
+    announced: &[Vrp],
     changes: &[Change],
 ) -> Option<usize>
     requires table { IsInOrder table.now }
     requires withdrawn { AreSorted withdrawn.now }
     requires changes { AreChangesOf announced.now changes.now }
     requires in_order { AreSorted changes.now }
-    ensures { (gone : List Payload) → AreChangesOf gone withdrawn.now
-        → MatchOption result ((n : ℕ) → ¬ IsDuplicateRecord table.now announced.now gone n)
-        (IsFirst (IsDuplicateRecord table.now announced.now gone)) }
+    ensures { (gone : List Vrp) → AreChangesOf gone withdrawn.now
+        → MatchOption result ((n : ℕ) → ¬ IsDuplicateAnnouncement table.now announced.now gone n)
+        (IsFirst (IsDuplicateAnnouncement table.now announced.now gone)) }
 {
-    for (place, payload) in announced.iter().enumerate() {
-        let entry = Entry::new(*payload);
-        if is_duplicate(table, withdrawn, changes, &entry, place) {
+    for (place, vrp) in announced.iter().enumerate() {
+        let packed = PackedVrp::new(*vrp);
+        if is_duplicate(table, withdrawn, changes, &packed, place) {
             return Some(place);
         }
     }
@@ -268,14 +257,14 @@ fn first_duplicate(
 
 /// Returns whether the next VRP to list is an announced one: it comes before the table's next one, or none is left
 /// there.
-fn announced_is_next(table: &[Entry], at: usize, announced: &[Change], come: usize) -> bool
+fn announced_is_next(table: &[PackedVrp], at: usize, announced: &[Change], come: usize) -> bool
     requires at { at ≤ length table.now }
     requires come { come ≤ length announced.now }
     requires some { (at < length table.now) ⊎ (come < length announced.now) }
-    ensures announced { IsTrue result → (come < length announced.now) × ((d : Change) (e : Payload) → at < length table.now
-        → table_place (slice_index_or announced.now come d).entry ≤ table_place (slice_index_or table.now at e)) }
-    ensures table { result ≡ false → (at < length table.now) × ((d : Change) (e : Payload) → come < length announced.now
-        → table_place (slice_index_or table.now at e) ≤ table_place (slice_index_or announced.now come d).entry) }
+    ensures announced { IsTrue result → (come < length announced.now) × ((d : Change) (e : Vrp) → at < length table.now
+        → table_place (slice_index_or announced.now come d).vrp ≤ table_place (slice_index_or table.now at e)) }
+    ensures table { result ≡ false → (at < length table.now) × ((d : Change) (e : Vrp) → come < length announced.now
+        → table_place (slice_index_or table.now at e) ≤ table_place (slice_index_or announced.now come d).vrp) }
 {
     if at == table.len() {
         return true;
@@ -283,69 +272,69 @@ fn announced_is_next(table: &[Entry], at: usize, announced: &[Change], come: usi
     if come == announced.len() {
         return false;
     }
-    announced[come].entry.cmp_place(&table[at]).is_lt()
+    announced[come].vrp.cmp_place(&table[at]).is_lt()
 }
 
 /// Returns the first index, from `from` on, at which no change is of a VRP that comes earlier.
-fn passed(changes: &[Change], from: usize, payload: &Entry) -> usize
+fn passed(changes: &[Change], from: usize, vrp: &PackedVrp) -> usize
     requires from { from ≤ length changes.now }
     requires in_order { AreSorted changes.now }
     requires passed { (k : _) (d : Change) → k < from
-        → sent_place (slice_index_or changes.now k d).entry < sent_place payload.now }
+        → sent_place (slice_index_or changes.now k d).vrp < sent_place vrp.now }
     ensures within { result ≤ length changes.now }
-    ensures searched { IsSearched sent_change changes.now (sent_place payload.now) result }
+    ensures searched { IsSearched sent_change changes.now (sent_place vrp.now) result }
 {
     let mut at = from;
-    while at < changes.len() && changes[at].entry.is_sent_before(payload) {
+    while at < changes.len() && changes[at].vrp.is_sent_before(vrp) {
         at += 1;
     }
     at
 }
 
 /// Returns the index up to which a table's VRPs, as they are sent, come before the VRP of the next change.
-fn end_before(table: &[Entry], changes: &[Change], next: usize) -> usize
+fn end_before(table: &[PackedVrp], changes: &[Change], next: usize) -> usize
     requires { IsInOrder table.now }
     ensures within { result ≤ length table.now }
-    ensures before { (k : _) (d : Payload) (e : Change) → k < result → next < length changes.now
+    ensures before { (k : _) (d : Vrp) (e : Change) → k < result → next < length changes.now
         → sent_place (slice_index_or table.now k d) < sent_change (slice_index_or changes.now next e) }
-    ensures from { (k : _) (d : Payload) (e : Change) → result ≤ k → k < length table.now
+    ensures from { (k : _) (d : Vrp) (e : Change) → result ≤ k → k < length table.now
         → (next < length changes.now)
         × (sent_change (slice_index_or changes.now next e) ≤ sent_place (slice_index_or table.now k d)) }
 {
     if next < changes.len() {
-        return place_in(table, &changes[next].entry);
+        return place_in(table, &changes[next].vrp);
     }
     table.len()
 }
 
 /// Returns how many of a table's VRPs come no later than another VRP, by a binary search.
-fn count_up_to(table: &[Entry], payload: &Entry) -> usize
+fn count_up_to(table: &[PackedVrp], vrp: &PackedVrp) -> usize
     requires { IsInOrder table.now }
     ensures within { result ≤ length table.now }
-    ensures up_to { (k : _) (d : Payload) → k < result
-        → table_place (slice_index_or table.now k d) ≤ table_place payload.now }
-    ensures later { (k : _) (d : Payload) → result ≤ k → k < length table.now
-        → table_place payload.now < table_place (slice_index_or table.now k d) }
+    ensures up_to { (k : _) (d : Vrp) → k < result
+        → table_place (slice_index_or table.now k d) ≤ table_place vrp.now }
+    ensures later { (k : _) (d : Vrp) → result ≤ k → k < length table.now
+        → table_place vrp.now < table_place (slice_index_or table.now k d) }
 {
     table.partition_point(
-        |entry: &Entry| -> bool
-            ensures { result ≡ nat_le (table_place entry.now) (table_place payload.entry.now) }
-        { entry.is_up_to(payload) },
+        |other: &PackedVrp| -> bool
+            ensures { result ≡ nat_le (table_place other.now) (table_place vrp.entry.now) }
+        { other.is_up_to(vrp) },
     )
 }
 
 /// Returns the index up to which a table's VRPs come no later than the VRP of the next change.
-fn end_up_to(table: &[Entry], changes: &[Change], next: usize) -> usize
+fn end_up_to(table: &[PackedVrp], changes: &[Change], next: usize) -> usize
     requires { IsInOrder table.now }
     ensures within { result ≤ length table.now }
-    ensures up_to { (k : _) (d : Payload) (e : Change) → k < result → next < length changes.now
-        → table_place (slice_index_or table.now k d) ≤ table_place (slice_index_or changes.now next e).entry }
-    ensures later { (k : _) (d : Payload) (e : Change) → result ≤ k → k < length table.now
+    ensures up_to { (k : _) (d : Vrp) (e : Change) → k < result → next < length changes.now
+        → table_place (slice_index_or table.now k d) ≤ table_place (slice_index_or changes.now next e).vrp }
+    ensures later { (k : _) (d : Vrp) (e : Change) → result ≤ k → k < length table.now
         → (next < length changes.now)
-        × (table_place (slice_index_or changes.now next e).entry < table_place (slice_index_or table.now k d)) }
+        × (table_place (slice_index_or changes.now next e).vrp < table_place (slice_index_or table.now k d)) }
 {
     if next < changes.len() {
-        return count_up_to(table, &changes[next].entry);
+        return count_up_to(table, &changes[next].vrp);
     }
     table.len()
 }
@@ -353,7 +342,7 @@ fn end_up_to(table: &[Entry], changes: &[Change], next: usize) -> usize
 /// Returns the index up to which a table's VRPs, from index `at` on, stay and are next to be listed. They come before
 /// the next withdrawn VRP, and no later than the next announced one.
 fn run_end(
-    table: &[Entry],
+    table: &[PackedVrp],
     at: usize,
     withdrawn: &[Change],
     gone: usize,
@@ -362,16 +351,16 @@ fn run_end(
 ) -> usize
     requires table { IsInOrder table.now }
     requires at { at < length table.now }
-    requires before { (d : Payload) (e : Change) → gone < length withdrawn.now
+    requires before { (d : Vrp) (e : Change) → gone < length withdrawn.now
         → sent_place (slice_index_or table.now at d) < sent_change (slice_index_or withdrawn.now gone e) }
-    requires up_to { (d : Payload) (e : Change) → come < length announced.now
-        → table_place (slice_index_or table.now at d) ≤ table_place (slice_index_or announced.now come e).entry }
+    requires up_to { (d : Vrp) (e : Change) → come < length announced.now
+        → table_place (slice_index_or table.now at d) ≤ table_place (slice_index_or announced.now come e).vrp }
     ensures some { at < result }
     ensures within { result ≤ length table.now }
-    ensures before { (k : _) (d : Payload) (e : Change) → k < result → gone < length withdrawn.now
+    ensures before { (k : _) (d : Vrp) (e : Change) → k < result → gone < length withdrawn.now
         → sent_place (slice_index_or table.now k d) < sent_change (slice_index_or withdrawn.now gone e) }
-    ensures up_to { (k : _) (d : Payload) (e : Change) → k < result → come < length announced.now
-        → table_place (slice_index_or table.now k d) ≤ table_place (slice_index_or announced.now come e).entry }
+    ensures up_to { (k : _) (d : Vrp) (e : Change) → k < result → come < length announced.now
+        → table_place (slice_index_or table.now k d) ≤ table_place (slice_index_or announced.now come e).vrp }
 {
     let before = end_before(table, withdrawn, gone);
     let up_to = end_up_to(table, announced, come);
@@ -382,10 +371,10 @@ fn run_end(
 /// over the changes, and lists the VRPs between them run by run.
 fn updated<A: Allocator>(
     alloc: A,
-    table: &[Entry],
+    table: &[PackedVrp],
     withdrawn: &[Change],
     announced: &[Change],
-) -> Result<Vec<Entry, A>, AllocError>
+) -> Result<Vec<PackedVrp, A>, AllocError>
     requires table { IsInOrder table.now }
     requires withdrawn { AreSorted withdrawn.now }
     requires announced { AreSorted announced.now }
@@ -398,12 +387,12 @@ fn updated<A: Allocator>(
     let mut come = 0;
     while at < table.len() || come < announced.len() {
         if announced_is_next(table, at, announced, come) {
-            next.push(announced[come].entry)?;
+            next.push(announced[come].vrp)?;
             come += 1;
         } else {
-            let payload = &table[at];
-            gone = passed(withdrawn, gone, payload);
-            if stands_at(withdrawn, gone, payload) {
+            let vrp = &table[at];
+            gone = passed(withdrawn, gone, vrp);
+            if stands_at(withdrawn, gone, vrp) {
                 at += 1;
             } else {
                 let end = run_end(table, at, withdrawn, gone, announced, come);
@@ -418,10 +407,10 @@ fn updated<A: Allocator>(
 /// Returns the VRPs of a table after changes, in a table's order, or the first fault of the changes.
 pub(crate) fn after_changes<A: Allocator>(
     alloc: A,
-    table: &[Entry],
-    announced: &[(MaxLenPrefix, Asn)],
-    withdrawn: &[(MaxLenPrefix, Asn)],
-) -> Result<Vec<Entry, A>, OrMemory<ChangeFault>>
+    table: &[PackedVrp],
+    announced: &[Vrp],
+    withdrawn: &[Vrp],
+) -> Result<Vec<PackedVrp, A>, OrMemory<ChangeFault>>
 where
     A: Copy,
     requires { IsInOrder table.now }

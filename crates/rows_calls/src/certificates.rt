@@ -1,12 +1,12 @@
 //! Certificates: the contents of their extensions, and the resources that an issuer verifies. An absent extension is
 //! `-`.
-use crate::print::{self, cut};
+use crate::print::{self, cut_trimmed_at};
 use crate::sets::from_lists;
 use rpki_extensions::anchor::anchor_set;
 use rpki_extensions::encoding::Encoding;
 use rpki_extensions::extensions::{Claims, Extensions};
 use rpki_extensions::write::{
-    write_address_claims, write_addresses, write_numbers, write_numbers_claim,
+    write_as_claim, write_as_extension, write_ip_claims, write_ip_extension,
 };
 use rpki_extensions::{issued, read};
 use rpki_resources::repository::resources::{Overclaim, ResourceSet};
@@ -15,14 +15,14 @@ use std::alloc::{AllocError, Global};
 /// Answers `read_as HEX` and `read_canonical_as HEX`.
 pub fn read_as(alloc: Global, hex: &str, encoding: Encoding) -> anyhow::Result<String> {
     let octets = hex::decode(alloc, hex)?;
-    let resources = read::read_as(alloc, octets.as_slice(), encoding)?;
+    let resources = read::read_as_claim(alloc, octets.as_slice(), encoding)?;
     print::value(alloc, &resources)
 }
 
 /// Answers `read_families HEX` and `read_canonical_families HEX`.
 pub fn read_families(alloc: Global, hex: &str, encoding: Encoding) -> anyhow::Result<String> {
     let octets = hex::decode(alloc, hex)?;
-    let (v4, v6) = read::read_families(alloc, octets.as_slice(), encoding)?;
+    let (v4, v6) = read::read_ip_families(alloc, octets.as_slice(), encoding)?;
     print::families(alloc, &v4, &v6)
 }
 
@@ -38,8 +38,8 @@ pub struct Certificate {
 impl Certificate {
     /// Reads a certificate from `WORD HEX HEX`: a word of [`reading_named`], AS identifiers and IP address blocks.
     pub fn read(alloc: Global, text: &str) -> anyhow::Result<Certificate> {
-        let (word, extensions) = cut(text, ' ');
-        let (numbers, addresses) = cut(extensions, ' ');
+        let (word, extensions) = cut_trimmed_at(text, ' ');
+        let (numbers, addresses) = cut_trimmed_at(extensions, ' ');
         let numbers = value(alloc, numbers)?;
         let addresses = value(alloc, addresses)?;
         let (encoding, mode) = reading_named(word);
@@ -84,7 +84,7 @@ fn reading_named(name: &str) -> (Encoding, Overclaim) {
 
 /// Answers `verified_octets A ; B ; C | refuse HEX HEX`: the resources of an issuer, and a certificate.
 pub fn verified_octets(alloc: Global, operands: &str) -> anyhow::Result<String> {
-    let (issuer, certificate) = cut(operands, '|');
+    let (issuer, certificate) = cut_trimmed_at(operands, '|');
     let issuer = from_lists(alloc, issuer)?;
     verified_by(alloc, &issuer, certificate)
 }
@@ -125,9 +125,9 @@ fn written_of(alloc: Global, set: &ResourceSet) -> anyhow::Result<String> {
 
 fn octets_of(alloc: Global, set: &ResourceSet) -> Result<String, AllocError> {
     let mut text = String::new(alloc);
-    push_octets(alloc, &mut text, &write_numbers(alloc, set))?;
+    push_octets(alloc, &mut text, &write_as_extension(alloc, set))?;
     text.push(' ')?;
-    push_octets(alloc, &mut text, &write_addresses(alloc, set))?;
+    push_octets(alloc, &mut text, &write_ip_extension(alloc, set))?;
     Ok(text)
 }
 
@@ -151,12 +151,12 @@ fn claims_text(alloc: Global, claims: &Claims) -> anyhow::Result<String> {
 
 fn claimed(alloc: Global, claims: &Claims) -> Result<String, AllocError> {
     let mut text = String::new(alloc);
-    push_octets(alloc, &mut text, &write_numbers_claim(alloc, &claims.asn))?;
+    push_octets(alloc, &mut text, &write_as_claim(alloc, &claims.asn))?;
     text.push(' ')?;
     push_octets(
         alloc,
         &mut text,
-        &write_address_claims(alloc, &claims.ipv4, &claims.ipv6),
+        &write_ip_claims(alloc, &claims.ipv4, &claims.ipv6),
     )?;
     Ok(text)
 }

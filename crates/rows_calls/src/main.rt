@@ -13,7 +13,7 @@ mod routes;
 mod sets;
 mod values;
 
-use print::cut;
+use print::cut_trimmed_at;
 use rpki_extensions::encoding::Encoding;
 use std::alloc::Global;
 use std::io;
@@ -34,7 +34,7 @@ fn answer(rt: &HostRuntime, line: &str) -> io::Result<()> {
 
 /// Calls the function that a line names, and prints its result.
 fn call(alloc: Global, line: &str) -> anyhow::Result<String> {
-    let (name, operands) = cut(line, ' ');
+    let (name, operands) = cut_trimmed_at(line, ' ');
     match name {
         "read_as" => certificates::read_as(alloc, operands, Encoding::Any),
         "read_canonical_as" => certificates::read_as(alloc, operands, Encoding::Canonical),
@@ -76,7 +76,7 @@ fn of_sets(alloc: Global, name: &str, operands: &str) -> anyhow::Result<String> 
 fn of_values(alloc: Global, name: &str, operands: &str) -> anyhow::Result<String> {
     match name {
         "between" => values::between(alloc, operands),
-        "behind" => values::behind(alloc, operands),
+        "next_asn" => values::next_asn(alloc, operands),
         "whole_v4" => values::whole_v4(alloc, operands),
         "listed_set" => values::listed_set(alloc, operands),
         "listed_in_the_end" => values::listed_in_the_end(alloc, operands),

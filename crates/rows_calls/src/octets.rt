@@ -1,5 +1,5 @@
 //! Sets and resources in DER.
-use crate::print::{self, cut};
+use crate::print::{self, cut_trimmed_at};
 use crate::sets::as_v6;
 use rpki_resources::repository::resources::{
     AsBlocks, AsResources, IpBlocks, IpResources, Ipv4Blocks, Ipv6Blocks,
@@ -35,7 +35,7 @@ pub fn resources_written_and_read(alloc: Global, list: &str) -> anyhow::Result<S
 
 /// Answers `families_written_and_read A | B` of IPv4 and of IPv6.
 pub fn families_written_and_read(alloc: Global, lists: &str) -> anyhow::Result<String> {
-    let (v4, v6) = cut(lists, '|');
+    let (v4, v6) = cut_trimmed_at(lists, '|');
     let v4 = Ipv4Blocks::from_str(alloc, v4)?;
     with_v4(alloc, &v4, v6)
 }

@@ -3,7 +3,7 @@ ghost use Rattle.std.specs.Prelude.{All, IfOk, OnOk};
 ghost use Rattle.rpki_ipres.specs.Resources.{IsWholeClaim};
 
 use crate::certificates::Certificate;
-use crate::print::{self, cut};
+use crate::print::{self, cut_trimmed_at};
 use crate::sets::from_lists;
 use example_calls::certificates::Overclaimed;
 use rpki_extensions::extensions::{Claims, Extensions};
@@ -15,7 +15,7 @@ use std::fmt;
 /// Answers `verified_path A ; B ; C | refuse HEX HEX | ..`: the resources of a trust anchor, and the certificates on a
 /// path.
 pub fn verified_path(alloc: Global, operands: &str) -> anyhow::Result<String> {
-    let (anchor, path) = cut(operands, '|');
+    let (anchor, path) = cut_trimmed_at(operands, '|');
     let anchor = from_lists(alloc, anchor)?;
     left_by(alloc, &anchor, path)
 }
@@ -39,7 +39,7 @@ fn left_of(
 
 /// Answers `verified_below refuse HEX HEX | refuse HEX HEX | ..`: a trust anchor, and the certificates on a path.
 pub fn verified_below(alloc: Global, operands: &str) -> anyhow::Result<String> {
-    let (anchor, path) = cut(operands, '|');
+    let (anchor, path) = cut_trimmed_at(operands, '|');
     let anchor = Certificate::read(alloc, anchor)?;
     path_below(alloc, &anchor.extensions(), path)
 }
@@ -99,7 +99,7 @@ struct Steps {
 
 /// Answers `verified A ; B ; C | refuse HEX HEX | ..`, with the operands of [`verified_path`].
 pub fn verified(alloc: Global, operands: &str) -> anyhow::Result<String> {
-    let (root, path) = cut(operands, '|');
+    let (root, path) = cut_trimmed_at(operands, '|');
     let steps = read_steps(alloc, path)?;
     left(alloc, root, &steps)
 }

@@ -1,5 +1,5 @@
 //! Prefixes: filters of routes, and a router's cache.
-use crate::print::{self, cut};
+use crate::print::{self, cut_trimmed_at};
 use example_calls::{cache, filters};
 use rpki_resources::repository::resources::{Ipv4Blocks, Ipv6Blocks, Prefix};
 use rpki_resources::resources::addr::Prefix as FamilyPrefix;
@@ -55,7 +55,7 @@ pub fn table(alloc: Global, list: &str) -> anyhow::Result<String> {
 
 /// Answers `covering PREFIX, .. | PREFIX` with the prefixes of the table that cover the route.
 pub fn covering(alloc: Global, operands: &str) -> anyhow::Result<String> {
-    let (list, route) = cut(operands, '|');
+    let (list, route) = cut_trimmed_at(operands, '|');
     let route = route.parse::<FamilyPrefix>()?;
     let table = sorted(alloc, list)?;
     covering_in(alloc, &table, route)

@@ -6,7 +6,7 @@ use std::fmt;
 
 /// Returns the trimmed parts of a text before and after the first `mark`. If the text has no `mark`, they are all of
 /// it, untrimmed, and an empty text.
-pub fn cut(text: &str, mark: char) -> (&str, &str) {
+pub fn cut_trimmed_at(text: &str, mark: char) -> (&str, &str) {
     match text.split_once(mark) {
         Some((left, right)) => (left.trim(), right.trim()),
         None => (text, ""),

@@ -1,5 +1,5 @@
 //! Sets and their texts.
-use crate::print::{self, cut};
+use crate::print::{self, cut_trimmed_at};
 use rpki_resources::OrMemory;
 use rpki_resources::repository::resources::set::FromStrError;
 use rpki_resources::repository::resources::{AsBlock, AsBlocks, IpBlocks, Ipv4Blocks, ResourceSet};
@@ -7,20 +7,20 @@ use std::alloc::{AllocError, Global};
 
 /// Returns the set that `A ; B ; C` denotes.
 pub fn from_lists(alloc: Global, lists: &str) -> Result<ResourceSet, OrMemory<FromStrError>> {
-    let (asn, addresses) = cut(lists, ';');
-    let (ipv4, ipv6) = cut(addresses, ';');
+    let (asn, addresses) = cut_trimmed_at(lists, ';');
+    let (ipv4, ipv6) = cut_trimmed_at(addresses, ';');
     ResourceSet::from_strs(alloc, asn, ipv4, ipv6)
 }
 
 /// Answers `union_of_three A | B | C` of IPv4.
 pub fn union_of_three(alloc: Global, lists: &str) -> anyhow::Result<String> {
-    let (one, others) = cut(lists, '|');
+    let (one, others) = cut_trimmed_at(lists, '|');
     let one = Ipv4Blocks::from_str(alloc, one)?;
     union_with_two(alloc, &one, others)
 }
 
 fn union_with_two(alloc: Global, one: &Ipv4Blocks, lists: &str) -> anyhow::Result<String> {
-    let (two, three) = cut(lists, '|');
+    let (two, three) = cut_trimmed_at(lists, '|');
     let two = Ipv4Blocks::from_str(alloc, two)?;
     union_with_third(alloc, one, &two, three)
 }

@@ -1,21 +1,21 @@
 //! Preconditions that hold, errors that are distinguished, and resources that are built block by block.
-use crate::print::{self, cut};
+use crate::print::{self, cut_trimmed_at};
 use example_calls::{builders, conditions, errors};
 use rpki_resources::repository::resources::{AsBlock, AsResources, Asn, IpBlocks, IpResources};
 use std::alloc::Global;
 
 /// Answers `between ASN ASN`.
 pub fn between(alloc: Global, operands: &str) -> anyhow::Result<String> {
-    let (one, other) = cut(operands, ' ');
+    let (one, other) = cut_trimmed_at(operands, ' ');
     let one = one.parse::<Asn>()?;
     let other = other.parse::<Asn>()?;
     let range = conditions::between(one, other);
     print::value(alloc, &range)
 }
 
-/// Answers `behind ASN`.
-pub fn behind(alloc: Global, asn: &str) -> anyhow::Result<String> {
-    print::option(alloc, &conditions::behind(asn.parse::<Asn>()?))
+/// Answers `next_asn ASN`.
+pub fn next_asn(alloc: Global, asn: &str) -> anyhow::Result<String> {
+    print::option(alloc, &conditions::next_asn(asn.parse::<Asn>()?))
 }
 
 /// Answers `whole_v4 LIST` of addresses of either family.
@@ -26,9 +26,9 @@ pub fn whole_v4(alloc: Global, list: &str) -> anyhow::Result<String> {
 
 /// Answers `listed_set A ; B ; C` of AS numbers and of addresses of either family, each a list or `inherit`.
 pub fn listed_set(alloc: Global, lists: &str) -> anyhow::Result<String> {
-    let (asn, addresses) = cut(lists, ';');
+    let (asn, addresses) = cut_trimmed_at(lists, ';');
     let asn = AsResources::from_str(alloc, asn)?;
-    let (ipv4, ipv6) = cut(addresses, ';');
+    let (ipv4, ipv6) = cut_trimmed_at(addresses, ';');
     let ipv4 = ip_claim(alloc, ipv4)?;
     with_ipv6(alloc, &asn, &ipv4, ipv6)
 }

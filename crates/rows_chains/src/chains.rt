@@ -2,7 +2,7 @@
 use crate::lists::Lists;
 use crate::pairs::Pair;
 use rows_support::names::named;
-use rows_support::print::{self, cut};
+use rows_support::print::{self, cut_at};
 use rpki_base::memory::OrMemory;
 use rpki_chain::block::Block;
 use rpki_chain::chain::Chain;
@@ -237,7 +237,7 @@ pub fn pair_answer<A: Allocator + Copy>(
     question: &str,
     operands: &str,
 ) -> Result<String<A>, AllocError> {
-    let (left, right) = cut(operands, '|');
+    let (left, right) = cut_at(operands, '|');
     match Pair::from_str(left) {
         Ok(pair) => of_first(alloc, question, &pair, right),
         Err(fault) => print::error(alloc, fault),

@@ -1,5 +1,5 @@
 //! The two lists of a line.
-use rows_support::print::cut;
+use rows_support::print::cut_at;
 use rpki_base::list::read_list;
 use rpki_base::memory::OrMemory;
 use std::alloc::Allocator;
@@ -15,7 +15,7 @@ pub struct Lists<T: Drop, A: Allocator> {
 impl<T: FromStr + Drop, A: Allocator + Copy> Lists<T, A> {
     /// Reads both lists, the first one before the other.
     pub fn read(alloc: A, operands: &str) -> Result<Lists<T, A>, OrMemory<T::Err>> {
-        let (left, right) = cut(operands, '|');
+        let (left, right) = cut_at(operands, '|');
         let left = read_list(alloc, left)?;
         let right = read_list(alloc, right)?;
         Ok(Lists { left, right })

@@ -2,9 +2,9 @@
 ghost use Rattle.std.specs.Iterator.{IsFinite};
 
 use crate::lists::Lists;
-use rows_support::kept::kept;
 use rows_support::names::order_word;
 use rows_support::print;
+use rows_support::unchanged::kept;
 use rpki_base::asn::Asn;
 use rpki_base::small_set::SmallAsnSet;
 use std::alloc::{AllocError, Allocator};

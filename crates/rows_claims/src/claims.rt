@@ -1,5 +1,5 @@
 //! Answers about claims: the resources that they list, their copies, and what they leave of an issuer's set.
-use rows_support::print::{self, cut};
+use rows_support::print::{self, cut_at};
 use rpki_as::blocks::AsBlocks;
 use rpki_as::resources::AsResources;
 use rpki_as::verify::OverclaimedAsResources;
@@ -30,7 +30,7 @@ pub fn answer<A: Allocator + Copy>(
 }
 
 /// Prints a value, or the fault that was returned instead.
-pub fn told<T: fmt::Display + Drop, E: fmt::Display + Drop, A: Allocator + Copy>(
+pub fn result_text<T: fmt::Display + Drop, E: fmt::Display + Drop, A: Allocator + Copy>(
     alloc: A,
     found: Result<T, OrMemory<E>>,
 ) -> Result<String<A>, AllocError> {
@@ -58,7 +58,7 @@ fn of_as_claim<A: Allocator + Copy>(
     claim: &AsResources<A>,
 ) -> Result<String<A>, AllocError> {
     match question {
-        "as" => told(alloc, claim.to_blocks()),
+        "as" => result_text(alloc, claim.to_blocks()),
         _ => print::made(alloc, claim.clone()),
     }
 }
@@ -116,8 +116,8 @@ fn mode_named(word: &str) -> Overclaim {
 
 /// Answers `issued_as MODE ISSUER|CLAIM`.
 fn as_issued<A: Allocator + Copy>(alloc: A, operands: &str) -> Result<String<A>, AllocError> {
-    let (mode, lists) = cut(operands, ' ');
-    let (issuer, claim) = cut(lists, '|');
+    let (mode, lists) = cut_at(operands, ' ');
+    let (issuer, claim) = cut_at(lists, '|');
     match AsBlocks::from_str(alloc, issuer) {
         Ok(issuer) => as_issued_by(alloc, mode_named(mode), &issuer, claim),
         Err(error) => print::refused(alloc, error),
@@ -142,13 +142,13 @@ fn as_left<A: Allocator + Copy>(
     issuer: &AsBlocks<A>,
     claim: &AsResources<A>,
 ) -> Result<String<A>, AllocError> {
-    told(alloc, issuer.verify_issued(alloc, claim, mode))
+    result_text(alloc, issuer.verify_issued(alloc, claim, mode))
 }
 
 /// Answers `issued_ip MODE ISSUER|CLAIM`.
 fn ip_issued<A: Allocator + Copy>(alloc: A, operands: &str) -> Result<String<A>, AllocError> {
-    let (mode, lists) = cut(operands, ' ');
-    let (issuer, claim) = cut(lists, '|');
+    let (mode, lists) = cut_at(operands, ' ');
+    let (issuer, claim) = cut_at(lists, '|');
     match IpBlocks::from_str(alloc, issuer) {
         Ok(issuer) => ip_issued_by(alloc, mode_named(mode), &issuer, claim),
         Err(error) => print::refused(alloc, error),

@@ -1,6 +1,6 @@
 //! Answers to lines, by their commands.
-use crate::{claims, long, outside, payloads, route_lines, routes, triples};
-use rows_support::print::cut;
+use crate::{claims, long, outside, route_lines, routes, triples, vrps};
+use rows_support::print::cut_at;
 use rows_support::refusals::Call;
 use std::alloc::{AllocError, Allocator};
 
@@ -14,20 +14,20 @@ impl Call for Line<'_> {
     }
 
     fn answer<A: Allocator + Copy>(&self, alloc: A) -> Result<String<A>, AllocError> {
-        let (command, rest) = cut(self.0, ' ');
-        let (kind, operands) = cut(rest, ' ');
+        let (command, rest) = cut_at(self.0, ' ');
+        let (kind, operands) = cut_at(rest, ' ');
         match command {
             "claim" => claims::answer(alloc, kind, operands),
             "triple" => triples::answer(alloc, kind, operands),
             "set" => triples::set(alloc, rest),
             "diff" => triples::difference(alloc, rest),
             "long" => long::answer(alloc, kind, operands),
-            _ => answer_of_payloads(alloc, command, rest),
+            _ => answer_of_vrps(alloc, command, rest),
         }
     }
 }
 
-fn answer_of_payloads<A: Allocator + Copy>(
+fn answer_of_vrps<A: Allocator + Copy>(
     alloc: A,
     command: &str,
     rest: &str,
@@ -39,8 +39,8 @@ fn answer_of_payloads<A: Allocator + Copy>(
         "outside" => outside::answer(alloc, rest),
         "route" => route_lines::answer_to_line(alloc, rest, false),
         "why" => route_lines::answer_to_line(alloc, rest, true),
-        "payloads" => payloads::of_text(alloc, rest),
-        "octets" => payloads::of_octets(alloc, rest),
+        "vrps" => vrps::of_text(alloc, rest),
+        "octets" => vrps::of_octets(alloc, rest),
         _ => String::from_str(alloc, "no such command"),
     }
 }

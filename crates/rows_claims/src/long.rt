@@ -1,6 +1,6 @@
 //! Lists of many VRPs and routes. The first has each fourth IPv4 address from 0.0.0.0 on, the second the addresses
 //! greater by 2.
-use roa_origin::{OriginTable, PayloadChanges, PayloadTable, changed};
+use roa_origin::{OriginTable, Vrp, VrpChanges, VrpTable, changed_routes};
 use rows_support::print;
 use rpki_base::Asn;
 use rpki_base::addr::{IpAddr, Ipv4Addr};
@@ -23,28 +23,28 @@ pub fn answer<A: Allocator + Copy>(
     };
     match question {
         "changes" => changes(alloc, count),
-        "changed" => changed_routes(alloc, count),
+        "changed" => count_changed_routes(alloc, count),
         _ => String::from_str(alloc, "no such command"),
     }
 }
 
 fn changes<A: Allocator + Copy>(alloc: A, count: u32) -> Result<String<A>, AllocError> {
-    let table = payload_table(alloc, count, 0)?;
+    let table = vrp_table(alloc, count, 0)?;
     changes_from(alloc, &table, count)
 }
 
 fn changes_from<A: Allocator + Copy>(
     alloc: A,
-    table: &PayloadTable<A>,
+    table: &VrpTable<A>,
     count: u32,
 ) -> Result<String<A>, AllocError> {
-    let next = payload_table(alloc, count, 2)?;
-    changes_told(alloc, table.changes_to(alloc, &next))
+    let next = vrp_table(alloc, count, 2)?;
+    changes_text(alloc, table.changes_to(alloc, &next))
 }
 
-fn changes_told<A: Allocator + Copy>(
+fn changes_text<A: Allocator + Copy>(
     alloc: A,
-    changes: Result<PayloadChanges<A>, AllocError>,
+    changes: Result<VrpChanges<A>, AllocError>,
 ) -> Result<String<A>, AllocError> {
     let changes = changes?;
     let announced = changes.announced.as_slice().len();
@@ -52,48 +52,51 @@ fn changes_told<A: Allocator + Copy>(
     format!(in alloc; "{announced} announced, {withdrawn} withdrawn")
 }
 
-fn payload_table<A: Allocator + Copy>(
+fn vrp_table<A: Allocator + Copy>(
     alloc: A,
     count: u32,
     first: u32,
-) -> Result<PayloadTable<A>, AllocError> {
-    let payloads = every_fourth(alloc, count, first)?;
-    PayloadTable::new(alloc, &payloads)
+) -> Result<VrpTable<A>, AllocError> {
+    let vrps = every_fourth(alloc, count, first)?;
+    VrpTable::new(alloc, &vrps)
 }
 
-fn changed_routes<A: Allocator + Copy>(alloc: A, count: u32) -> Result<String<A>, AllocError> {
-    let payloads = every_fourth(alloc, count, 0)?;
-    changed_from(alloc, &payloads, count)
+fn count_changed_routes<A: Allocator + Copy>(
+    alloc: A,
+    count: u32,
+) -> Result<String<A>, AllocError> {
+    let vrps = every_fourth(alloc, count, 0)?;
+    changed_from(alloc, &vrps, count)
 }
 
 fn changed_from<A: Allocator + Copy>(
     alloc: A,
-    payloads: &[(MaxLenPrefix, Asn)],
+    vrps: &[Vrp],
     count: u32,
 ) -> Result<String<A>, AllocError> {
-    let table = OriginTable::new(alloc, payloads)?;
-    changed_by(alloc, &table, payloads, count)
+    let table = OriginTable::new(alloc, vrps)?;
+    changed_by(alloc, &table, vrps, count)
 }
 
 /// Prints how many routes of VRPs have another validity by the table of the other addresses.
 fn changed_by<A: Allocator + Copy>(
     alloc: A,
     table: &OriginTable<A>,
-    payloads: &[(MaxLenPrefix, Asn)],
+    vrps: &[Vrp],
     count: u32,
 ) -> Result<String<A>, AllocError> {
     let next = origin_table(alloc, count, 2)?;
-    changed_between(alloc, table, &next, payloads)
+    changed_between(alloc, table, &next, vrps)
 }
 
 fn changed_between<A: Allocator + Copy>(
     alloc: A,
     table: &OriginTable<A>,
     next: &OriginTable<A>,
-    payloads: &[(MaxLenPrefix, Asn)],
+    vrps: &[Vrp],
 ) -> Result<String<A>, AllocError> {
-    let routes = routes_of(alloc, payloads)?;
-    let places = changed(alloc, table, next, &routes)?;
+    let routes = routes_of(alloc, vrps)?;
+    let places = changed_routes(alloc, table, next, &routes)?;
     format!(in alloc; "{} changed", places.len())
 }
 
@@ -102,17 +105,17 @@ fn origin_table<A: Allocator + Copy>(
     count: u32,
     first: u32,
 ) -> Result<OriginTable<A>, AllocError> {
-    let payloads = every_fourth(alloc, count, first)?;
-    OriginTable::new(alloc, &payloads)
+    let vrps = every_fourth(alloc, count, first)?;
+    OriginTable::new(alloc, &vrps)
 }
 
 /// Returns the route of each VRP.
 fn routes_of<A: Allocator + Copy>(
     alloc: A,
-    payloads: &[(MaxLenPrefix, Asn)],
+    vrps: &[Vrp],
 ) -> Result<Vec<(Prefix, Asn), A>, AllocError> {
-    let mut routes = Vec::with_capacity(alloc, payloads.len())?;
-    for (prefix, asn) in payloads {
+    let mut routes = Vec::with_capacity(alloc, vrps.len())?;
+    for (prefix, asn) in vrps {
         routes.push((prefix.prefix(), *asn))?;
     }
     Ok(routes)
@@ -123,14 +126,14 @@ pub fn every_fourth<A: Allocator + Copy>(
     alloc: A,
     count: u32,
     first: u32,
-) -> Result<Vec<(MaxLenPrefix, Asn), A>, AllocError> {
-    let mut payloads = Vec::with_capacity(alloc, count as usize)?;
+) -> Result<Vec<Vrp, A>, AllocError> {
+    let mut vrps = Vec::with_capacity(alloc, count as usize)?;
     for at in 0..count {
         if let Some(prefix) = fourth(at, first) {
-            payloads.push((prefix, Asn::from_u32(at)))?;
+            vrps.push((prefix, Asn::from_u32(at)))?;
         }
     }
-    Ok(payloads)
+    Ok(vrps)
 }
 
 /// Returns the single address `first` + 4 * `at`, as a prefix.

@@ -14,18 +14,18 @@
 #![tactic(auto)]
 
 mod claims;
-mod entries;
+mod elements;
 mod line;
 mod long;
 mod outside;
-mod payloads;
 mod requests;
 mod route_lines;
 mod routes;
 mod triples;
+mod vrps;
 
 use line::Line;
-use rows_support::print::cut;
+use rows_support::print::cut_at;
 use rows_support::refusals;
 use std::alloc::{AllocError, Global};
 use std::io;
@@ -40,7 +40,7 @@ fn main(rt: HostRuntime) -> io::Result<()> {
 
 /// Answers a line. `requests` counts the requests of a call, and refuses none.
 fn answer(alloc: Global, line: &str) -> Result<String, AllocError> {
-    match cut(line, ' ') {
+    match cut_at(line, ' ') {
         ("requests", operands) => requests::answer(alloc, operands),
         _ => refusals::answer(alloc, &Line(line)),
     }

@@ -1,30 +1,28 @@
 //! The memory that tables of VRPs and sets of three kinds request.
 use crate::long::every_fourth;
-use crate::{entries, triples};
-use roa_origin::{OriginTable, PayloadTable};
-use rows_support::print::{cut, error, refused};
+use crate::{elements, triples};
+use roa_origin::{OriginTable, Vrp, VrpTable};
+use rows_support::print::{cut_at, error, refused};
 use rows_support::requests::Asked;
-use rpki_base::Asn;
 use rpki_base::memory::OrMemory;
 use rpki_base::number::parse_u32;
-use rpki_prefix::MaxLenPrefix;
 use rpki_resources::repository::resources::set::{FromStrError, ResourceSet};
 use std::alloc::{AllocError, Allocator, Global};
 use test_support::{Plan, Refusing};
 
 /// Answers `requests CALL ..`. The result of a call is kept until the call has ended.
 pub fn answer(alloc: Global, operands: &str) -> Result<String, AllocError> {
-    let (call, rest) = cut(operands, ' ');
+    let (call, rest) = cut_at(operands, ' ');
     let counting = &Refusing::new(alloc, Plan::RefuseNone);
     match call {
-        "table" | "payloads" => of_list(alloc, counting, call, rest),
+        "table" | "vrps" => of_list(alloc, counting, call, rest),
         "many" => of_many(alloc, counting, rest),
         "changes" => of_lists(alloc, counting, rest),
         _ => of_triples(alloc, counting, call, rest),
     }
 }
 
-/// Answers `requests table PREFIX[-MAX] AS | ..`, for a table that validates routes, and `requests payloads ..`, for a
+/// Answers `requests table PREFIX[-MAX] AS | ..`, for a table that validates routes, and `requests vrps ..`, for a
 /// list that is sent to routers.
 fn of_list(
     alloc: Global,
@@ -32,20 +30,16 @@ fn of_list(
     call: &str,
     list: &str,
 ) -> Result<String, AllocError> {
-    match entries::read::<(MaxLenPrefix, Asn), Global>(alloc, list)? {
-        Some(payloads) if call == "table" => of_table(alloc, counting, &payloads),
-        Some(payloads) => of_payloads(alloc, counting, &payloads),
-        None => String::from_str(alloc, "no such payload"),
+    match elements::read::<Vrp, Global>(alloc, list)? {
+        Some(vrps) if call == "table" => of_table(alloc, counting, &vrps),
+        Some(vrps) => of_vrps(alloc, counting, &vrps),
+        None => String::from_str(alloc, "no such VRP"),
     }
 }
 
-fn of_table(
-    alloc: Global,
-    counting: &Refusing,
-    payloads: &[(MaxLenPrefix, Asn)],
-) -> Result<String, AllocError> {
+fn of_table(alloc: Global, counting: &Refusing, vrps: &[Vrp]) -> Result<String, AllocError> {
     let before = Asked::of(counting);
-    before.told(alloc, counting, OriginTable::new(counting, payloads))
+    before.since_result(alloc, counting, OriginTable::new(counting, vrps))
 }
 
 /// Answers `requests many N`, for a table of N VRPs.
@@ -56,55 +50,51 @@ fn of_many(alloc: Global, counting: &Refusing, count: &str) -> Result<String, Al
     }
 }
 
-fn of_payloads(
-    alloc: Global,
-    counting: &Refusing,
-    payloads: &[(MaxLenPrefix, Asn)],
-) -> Result<String, AllocError> {
+fn of_vrps(alloc: Global, counting: &Refusing, vrps: &[Vrp]) -> Result<String, AllocError> {
     let before = Asked::of(counting);
-    before.told(alloc, counting, PayloadTable::new(counting, payloads))
+    before.since_result(alloc, counting, VrpTable::new(counting, vrps))
 }
 
 /// Answers `requests changes LIST ; LIST`, for the changes to send from one list to the other.
 fn of_lists(alloc: Global, counting: &Refusing, lists: &str) -> Result<String, AllocError> {
-    let (list, next) = cut(lists, ';');
-    match entries::read::<(MaxLenPrefix, Asn), Global>(alloc, list)? {
-        Some(payloads) => changes_from(alloc, counting, &payloads, next),
-        None => String::from_str(alloc, "no such payload"),
+    let (list, next) = cut_at(lists, ';');
+    match elements::read::<Vrp, Global>(alloc, list)? {
+        Some(vrps) => changes_from(alloc, counting, &vrps, next),
+        None => String::from_str(alloc, "no such VRP"),
     }
 }
 
 fn changes_from(
     alloc: Global,
     counting: &Refusing,
-    payloads: &[(MaxLenPrefix, Asn)],
+    vrps: &[Vrp],
     next: &str,
 ) -> Result<String, AllocError> {
-    match entries::read::<(MaxLenPrefix, Asn), Global>(alloc, next)? {
-        Some(next) => of_changes(alloc, counting, payloads, &next),
-        None => String::from_str(alloc, "no such payload"),
+    match elements::read::<Vrp, Global>(alloc, next)? {
+        Some(next) => of_changes(alloc, counting, vrps, &next),
+        None => String::from_str(alloc, "no such VRP"),
     }
 }
 
 fn of_changes(
     alloc: Global,
     counting: &Refusing,
-    payloads: &[(MaxLenPrefix, Asn)],
-    next: &[(MaxLenPrefix, Asn)],
+    vrps: &[Vrp],
+    next: &[Vrp],
 ) -> Result<String, AllocError> {
-    let table = PayloadTable::new(counting, payloads)?;
+    let table = VrpTable::new(counting, vrps)?;
     changes_to(alloc, counting, &table, next)
 }
 
 fn changes_to<'a>(
     alloc: Global,
     counting: &'a Refusing,
-    table: &PayloadTable<&'a Refusing>,
-    next: &[(MaxLenPrefix, Asn)],
+    table: &VrpTable<&'a Refusing>,
+    next: &[Vrp],
 ) -> Result<String, AllocError> {
-    let next = PayloadTable::new(counting, next)?;
+    let next = VrpTable::new(counting, next)?;
     let before = Asked::of(counting);
-    before.told(alloc, counting, table.changes_to(counting, &next))
+    before.since_result(alloc, counting, table.changes_to(counting, &next))
 }
 
 /// Answers `requests OPERATION A ; B ; C | D ; E ; F`, and `requests lists A ; B ; C` for the reading.
@@ -114,7 +104,7 @@ fn of_triples(
     call: &str,
     operands: &str,
 ) -> Result<String, AllocError> {
-    let (left, right) = cut(operands, '|');
+    let (left, right) = cut_at(operands, '|');
     match call {
         "lists" => {
             let before = Asked::of(counting);
@@ -174,9 +164,9 @@ fn of_both<A: Allocator + Copy>(
 ) -> Result<String, AllocError> {
     let before = Asked::of(counting);
     match call {
-        "union" => before.told(alloc, counting, set.union(own, other)),
-        "intersection" => before.told(alloc, counting, set.intersection(own, other)),
-        "difference" => before.told(alloc, counting, set.difference(own, other)),
+        "union" => before.since_result(alloc, counting, set.union(own, other)),
+        "intersection" => before.since_result(alloc, counting, set.intersection(own, other)),
+        "difference" => before.since_result(alloc, counting, set.difference(own, other)),
         _ => String::from_str(alloc, "no such call"),
     }
 }

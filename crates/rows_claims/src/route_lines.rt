@@ -1,11 +1,9 @@
 //! Answers of a table of VRPs to the line of a route.
-use crate::entries;
+use crate::elements;
 use lines_engine::answers::Answers;
-use origin_lines::Routes;
-use roa_origin::OriginTable;
-use rows_support::print::cut;
-use rpki_base::Asn;
-use rpki_prefix::MaxLenPrefix;
+use origins_lines::Routes;
+use roa_origin::{OriginTable, Vrp};
+use rows_support::print::cut_at;
 use std::alloc::{AllocError, Allocator};
 
 /// Answers `route PREFIX[-MAX] AS | .. ; LINE`. If the command is `why`, the answer has the VRPs that explain it.
@@ -14,20 +12,20 @@ pub fn answer_to_line<A: Allocator + Copy>(
     operands: &str,
     why: bool,
 ) -> Result<String<A>, AllocError> {
-    let (list, line) = cut(operands, ';');
-    match entries::read::<(MaxLenPrefix, Asn), A>(alloc, list)? {
-        Some(payloads) => by_payloads(alloc, &payloads, line, why),
-        None => String::from_str(alloc, "no such payload"),
+    let (list, line) = cut_at(operands, ';');
+    match elements::read::<Vrp, A>(alloc, list)? {
+        Some(vrps) => by_vrps(alloc, &vrps, line, why),
+        None => String::from_str(alloc, "no such VRP"),
     }
 }
 
-fn by_payloads<A: Allocator + Copy>(
+fn by_vrps<A: Allocator + Copy>(
     alloc: A,
-    payloads: &[(MaxLenPrefix, Asn)],
+    vrps: &[Vrp],
     line: &str,
     why: bool,
 ) -> Result<String<A>, AllocError> {
-    let table = OriginTable::new(alloc, payloads)?;
+    let table = OriginTable::new(alloc, vrps)?;
     by_routes(alloc, &Routes { table: &table, why }, line)
 }
 

@@ -1,21 +1,21 @@
 //! The validity of a route by a list of VRPs and by a table of them; a table after changes; the routes that change.
-use crate::entries::{self, Entry};
+use crate::elements::{self, Element};
 use roa_check::{Validity, origin};
-use roa_origin::OriginTable;
-use rows_support::print::{self, cut};
+use roa_origin::{OriginTable, Vrp};
+use rows_support::print::{self, cut_at};
 use rpki_base::Asn;
-use rpki_prefix::{MaxLenPrefix, Prefix};
+use rpki_prefix::Prefix;
 use std::alloc::{AllocError, Allocator};
 
 /// Answers `origin ROUTE AS | PREFIX[-MAX] AS | ..`.
 pub fn answer<A: Allocator + Copy>(alloc: A, operands: &str) -> Result<String<A>, AllocError> {
-    let (route, list) = cut(operands, '|');
+    let (route, list) = cut_at(operands, '|');
     let Some((prefix, asn)) = <(Prefix, Asn)>::read(route.trim()) else {
         return String::from_str(alloc, "no such route");
     };
-    match entries::read::<(MaxLenPrefix, Asn), A>(alloc, list)? {
-        Some(payloads) => by_list_and_table(alloc, prefix, asn, &payloads),
-        None => String::from_str(alloc, "no such payload"),
+    match elements::read::<Vrp, A>(alloc, list)? {
+        Some(vrps) => by_list_and_table(alloc, prefix, asn, &vrps),
+        None => String::from_str(alloc, "no such VRP"),
     }
 }
 
@@ -24,10 +24,10 @@ fn by_list_and_table<A: Allocator + Copy>(
     alloc: A,
     route: Prefix,
     asn: Asn,
-    payloads: &[(MaxLenPrefix, Asn)],
+    vrps: &[Vrp],
 ) -> Result<String<A>, AllocError> {
-    let by_list = origin(route, asn, payloads);
-    let by_table = by_table(alloc, route, asn, payloads)?;
+    let by_list = origin(route, asn, vrps);
+    let by_table = by_table(alloc, route, asn, vrps)?;
     if by_list == by_table {
         format!(in alloc; "{by_list:?}")
     } else {
@@ -39,9 +39,9 @@ fn by_table<A: Allocator + Copy>(
     alloc: A,
     route: Prefix,
     asn: Asn,
-    payloads: &[(MaxLenPrefix, Asn)],
+    vrps: &[Vrp],
 ) -> Result<Validity, AllocError> {
-    let table = OriginTable::new(alloc, payloads)?;
+    let table = OriginTable::new(alloc, vrps)?;
     Ok(table.origin(route, asn))
 }
 
@@ -49,44 +49,44 @@ fn by_table<A: Allocator + Copy>(
 ///
 /// It prints the VRPs of the table of the first list after the changes.
 pub fn changes<A: Allocator + Copy>(alloc: A, operands: &str) -> Result<String<A>, AllocError> {
-    let (listed, changes) = cut(operands, ';');
-    match entries::read::<(MaxLenPrefix, Asn), A>(alloc, listed)? {
-        Some(payloads) => changes_of(alloc, &payloads, changes),
-        None => String::from_str(alloc, "no such payload"),
+    let (listed, changes) = cut_at(operands, ';');
+    match elements::read::<Vrp, A>(alloc, listed)? {
+        Some(vrps) => changes_of(alloc, &vrps, changes),
+        None => String::from_str(alloc, "no such VRP"),
     }
 }
 
 fn changes_of<A: Allocator + Copy>(
     alloc: A,
-    payloads: &[(MaxLenPrefix, Asn)],
+    vrps: &[Vrp],
     changes: &str,
 ) -> Result<String<A>, AllocError> {
-    let (announced, withdrawn) = cut(changes, ';');
-    match entries::read::<(MaxLenPrefix, Asn), A>(alloc, announced)? {
-        Some(announced) => after_changes(alloc, payloads, &announced, withdrawn),
+    let (announced, withdrawn) = cut_at(changes, ';');
+    match elements::read::<Vrp, A>(alloc, announced)? {
+        Some(announced) => after_changes(alloc, vrps, &announced, withdrawn),
         None => String::from_str(alloc, "no such announcement"),
     }
 }
 
 fn after_changes<A: Allocator + Copy>(
     alloc: A,
-    payloads: &[(MaxLenPrefix, Asn)],
-    announced: &[(MaxLenPrefix, Asn)],
+    vrps: &[Vrp],
+    announced: &[Vrp],
     withdrawn: &str,
 ) -> Result<String<A>, AllocError> {
-    match entries::read::<(MaxLenPrefix, Asn), A>(alloc, withdrawn)? {
-        Some(withdrawn) => changed_table(alloc, payloads, announced, &withdrawn),
+    match elements::read::<Vrp, A>(alloc, withdrawn)? {
+        Some(withdrawn) => changed_table(alloc, vrps, announced, &withdrawn),
         None => String::from_str(alloc, "no such withdrawal"),
     }
 }
 
 fn changed_table<A: Allocator + Copy>(
     alloc: A,
-    payloads: &[(MaxLenPrefix, Asn)],
-    announced: &[(MaxLenPrefix, Asn)],
-    withdrawn: &[(MaxLenPrefix, Asn)],
+    vrps: &[Vrp],
+    announced: &[Vrp],
+    withdrawn: &[Vrp],
 ) -> Result<String<A>, AllocError> {
-    let table = OriginTable::new(alloc, payloads)?;
+    let table = OriginTable::new(alloc, vrps)?;
     match table.with_changes(alloc, announced, withdrawn) {
         Ok(next) => listed(alloc, &next),
         Err(fault) => print::refused(alloc, fault),
@@ -96,7 +96,7 @@ fn changed_table<A: Allocator + Copy>(
 /// Prints the VRPs of a table.
 fn listed<A: Allocator + Copy>(alloc: A, table: &OriginTable<A>) -> Result<String<A>, AllocError> {
     let mut text = String::new(alloc);
-    for (prefix, asn) in table.payloads() {
+    for (prefix, asn) in table.vrps() {
         print::append(&mut text, " | ", prefix)?;
         print::append(&mut text, " ", asn)?;
     }
@@ -107,69 +107,69 @@ fn listed<A: Allocator + Copy>(alloc: A, table: &OriginTable<A>) -> Result<Strin
 ///
 /// It prints the indexes of the routes whose validity differs between tables of the two lists.
 pub fn changed<A: Allocator + Copy>(alloc: A, operands: &str) -> Result<String<A>, AllocError> {
-    let (listed, others) = cut(operands, ';');
-    match entries::read::<(MaxLenPrefix, Asn), A>(alloc, listed)? {
-        Some(payloads) => changed_from(alloc, &payloads, others),
-        None => String::from_str(alloc, "no such payload"),
+    let (listed, others) = cut_at(operands, ';');
+    match elements::read::<Vrp, A>(alloc, listed)? {
+        Some(vrps) => changed_from(alloc, &vrps, others),
+        None => String::from_str(alloc, "no such VRP"),
     }
 }
 
 fn changed_from<A: Allocator + Copy>(
     alloc: A,
-    payloads: &[(MaxLenPrefix, Asn)],
+    vrps: &[Vrp],
     others: &str,
 ) -> Result<String<A>, AllocError> {
-    let (listed, routes) = cut(others, ';');
-    match entries::read::<(MaxLenPrefix, Asn), A>(alloc, listed)? {
-        Some(next) => changed_between(alloc, payloads, &next, routes),
-        None => String::from_str(alloc, "no such payload"),
+    let (listed, routes) = cut_at(others, ';');
+    match elements::read::<Vrp, A>(alloc, listed)? {
+        Some(next) => changed_between(alloc, vrps, &next, routes),
+        None => String::from_str(alloc, "no such VRP"),
     }
 }
 
 fn changed_between<A: Allocator + Copy>(
     alloc: A,
-    payloads: &[(MaxLenPrefix, Asn)],
-    next: &[(MaxLenPrefix, Asn)],
+    vrps: &[Vrp],
+    next: &[Vrp],
     routes: &str,
 ) -> Result<String<A>, AllocError> {
-    match entries::read::<(Prefix, Asn), A>(alloc, routes)? {
-        Some(routes) => changed_routes(alloc, payloads, next, &routes),
+    match elements::read::<(Prefix, Asn), A>(alloc, routes)? {
+        Some(routes) => changed_routes(alloc, vrps, next, &routes),
         None => String::from_str(alloc, "no such route"),
     }
 }
 
 fn changed_routes<A: Allocator + Copy>(
     alloc: A,
-    payloads: &[(MaxLenPrefix, Asn)],
-    next: &[(MaxLenPrefix, Asn)],
+    vrps: &[Vrp],
+    next: &[Vrp],
     routes: &[(Prefix, Asn)],
 ) -> Result<String<A>, AllocError> {
-    let old = OriginTable::new(alloc, payloads)?;
+    let old = OriginTable::new(alloc, vrps)?;
     changed_by(alloc, &old, next, routes)
 }
 
 fn changed_by<A: Allocator + Copy>(
     alloc: A,
     old: &OriginTable<A>,
-    next: &[(MaxLenPrefix, Asn)],
+    next: &[Vrp],
     routes: &[(Prefix, Asn)],
 ) -> Result<String<A>, AllocError> {
     let new = OriginTable::new(alloc, next)?;
-    told(alloc, roa_origin::changed(alloc, old, &new, routes))
+    indexes_or_error(alloc, roa_origin::changed_routes(alloc, old, &new, routes))
 }
 
-fn told<A: Allocator + Copy>(
+fn indexes_or_error<A: Allocator + Copy>(
     alloc: A,
     places: Result<Vec<usize, A>, AllocError>,
 ) -> Result<String<A>, AllocError> {
     match places {
-        Ok(places) => told_of(alloc, &places),
+        Ok(places) => indexes_text(alloc, &places),
         Err(error) => Err(error),
     }
 }
 
 /// Prints the indexes, or `none` if there are no indexes.
-fn told_of<A: Allocator + Copy>(alloc: A, places: &[usize]) -> Result<String<A>, AllocError> {
+fn indexes_text<A: Allocator + Copy>(alloc: A, places: &[usize]) -> Result<String<A>, AllocError> {
     if places.is_empty() {
         return String::from_str(alloc, "none");
     }

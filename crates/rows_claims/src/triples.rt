@@ -1,8 +1,8 @@
 //! Answers about sets of all three kinds of resources.
-use crate::claims::told;
-use rows_support::kept::kept;
+use crate::claims::result_text;
 use rows_support::names::named;
-use rows_support::print::{cut, made, refused, value};
+use rows_support::print::{cut_at, made, refused, value};
+use rows_support::unchanged::kept;
 use rpki_as::resources::AsResources;
 use rpki_base::memory::OrMemory;
 use rpki_ipres::resources::IpResources;
@@ -28,8 +28,8 @@ pub fn read<A: Allocator + Copy>(
     alloc: A,
     lists: &str,
 ) -> Result<ResourceSet<A>, OrMemory<FromStrError>> {
-    let (asn, addresses) = cut(lists, ';');
-    let (ipv4, ipv6) = cut(addresses, ';');
+    let (asn, addresses) = cut_at(lists, ';');
+    let (ipv4, ipv6) = cut_at(addresses, ';');
     ResourceSet::from_strs(alloc, asn, ipv4, ipv6)
 }
 
@@ -79,7 +79,7 @@ fn of_operands<A: Allocator + Copy>(
     operation: Operation,
     operands: &str,
 ) -> Result<String<A>, AllocError> {
-    let (left, _) = cut(operands, '|');
+    let (left, _) = cut_at(operands, '|');
     match read(alloc, left) {
         Ok(set) => of_left(alloc, operation, &set, operands),
         Err(error) => refused(alloc, error),
@@ -92,7 +92,7 @@ fn of_left<A: Allocator + Copy>(
     set: &ResourceSet<A>,
     operands: &str,
 ) -> Result<String<A>, AllocError> {
-    let (_, right) = cut(operands, '|');
+    let (_, right) = cut_at(operands, '|');
     match read(alloc, right) {
         Ok(other) => of_both(alloc, operation, set, &other, operands),
         Err(error) => refused(alloc, error),
@@ -118,7 +118,7 @@ fn are_sets_of<A: Allocator + Copy>(
     other: &ResourceSet<A>,
     operands: &str,
 ) -> Result<bool, AllocError> {
-    let (left, right) = cut(operands, '|');
+    let (left, right) = cut_at(operands, '|');
     Ok(is_set_of(alloc, set, left)? && is_set_of(alloc, other, right)?)
 }
 
@@ -202,7 +202,7 @@ fn with_ipv6<A: Allocator + Copy>(
     ipv6: &IpResources<A>,
 ) -> Result<String<A>, AllocError> {
     match set.to_ip_resources_v4() {
-        Ok(ipv4) => told(alloc, ResourceSet::from_resources(asn, &ipv4, ipv6)),
+        Ok(ipv4) => result_text(alloc, ResourceSet::from_resources(asn, &ipv4, ipv6)),
         Err(error) => Err(error),
     }
 }

@@ -2,8 +2,8 @@
 use crate::question::{Operation, Question};
 use rows_chains::lists::Lists;
 use rows_chains::small_sets::numbers;
-use rows_support::kept::kept;
-use rows_support::print::{self, cut};
+use rows_support::print::{self, cut_at};
+use rows_support::unchanged::kept;
 use rpki_as::block::AsBlock;
 use rpki_as::blocks::AsBlocks;
 use rpki_as::builder::AsBlocksBuilder;
@@ -121,7 +121,7 @@ fn of_operands<A: Allocator + Copy>(
     question: Question,
     operands: &str,
 ) -> Result<String<A>, AllocError> {
-    let (left, _) = cut(operands, '|');
+    let (left, _) = cut_at(operands, '|');
     match AsBlocks::from_str(alloc, left) {
         Ok(set) => of_kept(alloc, question, &set, operands),
         Err(error) => print::refused(alloc, error),
@@ -135,7 +135,7 @@ fn of_kept<A: Allocator + Copy>(
     set: &AsBlocks<A>,
     operands: &str,
 ) -> Result<String<A>, AllocError> {
-    let (left, right) = cut(operands, '|');
+    let (left, right) = cut_at(operands, '|');
     let found = of_set(alloc, question, set, right);
     kept(alloc, found, is_list(alloc, set, left))
 }

@@ -1,8 +1,8 @@
 //! Answers about sets of addresses of one family.
 use crate::question::{Operation, Question};
 use rows_chains::lists::Lists;
-use rows_support::kept::kept;
-use rows_support::print::{self, cut};
+use rows_support::print::{self, cut_at};
+use rows_support::unchanged::kept;
 use rpki_base::memory::OrMemory;
 use rpki_family::v4::Ipv4Blocks;
 use rpki_family::v6::Ipv6Blocks;
@@ -129,7 +129,7 @@ fn of_operands<A: Allocator + Copy>(
     question: Question,
     operands: &str,
 ) -> Result<String<A>, AllocError> {
-    let (left, _) = cut(operands, '|');
+    let (left, _) = cut_at(operands, '|');
     match read(alloc, family, left) {
         Ok(set) => of_kept(alloc, family, question, &set, operands),
         Err(error) => print::refused(alloc, error),
@@ -144,7 +144,7 @@ fn of_kept<A: Allocator + Copy>(
     set: &IpBlocks<A>,
     operands: &str,
 ) -> Result<String<A>, AllocError> {
-    let (left, right) = cut(operands, '|');
+    let (left, right) = cut_at(operands, '|');
     let found = of_set(alloc, family, question, set, right);
     kept(alloc, found, is_list(alloc, family, set, left))
 }

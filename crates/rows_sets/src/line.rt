@@ -2,7 +2,7 @@
 use crate::question::Question;
 use crate::{as_sets, ip_sets, long};
 use rows_chains::{chains, small_sets};
-use rows_support::print::cut;
+use rows_support::print::cut_at;
 use rows_support::refusals::Call;
 use rpki_ip::family::AddressFamily;
 use std::alloc::{AllocError, Allocator};
@@ -18,8 +18,8 @@ impl Call for Line<'_> {
 
     /// Answers the line. A line with another command goes unchanged to the library that answers the lines of `respath`.
     fn answer<A: Allocator + Copy>(&self, alloc: A) -> Result<String<A>, AllocError> {
-        let (command, rest) = cut(self.0, ' ');
-        let (kind, operands) = cut(rest, ' ');
+        let (command, rest) = cut_at(self.0, ' ');
+        let (kind, operands) = cut_at(rest, ' ');
         match command {
             "small" => small_sets::answer(alloc, kind, operands),
             "chain" => chains::answer(alloc, kind, operands),

@@ -15,7 +15,7 @@ mod question;
 mod requests;
 
 use line::Line;
-use rows_support::print::cut;
+use rows_support::print::cut_at;
 use rows_support::refusals;
 use std::alloc::{AllocError, Global};
 use std::io;
@@ -30,7 +30,7 @@ fn main(rt: HostRuntime) -> io::Result<()> {
 
 /// Answers a line. `requests` counts the requests of a call, and refuses none.
 fn answer(alloc: Global, line: &str) -> Result<String, AllocError> {
-    match cut(line, ' ') {
+    match cut_at(line, ' ') {
         ("requests", operands) => requests::answer(alloc, operands),
         _ => refusals::answer(alloc, &Line(line)),
     }

@@ -3,7 +3,7 @@ mod as_sets;
 mod ip_sets;
 
 use rows_chains::lists::Lists;
-use rows_support::print::{self, cut};
+use rows_support::print::{self, cut_at};
 use rows_support::requests::Asked;
 use rpki_base::asn::Asn;
 use rpki_base::small_set::SmallAsnSet;
@@ -15,8 +15,8 @@ use test_support::{Plan, Refusing};
 ///
 /// The result of a call is kept until the call has ended.
 pub fn answer(alloc: Global, operands: &str) -> Result<String, AllocError> {
-    let (kind, rest) = cut(operands, ' ');
-    let (call, lists) = cut(rest, ' ');
+    let (kind, rest) = cut_at(operands, ' ');
+    let (call, lists) = cut_at(rest, ' ');
     let counting = Refusing::new(alloc, Plan::RefuseNone);
     match kind {
         "as" => as_sets::answer(alloc, &counting, call, lists),
@@ -42,7 +42,7 @@ fn v4_of_blocks(
     blocks: &[Ipv4Block],
 ) -> Result<String, AllocError> {
     let before = Asked::of(counting);
-    before.told(alloc, counting, Ipv4Blocks::from_blocks(counting, blocks))
+    before.since_result(alloc, counting, Ipv4Blocks::from_blocks(counting, blocks))
 }
 
 // ---- small sets
@@ -79,5 +79,5 @@ fn small_copy<'a>(
     set: &SmallAsnSet<&'a Refusing>,
 ) -> Result<String, AllocError> {
     let before = Asked::of(counting);
-    before.told(alloc, counting, set.clone(counting))
+    before.since_result(alloc, counting, set.clone(counting))
 }

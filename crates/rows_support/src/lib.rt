@@ -4,8 +4,8 @@
 //! requests of a call.
 #![tactic(auto)]
 
-pub mod kept;
 pub mod names;
 pub mod print;
 pub mod refusals;
 pub mod requests;
+pub mod unchanged;

@@ -12,7 +12,7 @@ use std::alloc::{AllocError, Allocator};
 use std::fmt;
 
 /// Returns the parts of a text before and after the first `mark`: all of it and an empty text if it has no `mark`.
-pub fn cut(text: &str, mark: char) -> (&str, &str)
+pub fn cut_at(text: &str, mark: char) -> (&str, &str)
     ensures left { mark < 128 → result.0.now ≡ before_first (λ c. c == mark) text.now }
     ensures right { mark < 128 → result.1.now ≡ after_first (λ c. c == mark) text.now }
 {

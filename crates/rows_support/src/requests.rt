@@ -26,7 +26,7 @@ impl Asked {
     }
 
     /// Does the same, or returns the error of the call that has ended since then.
-    pub fn told<T: Drop>(
+    pub fn since_result<T: Drop>(
         self,
         alloc: Global,
         counting: &Refusing,

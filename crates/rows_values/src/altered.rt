@@ -5,7 +5,7 @@ use crate::claims::Families;
 use crate::modes::Mode;
 use crate::values::{Item, Reader, Skip, Value};
 use hex::FromHexError;
-use rows_support::print::cut;
+use rows_support::print::cut_at;
 use rpki_as::blocks::AsBlocks;
 use rpki_as::resources::AsResources;
 use rpki_base::memory::OrMemory;
@@ -37,7 +37,7 @@ type ModalReader = (Mode, Reader);
 /// It reads these octets truncated at each octet, and the octets with each octet replaced by each of the 256 values.
 /// For both series it prints how many are read, and how many are refused with each fault.
 pub fn answer(alloc: Global, mode: Mode, operands: &str) -> Result<String, AllocError> {
-    let (name, text) = cut(operands, ' ');
+    let (name, text) = cut_at(operands, ' ');
     let Some(reader) = Reader::named(name) else {
         return String::from_str(alloc, "no such reader of octets");
     };

@@ -2,7 +2,7 @@
 use crate::modes::Mode;
 use crate::takes::Form;
 use crate::{covers, orders, takes, texts};
-use rows_support::print::cut;
+use rows_support::print::cut_at;
 use rows_support::refusals::Call;
 use std::alloc::{AllocError, Allocator};
 
@@ -16,8 +16,8 @@ impl Call for Line<'_> {
     }
 
     fn answer<A: Allocator + Copy>(&self, alloc: A) -> Result<String<A>, AllocError> {
-        let (command, rest) = cut(self.0, ' ');
-        let (kind, operands) = cut(rest, ' ');
+        let (command, rest) = cut_at(self.0, ' ');
+        let (kind, operands) = cut_at(rest, ' ');
         match command {
             "text" => texts::answer(alloc, kind, operands),
             "take" => takes::answer(alloc, (Mode::Lenient, Form::Printed), kind, operands),

@@ -20,7 +20,7 @@ mod values;
 
 use line::Line;
 use modes::Mode;
-use rows_support::print::cut;
+use rows_support::print::cut_at;
 use rows_support::refusals;
 use std::alloc::{AllocError, Global};
 use std::io;
@@ -38,7 +38,7 @@ fn main(rt: HostRuntime) -> io::Result<()> {
 /// `altered` and `alteredstrict` read many values, and refuse memory for each. `requests` counts the requests of a
 /// call, and refuses none.
 fn answer(alloc: Global, line: &str) -> Result<String, AllocError> {
-    match cut(line, ' ') {
+    match cut_at(line, ' ') {
         ("altered", operands) => altered::answer(alloc, Mode::Lenient, operands),
         ("requests", operands) => requests::answer(alloc, operands),
         ("alteredstrict", operands) => altered::answer(alloc, Mode::Strict, operands),

@@ -1,6 +1,6 @@
 //! Comparisons of prefixes.
 use rows_support::names::order_word;
-use rows_support::print::{self, cut};
+use rows_support::print::{self, cut_at};
 use rpki_prefix::max_len::MaxLenPrefix;
 use rpki_prefix::prefix::Prefix;
 use std::alloc::{AllocError, Allocator};
@@ -8,7 +8,7 @@ use std::str::FromStr;
 
 /// Answers `order P | Q`.
 pub fn order<A: Allocator + Copy>(alloc: A, rest: &str) -> Result<String<A>, AllocError> {
-    let (left, right) = cut(rest, '|');
+    let (left, right) = cut_at(rest, '|');
     let left = MaxLenPrefix::from_str(left.trim_matches(' '));
     let right = MaxLenPrefix::from_str(right.trim_matches(' '));
     match (left, right) {
@@ -19,7 +19,7 @@ pub fn order<A: Allocator + Copy>(alloc: A, rest: &str) -> Result<String<A>, All
 
 /// Answers `covers P | Q`.
 pub fn covers<A: Allocator + Copy>(alloc: A, rest: &str) -> Result<String<A>, AllocError> {
-    let (left, right) = cut(rest, '|');
+    let (left, right) = cut_at(rest, '|');
     let left = Prefix::from_str(left.trim_matches(' '));
     let right = Prefix::from_str(right.trim_matches(' '));
     match (left, right) {

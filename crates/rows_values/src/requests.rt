@@ -2,7 +2,7 @@
 use crate::claims::Families;
 use crate::values::{Reader, Value};
 use hex::FromHexError;
-use rows_support::print::cut;
+use rows_support::print::cut_at;
 use rows_support::requests::Asked;
 use rpki_as::blocks::AsBlocks;
 use rpki_as::resources::AsResources;
@@ -16,8 +16,8 @@ use test_support::{Plan, Refusing};
 ///
 /// A value that was read is alive until the counts are read.
 pub fn answer(alloc: Global, operands: &str) -> Result<String, AllocError> {
-    let (call, rest) = cut(operands, ' ');
-    let (name, text) = cut(rest, ' ');
+    let (call, rest) = cut_at(operands, ' ');
+    let (name, text) = cut_at(rest, ' ');
     let Some(reader) = Reader::named(name) else {
         return String::from_str(alloc, "no such reader of octets");
     };

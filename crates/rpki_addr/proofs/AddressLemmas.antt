@@ -73,8 +73,8 @@ IsGroupsText-colon_hex text groups (inl (h, eight)) = inl (AreGroupsAtEnd-std te
 IsGroupsText-colon_hex text groups (inr h) =
     let between : 8 - (length h.front + length h.back) ≡ 8 - length h.front - length h.back = omega arith in
     let value = rw between at h.value in
-    let room : length h.front + length h.back < 8 = omega (arith, h.at_most_seven) in
-    inr (search (AreGroups-std, AreGroupsAtEnd-std, h.spelled, value, room))
+    let few : length h.front + length h.back < 8 = omega (arith, h.at_most_seven) in
+    inr (search (AreGroups-std, AreGroupsAtEnd-std, h.spelled, value, few))
 
 -- groups of std's are groups of ours, an IPv4 text at the end or not
 abbrev Led : Bool → List ℕ → List ℕ → List ℕ → Type 0

@@ -2,11 +2,11 @@
 pub mod AddressBytes
 pub mod AddressFronts
 pub mod AddressLemmas
-pub mod AddressReading
-pub mod AddressReads
+pub mod AddressTextLemmas
 pub mod Common
-pub mod GroupReading
+pub mod DigitGroupLemmas
+pub mod GroupLemmas
+pub mod LookupTables
 pub mod PrintedAddressLemmas
-pub mod Tables
 pub mod WidthLemmas
 pub mod WrittenBytes

@@ -1,7 +1,7 @@
 //! IP addresses: IPv4, IPv6, and either.
 ghost use Rattle.std.specs.Prelude.{◌≡◌, ◌↔◌, IsTrue, Some};
 ghost use Rattle.rpki_text.specs.Digits.{octets_of, groups_of};
-ghost use Rattle.rpki_addr.specs.ReadsAddress.{address_fault_text};
+ghost use Rattle.rpki_addr.specs.FromStrResults.{address_fault_text};
 ghost use Rattle.rpki_addr.specs.declared.addr.IpAddr.TheVariants.{V4 as the_v4, V6 as the_v6};
 
 pub mod front;
@@ -142,7 +142,7 @@ pub enum IpAddr {
 
 impl IpAddr {
     ghost use Rattle.rpki_addr.specs.Widths.{width};
-    ghost use Rattle.rpki_addr.specs.ReadsAddress.{IsV4};
+    ghost use Rattle.rpki_addr.specs.FromStrResults.{IsV4};
 
     /// Returns whether this is an IPv4 address.
     pub fn is_ipv4(&self) -> bool

@@ -6,9 +6,9 @@ pub use Rattle.std.proofs.lemmas.List.Elements.{All-head, All-tail, Contains-app
 pub use Rattle.std.proofs.lemmas.List.Folds.{flat_map-map, length-flat_map-take}
 pub use Rattle.std.proofs.lemmas.Result.{err_from_is_err_and}
 pub use Rattle.std.specs.List.{All, AllByRecursion, AllPairs, flat_map}
-pub use Rattle.rpki_as_block.proofs.AsDerLemmas.{block_numbers, block_spelled, block_written, length-content, length-number}
-pub use Rattle.rpki_as_block.proofs.BlockLemmas.{IsAsBlockText-block_text, IsAsBlockText-one, block_apart, same_block_fault}
-pub use Rattle.rpki_as_block.proofs.NumberLemmas.{IsListOf-numbers_within, length-numbers_within}
+pub use Rattle.rpki_as_block.proofs.AsBlockDerLemmas.{block_numbers, block_spelled, block_written, length-content, length-number}
+pub use Rattle.rpki_as_block.proofs.AsBlockTextLemmas.{IsAsBlockText-block_text, IsAsBlockText-one, block_apart, same_block_fault}
+pub use Rattle.rpki_as_block.proofs.IntervalNumberLemmas.{IsListOf-numbers_within, length-numbers_within}
 pub use Rattle.rpki_as_block.specs.AsDer.{IsAsBlock, IsBlockInAnyOrder, as_block_octets}
 pub use Rattle.rpki_as_block.specs.AsDerLaws.{as_block_has_octets, as_block_reading, skip_reading}
 pub use Rattle.rpki_as_block.specs.AsDerModeLaws.{next_block_modal}
@@ -22,7 +22,7 @@ pub use Rattle.rpki_as_block.specs.declared.error.FromStrError.{FromStrError}
 pub use Rattle.rpki_der.proofs.SaidInModes.{IsSaidInModes, enclosed_said, one_said, said_alike, taken_said, written_said}
 pub use Rattle.rpki_der.specs.SequenceReading.{Encloses, IsSequenceFrom, IsSequenceOf, enclosed_at, values_of}
 unfoldable pub use Rattle.rpki_der.specs.SequenceReading.{only}
-pub use Rattle.rpki_chain.proofs.Ascending.{listed_are}
+pub use Rattle.rpki_chain.proofs.AscendingDer.{listed_are}
 pub use Rattle.rpki_chain.proofs.BlocksInModes.{AreBlocksInModes, choice_said, set_said}
 pub use Rattle.rpki_chain.proofs.ClaimLemmas.{claims_decide, empty_set}
 pub use Rattle.rpki_chain.proofs.RunLists.{IsRunsOf-unique, IsRunsOfBlocks-bounds, same_numbers}
@@ -31,16 +31,16 @@ pub use Rattle.rpki_chain.specs.Claims.{Claim, IsClaim, claim_of}
 pub use Rattle.rpki_chain.specs.Runs.{Holds, IsRunsOfBlocks, Runs}
 pub use Rattle.rpki_chain.specs.declared.choice.ResourcesChoice.{ResourcesChoice}
 pub use Rattle.rpki_chain.specs.declared.choice.ResourcesChoice.TheVariants.{Blocks, Inherit, Missing}
-pub use Rattle.rpki_chains.specs.Sets.{Covers, IsChain, IsWithin}
-pub use Rattle.rpki_der.proofs.Readings.{one_front}
-pub use Rattle.rpki_der.proofs.Written.{length-header}
+pub use Rattle.rpki_chain_core.specs.Sets.{Covers, IsChain, IsWithin}
+pub use Rattle.rpki_der.proofs.ValueReadings.{one_front}
+pub use Rattle.rpki_der.proofs.WrittenValues.{length-header}
 pub use Rattle.rpki_der.specs.Der.{OneFront, sequence_value, value}
 unfoldable pub use Rattle.rpki_der.specs.Der.{header, length_octets}
 pub use Rattle.rpki_der.specs.Reading.{tagged_at}
 unfoldable pub use Rattle.rpki_der.specs.Reading.{refined}
 pub use Rattle.rpki_der.specs.declared.error.DerError.{DerError}
-pub use Rattle.rpki_text.proofs.ListLemmas.{AnswersOrMemory-from_found, HaveValues-one, first_fault_apart, found_weaker, same_first_fault}
-pub use Rattle.rpki_text.proofs.PrintedLemmas.{IsElement, elements-joined, written_more}
+pub use Rattle.rpki_text.proofs.TextListLemmas.{AnswersOrMemory-from_found, HaveValues-one, first_fault_apart, found_weaker, same_first_fault}
+pub use Rattle.rpki_text.proofs.PrintedListLemmas.{IsElement, elements-joined, written_more}
 pub use Rattle.rpki_text.specs.Lists.{HaveValues, elements}
 pub use Rattle.rpki_text.specs.Memory.{IfRefused}
 pub use Rattle.rpki_text.specs.Reading.{AnswersOrMemory}

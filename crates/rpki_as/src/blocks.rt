@@ -3,9 +3,9 @@ ghost use Rattle.std.specs.Prelude.{◌≡◌, ℕ, ◌↔◌, [], ◌∷◌, Is
 ghost use Rattle.std.specs.Slice.Iter.{iter_rest};
 ghost use Rattle.rpki_text.specs.Memory.{IsMemory};
 ghost use Rattle.rpki_text.specs.Reading.{AnswersOrMemory};
-ghost use Rattle.rpki_chains.specs.Equality.{same_runs};
-ghost use Rattle.rpki_chains.specs.EqualityLaws.{runs_per, runs_equiv};
-ghost use Rattle.rpki_chains.specs.Sets.{IsChain};
+ghost use Rattle.rpki_chain_core.specs.Equality.{same_runs};
+ghost use Rattle.rpki_chain_core.specs.EqualityLaws.{runs_per, runs_equiv};
+ghost use Rattle.rpki_chain_core.specs.Sets.{IsChain};
 ghost use Rattle.rpki_chain.specs.Choices.{MatchChoice};
 ghost use Rattle.rpki_chain.specs.Operations.{IsDifference, IsIntersection, IsUnion};
 ghost use Rattle.rpki_chain.specs.Runs.{Runs, Holds, IsRunsOfBlocks};
@@ -161,7 +161,7 @@ impl<A: Allocator> AsBlocks<A> {
     }
 
     /// Returns how many numbers the set has, 0 to 2^32.
-    #[tactic(auto, using(crate::proofs::CountLemmas::numbers_counted))]
+    #[tactic(auto, using(crate::proofs::AsCountLemmas::numbers_counted))]
     pub fn asn_count(&self) -> u64
         ensures { IsSizeOf (Holds self.now) result }
     {
@@ -177,10 +177,10 @@ impl<A: Allocator> AsBlocks<A> {
     ///
     /// This call is no test. It does nothing and returns nothing.
     #[doc(hidden)]
-    pub fn is_lawful(&self)
+    pub fn recall_invariant(&self)
         ensures { IsAsSet self.now }
     {
-        self.set.is_lawful();
+        self.set.recall_invariant();
     }
 
     /// Iterates over the blocks of the set, ascending. They are its runs: a run of one number is an Id, any other a

@@ -47,7 +47,7 @@ impl Iterator for AsnIter<'_> {
 
     ghost remaining = { item_count (λ numbers. numbers) };
 
-    #[tactic(auto, using(crate::proofs::NumberLemmas::numbers_step, rpki_as_block::proofs::NumberLemmas::makes_progress))]
+    #[tactic(auto, using(crate::proofs::RunNumberLemmas::numbers_step, rpki_as_block::proofs::IntervalNumberLemmas::makes_progress))]
     fn next(&mut self) -> Option<Asn> {
         if let Some(asn) = self.current.next() {
             return Some(asn);

@@ -2,9 +2,9 @@
 ghost use Rattle.std.specs.Prelude.{◌≡◌, ◌≢◌, ◌↔◌, true, [], IsTrue, IfOk, Ok, Some, MatchResult, ⊤};
 ghost use Rattle.rpki_text.specs.Memory.{IsMemory};
 ghost use Rattle.rpki_text.specs.Reading.{AnswersOrMemory};
-ghost use Rattle.rpki_chains.specs.Equality.{same_runs};
-ghost use Rattle.rpki_chains.specs.EqualityLaws.{runs_per, runs_equiv};
-ghost use Rattle.rpki_chains.specs.Sets.{IsChain};
+ghost use Rattle.rpki_chain_core.specs.Equality.{same_runs};
+ghost use Rattle.rpki_chain_core.specs.EqualityLaws.{runs_per, runs_equiv};
+ghost use Rattle.rpki_chain_core.specs.Sets.{IsChain};
 ghost use Rattle.rpki_chain.specs.ChoiceEquality.{choice_eq};
 ghost use Rattle.rpki_chain.specs.ChoiceEqualityLaws.{choice_equiv, choice_per};
 ghost use Rattle.rpki_chain.specs.Choices.{ListsBy, MatchChoice, IsRefused};
@@ -25,7 +25,7 @@ use rpki_as_block::block::AsBlock;
 use rpki_base::memory::OrMemory;
 use rpki_chain::choice::ResourcesChoice;
 use rpki_chain::der::make_set;
-use rpki_chain::path::Claims;
+use rpki_chain::path::BlockClaim;
 use rpki_chain::set::BlockSet;
 use std::alloc::{AllocError, Allocator, Global};
 use std::fmt;
@@ -158,7 +158,7 @@ impl<A: Allocator> AsResources<A> {
     }
 
     /// Returns the listed blocks. Each is a run, in the form that `new` gives.
-    #[tactic(auto, using(crate::proofs::AsDerLemmas::blocks_octets))]
+    #[tactic(auto, using(crate::proofs::AsSetDerLemmas::blocks_octets))]
     pub(crate) fn as_choice(&self) -> ResourcesChoice<&[AsBlock]>
         ensures octets { choice_octets (λ blocks. sequence_octets as_block_octets blocks.now) result
             ≡ choice_octets as_sequence_octets self.now }
@@ -203,7 +203,7 @@ impl<A: Allocator> AsResources<A> {
     }
 }
 
-impl<A: Allocator> Claims<AsBlock, A> for AsResources<A> {
+impl<A: Allocator> BlockClaim<AsBlock, A> for AsResources<A> {
     ghost claim = { λ claim. claim };
 
     fn claimed(&self) -> ResourcesChoice<&BlockSet<AsBlock, A>> {

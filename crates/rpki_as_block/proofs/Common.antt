@@ -9,9 +9,9 @@ pub use Rattle.std.specs.List.{AllByRecursion}
 pub use Rattle.rpki_base.specs.AsnDer.{as_number_at, as_number_octets}
 pub use Rattle.rpki_block.specs.Ranges.{RangeValue, range_bounds}
 pub use Rattle.rpki_block.specs.Bounds.{IsNew, IsWithin}
-pub use Rattle.rpki_der.proofs.Modes.{exact_optional_by}
-pub use Rattle.rpki_der.proofs.Readings.{one_front, same_reading}
-pub use Rattle.rpki_der.proofs.Written.{length-header, u32_is, value_is}
+pub use Rattle.rpki_der.proofs.ReadingModes.{exact_optional_by}
+pub use Rattle.rpki_der.proofs.ValueReadings.{one_front, same_reading}
+pub use Rattle.rpki_der.proofs.WrittenValues.{length-header, u32_is, value_is}
 pub use Rattle.rpki_der.specs.Reading.{IsReading, optional, passing, unsigned, value_at, ◌>>=◌}
 unfoldable pub use Rattle.rpki_der.specs.Reading.{refined}
 pub use Rattle.rpki_text.specs.Cuts.{HasNo, dash}

@@ -1,7 +1,7 @@
-pub mod AsDerLemmas
-pub mod BlockLemmas
-pub mod BlockListLemmas
-pub mod BlockPlaceLemmas
+pub mod AsBlockDerFaults
+pub mod AsBlockDerLemmas
+pub mod AsBlockIndexLemmas
+pub mod AsBlockListLemmas
+pub mod AsBlockTextLemmas
 pub mod Common
-pub mod DerFaults
-pub mod NumberLemmas
+pub mod IntervalNumberLemmas

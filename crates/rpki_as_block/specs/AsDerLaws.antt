@@ -6,10 +6,10 @@ use Rattle.rpki_der.specs.declared.error.DerError.{DerError}
 use Rattle.rpki_der.specs.declared.error.DerError.TheVariants.{ReversedRange}
 use Rattle.rpki_der.specs.Der.{IsBytes, IsTlv, IsUnsigned, IsValue, Refines, integer}
 use Rattle.rpki_der.specs.Reading.{◌>>=◌, IsReading, unsigned}
-use Rattle.rpki_der.proofs.Contents.{spelled_unsigned, unsigned_check, unsigned_spelled}
-use Rattle.rpki_der.proofs.Lists.{HasOctets, value_has_octets}
-use Rattle.rpki_der.proofs.Readings.{fits_content, same_reading, u32_reading}
-use Rattle.rpki_der.proofs.Steps.{IsCheck, ok_is, passed}
+use Rattle.rpki_der.proofs.ContentReadings.{spelled_unsigned, unsigned_check, unsigned_spelled}
+use Rattle.rpki_der.proofs.ValueLists.{HasOctets, value_has_octets}
+use Rattle.rpki_der.proofs.ValueReadings.{fits_content, same_reading, u32_reading}
+use Rattle.rpki_der.proofs.ReadingSteps.{IsCheck, ok_is, passed}
 use Rattle.rpki_base.specs.AsnDer.{IsAsNumber, SaysAsNumber, as_number_at, skip_number}
 use Rattle.rpki_der.specs.SequenceReading.{SaysByTag, SaysPair}
 use Rattle.rpki_der.proofs.SequenceReadings.{by_tag_reading, mapped_check, pair_check}

@@ -3,9 +3,9 @@ use Rattle.std.proofs.Common.{◌≡◌, ℕ, Bool, true, false, not, eqb, cond,
 use Rattle.std.proofs.lemmas.Bool.{eq-eqb}
 use Rattle.rpki_block.specs.Beyond.{IsBeyond, is_beyond}
 use Rattle.rpki_block.specs.Bounds.{IsNew}
-use Rattle.rpki_block.proofs.Beyond.{beyond_is, is_beyond_of}
+use Rattle.rpki_block.proofs.BlockStartTest.{beyond_is, is_beyond_of}
 use Rattle.rpki_der.specs.Reading.{IsModal}
-use Rattle.rpki_der.proofs.Modes.{plain_modal, tested_modal}
+use Rattle.rpki_der.proofs.ReadingModes.{plain_modal, tested_modal}
 use Rattle.rpki_as_block.specs.AsDer.{IsAsBlock}
 use Rattle.rpki_as_block.specs.AsDerLaws.{as_block_reading}
 use Rattle.rpki_as_block.specs.AsDerModes.{IsNextBlock, IsStrictBlock}

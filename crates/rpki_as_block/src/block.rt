@@ -62,7 +62,7 @@ impl AsBlock {
     }
 
     /// Returns how many numbers the block has, 1 to 2^32.
-    #[tactic(auto, using(crate::proofs::NumberLemmas::interval_size))]
+    #[tactic(auto, using(crate::proofs::IntervalNumberLemmas::interval_size))]
     pub fn asn_count(self) -> u64
         ensures from_bounds { result + (as_bounds self).0 ≡ (as_bounds self).1 + 1 }
         ensures size { IsSizeOf (IsWithin (as_bounds self)) result }
@@ -158,7 +158,7 @@ impl Block for AsBlock {
 
     fn max(&self) -> Asn {
         let max = AsBlock::max(self);
-        max.is_lawful();
+        max.recall_invariant();
         max
     }
 
@@ -173,7 +173,7 @@ impl Block for AsBlock {
     fn bounds(&self) -> (Asn, Asn) {
         match self {
             AsBlock::Id(asn) => {
-                asn.is_lawful();
+                asn.recall_invariant();
                 (*asn, *asn)
             }
             AsBlock::Range(range) => range.bounds(),

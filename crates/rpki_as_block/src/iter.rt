@@ -48,7 +48,7 @@ impl Iterator for AsBlockIter {
 
     ghost remaining = { item_count (λ numbers. numbers) };
 
-    #[tactic(auto, using(crate::proofs::NumberLemmas::makes_progress, crate::proofs::NumberLemmas::numbers_first, crate::proofs::NumberLemmas::numbers_single))]
+    #[tactic(auto, using(crate::proofs::IntervalNumberLemmas::makes_progress, crate::proofs::IntervalNumberLemmas::numbers_first, crate::proofs::IntervalNumberLemmas::numbers_single))]
     fn next(&mut self) -> Option<Asn> {
         let range = self.left.take()?;
         let (min, max) = range.bounds();

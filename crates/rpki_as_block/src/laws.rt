@@ -22,14 +22,14 @@ pub fn one_block()
 {}
 
 /// The octets that `encode` appends denote the block.
-#[tactic(auto, using(crate::proofs::AsDerLemmas::block_written))]
+#[tactic(auto, using(crate::proofs::AsBlockDerLemmas::block_written))]
 pub fn written()
     ensures { (block : AsBlock) → HasAsNumbers block → IsAsBlock (as_block_octets block) block }
 {}
 
 /// A range is reversed if and only if it begins with two numbers of which the second is less than the first. A block is
 /// reversed if and only if it is a SEQUENCE that begins so. The octets after the two numbers don't matter.
-#[tactic(auto, using(crate::proofs::DerFaults::block_fails, crate::proofs::DerFaults::range_fails))]
+#[tactic(auto, using(crate::proofs::AsBlockDerFaults::block_fails, crate::proofs::AsBlockDerFaults::range_fails))]
 pub fn reversed()
     ensures range { (content : List ℕ) → (as_range_in content ≡ Err ReversedRange)
         ↔ BeginsWithTwo as_number_at (λ first second. second < first) content }
@@ -39,7 +39,7 @@ pub fn reversed()
 
 /// Only a strict cursor refuses octets as not canonical, and only if a lenient cursor finds a block there: any other
 /// fault of a block comes first.
-#[tactic(auto, using(crate::proofs::DerFaults::comes_last, crate::proofs::DerFaults::never_lenient))]
+#[tactic(auto, using(crate::proofs::AsBlockDerFaults::comes_last, crate::proofs::AsBlockDerFaults::never_lenient))]
 pub fn not_canonical()
     ensures lenient { (bytes : List ℕ) → as_block_at bytes ≢ Err NotCanonical }
     ensures last { (bytes : List ℕ) → as_block_by true bytes ≡ Err NotCanonical

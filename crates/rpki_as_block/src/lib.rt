@@ -10,13 +10,13 @@
 //! ```
 #![tactic(auto)]
 
+mod at_index;
 pub mod block;
 pub mod der;
 pub mod error;
 pub mod iter;
 pub mod laws;
 pub mod list;
-mod place;
 pub mod range;
 mod text;
 

@@ -6,9 +6,9 @@ ghost use Rattle.rpki_as_block.specs.BlockText.{ReadsAsBlock};
 ghost use Rattle.rpki_as_block.specs.BlockPlaces.{AreAsBlocksFrom, IsAfterSpace, IsEndAt};
 ghost use Rattle.rpki_as_block.specs.declared.block.AsBlock.{AsBlock};
 
+use crate::at_index::block_at;
 use crate::block::AsBlock;
 use crate::error::FromStrError;
-use crate::place::block_at;
 use rpki_text::list::read_list;
 use rpki_text::memory::OrMemory;
 use std::alloc::{AllocError, Allocator};

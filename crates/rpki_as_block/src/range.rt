@@ -69,7 +69,7 @@ impl AsRange {
     }
 
     /// Returns how many numbers the range has, 1 to 2^32.
-    #[tactic(auto, using(crate::proofs::NumberLemmas::interval_size))]
+    #[tactic(auto, using(crate::proofs::IntervalNumberLemmas::interval_size))]
     pub fn asn_count(self) -> u64
         ensures from_bounds { result + self.min ≡ self.max + 1 }
         ensures size { IsSizeOf (IsWithin (range_bounds self)) result }
@@ -115,7 +115,7 @@ impl Block for AsRange {
 
     fn max(&self) -> Asn {
         let max = self.max;
-        max.is_lawful();
+        max.recall_invariant();
         max
     }
 
@@ -128,7 +128,7 @@ impl Block for AsRange {
     }
 
     fn bounds(&self) -> (Asn, Asn) {
-        self.max.is_lawful();
+        self.max.recall_invariant();
         (self.min, self.max)
     }
 }

@@ -3,9 +3,9 @@ ghost use Rattle.std.specs.Prelude.{Some, MatchOption};
 ghost use Rattle.rpki_block.specs.Ranges.{range_bounds};
 ghost use Rattle.rpki_as_block.specs.BlockText.{ReadsAsBlock, as_block_text, IsAsRangeBetween, NoRange};
 
+use crate::at_index::block_at;
 use crate::block::AsBlock;
 use crate::error::FromStrError;
-use crate::place::block_at;
 use crate::range::AsRange;
 use rpki_base::asn::Asn;
 use std::fmt;

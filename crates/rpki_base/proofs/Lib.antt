@@ -1,6 +1,6 @@
+pub mod AsnIndexLemmas
 pub mod AsnLemmas
-pub mod AsnPlaceLemmas
 pub mod AsnPrinting
 pub mod Common
 pub mod SmallSetLemmas
-pub mod WalkLemmas
+pub mod SmallSetWalkLemmas

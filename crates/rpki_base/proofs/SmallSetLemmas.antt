@@ -8,7 +8,7 @@ use Rattle.std.proofs.lemmas.List.Sorted.{searched, Contains-permutation, IsPerm
 use Rattle.std.proofs.lemmas.List.Filters.{dedup_is}
 use Rattle.std.proofs.lemmas.List.Kept.{AllPairs-from_increasing, Contains-dedup_nat, Contains-from_dedup}
 use Rattle.std.proofs.lemmas.Map.Keys.{IsStrictlyIncreasing-dedup}
-use Rattle.rpki_base.proofs.WalkLemmas.{Among, IsStrictlyIncreasing-rises, IsWanted, Rises, Rises-from_increasing, above_is, from_among, is_among, to_among, walk_is}
+use Rattle.rpki_base.proofs.SmallSetWalkLemmas.{Among, IsStrictlyIncreasing-rises, IsWanted, Rises, Rises-from_increasing, above_is, from_among, is_among, to_among, walk_is}
 
 module _ (xs ys : List ℕ) (left : IsSmallSet xs) (right : IsSmallSet ys) where
   -- a walk gives the set S, where S are the wanted numbers

@@ -3,11 +3,11 @@ ghost use Rattle.std.specs.Prelude.{◌≡◌, ◌+◌, ◌^◌, ◌<◌, codes,
 ghost use Rattle.rpki_base.specs.AsnText.{IsAfterAs, ReadsAsn, asn_text};
 ghost use Rattle.rpki_text.specs.Digits.{octets_of};
 
+pub mod at_index;
 mod der;
-pub mod place;
 pub mod print;
 
-use place::asn_at;
+use at_index::asn_at;
 use print::fmt_asn;
 use rpki_text::number::parse_up_to;
 use std::error::Error;
@@ -51,7 +51,7 @@ impl Asn {
     ///
     /// This call is no test. It does nothing and returns nothing.
     #[doc(hidden)]
-    pub fn is_lawful(self)
+    pub fn recall_invariant(self)
         ensures { self < 2 ^ 32 }
     {
         let _number = self.0;

@@ -47,7 +47,7 @@ pub fn one_small_set()
 ///
 /// It never does so for a value of any tag, an AS number or a family, which both modes read alike. It does so for a
 /// BIT STRING only if a lenient cursor accepts the octets: every other fault is reported first.
-#[tactic(auto, using(rpki_der::proofs::SequenceFaults::value_faults, rpki_der::proofs::FamilyLemmas::family_names, rpki_der::proofs::Steps::ok_or_err), unfolding(rpki_der::specs::Reading::refined, rpki_der::specs::Reading::bits_by))]
+#[tactic(auto, using(rpki_der::proofs::SequenceFaults::value_faults, rpki_der::proofs::FamilyDerLemmas::family_names, rpki_der::proofs::ReadingSteps::ok_or_err), unfolding(rpki_der::specs::Reading::refined, rpki_der::specs::Reading::bits_by))]
 pub fn not_canonical()
     ensures value { (bytes : List ℕ) → value_at bytes ≢ Err NotCanonical }
     ensures number { (bytes : List ℕ) → as_number_at bytes ≢ Err NotCanonical }

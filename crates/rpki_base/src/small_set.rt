@@ -111,7 +111,7 @@ impl<A: Allocator> SmallAsnSet<A> {
     }
 
     /// Returns an iterator over the AS numbers that are in this set and not in the other, ascending.
-    #[tactic(auto, using(crate::proofs::WalkLemmas::walk_is))]
+    #[tactic(auto, using(crate::proofs::SmallSetWalkLemmas::walk_is))]
     pub fn difference<'a>(&'a self, other: &'a SmallAsnSet<A>) -> SmallSetDifference<'a>
         ensures set { IsSmallSetOf (IsInFirstAlone self.now other.now) result }
         ensures few { length result ≤ length self.now }
@@ -121,7 +121,7 @@ impl<A: Allocator> SmallAsnSet<A> {
     }
 
     /// Returns an iterator over the AS numbers that are in exactly one of the sets, ascending.
-    #[tactic(auto, using(crate::proofs::WalkLemmas::walk_is))]
+    #[tactic(auto, using(crate::proofs::SmallSetWalkLemmas::walk_is))]
     pub fn symmetric_difference<'a>(
         &'a self,
         other: &'a SmallAsnSet<A>,
@@ -134,7 +134,7 @@ impl<A: Allocator> SmallAsnSet<A> {
     }
 
     /// Returns an iterator over the AS numbers that are in both sets, ascending.
-    #[tactic(auto, using(crate::proofs::WalkLemmas::walk_is))]
+    #[tactic(auto, using(crate::proofs::SmallSetWalkLemmas::walk_is))]
     pub fn intersection<'a>(&'a self, other: &'a SmallAsnSet<A>) -> SmallSetIntersection<'a>
         ensures set { IsSmallSetOf (IsInBoth self.now other.now) result }
         ensures few { length result ≤ length self.now }
@@ -145,7 +145,7 @@ impl<A: Allocator> SmallAsnSet<A> {
     }
 
     /// Returns an iterator over the AS numbers that are in at least one of the sets, ascending.
-    #[tactic(auto, using(crate::proofs::WalkLemmas::walk_is))]
+    #[tactic(auto, using(crate::proofs::SmallSetWalkLemmas::walk_is))]
     pub fn union<'a>(&'a self, other: &'a SmallAsnSet<A>) -> SmallSetUnion<'a>
         ensures set { IsSmallSetOf (IsInEither self.now other.now) result }
         ensures few { length result ≤ length self.now + length other.now }

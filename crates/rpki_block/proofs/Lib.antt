@@ -1,2 +1,2 @@
 -- Lemmas on where a block may begin.
-pub mod Beyond
+pub mod BlockStartTest

@@ -1,7 +1,7 @@
 -- Sets and resources of blocks in either mode: strictly, the octets are those that are written of them.
 use Rattle.rpki_chain.proofs.Common.{Bool, List, None, Ok, Option, Result, Some, [], arith, length, refl, true, ℕ, ◌<◌, ◌^◌, ◌∷◌, ◌≡◌, ◌≢◌, All, ⊤, IsSequenceFrom, Covers, IsChain, EachFrom, Where, IsModal, IsReading, DerError, IsBlockSet, IsChoiceOf, ListsBy, MatchChoice, Claim, IsRunsOfBlocks, Runs, ResourcesChoice, Blocks, Inherit, Missing, choice_at}
-use Rattle.rpki_der.proofs.Lists.{HasOctets}
-use Rattle.rpki_der.proofs.Written.{value_is}
+use Rattle.rpki_der.proofs.ValueLists.{HasOctets}
+use Rattle.rpki_der.proofs.WrittenValues.{value_is}
 use Rattle.rpki_der.specs.Der.{Each}
 use Rattle.rpki_der.specs.Reading.{refined, tagged_at}
 use Rattle.rpki_der.specs.Views.{is_strict, left}
@@ -15,7 +15,7 @@ use Rattle.rpki_der.proofs.SaidInModes.{IsSaidInModes, ordered_modal, strictly_f
 use Rattle.rpki_block.specs.Beyond.{IsBeyond}
 use Rattle.rpki_chain.specs.ChoiceDer.{choice_octets}
 use Rattle.rpki_chain.specs.Claims.{IsClaim}
-use Rattle.rpki_chain.proofs.Ascending.{IsWritten, listed_chain, no_numbers, set_spelled, spelled_set, taken_chain}
+use Rattle.rpki_chain.proofs.AscendingDer.{IsWritten, listed_chain, no_numbers, set_spelled, spelled_set, taken_chain}
 use Rattle.rpki_chain.proofs.ChoiceReadings.{choice_modal, choice_reading, has_numbers}
 use Rattle.rpki_chain.proofs.ClaimLemmas.{lists_one}
 use Rattle.rpki_chain.proofs.RunLists.{IsRunsOf-unique}

@@ -1,9 +1,9 @@
 -- The reading of resources finds what the grammar says, and nothing else.
 use Rattle.rpki_chain.proofs.Common.{Bool, List, Result, [], arith, get_or, inl, inr, length, refl, true, ℕ, ◌<◌, ◌∷◌, ◌≡◌, ◌≢◌, ◌≤◌, SaysByTag, Covers-nil, Covers-head, IsBytes, IsNothing, IsSequence, IsTlv, Refines, IsModal, IsReading, Tightens, nothing, value_at, DerError, IsChoiceOf, choice_at, choice_in, inherited_in, listed_in, some_in, IsRunsOfBlocks, Runs, ResourcesChoice, Blocks, Inherit, Missing}
-use Rattle.rpki_der.proofs.Contents.{nothing_check}
-use Rattle.rpki_der.proofs.Modes.{bind_tightens, looked_tightens}
-use Rattle.rpki_der.proofs.Readings.{same_reading}
-use Rattle.rpki_der.proofs.Steps.{IsCheck, bind_ok}
+use Rattle.rpki_der.proofs.ContentReadings.{nothing_check}
+use Rattle.rpki_der.proofs.ReadingModes.{bind_tightens, looked_tightens}
+use Rattle.rpki_der.proofs.ValueReadings.{same_reading}
+use Rattle.rpki_der.proofs.ReadingSteps.{IsCheck, bind_ok}
 use Rattle.rpki_der.proofs.SequenceModes.{by_tag_tightens}
 use Rattle.rpki_der.proofs.SequenceReadings.{by_tag_reading, mapped_check}
 

@@ -10,14 +10,14 @@ pub use Rattle.std.specs.Prelude.{All, AllPairs, Contains, Err, IfErr, IsErrAnd,
 pub use Rattle.rpki_der.specs.SequenceReading.{IsSequenceFrom, SaysByTag, some_in}
 unfoldable pub use Rattle.rpki_der.specs.SequenceReading.{by_tag}
 pub use Rattle.rpki_block.specs.Equality.{is_same_pair}
-pub use Rattle.rpki_chains.proofs.Chains.{Covers-nil, IsChain-from, IsChain-nil, IsChainOf-itself}
-pub use Rattle.rpki_chains.proofs.Unique.{Covers-cons_cases, Covers-head, Covers-tail, IsChain-unique}
-pub use Rattle.rpki_chains.specs.Equality.{same_runs}
-pub use Rattle.rpki_chains.specs.Sets.{Covers, IsChain, IsChainOf, IsInside, IsNew, IsOfKind, IsWithin}
+pub use Rattle.rpki_chain_core.proofs.Chains.{Covers-nil, IsChain-from, IsChain-nil, IsChainOf-itself}
+pub use Rattle.rpki_chain_core.proofs.UniqueChain.{Covers-cons_cases, Covers-head, Covers-tail, IsChain-unique}
+pub use Rattle.rpki_chain_core.specs.Equality.{same_runs}
+pub use Rattle.rpki_chain_core.specs.Sets.{Covers, IsChain, IsChainOf, IsInside, IsNew, IsOfKind, IsWithin}
 pub use Rattle.rpki_der.specs.Der.{EachFrom, IsBytes, IsNothing, IsSequence, IsTlv, Refines, Spells, Where, sequence_value}
 pub use Rattle.rpki_der.specs.Reading.{IsModal, IsReading, Tightens, nothing, value_at}
 pub use Rattle.rpki_der.specs.declared.error.DerError.{DerError}
-pub use Rattle.rpki_text.proofs.ListLemmas.{AnswersOrMemory-from_found}
+pub use Rattle.rpki_text.proofs.TextListLemmas.{AnswersOrMemory-from_found}
 pub use Rattle.rpki_text.specs.Memory.{IfRefused}
 pub use Rattle.rpki_text.specs.declared.memory.OrMemory.{OrMemory}
 pub use Rattle.rpki_text.specs.declared.memory.OrMemory.TheVariants.{Memory, Refused}

@@ -1,14 +1,14 @@
 -- Lemmas on runs, claims and paths.
-pub mod Ascending
+pub mod AscendingDer
 pub mod BlocksInModes
 pub mod ChoiceFaults
 pub mod ChoiceReadings
 pub mod ClaimLemmas
 pub mod Common
-mod Covered
-mod Issued
-mod LawLemmas
+mod CoveredSets
+mod IssuedClaims
 mod PathLaws
 mod PathSteps
 pub mod RunLists
+mod SetLawLemmas
 pub mod SetLemmas

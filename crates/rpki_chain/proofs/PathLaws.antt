@@ -1,8 +1,8 @@
 -- A path of one step, and what holds of what a path leaves.
 use Rattle.rpki_chain.proofs.Common.{List, [], arith, get_or, inl, length, take, ℕ, ◌<◌, ◌↔◌, ◌∷◌, ◌≡◌, ◌⊎◌, get_or_default, All-cons, All-contains, All-contains_itself, All-head, All-nil, All-tail, All-weaker, Contains, Claim, Exceeds, ExceedsAt, IsExcess, IsFirstRefusal, IsIssued, IsLeft, IsPathResult, Leaves, Lists, one_step, Holds, Runs, Overclaim, Refuse, Trim, Step}
 use Rattle.std.specs.List.{All}
-use Rattle.rpki_chain.proofs.Covered.{Leaves-decided}
-use Rattle.rpki_chain.proofs.LawLemmas.{one_set}
+use Rattle.rpki_chain.proofs.CoveredSets.{Leaves-decided}
+use Rattle.rpki_chain.proofs.SetLawLemmas.{one_set}
 use Rattle.rpki_chain.proofs.PathSteps.{Exceeds-same, ExceedsAt-step}
 use Rattle.rpki_chain.proofs.RunLists.{Holds-decided, IsRunsOf-iff}
 

@@ -3,7 +3,7 @@ use Rattle.rpki_chain.proofs.Common.{List, Result, arith, get_or, length, subst,
 use Rattle.std.proofs.Common.{below_more}
 use Rattle.rpki_text.specs.Reading.{AnswersOrMemory}
 use Rattle.rpki_chain.specs.declared.path.PathRefusal.{PathRefusal}
-use Rattle.rpki_chain.proofs.Issued.{some_held}
+use Rattle.rpki_chain.proofs.IssuedClaims.{some_held}
 use Rattle.rpki_chain.proofs.RunLists.{IsRunsOf-same, IsRunsOf-unique}
 
 pub Exceeds-same : (S U : ℕ → Type 0) (claim : Claim) (mode : Overclaim) (n : ℕ) → (U n → S n) → Exceeds S claim mode n

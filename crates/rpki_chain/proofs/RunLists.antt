@@ -2,8 +2,8 @@
 use Rattle.rpki_chain.proofs.Common.{List, [], arith, get_or, inr, length, map, sym, take, ℕ, ◌++◌, ◌+◌, ◌<◌, ◌↔◌, ◌∷◌, ◌≡◌, ◌≤◌, ◌⊎◌, cases_lt, append_assoc, get_or-map, length-map, map-append, All-map, Covers-nil, IsChain-from, IsChainOf-itself, Covers-cons_cases, Covers-head, Covers-tail, IsChain-unique, Covers, IsChain, IsChainOf, IsDifference, IsInside, IsIntersection, IsWithin, Holds, IsRunsOf, IsRunsOfBlocks, Runs}
 use Rattle.rpki_chain.specs.Operations.{IsUnion}
 use Rattle.std.proofs.lemmas.List.{map-id, map_more}
-use Rattle.rpki_chains.proofs.Chains.{element_at}
-use Rattle.rpki_chains.proofs.Sorts.{Covers-map}
+use Rattle.rpki_chain_core.proofs.Chains.{element_at}
+use Rattle.rpki_chain_core.proofs.SortedBlocks.{Covers-map}
 
 -- whether a number lies within bounds is decided
 is_decided : (b : ℕ × ℕ) (n : ℕ) → IsWithin b n ⊎ (IsWithin b n → ⊥)
@@ -67,9 +67,9 @@ module _ {B : Type 0} {f : B → ℕ × ℕ} (some others : List B) {a b : Runs}
     (two : map f others ≡ b) where
   -- what tells whether the one lies in the other tells so of their sets
   pub inside_set : (P : Type 0) → P ↔ IsInside f some others → P ↔ ((n : ℕ) → Holds a n → Holds b n)
-  inside_set P told = (
-    λ p n held. grind (arith, told.0 p n, Holds-map f some n, Holds-map f others n),
-    λ all. told.1 (λ n covered. grind (arith, all n, Holds-map f some n, Holds-map f others n)),
+  inside_set P decided = (
+    λ p n held. grind (arith, decided.0 p n, Holds-map f some n, Holds-map f others n),
+    λ all. decided.1 (λ n covered. grind (arith, all n, Holds-map f some n, Holds-map f others n)),
   )
 
   module _ {form : ℕ × ℕ → B} {xs : List B} where

@@ -22,9 +22,9 @@ pub made : {E : Type 0} {S : ℕ → Type 0} {runs : Runs} (r : Result Runs E) �
 made r h is = grind arith
 
 -- where sets are told apart, so are their numbers
-pub numbers_told : (P : Type 0) (a b : Runs) → IsRunsOf (Holds a) a → IsRunsOf (Holds b) b → P ↔ (a ≡ b)
+pub numbers_decided : (P : Type 0) (a b : Runs) → IsRunsOf (Holds a) a → IsRunsOf (Holds b) b → P ↔ (a ≡ b)
     → P ↔ ((n : ℕ) → Holds a n ↔ Holds b n)
-numbers_told P a b ha hb told = grind (arith, same_numbers)
+numbers_decided P a b ha hb decided = grind (arith, same_numbers)
 
 module _ {B : Type 0} {f : B → ℕ × ℕ} {form : ℕ × ℕ → B} {first last : ℕ} where
   -- the chain of numbers of the kind is one of blocks of the kind

@@ -1,7 +1,7 @@
 -- Sets of the items of one kind, whose numbers go from `first` to `last`: as runs, and as the chain that holds them.
 use Rattle.std.specs.Prelude.{ℕ, ◌≤◌, List, All}
 use Rattle.rpki_chain.specs.Runs.{Runs, Holds, IsRunsOf}
-use Rattle.rpki_chains.specs.Sets.{IsChain}
+use Rattle.rpki_chain_core.specs.Sets.{IsChain}
 
 -- the runs of a set of numbers from the first to the last
 pub record IsBlockSet (first last : ℕ) (runs : Runs) : Type 0 where

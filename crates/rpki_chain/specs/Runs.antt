@@ -1,6 +1,6 @@
 -- A set of whole numbers as a value: the ascending list of its runs, each as its least and its greatest number.
 use Rattle.std.specs.Prelude.{ℕ, ◌+◌, ◌<◌, ◌≤◌, ◌↔◌, List, All, Any, AllPairs}
-use Rattle.rpki_chains.specs.Sets.{IsWithin, Covers}
+use Rattle.rpki_chain_core.specs.Sets.{IsWithin, Covers}
 
 abbrev pub Runs : Type 0
 Runs = List (ℕ × ℕ)

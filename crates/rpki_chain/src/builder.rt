@@ -3,7 +3,7 @@ ghost use Rattle.std.specs.Prelude.{◌≡◌, ◌++◌, [], ◌∷◌, IfOk, On
 ghost use Rattle.rpki_chain.specs.Runs.{Holds, IsRunsOf};
 
 use crate::set::BlockSet;
-use rpki_chains::block::Block;
+use rpki_chain_core::block::Block;
 use std::alloc::{AllocError, Allocator, Global};
 use std::fmt;
 use std::marker::Model;

@@ -9,11 +9,11 @@ ghost use Rattle.rpki_der.specs.SequenceWriting.{octets_of_all, sequence_octets}
 ghost use Rattle.rpki_chain.specs.Choices.{ListsBy, MatchChoice};
 ghost use Rattle.rpki_chain.specs.ChoiceDer.{choice_at, choice_octets};
 ghost use Rattle.rpki_chain.specs.Runs.{IsRunsOfBlocks};
-ghost use Rattle.rpki_chains.specs.Sets.{IsChain};
+ghost use Rattle.rpki_chain_core.specs.Sets.{IsChain};
 
 use crate::choice::ResourcesChoice;
 use crate::set::BlockSet;
-use rpki_chains::block::Block;
+use rpki_chain_core::block::Block;
 use rpki_der::sequences::{
     Encode, ReadNext, append_sequence, encode_sequence, len_of_all, read_some,
 };
@@ -167,7 +167,7 @@ pub fn append_choice<V: Encode, A: Allocator>(
 )
     requires len { content_len ≡ length (choice_octets (λ blocks. octets_of_all V.octets blocks.now)
         choice.now) }
-    requires room { vec_len out.old + length
+    requires fits { vec_len out.old + length
         (choice_octets (λ blocks. sequence_octets V.octets blocks.now) choice.now)
         ≤ vec_capacity out.old }
     ensures items { out.new.items

@@ -9,7 +9,7 @@ ghost use Rattle.rpki_chain.specs.declared.path.Overclaim.{Overclaim};
 ghost use Rattle.rpki_chain.specs.declared.path.Overclaim.TheVariants.{Refuse, Trim};
 ghost use Rattle.rpki_chain.specs.declared.path.Step.{Step};
 
-use rpki_chains::block::Block;
+use rpki_chain_core::block::Block;
 
 /// The blocks made from the runs of a set denote the set.
 pub fn blocks_of_runs<T: Block>()

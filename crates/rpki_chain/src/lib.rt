@@ -1,5 +1,5 @@
 //! Sets over any lawful block, resources that list them, and their DER (RFC 3779, 2 and 3). It also computes what
-//! remains of a set after claims and paths of claims. The crate re-exports the blocks and chains of `rpki_chains`.
+//! remains of a set after claims and paths of claims. The crate re-exports the blocks and chains of `rpki_chain_core`.
 //!
 //! A lawful [`block::Block`] is all that a kind of number must provide. The contracts of this crate are proved once,
 //! for every such kind.
@@ -9,7 +9,7 @@
 //! ```rust
 //! match issuer.verify_issued(alloc, claim, mode) {
 //!     Ok(set) => Ok(set),
-//!     Err(error) => Err(error.map_refused(|excess| Unverified::Ipv6(excess))),
+//!     Err(error) => Err(error.map_refused(|excess| VerifyError::Ipv6(excess))),
 //! }
 //! ```
 #![tactic(auto)]
@@ -36,7 +36,7 @@ pub use set::BlockSet;
 pub use shared::SharedChain;
 
 /// Re-exports blocks and chains, which are defined in a crate of their own.
-pub use rpki_chains::{block, chain, counted, owned, reads, shared};
+pub use rpki_chain_core::{block, chain, counted, owned, reads, shared};
 
 /// Re-exports the calls on chains whose reads are counted.
-pub use rpki_chains::{contains_item_counted, difference_counted, trim_counted, union_counted};
+pub use rpki_chain_core::{contains_item_counted, difference_counted, trim_counted, union_counted};

@@ -5,7 +5,7 @@ ghost use Rattle.rpki_chain.specs.Paths.{path_refusal_text};
 
 use crate::choice::ResourcesChoice;
 use crate::set::BlockSet;
-use rpki_chains::block::Block;
+use rpki_chain_core::block::Block;
 use std::alloc::Allocator;
 use std::error::Error;
 use std::fmt;
@@ -53,7 +53,7 @@ impl<F: Error> Error for PathRefusal<F> {}
 /// Resources that claim a set of items of one kind.
 ///
 /// This trait is about one kind of block. `rpki_extensions::Claims` is a struct with the claims of all three kinds.
-pub trait Claims<T: Block, A: Allocator> {
+pub trait BlockClaim<T: Block, A: Allocator> {
     // The claim.
     ghost claim: { Self → Claim };
 

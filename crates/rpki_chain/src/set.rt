@@ -2,18 +2,18 @@
 ghost use Rattle.std.specs.Prelude.{◌≡◌, ℕ, ◌↔◌, [], ◌∷◌, IsTrue, IsOk, IfOk, IfErr, OnOk, OnErr, map};
 ghost use Rattle.std.specs.Slice.Iter.{iter_rest};
 ghost use Rattle.rpki_chain.specs.BlockSets.{IsBlockChain, IsBlockSet};
-ghost use Rattle.rpki_chains.specs.Equality.{same_runs};
-ghost use Rattle.rpki_chains.specs.EqualityLaws.{runs_per, runs_equiv};
+ghost use Rattle.rpki_chain_core.specs.Equality.{same_runs};
+ghost use Rattle.rpki_chain_core.specs.EqualityLaws.{runs_per, runs_equiv};
 ghost use Rattle.rpki_text.specs.Memory.{IfRefused};
 ghost use Rattle.rpki_chain.specs.Operations.{IsDifference, IsIntersection, IsUnion};
 ghost use Rattle.rpki_chain.specs.Runs.{Runs, Holds, IsRunsOfBlocks};
-ghost use Rattle.rpki_chains.specs.Sets.{IsWithin, IsChain};
-ghost use Rattle.rpki_chains.specs.View.{chain_blocks};
+ghost use Rattle.rpki_chain_core.specs.Sets.{IsWithin, IsChain};
+ghost use Rattle.rpki_chain_core.specs.View.{chain_blocks};
 
-use rpki_chains::block::Block;
-use rpki_chains::chain::Chain;
-use rpki_chains::owned::OwnedChain;
-use rpki_chains::shared::SharedChain;
+use rpki_chain_core::block::Block;
+use rpki_chain_core::chain::Chain;
+use rpki_chain_core::owned::OwnedChain;
+use rpki_chain_core::shared::SharedChain;
 use rpki_text::memory::OrMemory;
 use std::alloc::{AllocError, Allocator, Global};
 use std::fmt;
@@ -135,7 +135,7 @@ impl<T: Block, A: Allocator> BlockSet<T, A> {
     ///
     /// This call is no test. It does nothing and returns nothing.
     #[doc(hidden)]
-    pub fn is_lawful(&self)
+    pub fn recall_invariant(&self)
         ensures { IsBlockSet T.first T.last self.now }
     {
         let _chain = &self.chain;
@@ -285,7 +285,7 @@ impl<T: Block, A: Allocator> BlockSet<T, A> {
         ensures ok { IsOk result ↔ ((n : ℕ) → Holds self.now n → Holds other.now n) }
         ensures refused { IfErr result (IfRefused (IsIntersection self.now other.now)) }
     {
-        match self.chain.trim(alloc, &other.chain) {
+        match self.chain.trim_shared(alloc, &other.chain) {
             Ok(()) => Ok(()),
             Err(OrMemory::Refused(chain)) => Err(OrMemory::Refused(BlockSet { chain })),
             Err(OrMemory::Memory(error)) => Err(OrMemory::Memory(error)),

@@ -9,9 +9,9 @@ ghost use Rattle.rpki_chain.specs.Runs.{Holds, IsRunsOf};
 ghost use Rattle.rpki_chain.specs.declared.choice.ResourcesChoice.TheVariants.{Blocks};
 
 use crate::choice::ResourcesChoice;
-use crate::path::{Claims, Overclaim, PathRefusal, Step};
+use crate::path::{BlockClaim, Overclaim, PathRefusal, Step};
 use crate::set::BlockSet;
-use rpki_chains::block::Block;
+use rpki_chain_core::block::Block;
 use rpki_text::memory::OrMemory;
 use std::alloc::{AllocError, Allocator};
 
@@ -39,7 +39,7 @@ impl<T: Block, A: Allocator> BlockSet<T, A> {
             (IsIssued (Holds self.now) (claim_by (λ set. set.now) claim.entry) mode)
             (IsExcess (Holds self.now) (claim_by (λ set. set.now) claim.entry) mode) result }
     {
-        issued_by(self, alloc, claim, mode)
+        verify_issued_matched(self, alloc, claim, mode)
     }
 
     /// Checks that the claim of an issuer covers the whole set. The check itself takes no memory.
@@ -79,7 +79,7 @@ impl<T: Block, A: Allocator> BlockSet<T, A> {
     /// - `Refused`: a step is refused. The variant holds the index of the first such step, counted from 0, and the
     ///   overclaimed items.
     /// - `Memory`: there is no memory for a set on the path.
-    pub fn verify_path<R: Claims<T, A>>(
+    pub fn verify_path<R: BlockClaim<T, A>>(
         &self,
         alloc: A,
         steps: &[Step<R>],
@@ -89,12 +89,12 @@ impl<T: Block, A: Allocator> BlockSet<T, A> {
         ensures { AnswersOrMemory (λ set. set) (IsPathResult R.claim (Holds self.now) steps.now)
             (IsFirstRefusal R.claim (Holds self.now) steps.now) result }
     {
-        left_by(self, alloc, steps)
+        verify_path_matched(self, alloc, steps)
     }
 }
 
 /// Returns what remains of a set after a claim, or the overclaimed items. An unchanged set is shared, not copied.
-fn issued_by<T: Block, A: Allocator + Copy>(
+fn verify_issued_matched<T: Block, A: Allocator + Copy>(
     set: &BlockSet<T, A>,
     alloc: A,
     claim: ResourcesChoice<&BlockSet<T, A>>,
@@ -148,7 +148,7 @@ fn none_left<T: Block, A: Allocator>(set: &BlockSet<T, A>) -> Result<(), OrMemor
 }
 
 /// Returns what remains of a root after a path, or its first refusal.
-fn left_by<T: Block, A: Allocator + Copy, R: Claims<T, A>>(
+fn verify_path_matched<T: Block, A: Allocator + Copy, R: BlockClaim<T, A>>(
     root: &BlockSet<T, A>,
     alloc: A,
     steps: &[Step<R>],
@@ -158,7 +158,7 @@ fn left_by<T: Block, A: Allocator + Copy, R: Claims<T, A>>(
 {
     let mut left = root.clone()?;
     for (at, step) in steps.iter().enumerate() {
-        match issued_by(&left, alloc, step.claim.claimed(), step.mode) {
+        match verify_issued_matched(&left, alloc, step.claim.claimed(), step.mode) {
             Ok(issued) => left = issued,
             Err(OrMemory::Refused(fault)) => {
                 return Err(OrMemory::Refused(PathRefusal { step: at, fault }));

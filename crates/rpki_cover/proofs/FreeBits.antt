@@ -1,7 +1,7 @@
 -- The greatest prefix at the beginning of a range, by zeros at the end and a logarithm.
 use Rattle.rpki_cover.proofs.Common.{arith, min, suc, ℕ, ◌*◌, ◌+◌, ◌-◌, ◌<◌, ◌^◌, ◌≡◌, ◌≤◌, pow_mono, count_trailing_zeros, free_bits}
 use Rattle.rpki_cover.proofs.Multiples.{IsMultiple, multiple_smaller, zeros_divide, zeros_greatest}
-use Rattle.rpki_cover.proofs.Greatest.{free_bits_upto_is, same_greatest}
+use Rattle.rpki_cover.proofs.GreatestBlock.{free_bits_upto_is, same_greatest}
 
 -- what the code computes is the greatest
 pub greatest_by : (w a b t f : ℕ) → w ≤ 128 → a ≤ b → b < 2 ^ w → t ≡ count_trailing_zeros 128 a

@@ -76,7 +76,7 @@ impl Cover {
     /// - `width` is at most 128.
     /// - `first` is at most `last`.
     /// - `last` is below 2^`width`.
-    #[tactic(auto, using(crate::proofs::Counting::cover_list_few, crate::proofs::Shortest::range_cover))]
+    #[tactic(auto, using(crate::proofs::CoverCounts::cover_list_few, crate::proofs::ShortestCover::range_cover))]
     pub fn new(width: u8, first: u128, last: u128) -> Cover
         requires width { width ≤ 128 }
         requires order { first ≤ last }
@@ -110,13 +110,13 @@ impl Iterator for Cover {
 
     ghost remaining = { item_count (λ prefixes. prefixes) };
 
-    #[tactic(auto, using(crate::proofs::Steps::left_next))]
+    #[tactic(auto, using(crate::proofs::CoverSteps::left_next))]
     fn next(&mut self) -> Option<NumberPrefix> {
         let Some((first, last)) = self.left else {
             return None;
         };
         let free = free_bits(self.width, first, last);
-        self.left = behind(first, last, free);
+        self.left = rest_after(first, last, free);
         Some(NumberPrefix {
             first,
             len: self.width - free,
@@ -146,7 +146,7 @@ fn free_bits(width: u8, first: u128, last: u128) -> u8
 }
 
 /// Returns the bounds of the numbers that are left after the first 2^`free`, if any are left.
-fn behind(first: u128, last: u128, free: u8) -> Option<(u128, u128)>
+fn rest_after(first: u128, last: u128, free: u8) -> Option<(u128, u128)>
     ensures { MatchOption result (last < first + 2 ^ free)
         (λ r. (r ≡ (first + 2 ^ free, last)) × (first + 2 ^ free ≤ last)) }
 {

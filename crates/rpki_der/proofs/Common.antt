@@ -11,7 +11,7 @@ pub use Rattle.rpki_der.specs.Views.{Lenient, NotCanonicalInOr, NotCanonicalOr, 
 pub use Rattle.rpki_der.specs.declared.cursor.Cursor.{Cursor}
 pub use Rattle.rpki_der.specs.declared.error.DerError.{DerError}
 pub use Rattle.rpki_der.specs.declared.error.DerError.TheVariants.{BadTag, DuplicateFamily, NoFamily, NotCanonical, Truncated}
-pub use Rattle.rpki_der.proofs.Words.{Grammar, Reading}
+pub use Rattle.rpki_der.proofs.GrammarWords.{Grammar, Reading}
 pub use Rattle.std.proofs.lemmas.Result.{err_from_is_err_and}
 pub use Rattle.std.specs.List.{AllByRecursion}
 pub use Rattle.std.specs.Prelude.{IfSome, IsErrAnd, MatchResult}

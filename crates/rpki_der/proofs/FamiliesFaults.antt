@@ -4,7 +4,7 @@ use Rattle.rpki_der.proofs.Common.{Bool, Err, List, Ok, [], arith, cond, false, 
 use Rattle.std.specs.Prelude.{◌⊎◌}
 use Rattle.rpki_der.proofs.SequenceFaults.{NamesTo, begins_value, bind_err, bind_fails, bind_names, cond_names, header_names, names_more, not_named, looked_shorter, tagged_fails, tagged_shorter}
 use Rattle.rpki_der.proofs.FamiliesGathering.{behind}
-use Rattle.rpki_der.proofs.FamilyLemmas.{family_names}
+use Rattle.rpki_der.proofs.FamilyDerLemmas.{family_names}
 use Rattle.rpki_der.specs.FamiliesFaults.{BeginsWithRepeat, any_member_at}
 
 module _ {X : Type 0} (claim_at : AddressFamily → Reading X)

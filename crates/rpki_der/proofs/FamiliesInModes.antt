@@ -1,11 +1,11 @@
 -- Families of which each claim says something, in either mode: strictly, the octets are those that are written of them.
 use Rattle.rpki_der.proofs.Common.{Bool, List, None, Option, Some, [], ap, arith, length, refl, ℕ, ◌++◌, ◌<◌, ◌^◌, ◌∙◌, ◌∷◌, ◌≡◌, ◌≢◌, append-nil, length-append, IfSome, sequence_value, AreInOrder, ByFamily, IsFamilies, IsFamiliesInOrder, IsMember, SaysByFamily, SaysFamilies, SaysOption, families_at, families_by, families_der, member_der, option_der, AddressFamily, Ipv4, Ipv6, Grammar, Reading}
-use Rattle.rpki_der.proofs.Below.{value_is}
+use Rattle.rpki_der.proofs.ValueProofs.{value_is}
 use Rattle.rpki_der.proofs.FamiliesGathering.{families_reading}
 use Rattle.rpki_der.proofs.FamiliesModes.{families_modal}
 use Rattle.rpki_der.proofs.FamiliesSaid.{one_by_family}
 use Rattle.rpki_der.proofs.SequenceWriting.{content_shorter}
-use Rattle.rpki_der.proofs.FamilyLemmas.{family_written}
+use Rattle.rpki_der.proofs.FamilyDerLemmas.{family_written}
 use Rattle.rpki_der.proofs.SaidInModes.{IsSaidInModes}
 
 module _ {X Y : Type 0} (G S : AddressFamily → Grammar Y) (C : Y → X → Type 0)

@@ -35,18 +35,18 @@ module _ {X Y : Type 0} (G : AddressFamily → Grammar Y) (C : Y → X → Type 
   Stands family = Refines (G family) C
 
   -- members with the claims that theirs stand for; where there were some, there are some
-  told : (members : List (AddressFamily × Y)) (content : List ℕ) (v4 v6 : List X) → Each (IsMember G) content members
-      → Say C (claims_among Ipv4 members) v4 → Say C (claims_among Ipv6 members) v6
+  members_said : (members : List (AddressFamily × Y)) (content : List ℕ) (v4 v6 : List X)
+      → Each (IsMember G) content members → Say C (claims_among Ipv4 members) v4 → Say C (claims_among Ipv6 members) v6
       → (others : List (AddressFamily × X)) × Each (IsMember Stands) content others × (claims_among Ipv4 others ≡ v4)
       × (claims_among Ipv6 others ≡ v6) × (members ≢ [] → others ≢ [])
-  told [] content v4 v6 all first second = ([], all, grind arith, grind arith, grind arith)
-  told ((Ipv4, y) ∷ members) content [] v6 all first second = absurd first
-  told ((Ipv6, y) ∷ members) content v4 [] all first second = absurd second
-  told ((Ipv4, y) ∷ members) content (x ∷ v4) v6 (rest, found, all) one other =
-      let (others, each, first, second, some) = told members rest v4 v6 all one.1 other in
+  members_said [] content v4 v6 all first second = ([], all, grind arith, grind arith, grind arith)
+  members_said ((Ipv4, y) ∷ members) content [] v6 all first second = absurd first
+  members_said ((Ipv6, y) ∷ members) content v4 [] all first second = absurd second
+  members_said ((Ipv4, y) ∷ members) content (x ∷ v4) v6 (rest, found, all) one other =
+      let (others, each, first, second, some) = members_said members rest v4 v6 all one.1 other in
       ((Ipv4, x) ∷ others, grind arith, cc, second, grind arith)
-  told ((Ipv6, y) ∷ members) content v4 (x ∷ v6) (rest, found, all) one other =
-      let (others, each, first, second, some) = told members rest v4 v6 all one other.1 in
+  members_said ((Ipv6, y) ∷ members) content v4 (x ∷ v6) (rest, found, all) one other =
+      let (others, each, first, second, some) = members_said members rest v4 v6 all one other.1 in
       ((Ipv6, x) ∷ others, grind arith, first, cc, grind arith)
 
   -- families that stand for others are families with those claims
@@ -55,7 +55,7 @@ module _ {X Y : Type 0} (G : AddressFamily → Grammar Y) (C : Y → X → Type 
   stands_for bytes fs (found, (content, is, (members, all, some, gathered)), says) =
       let v4 = says_listed C found.0 fs.0 says.0 in
       let v6 = says_listed C found.1 fs.1 says.1 in
-      let t = told members content (listed fs.0) (listed fs.1) all (rw (gathered Ipv4) v4) (rw (gathered Ipv6) v6) in
+      let t = members_said members content (listed fs.0) (listed fs.1) all (rw (gathered Ipv4) v4) (rw (gathered Ipv6) v6) in
       (content, is, (t.0, t.1, t.4 some, elim [ Ipv4 ↦ t.2 | Ipv6 ↦ t.3 ]))
 
   -- members whose claims stand for those of these

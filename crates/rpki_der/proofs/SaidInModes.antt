@@ -1,6 +1,6 @@
 -- Takes in either mode that answer what is said by what was found. Strictly, that is what is written of the answer.
 use Rattle.rpki_der.proofs.Common.{Bool, List, Ok, Result, [], arith, length, true, ℕ, ◌++◌, ◌<◌, ◌^◌, ◌≡◌, length-append, MatchResult, OneFront, Refines, IsModal, IsReading, Lenient, Strict, is_strict, left, Cursor, DerError, IsMemory, OrMemory, Encloses, IsSequenceFrom, enclosed_at, sequence_from, values_of, NotCanonicalOrMemory, ReadsOrMemory, TakesSaidOrMemory, refined, tagged_at}
-use Rattle.rpki_der.proofs.Below.{HasOctets, found_is, lenient_is, refused_at, value_is, ok_is, ok_or_err}
+use Rattle.rpki_der.proofs.ValueProofs.{HasOctets, found_is, lenient_is, refused_at, value_is, ok_is, ok_or_err}
 use Rattle.std.specs.Prelude.{IfOk}
 use Rattle.rpki_der.specs.Der.{Front, IsTag, Spells, value}
 use Rattle.rpki_der.proofs.SequenceCursors.{reads_said_by}

@@ -1,6 +1,6 @@
 -- From the reading to the grammar, for calls that take memory, or that look at the tag first.
 use Rattle.rpki_der.proofs.Common.{List, Ok, Option, Result, Some, arith, length, ℕ, ◌++◌, ◌<◌, ◌≡◌, IsBytes, Refines, IsReading, optional, ReadsOptional, Takes, left, Cursor, DerError, OrMemory, if_tagged, ReadsOrMemory, ReadsTagged, TakesOrMemory, TakesSaidOrMemory, Grammar, Reading, ◌∷◌, []}
-use Rattle.rpki_der.proofs.Below.{none_by, reads_optional_by}
+use Rattle.rpki_der.proofs.ValueProofs.{none_by, reads_optional_by}
 
 -- a take that may want memory
 pub reads_or_memory_by : {X Y : Type 0} (G : Grammar Y) (reading : Reading Y) (view : X → Y) (old new : Cursor)

@@ -1,6 +1,6 @@
 -- Lists that are written: they are values of the grammar, and no two lists are written alike, also in a SEQUENCE.
 use Rattle.rpki_der.proofs.Common.{List, [], arith, length, refl, ℕ, ◌++◌, ◌<◌, ◌^◌, ◌∷◌, ◌≡◌, cases_lt, drop_at, length-append, AllByRecursion, Each, header, length_octets, octets, sequence_value, IsReading, octets_of_all, Grammar, Reading, le-ltb, lt-ltb}
-use Rattle.rpki_der.proofs.Below.{HasOctets, each_again}
+use Rattle.rpki_der.proofs.ValueProofs.{HasOctets, each_again}
 
 -- a SEQUENCE is longer than what is in it
 pub content_shorter : (content : List ℕ) → length (sequence_value content) < 2 ^ 64 → length content < 2 ^ 64

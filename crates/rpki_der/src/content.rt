@@ -62,12 +62,12 @@ impl<'a> Content<'a> {
     /// # Errors
     ///
     /// [`DerError::BadInteger`]: the content is no such INTEGER.
-    #[tactic(auto, using(crate::proofs::Contents::unsigned_check))]
+    #[tactic(auto, using(crate::proofs::ContentReadings::unsigned_check))]
     pub fn to_u32(&self) -> Result<u32, DerError>
         ensures reads { Parses IsUnsigned (λ n. n) (content_octets self.now) result }
         ensures exact { Gives (λ n. n) result (unsigned (content_octets self.now)) }
     {
-        self.parse_u32()
+        self.to_u32_exact()
     }
 
     /// Reads the content as a BIT STRING (X.690, 8.6.2).
@@ -76,7 +76,7 @@ impl<'a> Content<'a> {
     ///
     /// - [`DerError::BadBitString`]: the content is not that of a BIT STRING.
     /// - [`DerError::NotCanonical`]: an unused bit is set, and the content was taken from a strict cursor.
-    #[tactic(auto, using(crate::proofs::Contents::bits_check, crate::proofs::Modes::padded_check, crate::proofs::Modes::bits_tighten, crate::proofs::Cursors::parses_by))]
+    #[tactic(auto, using(crate::proofs::ContentReadings::bits_check, crate::proofs::ReadingModes::padded_check, crate::proofs::ReadingModes::bits_tighten, crate::proofs::CursorReadings::parses_by))]
     pub fn to_bit_string(&self) -> Result<BitString<'a>, DerError>
         ensures reads { LenientIn self.now
             (Parses IsBitContent bit_string_of (content_octets self.now) result) }
@@ -89,7 +89,7 @@ impl<'a> Content<'a> {
         ensures by_mode { Gives bit_string_of result
             (bits_by (is_strict_in self.now) (content_octets self.now)) }
     {
-        self.parse_bit_string()
+        self.to_bit_string_by_mode()
     }
 
     /// Returns whether the content is that of a BIT STRING with more than `limit` bits. Any other content gives
@@ -122,7 +122,7 @@ impl<'a> Content<'a> {
         ensures reads { Parses IsNothing (λ u. u) (content_octets self.now) result }
         ensures exact { Gives (λ u. u) result (nothing (content_octets self.now)) }
     {
-        self.parse_null()
+        self.to_null_exact()
     }
 }
 
@@ -133,7 +133,7 @@ impl<'a> Content<'a> {
     ghost use Rattle.rpki_der.specs.Views.{bit_string_of, content_octets, is_strict_in};
 
     #[tactic(auto, unfolding(crate::specs::Reading::unsigned))]
-    fn parse_u32(&self) -> Result<u32, DerError>
+    fn to_u32_exact(&self) -> Result<u32, DerError>
         ensures exact { Gives (λ n. n) result (unsigned (content_octets self.now)) }
     {
         let octets = self.octets;
@@ -151,7 +151,7 @@ impl<'a> Content<'a> {
     }
 
     #[tactic(auto, unfolding(crate::specs::Reading::bits, crate::specs::Reading::bits_by, crate::specs::Reading::passing))]
-    fn parse_bit_string(&self) -> Result<BitString<'a>, DerError>
+    fn to_bit_string_by_mode(&self) -> Result<BitString<'a>, DerError>
         ensures by_mode { Gives bit_string_of result
             (bits_by (is_strict_in self.now) (content_octets self.now)) }
     {
@@ -173,7 +173,7 @@ impl<'a> Content<'a> {
     }
 
     #[tactic(auto, unfolding(crate::specs::Reading::nothing))]
-    fn parse_null(&self) -> Result<(), DerError>
+    fn to_null_exact(&self) -> Result<(), DerError>
         ensures exact { Gives (λ u. u) result (nothing (content_octets self.now)) }
     {
         match self.octets {

@@ -73,7 +73,7 @@ impl<'a> Cursor<'a> {
     ///
     /// This call is no test. It does nothing and returns nothing.
     #[doc(hidden)]
-    pub fn is_lawful(&self)
+    pub fn recall_invariant(&self)
         ensures { length (left self.now) < 2 ^ 64 }
     {}
 
@@ -102,14 +102,14 @@ impl<'a> Cursor<'a> {
     /// - [`DerError::Truncated`]: octets are missing.
     /// - [`DerError::BadTag`]: the low five bits of the tag octet are all ones.
     /// - [`DerError::BadLength`]: the length is indefinite, or is not in the fewest octets.
-    #[tactic(auto, using(crate::proofs::Readings::value_reading))]
+    #[tactic(auto, using(crate::proofs::ValueReadings::value_reading))]
     pub fn take_value(&mut self) -> Result<Content<'a>, DerError>
         ensures reads { ReadsValue IsTlv tlv self.old self.new result }
         ensures exact { Takes tlv self.old self.new result value_at }
         ensures mode { is_strict self.new ≡ is_strict self.old }
         ensures hands_on_mode { IfOk result (λ value. is_strict_in value ≡ is_strict self.old) }
     {
-        self.next_value()
+        self.take_value_exact()
     }
 
     /// Takes a value with any tag, as `take_value` does. Returns None if and only if no octet is left.
@@ -117,7 +117,7 @@ impl<'a> Cursor<'a> {
     /// # Errors
     ///
     /// The errors of `take_value`. The cursor is unchanged after an error.
-    #[tactic(auto, using(crate::proofs::Readings::value_reading, crate::proofs::Lists::optional_some, crate::proofs::Lists::optional_none, crate::proofs::Lists::optional_err, crate::proofs::Cursors::none_by))]
+    #[tactic(auto, using(crate::proofs::ValueReadings::value_reading, crate::proofs::ValueLists::optional_some, crate::proofs::ValueLists::optional_none, crate::proofs::ValueLists::optional_err, crate::proofs::CursorReadings::none_by))]
     pub fn take_opt_value(&mut self) -> Result<Option<Content<'a>>, DerError>
         ensures reads { ReadsOptional IsTlv tlv self.old self.new result }
         ensures exact { Takes (λ o. option_map tlv o) self.old self.new result (optional value_at) }
@@ -125,7 +125,7 @@ impl<'a> Cursor<'a> {
         ensures hands_on_mode { IfOk result
             (λ o. IfSome o (λ value. is_strict_in value ≡ is_strict self.old)) }
     {
-        self.next_opt_value()
+        self.take_opt_value_exact()
     }
 
     /// Takes a SEQUENCE (X.690, 8.9) and returns a cursor over its content.
@@ -134,14 +134,14 @@ impl<'a> Cursor<'a> {
     ///
     /// The errors of `take_value`, and [`DerError::BadTag`] if the value has another tag. The cursor is unchanged after
     /// an error.
-    #[tactic(auto, using(crate::proofs::Readings::sequence_reading))]
+    #[tactic(auto, using(crate::proofs::ValueReadings::sequence_reading))]
     pub fn take_sequence(&mut self) -> Result<Cursor<'a>, DerError>
         ensures reads { ReadsValue IsSequence left self.old self.new result }
         ensures exact { Takes left self.old self.new result (tagged_at 48) }
         ensures mode { is_strict self.new ≡ is_strict self.old }
         ensures hands_on_mode { IfOk result (λ content. is_strict content ≡ is_strict self.old) }
     {
-        self.next_sequence()
+        self.take_sequence_exact()
     }
 
     /// Takes an INTEGER (X.690, 8.3) from 0 to 4294967295.
@@ -152,13 +152,13 @@ impl<'a> Cursor<'a> {
     ///
     /// - [`DerError::BadTag`]: the value has another tag.
     /// - [`DerError::BadInteger`]: the content is no such INTEGER.
-    #[tactic(auto, using(crate::proofs::Readings::u32_reading))]
+    #[tactic(auto, using(crate::proofs::ValueReadings::u32_reading))]
     pub fn take_u32(&mut self) -> Result<u32, DerError>
         ensures reads { ReadsValue IsU32 (λ n. n) self.old self.new result }
         ensures exact { Takes (λ n. n) self.old self.new result u32_at }
         ensures mode { is_strict self.new ≡ is_strict self.old }
     {
-        self.next_u32()
+        self.take_u32_exact()
     }
 
     /// Takes a BIT STRING (X.690, 8.6.2). A lenient cursor accepts unused bits that are set.
@@ -170,7 +170,7 @@ impl<'a> Cursor<'a> {
     /// - [`DerError::BadTag`]: the value has another tag.
     /// - [`DerError::BadBitString`]: the content is not that of a BIT STRING.
     /// - [`DerError::NotCanonical`]: an unused bit is set, and the cursor is strict.
-    #[tactic(auto, using(crate::proofs::Modes::bit_string_modal, crate::proofs::Readings::bit_string_reading, crate::proofs::Cursors::none_by))]
+    #[tactic(auto, using(crate::proofs::ReadingModes::bit_string_modal, crate::proofs::ValueReadings::bit_string_reading, crate::proofs::CursorReadings::none_by))]
     pub fn take_bit_string(&mut self) -> Result<BitString<'a>, DerError>
         ensures reads { Lenient self.old
             (ReadsValue IsBitString bit_string_of self.old self.new result) }
@@ -184,7 +184,7 @@ impl<'a> Cursor<'a> {
             (bit_string_by (is_strict self.old)) }
         ensures mode { is_strict self.new ≡ is_strict self.old }
     {
-        self.next_bit_string()
+        self.take_bit_string_by_mode()
     }
 
     /// Takes an OCTET STRING (X.690, 8.7).
@@ -193,13 +193,13 @@ impl<'a> Cursor<'a> {
     ///
     /// The errors of `take_value`, and [`DerError::BadTag`] if the value has another tag. The cursor is unchanged after
     /// an error.
-    #[tactic(auto, using(crate::proofs::Readings::octet_string_reading))]
+    #[tactic(auto, using(crate::proofs::ValueReadings::octet_string_reading))]
     pub fn take_octets(&mut self) -> Result<&'a [u8], DerError>
         ensures reads { ReadsValue IsOctetString (λ o. o.now) self.old self.new result }
         ensures exact { Takes (λ o. o.now) self.old self.new result (tagged_at 4) }
         ensures mode { is_strict self.new ≡ is_strict self.old }
     {
-        self.next_octets()
+        self.take_octets_exact()
     }
 
     /// Takes a NULL (X.690, 8.8).
@@ -210,13 +210,13 @@ impl<'a> Cursor<'a> {
     ///
     /// - [`DerError::BadTag`]: the value has another tag.
     /// - [`DerError::BadNull`]: the value has content.
-    #[tactic(auto, using(crate::proofs::Readings::null_reading, crate::proofs::Cursors::reads_by))]
+    #[tactic(auto, using(crate::proofs::ValueReadings::null_reading, crate::proofs::CursorReadings::reads_by))]
     pub fn take_null(&mut self) -> Result<(), DerError>
         ensures reads { ReadsValue IsNull (λ u. u) self.old self.new result }
         ensures exact { Takes (λ u. u) self.old self.new result null_at }
         ensures mode { is_strict self.new ≡ is_strict self.old }
     {
-        self.next_null()
+        self.take_null_exact()
     }
 
     /// Ends the reading.
@@ -241,7 +241,7 @@ impl<'a> Cursor<'a> {
     ghost use Rattle.rpki_der.specs.Reading.{bit_string_by, null_at, optional, tagged_at, u32_at, value_at};
     ghost use Rattle.rpki_der.specs.Views.{Takes, bit_string_of, content_octets, is_strict, is_strict_in, left, tlv};
 
-    fn next_value(&mut self) -> Result<Content<'a>, DerError>
+    fn take_value_exact(&mut self) -> Result<Content<'a>, DerError>
         ensures exact { Takes tlv self.old self.new result value_at }
         ensures mode { is_strict self.new ≡ is_strict self.old }
         ensures hands_on_mode { IfOk result (λ value. is_strict_in value ≡ is_strict self.old) }
@@ -252,7 +252,7 @@ impl<'a> Cursor<'a> {
     }
 
     #[tactic(auto, unfolding(crate::specs::Reading::optional))]
-    fn next_opt_value(&mut self) -> Result<Option<Content<'a>>, DerError>
+    fn take_opt_value_exact(&mut self) -> Result<Option<Content<'a>>, DerError>
         ensures exact { Takes (λ o. option_map tlv o) self.old self.new result (optional value_at) }
         ensures mode { is_strict self.new ≡ is_strict self.old }
         ensures hands_on_mode { IfOk result
@@ -261,7 +261,7 @@ impl<'a> Cursor<'a> {
         if self.octets.is_empty() {
             return Ok(None);
         }
-        Ok(Some(self.next_value()?))
+        Ok(Some(self.take_value_exact()?))
     }
 
     #[tactic(auto, unfolding(crate::specs::Reading::tagged_at))]
@@ -278,7 +278,7 @@ impl<'a> Cursor<'a> {
         Ok(value)
     }
 
-    fn next_sequence(&mut self) -> Result<Cursor<'a>, DerError>
+    fn take_sequence_exact(&mut self) -> Result<Cursor<'a>, DerError>
         ensures exact { Takes left self.old self.new result (tagged_at 48) }
         ensures mode { is_strict self.new ≡ is_strict self.old }
         ensures hands_on_mode { IfOk result (λ content. is_strict content ≡ is_strict self.old) }
@@ -287,7 +287,7 @@ impl<'a> Cursor<'a> {
     }
 
     #[tactic(auto, unfolding(crate::specs::Reading::refined))]
-    fn next_u32(&mut self) -> Result<u32, DerError>
+    fn take_u32_exact(&mut self) -> Result<u32, DerError>
         ensures exact { Takes (λ n. n) self.old self.new result u32_at }
         ensures mode { is_strict self.new ≡ is_strict self.old }
     {
@@ -298,7 +298,7 @@ impl<'a> Cursor<'a> {
     }
 
     #[tactic(auto, unfolding(crate::specs::Reading::refined))]
-    fn next_bit_string(&mut self) -> Result<BitString<'a>, DerError>
+    fn take_bit_string_by_mode(&mut self) -> Result<BitString<'a>, DerError>
         ensures by_mode { Takes bit_string_of self.old self.new result
             (bit_string_by (is_strict self.old)) }
         ensures mode { is_strict self.new ≡ is_strict self.old }
@@ -309,7 +309,7 @@ impl<'a> Cursor<'a> {
         Ok(bits)
     }
 
-    fn next_octets(&mut self) -> Result<&'a [u8], DerError>
+    fn take_octets_exact(&mut self) -> Result<&'a [u8], DerError>
         ensures exact { Takes (λ o. o.now) self.old self.new result (tagged_at 4) }
         ensures mode { is_strict self.new ≡ is_strict self.old }
     {
@@ -317,7 +317,7 @@ impl<'a> Cursor<'a> {
     }
 
     #[tactic(auto, unfolding(crate::specs::Reading::refined))]
-    fn next_null(&mut self) -> Result<(), DerError>
+    fn take_null_exact(&mut self) -> Result<(), DerError>
         ensures exact { Takes (λ u. u) self.old self.new result null_at }
         ensures mode { is_strict self.new ≡ is_strict self.old }
     {

@@ -27,7 +27,7 @@ pub fn one_value()
 {}
 
 /// The octets that the writers append are values.
-#[tactic(auto, using(crate::proofs::Written::value_is, crate::proofs::Written::u32_is, crate::proofs::Written::bit_string_is))]
+#[tactic(auto, using(crate::proofs::WrittenValues::value_is, crate::proofs::WrittenValues::u32_is, crate::proofs::WrittenValues::bit_string_is))]
 pub fn written()
     ensures number { (n : ℕ) → n < 2 ^ 32 → IsU32 (u32_value n) n }
     ensures bit_string { (b : Bits) → IsBits b → length b.octets < 2 ^ 63
@@ -39,7 +39,7 @@ pub fn written()
 {}
 
 /// An encoded value is read back, and the octets after it are left.
-#[tactic(auto, using(crate::proofs::Readings::u32_reading, crate::proofs::Readings::bit_string_reading, crate::proofs::Readings::octet_string_reading, crate::proofs::Readings::sequence_reading, crate::proofs::Written::value_is, crate::proofs::Written::u32_is, crate::proofs::Written::bit_string_is))]
+#[tactic(auto, using(crate::proofs::ValueReadings::u32_reading, crate::proofs::ValueReadings::bit_string_reading, crate::proofs::ValueReadings::octet_string_reading, crate::proofs::ValueReadings::sequence_reading, crate::proofs::WrittenValues::value_is, crate::proofs::WrittenValues::u32_is, crate::proofs::WrittenValues::bit_string_is))]
 pub fn read_back()
     ensures number { (n : ℕ) (rest : List ℕ) → n < 2 ^ 32
         → u32_at (u32_value n ++ rest) ≡ Ok (n, rest) }
@@ -53,7 +53,7 @@ pub fn read_back()
 {}
 
 /// Values, lengths and integers are encoded as X.690 (8.1.2, 8.1.3, 8.3 and 10.1) requires, and in no other way.
-#[tactic(auto, using(crate::proofs::Written::value_spelled, crate::proofs::Written::spelled_value, crate::proofs::Contents::unsigned_spelled, crate::proofs::Lengths::length_spelled, crate::proofs::Lengths::spelled_length))]
+#[tactic(auto, using(crate::proofs::WrittenValues::value_spelled, crate::proofs::WrittenValues::spelled_value, crate::proofs::ContentReadings::unsigned_spelled, crate::proofs::LengthReadings::length_spelled, crate::proofs::LengthReadings::spelled_length))]
 pub fn spelled()
     ensures value { (tag : ℕ) (len content : List ℕ) → IsTag tag → IsBytes len
         → IsLength len (length content) → IsValue (tag ∷ (len ++ content)) tag content }

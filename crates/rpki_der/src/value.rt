@@ -9,7 +9,7 @@ use crate::content::Content;
 use crate::error::DerError;
 
 /// Returns the number that octets spell, the most significant first.
-#[tactic(auto, using(crate::proofs::Numbers::big_endian_more, crate::proofs::Numbers::digit_more, crate::proofs::Numbers::digits_fit, std::proofs::lemmas::Grind::common_steps))]
+#[tactic(auto, using(crate::proofs::NumberOctets::big_endian_more, crate::proofs::NumberOctets::digit_more, crate::proofs::NumberOctets::digits_fit, std::proofs::lemmas::Grind::common_steps))]
 pub(crate) fn number_of(digits: &[u8]) -> u64
     requires { length digits.now ≤ 8 }
     ensures number { result ≡ big_endian digits.now }

@@ -72,7 +72,7 @@ pub fn put_header<A: Allocator>(
 #[tactic(auto, unfolding(crate::specs::Der::header, crate::specs::Der::length_octets))]
 pub fn append_header<A: Allocator>(out: &mut Vec<u8, A>, tag: u8, content_len: usize)
     requires has_tag { IsTag tag }
-    requires room { vec_len out.old + length (header tag content_len) ≤ vec_capacity out.old }
+    requires fits { vec_len out.old + length (header tag content_len) ≤ vec_capacity out.old }
     ensures items { out.new.items ≡ out.old.items ++ header tag content_len }
     ensures capacity { vec_capacity out.old ≤ vec_capacity out.new }
 {
@@ -89,7 +89,7 @@ pub fn append_header<A: Allocator>(out: &mut Vec<u8, A>, tag: u8, content_len: u
 #[tactic(auto, unfolding(crate::specs::Der::length_octets, crate::specs::Der::octets))]
 fn append_long_length<A: Allocator>(out: &mut Vec<u8, A>, content_len: usize)
     requires long { 128 ≤ content_len }
-    requires room { vec_len out.old + length (length_octets content_len) ≤ vec_capacity out.old }
+    requires fits { vec_len out.old + length (length_octets content_len) ≤ vec_capacity out.old }
     ensures items { out.new.items ≡ out.old.items ++ length_octets content_len }
     ensures capacity { vec_capacity out.old ≤ vec_capacity out.new }
 {
@@ -101,7 +101,7 @@ fn append_long_length<A: Allocator>(out: &mut Vec<u8, A>, content_len: usize)
 
 /// Appends octets, for which the capacity suffices.
 fn append<A: Allocator>(out: &mut Vec<u8, A>, octets: &[u8])
-    requires room { vec_len out.old + length octets.now ≤ vec_capacity out.old }
+    requires fits { vec_len out.old + length octets.now ≤ vec_capacity out.old }
     ensures items { out.new.items ≡ out.old.items ++ octets.now }
     ensures capacity { vec_capacity out.old ≤ vec_capacity out.new }
 {
@@ -141,7 +141,7 @@ fn integer_len(number: u32) -> usize
 }
 
 /// Returns the number of octets that `put_u32` appends: at most 7.
-#[tactic(auto, using(crate::proofs::Written::short_integer))]
+#[tactic(auto, using(crate::proofs::WrittenValues::short_integer))]
 pub fn u32_len(number: u32) -> usize
     ensures len { result ≡ length (u32_value number) }
     ensures short { result ≤ 7 }
@@ -171,9 +171,9 @@ pub fn put_u32<A: Allocator>(out: &mut Vec<u8, A>, number: u32) -> Result<(), Al
 /// # Preconditions
 ///
 /// The capacity of `out` suffices for these octets.
-#[tactic(auto, using(crate::proofs::Contents::integer_octets, std::proofs::lemmas::Grind::common_steps))]
+#[tactic(auto, using(crate::proofs::ContentReadings::integer_octets, std::proofs::lemmas::Grind::common_steps))]
 pub fn append_u32<A: Allocator>(out: &mut Vec<u8, A>, number: u32)
-    requires room { vec_len out.old + length (u32_value number) ≤ vec_capacity out.old }
+    requires fits { vec_len out.old + length (u32_value number) ≤ vec_capacity out.old }
     ensures items { out.new.items ≡ out.old.items ++ u32_value number }
     ensures capacity { vec_capacity out.old ≤ vec_capacity out.new }
 {
@@ -226,7 +226,7 @@ pub fn put_bit_string<A: Allocator>(
 /// - The capacity of `out` suffices for these octets.
 pub fn append_bit_string<A: Allocator>(out: &mut Vec<u8, A>, unused: u8, octets: &[u8])
     requires bits { IsBits (bits_with unused octets.now) }
-    requires room { vec_len out.old + length (bit_string_value (bits_with unused octets.now))
+    requires fits { vec_len out.old + length (bit_string_value (bits_with unused octets.now))
         ≤ vec_capacity out.old }
     ensures items { out.new.items
         ≡ out.old.items ++ bit_string_value (bits_with unused octets.now) }
@@ -267,7 +267,7 @@ pub fn put_octets<A: Allocator>(out: &mut Vec<u8, A>, octets: &[u8]) -> Result<(
 ///
 /// The capacity of `out` suffices for these octets.
 pub fn append_octets<A: Allocator>(out: &mut Vec<u8, A>, octets: &[u8])
-    requires room { vec_len out.old + length (octet_string_value octets.now)
+    requires fits { vec_len out.old + length (octet_string_value octets.now)
         ≤ vec_capacity out.old }
     ensures items { out.new.items ≡ out.old.items ++ octet_string_value octets.now }
     ensures capacity { vec_capacity out.old ≤ vec_capacity out.new }
@@ -305,7 +305,7 @@ pub fn put_null<A: Allocator>(out: &mut Vec<u8, A>) -> Result<(), AllocError>
 ///
 /// The capacity of `out` suffices for these octets.
 pub fn append_null<A: Allocator>(out: &mut Vec<u8, A>)
-    requires room { vec_len out.old + length null_value ≤ vec_capacity out.old }
+    requires fits { vec_len out.old + length null_value ≤ vec_capacity out.old }
     ensures items { out.new.items ≡ out.old.items ++ null_value }
     ensures capacity { vec_capacity out.old ≤ vec_capacity out.new }
 {

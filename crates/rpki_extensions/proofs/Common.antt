@@ -19,7 +19,7 @@ pub use Rattle.rpki_text.specs.declared.memory.OrMemory.{OrMemory}
 pub use Rattle.rpki_text.specs.declared.memory.OrMemory.TheVariants.{Memory, Refused}
 pub use Rattle.rpki_extensions.specs.Claims.{AreAddressClaims, AreClaims, claim_or_missing}
 pub use Rattle.rpki_extensions.specs.Encodings.{IsAddressValue, IsSaidIn, is_canonical}
-pub use Rattle.rpki_extensions.specs.Issued.{IsIssuedOfEach, IsNotIssuedOfEach, IsUnverified, IsVerified}
+pub use Rattle.rpki_extensions.specs.Issued.{IsIssuedOfEach, IsNotIssuedOfEach, HasVerifyError, IsVerified}
 pub use Rattle.rpki_extensions.specs.Paths.{IsVerifiedPath}
 pub use Rattle.rpki_extensions.specs.declared.encoding.Encoding.{Encoding}
 pub use Rattle.rpki_extensions.specs.declared.encoding.Encoding.TheVariants.{Any, Canonical}

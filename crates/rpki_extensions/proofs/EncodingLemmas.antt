@@ -6,7 +6,7 @@ use Rattle.rpki_der.specs.FrontLaws.{none_where_more, none_where_no_front, whole
 use Rattle.rpki_der.specs.Views.{Lenient, Strict, is_strict, left}
 use Rattle.rpki_der.specs.SequenceReading.{only}
 use Rattle.rpki_der.specs.SequenceViews.{ReadsOrMemory, TakesSaidOrMemory}
-use Rattle.rpki_extensions.proofs.EndLemmas.{nothing_left, something_left}
+use Rattle.rpki_extensions.proofs.WholeValueLemmas.{nothing_left, something_left}
 
 -- the fault of a take is that of all octets
 only_refused : {X : Type 0} (reading : List ℕ → Result (X × List ℕ) DerError) (octets : List ℕ) (fault : DerError)
@@ -99,5 +99,5 @@ families_again old new x back (a, b) rest (first, second, some) at =
     let v4 = claim_or_missing a in
     let v6 = claim_or_missing b in
     let same : (if_present v4, if_present v6) ≡ (a, b) = λ i. (present_again Ipv4 a first i, present_again Ipv6 b second i) in
-    let told = back v4 v6 rest (of_family Ipv4 a first) (of_family Ipv6 b second) (λ no also. some (none_of Ipv4 a first no) (none_of Ipv6 b second also)) (at ∙ ap (λ (fs : ByFamily Claim). families_der ip_resources_der fs ++ rest) (sym same)) in
-    (told.0 ∙ same, told.1)
+    let ensured = back v4 v6 rest (of_family Ipv4 a first) (of_family Ipv6 b second) (λ no also. some (none_of Ipv4 a first no) (none_of Ipv6 b second also)) (at ∙ ap (λ (fs : ByFamily Claim). families_der ip_resources_der fs ++ rest) (sym same)) in
+    (ensured.0 ∙ same, ensured.1)

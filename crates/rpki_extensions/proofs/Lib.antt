@@ -1,6 +1,6 @@
 pub mod Common
 pub mod EncodingLemmas
-pub mod EndLemmas
-pub mod IssuedLemmas
-pub mod PathLemmas
-pub mod WrittenLemmas
+pub mod IssuedSetLemmas
+pub mod VerifiedPathLemmas
+pub mod WholeValueLemmas
+pub mod WrittenClaimLemmas

@@ -3,8 +3,8 @@ use Rattle.std.specs.Prelude.{◌⊎◌}
 use Rattle.rpki_chain.specs.Claims.{Claim}
 use Rattle.rpki_resources.specs.Triples.{AreListed, IsOneInherited, Triple}
 use Rattle.rpki_extensions.specs.Claims.{AreClaims, AreNoClaims}
-use Rattle.rpki_extensions.specs.declared.error.Unverified.{Unverified}
-use Rattle.rpki_extensions.specs.declared.error.Unverified.TheVariants.{Absent, AsOctets, AddressOctets, Inherited, Asn, Ipv4, Ipv6}
+use Rattle.rpki_extensions.specs.declared.error.VerifyError.{VerifyError}
+use Rattle.rpki_extensions.specs.declared.error.VerifyError.TheVariants.{Absent, AsOctets, AddressOctets, Inherited, Asn, Ipv4, Ipv6}
 use Rattle.rpki_extensions.specs.declared.extensions.Extensions.{Extensions}
 
 -- the extensions list the set
@@ -13,7 +13,7 @@ IsAnchorSet certificate set =
     (asn : Claim) × (v4 : Claim) × (v6 : Claim) × AreClaims certificate asn v4 v6 × AreListed asn v4 v6 set
 
 -- the extensions inherit some resources, and this is the reason
-abbrev pub InheritsSome : {A : Type 0} → Extensions → Unverified A → Type 0
+abbrev pub InheritsSome : {A : Type 0} → Extensions → VerifyError A → Type 0
 InheritsSome certificate Inherited =
     (asn : Claim) × (v4 : Claim) × (v6 : Claim) × AreClaims certificate asn v4 v6 × IsOneInherited asn v4 v6
 InheritsSome certificate Absent = ⊥
@@ -24,5 +24,5 @@ InheritsSome certificate (Ipv4 excess) = ⊥
 InheritsSome certificate (Ipv6 excess) = ⊥
 
 -- the reason is that there are no claims, or that some resources are inherited
-abbrev pub IsNoAnchor : {A : Type 0} → Extensions → Unverified A → Type 0
+abbrev pub IsNoAnchor : {A : Type 0} → Extensions → VerifyError A → Type 0
 IsNoAnchor certificate reason = AreNoClaims certificate reason ⊎ InheritsSome certificate reason

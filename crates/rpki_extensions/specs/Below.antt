@@ -2,10 +2,10 @@
 use Rattle.std.specs.Prelude.{List}
 use Rattle.rpki_resources.specs.Triples.{HasEachOf, Triple}
 use Rattle.rpki_extensions.specs.Anchors.{IsAnchorSet, IsNoAnchor}
-use Rattle.rpki_extensions.specs.Paths.{IsFirstUnverified, IsVerifiedPath}
+use Rattle.rpki_extensions.specs.Paths.{IsFirstVerifyError, IsVerifiedPath}
 use Rattle.rpki_extensions.specs.declared.extensions.Extensions.{Extensions}
-use Rattle.rpki_extensions.specs.declared.error.RefusedBelow.{RefusedBelow}
-use Rattle.rpki_extensions.specs.declared.error.RefusedBelow.TheVariants.{Anchor, Certificate}
+use Rattle.rpki_extensions.specs.declared.error.VerifyBelowError.{VerifyBelowError}
+use Rattle.rpki_extensions.specs.declared.error.VerifyBelowError.TheVariants.{Anchor, Certificate}
 
 -- the anchor lists a set, and the certificates leave this part of it
 abbrev pub IsLeftBelow : Extensions → List Extensions → Triple → Type 0
@@ -16,11 +16,11 @@ abbrev pub LiesInAnchor : Extensions → Triple → Type 0
 LiesInAnchor anchor set = (root : Triple) × IsAnchorSet anchor root × HasEachOf root set
 
 -- the certificate is the first that isn't verified by the part of the root that the ones before it leave
-abbrev pub IsRefusedBelowRoot : {A : Type 0} → Triple → List Extensions → RefusedBelow A → Type 0
-IsRefusedBelowRoot root certificates (Anchor reason) = ⊥
-IsRefusedBelowRoot root certificates (Certificate refusal) = IsFirstUnverified root certificates refusal
+abbrev pub IsVerifyBelowErrorOfRoot : {A : Type 0} → Triple → List Extensions → VerifyBelowError A → Type 0
+IsVerifyBelowErrorOfRoot root certificates (Anchor reason) = ⊥
+IsVerifyBelowErrorOfRoot root certificates (Certificate refusal) = IsFirstVerifyError root certificates refusal
 
 -- the anchor lists no set for the reason, or else the certificate is the first that isn't verified
-abbrev pub IsRefusedBelow : {A : Type 0} → Extensions → List Extensions → RefusedBelow A → Type 0
-IsRefusedBelow anchor certificates (Anchor reason) = IsNoAnchor anchor reason
-IsRefusedBelow anchor certificates (Certificate refusal) = (root : Triple) × IsAnchorSet anchor root × IsFirstUnverified root certificates refusal
+abbrev pub IsVerifyBelowError : {A : Type 0} → Extensions → List Extensions → VerifyBelowError A → Type 0
+IsVerifyBelowError anchor certificates (Anchor reason) = IsNoAnchor anchor reason
+IsVerifyBelowError anchor certificates (Certificate refusal) = (root : Triple) × IsAnchorSet anchor root × IsFirstVerifyError root certificates refusal

@@ -6,8 +6,8 @@ use Rattle.rpki_chain.specs.declared.choice.ResourcesChoice.TheVariants.{Missing
 use Rattle.rpki_der.specs.FamiliesDer.{ByFamily}
 use Rattle.rpki_extensions.specs.Encodings.{HasAddressValueFault, HasAsFault, IsAddressValue, IsAsValue}
 use Rattle.rpki_extensions.specs.declared.encoding.Encoding.{Encoding}
-use Rattle.rpki_extensions.specs.declared.error.Unverified.{Unverified}
-use Rattle.rpki_extensions.specs.declared.error.Unverified.TheVariants.{Absent, AsOctets, AddressOctets, Inherited, Asn, Ipv4, Ipv6}
+use Rattle.rpki_extensions.specs.declared.error.VerifyError.{VerifyError}
+use Rattle.rpki_extensions.specs.declared.error.VerifyError.TheVariants.{Absent, AsOctets, AddressOctets, Inherited, Asn, Ipv4, Ipv6}
 use Rattle.rpki_extensions.specs.declared.extensions.Extensions.{Extensions}
 
 -- the claim of a family, missing if the family isn't there
@@ -62,7 +62,7 @@ AreClaims certificate asn v4 v6 =
 
 -- the reason why there are no claims: neither extension is there, or the AS identifiers are invalid, or else the IP
 -- address blocks are
-abbrev pub AreNoClaims : {A : Type 0} → Extensions → Unverified A → Type 0
+abbrev pub AreNoClaims : {A : Type 0} → Extensions → VerifyError A → Type 0
 AreNoClaims certificate Absent = AreAbsent certificate
 AreNoClaims certificate (AsOctets fault) = HasNumbersFault certificate.encoding (octets_of_numbers certificate) fault
 AreNoClaims certificate (AddressOctets fault) =

@@ -6,12 +6,12 @@ use Rattle.rpki_chain.specs.Runs.{Runs, Holds}
 use Rattle.rpki_chain.specs.declared.path.Overclaim.{Overclaim}
 use Rattle.rpki_resources.specs.Triples.{Triple}
 use Rattle.rpki_extensions.specs.Claims.{AreClaims, AreNoClaims}
-use Rattle.rpki_extensions.specs.declared.error.Unverified.{Unverified}
-use Rattle.rpki_extensions.specs.declared.error.Unverified.TheVariants.{Absent, AsOctets, AddressOctets, Inherited, Asn, Ipv4, Ipv6}
+use Rattle.rpki_extensions.specs.declared.error.VerifyError.{VerifyError}
+use Rattle.rpki_extensions.specs.declared.error.VerifyError.TheVariants.{Absent, AsOctets, AddressOctets, Inherited, Asn, Ipv4, Ipv6}
 use Rattle.rpki_extensions.specs.declared.extensions.Extensions.{Extensions}
 
 -- the reason is the overclaimed resources, and they are of this kind
-abbrev pub IsAsExcess : {A : Type 0} → Runs → Claim → Overclaim → Unverified A → Type 0
+abbrev pub IsAsExcess : {A : Type 0} → Runs → Claim → Overclaim → VerifyError A → Type 0
 IsAsExcess issuer claim mode (Asn excess) = IsExcess (Holds issuer) claim mode excess
 IsAsExcess issuer claim mode Absent = ⊥
 IsAsExcess issuer claim mode (AsOctets fault) = ⊥
@@ -20,7 +20,7 @@ IsAsExcess issuer claim mode Inherited = ⊥
 IsAsExcess issuer claim mode (Ipv4 excess) = ⊥
 IsAsExcess issuer claim mode (Ipv6 excess) = ⊥
 
-abbrev pub IsV4Excess : {A : Type 0} → Runs → Claim → Overclaim → Unverified A → Type 0
+abbrev pub IsV4Excess : {A : Type 0} → Runs → Claim → Overclaim → VerifyError A → Type 0
 IsV4Excess issuer claim mode (Ipv4 excess) = IsExcess (Holds issuer) claim mode excess
 IsV4Excess issuer claim mode Absent = ⊥
 IsV4Excess issuer claim mode (AsOctets fault) = ⊥
@@ -29,7 +29,7 @@ IsV4Excess issuer claim mode Inherited = ⊥
 IsV4Excess issuer claim mode (Asn excess) = ⊥
 IsV4Excess issuer claim mode (Ipv6 excess) = ⊥
 
-abbrev pub IsV6Excess : {A : Type 0} → Runs → Claim → Overclaim → Unverified A → Type 0
+abbrev pub IsV6Excess : {A : Type 0} → Runs → Claim → Overclaim → VerifyError A → Type 0
 IsV6Excess issuer claim mode (Ipv6 excess) = IsExcess (Holds issuer) claim mode excess
 IsV6Excess issuer claim mode Absent = ⊥
 IsV6Excess issuer claim mode (AsOctets fault) = ⊥
@@ -45,7 +45,7 @@ abbrev pub AreIssued : Triple → Claim → Claim → Overclaim → Runs × Runs
 AreIssued issuer v4 v6 mode sets = IsIssued (Holds issuer.ipv4) v4 mode sets.0 × IsIssued (Holds issuer.ipv6) v6 mode sets.1
 
 -- the claim on IPv4 is refused, or else the claim on IPv6
-abbrev pub AreNotIssued : {A : Type 0} → Triple → Claim → Claim → Overclaim → Unverified A → Type 0
+abbrev pub AreNotIssued : {A : Type 0} → Triple → Claim → Claim → Overclaim → VerifyError A → Type 0
 AreNotIssued issuer v4 v6 mode reason =
     IsV4Excess issuer.ipv4 v4 mode reason
     ⊎ (((set : Runs) × IsIssued (Holds issuer.ipv4) v4 mode set) × IsV6Excess issuer.ipv6 v6 mode reason)
@@ -56,7 +56,7 @@ pub record IsIssuedOfEach (issuer : Triple) (numbers v4 v6 : Claim) (mode : Over
   pub of_families : AreIssued issuer v4 v6 mode (set.ipv4, set.ipv6)
 
 -- the claim on AS numbers is refused, or else one on addresses
-abbrev pub IsNotIssuedOfEach : {A : Type 0} → Triple → Claim → Claim → Claim → Overclaim → Unverified A → Type 0
+abbrev pub IsNotIssuedOfEach : {A : Type 0} → Triple → Claim → Claim → Claim → Overclaim → VerifyError A → Type 0
 IsNotIssuedOfEach issuer asn v4 v6 mode reason =
     IsAsExcess issuer.asn asn mode reason
     ⊎ (((set : Runs) × IsIssued (Holds issuer.asn) asn mode set) × AreNotIssued issuer v4 v6 mode reason)
@@ -69,7 +69,7 @@ IsVerified issuer certificate set =
     (asn : Claim) × (v4 : Claim) × (v6 : Claim) × AreClaims certificate asn v4 v6 × IsIssuedOfEach issuer asn v4 v6 certificate.mode set
 
 -- the reason is that there are no claims, or that they are refused
-abbrev pub IsUnverified : {A : Type 0} → Triple → Extensions → Unverified A → Type 0
-IsUnverified issuer certificate reason =
+abbrev pub HasVerifyError : {A : Type 0} → Triple → Extensions → VerifyError A → Type 0
+HasVerifyError issuer certificate reason =
     AreNoClaims certificate reason
     ⊎ ((asn : Claim) × (v4 : Claim) × (v6 : Claim) × AreClaims certificate asn v4 v6 × IsNotIssuedOfEach issuer asn v4 v6 certificate.mode reason)

@@ -2,8 +2,8 @@
 -- RFC 8360, 4).
 use Rattle.std.specs.Prelude.{◌≡◌, ◌<◌, List, [], ◌∷◌, take, slice_index_or, length}
 use Rattle.rpki_resources.specs.Triples.{Triple}
-use Rattle.rpki_extensions.specs.Issued.{IsUnverified, IsVerified}
-use Rattle.rpki_extensions.specs.declared.error.UnverifiedCertificate.{UnverifiedCertificate}
+use Rattle.rpki_extensions.specs.Issued.{HasVerifyError, IsVerified}
+use Rattle.rpki_extensions.specs.declared.error.VerifyPathError.{VerifyPathError}
 use Rattle.rpki_extensions.specs.declared.extensions.Extensions.{Extensions}
 
 -- the set is the part of the anchor's that the certificates leave, each verified by what the ones before it leave
@@ -12,7 +12,7 @@ IsVerifiedPath anchor [] set = set ≡ anchor
 IsVerifiedPath anchor (certificate ∷ certificates) set = (next : Triple) × IsVerified anchor certificate next × IsVerifiedPath next certificates set
 
 -- the certificate at the index isn't verified, for the reason, by what the ones before it leave
-abbrev pub IsFirstUnverified : {A : Type 0} → Triple → List Extensions → UnverifiedCertificate A → Type 0
-IsFirstUnverified anchor certificates refusal =
+abbrev pub IsFirstVerifyError : {A : Type 0} → Triple → List Extensions → VerifyPathError A → Type 0
+IsFirstVerifyError anchor certificates refusal =
     (certificate : Extensions) × (refusal.step < length certificates) × (slice_index_or certificates refusal.step certificate ≡ certificate)
-    × ((issuer : Triple) × IsVerifiedPath anchor (take refusal.step certificates) issuer × IsUnverified issuer certificate refusal.reason)
+    × ((issuer : Triple) × IsVerifiedPath anchor (take refusal.step certificates) issuer × HasVerifyError issuer certificate refusal.reason)

@@ -4,9 +4,9 @@ ghost use Rattle.rpki_text.specs.Memory.{IfRefused};
 ghost use Rattle.rpki_ipres.specs.Resources.{IsWholeClaim};
 ghost use Rattle.rpki_resources.specs.Triples.{AreListed, IsOneInherited};
 ghost use Rattle.rpki_extensions.specs.Anchors.{IsAnchorSet, IsNoAnchor};
-ghost use Rattle.rpki_extensions.specs.declared.error.Unverified.TheVariants.{Inherited};
+ghost use Rattle.rpki_extensions.specs.declared.error.VerifyError.TheVariants.{Inherited};
 
-use crate::error::Unverified;
+use crate::error::VerifyError;
 use crate::extensions::{Claims, Extensions};
 use rpki_resources::OrMemory;
 use rpki_resources::repository::resources::ResourceSet;
@@ -20,12 +20,12 @@ use std::alloc::Allocator;
 /// # Errors
 ///
 /// - `Refused` with an error of [`Extensions::claims`] if that call refuses the certificate.
-/// - `Refused` with [`Unverified::Inherited`] if resources of some kind are inherited.
+/// - `Refused` with [`VerifyError::Inherited`] if resources of some kind are inherited.
 /// - `Memory` if an allocation fails.
 pub fn anchor_set<A: Allocator + Copy>(
     alloc: A,
     certificate: &Extensions<'_>,
-) -> Result<ResourceSet<A>, OrMemory<Unverified<A>>>
+) -> Result<ResourceSet<A>, OrMemory<VerifyError<A>>>
     ensures { MatchResult result (IsAnchorSet certificate.now)
         (IfRefused (IsNoAnchor certificate.now)) }
 {
@@ -35,8 +35,8 @@ pub fn anchor_set<A: Allocator + Copy>(
     }
 }
 
-/// Returns the set that claims list, or [`Unverified::Inherited`] if one of them is inherited.
-fn listed_by<A: Allocator>(claims: &Claims<A>) -> Result<ResourceSet<A>, OrMemory<Unverified<A>>>
+/// Returns the set that claims list, or [`VerifyError::Inherited`] if one of them is inherited.
+fn listed_by<A: Allocator>(claims: &Claims<A>) -> Result<ResourceSet<A>, OrMemory<VerifyError<A>>>
     requires { IsWholeClaim claims.now.ipv4 }
     ensures { MatchResult result (AreListed claims.now.asn claims.now.ipv4 claims.now.ipv6)
         (IfRefused (λ reason. (reason ≡ Inherited)
@@ -44,7 +44,7 @@ fn listed_by<A: Allocator>(claims: &Claims<A>) -> Result<ResourceSet<A>, OrMemor
 {
     match ResourceSet::from_resources(&claims.asn, &claims.ipv4, &claims.ipv6) {
         Ok(set) => Ok(set),
-        Err(OrMemory::Refused(_)) => Err(OrMemory::Refused(Unverified::Inherited)),
+        Err(OrMemory::Refused(_)) => Err(OrMemory::Refused(VerifyError::Inherited)),
         Err(OrMemory::Memory(error)) => Err(OrMemory::Memory(error)),
     }
 }

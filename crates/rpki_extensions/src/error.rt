@@ -1,6 +1,6 @@
 //! The reasons why a certificate's extensions aren't verified.
 ghost use Rattle.std.specs.Prelude.{Some};
-ghost use Rattle.rpki_extensions.specs.Texts.{below_text, certificate_text, unverified_text};
+ghost use Rattle.rpki_extensions.specs.Texts.{below_text, certificate_text, verify_error_text};
 
 use rpki_der::DerError;
 use rpki_resources::repository::resources::{
@@ -14,7 +14,7 @@ use std::fmt;
 ///
 /// It prints one line.
 #[derive(Drop)]
-pub enum Unverified<A: Allocator = Global> {
+pub enum VerifyError<A: Allocator = Global> {
     /// The certificate has neither extension. At least one is required (RFC 6487, 4.8.10 and 4.8.11).
     Absent,
     /// The value of the AS identifiers extension is invalid. The field is its first fault.
@@ -31,41 +31,41 @@ pub enum Unverified<A: Allocator = Global> {
     Ipv6(OverclaimedIpv6Resources<A>),
 }
 
-impl<A: Allocator> fmt::Display for Unverified<A> {
-    ghost output = { λ reason. Some (unverified_text reason) };
+impl<A: Allocator> fmt::Display for VerifyError<A> {
+    ghost output = { λ reason. Some (verify_error_text reason) };
 
     fn fmt<W: fmt::Write>(&self, f: &mut fmt::Formatter<W>) -> fmt::Result {
         match self {
-            Unverified::Absent => f.write_str("neither AS identifiers nor IP address blocks"),
-            Unverified::AsOctets(fault) => write!(f, "AS identifiers: {fault}"),
-            Unverified::AddressOctets(fault) => write!(f, "IP address blocks: {fault}"),
-            Unverified::Inherited => f.write_str("a trust anchor inherits resources"),
-            Unverified::Asn(excess) => write!(f, "{excess}"),
-            Unverified::Ipv4(excess) => write!(f, "{excess}"),
-            Unverified::Ipv6(excess) => write!(f, "{excess}"),
+            VerifyError::Absent => f.write_str("neither AS identifiers nor IP address blocks"),
+            VerifyError::AsOctets(fault) => write!(f, "AS identifiers: {fault}"),
+            VerifyError::AddressOctets(fault) => write!(f, "IP address blocks: {fault}"),
+            VerifyError::Inherited => f.write_str("a trust anchor inherits resources"),
+            VerifyError::Asn(excess) => write!(f, "{excess}"),
+            VerifyError::Ipv4(excess) => write!(f, "{excess}"),
+            VerifyError::Ipv6(excess) => write!(f, "{excess}"),
         }
     }
 }
 
 /// Prints as `Display` does.
-impl<A: Allocator> fmt::Debug for Unverified<A> {
+impl<A: Allocator> fmt::Debug for VerifyError<A> {
     fn fmt<W: fmt::Write>(&self, f: &mut fmt::Formatter<W>) -> fmt::Result {
         fmt::Display::fmt(self, f)
     }
 }
 
-impl<A: Allocator> Error for Unverified<A> {}
+impl<A: Allocator> Error for VerifyError<A> {}
 
 /// The first certificate of a path that isn't verified. It prints one line: the index and the reason.
 #[derive(Drop)]
-pub struct UnverifiedCertificate<A: Allocator = Global> {
+pub struct VerifyPathError<A: Allocator = Global> {
     /// The index of the certificate on the path, counted from 0 below the trust anchor.
     pub step: usize,
     /// The reason why the certificate isn't verified by the resources that the ones before it leave.
-    pub reason: Unverified<A>,
+    pub reason: VerifyError<A>,
 }
 
-impl<A: Allocator> fmt::Display for UnverifiedCertificate<A> {
+impl<A: Allocator> fmt::Display for VerifyPathError<A> {
     ghost output = { λ refusal. Some (certificate_text refusal) };
 
     fn fmt<W: fmt::Write>(&self, f: &mut fmt::Formatter<W>) -> fmt::Result {
@@ -76,39 +76,39 @@ impl<A: Allocator> fmt::Display for UnverifiedCertificate<A> {
 }
 
 /// Prints as `Display` does.
-impl<A: Allocator> fmt::Debug for UnverifiedCertificate<A> {
+impl<A: Allocator> fmt::Debug for VerifyPathError<A> {
     fn fmt<W: fmt::Write>(&self, f: &mut fmt::Formatter<W>) -> fmt::Result {
         fmt::Display::fmt(self, f)
     }
 }
 
-impl<A: Allocator> Error for UnverifiedCertificate<A> {}
+impl<A: Allocator> Error for VerifyPathError<A> {}
 
 /// The reason why nothing is verified below a trust anchor. It prints one line.
 #[derive(Drop)]
-pub enum RefusedBelow<A: Allocator = Global> {
+pub enum VerifyBelowError<A: Allocator = Global> {
     /// The extensions of the anchor list no set.
-    Anchor(Unverified<A>),
+    Anchor(VerifyError<A>),
     /// A certificate on the path isn't verified.
-    Certificate(UnverifiedCertificate<A>),
+    Certificate(VerifyPathError<A>),
 }
 
-impl<A: Allocator> fmt::Display for RefusedBelow<A> {
+impl<A: Allocator> fmt::Display for VerifyBelowError<A> {
     ghost output = { λ reason. Some (below_text reason) };
 
     fn fmt<W: fmt::Write>(&self, f: &mut fmt::Formatter<W>) -> fmt::Result {
         match self {
-            RefusedBelow::Anchor(reason) => write!(f, "{reason}"),
-            RefusedBelow::Certificate(refusal) => write!(f, "{refusal}"),
+            VerifyBelowError::Anchor(reason) => write!(f, "{reason}"),
+            VerifyBelowError::Certificate(refusal) => write!(f, "{refusal}"),
         }
     }
 }
 
 /// Prints as `Display` does.
-impl<A: Allocator> fmt::Debug for RefusedBelow<A> {
+impl<A: Allocator> fmt::Debug for VerifyBelowError<A> {
     fn fmt<W: fmt::Write>(&self, f: &mut fmt::Formatter<W>) -> fmt::Result {
         fmt::Display::fmt(self, f)
     }
 }
 
-impl<A: Allocator> Error for RefusedBelow<A> {}
+impl<A: Allocator> Error for VerifyBelowError<A> {}

@@ -4,11 +4,11 @@ ghost use Rattle.rpki_text.specs.Memory.{IfRefused};
 ghost use Rattle.rpki_text.specs.declared.memory.OrMemory.TheVariants.{Refused};
 ghost use Rattle.rpki_ipres.specs.Resources.{IsWholeClaim};
 ghost use Rattle.rpki_extensions.specs.Claims.{AreAbsent, AreClaims, AreNoClaims};
-ghost use Rattle.rpki_extensions.specs.declared.error.Unverified.TheVariants.{Absent};
+ghost use Rattle.rpki_extensions.specs.declared.error.VerifyError.TheVariants.{Absent};
 
 use crate::encoding::Encoding;
-use crate::error::Unverified;
-use crate::read::{address_claims, numbers_claim};
+use crate::error::VerifyError;
+use crate::read::{read_optional_as_claim, read_optional_ip_claims};
 use rpki_resources::repository::resources::{AsResources, IpResources, Overclaim};
 use rpki_resources::{OrMemory, refused_as};
 use std::alloc::{Allocator, Global};
@@ -28,7 +28,7 @@ pub struct Extensions<'a> {
 
 /// The claims of a certificate: missing, inherited or listed resources of each kind.
 ///
-/// This is a struct of three claims. `rpki_chain::path::Claims` is the trait that each claim of one kind has.
+/// This is a struct of three claims. `rpki_chain::path::BlockClaim` is the trait that each claim of one kind has.
 #[derive(Drop)]
 #[derive_where(Debug)]
 pub struct Claims<A: Allocator = Global> {
@@ -45,15 +45,15 @@ impl Extensions<'_> {
     ///
     /// # Errors
     ///
-    /// - `Refused` with [`Unverified::Absent`] if both extensions are absent. It is returned even if out of memory.
-    /// - `Refused` with [`Unverified::AsOctets`] and the first fault of the AS identifiers extension.
-    /// - `Refused` with [`Unverified::AddressOctets`] and the first fault of the IP address blocks extension, if the AS
-    ///   identifiers have no fault.
+    /// - `Refused` with [`VerifyError::Absent`] if both extensions are absent. It is returned even if out of memory.
+    /// - `Refused` with [`VerifyError::AsOctets`] and the first fault of the AS identifiers extension.
+    /// - `Refused` with [`VerifyError::AddressOctets`] and the first fault of the IP address blocks extension, if the
+    /// AS identifiers have no fault.
     /// - `Memory` if an allocation fails.
     pub fn claims<A: Allocator + Copy>(
         &self,
         alloc: A,
-    ) -> Result<Claims<A>, OrMemory<Unverified<A>>>
+    ) -> Result<Claims<A>, OrMemory<VerifyError<A>>>
         ensures claims { MatchResult result
             (λ claims. AreClaims self.now claims.asn claims.ipv4 claims.ipv6)
             (IfRefused (AreNoClaims self.now)) }
@@ -61,15 +61,15 @@ impl Extensions<'_> {
         ensures whole { IfOk result (λ claims. IsWholeClaim claims.ipv4) }
     {
         if self.numbers.is_none() && self.addresses.is_none() {
-            return Err(OrMemory::Refused(Unverified::Absent));
+            return Err(OrMemory::Refused(VerifyError::Absent));
         }
         let asn = refused_as(
-            numbers_claim(alloc, self.numbers, self.encoding),
-            |fault| Unverified::AsOctets(fault),
+            read_optional_as_claim(alloc, self.numbers, self.encoding),
+            |fault| VerifyError::AsOctets(fault),
         )?;
         let (ipv4, ipv6) = refused_as(
-            address_claims(alloc, self.addresses, self.encoding),
-            |fault| Unverified::AddressOctets(fault),
+            read_optional_ip_claims(alloc, self.addresses, self.encoding),
+            |fault| VerifyError::AddressOctets(fault),
         )?;
         Ok(Claims { asn, ipv4, ipv6 })
     }

@@ -6,9 +6,9 @@ ghost use Rattle.rpki_chain.specs.Runs.{Holds};
 ghost use Rattle.rpki_ipres.specs.Resources.{IsWholeClaim};
 ghost use Rattle.rpki_resources.specs.Triples.{HasEachOf};
 ghost use Rattle.rpki_extensions.specs.Issued.{AreIssued, AreNotIssued, IsAsExcess, IsIssuedOfEach};
-ghost use Rattle.rpki_extensions.specs.Issued.{IsNotIssuedOfEach, IsUnverified, IsV4Excess, IsV6Excess, IsVerified};
+ghost use Rattle.rpki_extensions.specs.Issued.{IsNotIssuedOfEach, HasVerifyError, IsV4Excess, IsV6Excess, IsVerified};
 
-use crate::error::Unverified;
+use crate::error::VerifyError;
 use crate::extensions::{Claims, Extensions};
 use rpki_resources::OrMemory;
 use rpki_resources::repository::resources::{
@@ -30,9 +30,9 @@ pub fn verified_octets<A: Allocator + Copy>(
     alloc: A,
     issuer: &ResourceSet<A>,
     certificate: &Extensions<'_>,
-) -> Result<ResourceSet<A>, OrMemory<Unverified<A>>>
+) -> Result<ResourceSet<A>, OrMemory<VerifyError<A>>>
     ensures verified { MatchResult result (IsVerified issuer.now certificate.now)
-        (IfRefused (IsUnverified issuer.now certificate.now)) }
+        (IfRefused (HasVerifyError issuer.now certificate.now)) }
     ensures inside { IfOk result (HasEachOf issuer.now) }
 {
     match certificate.claims(alloc) {
@@ -47,7 +47,7 @@ fn issued<A: Allocator + Copy>(
     issuer: &ResourceSet<A>,
     claims: &Claims<A>,
     mode: Overclaim,
-) -> Result<ResourceSet<A>, OrMemory<Unverified<A>>>
+) -> Result<ResourceSet<A>, OrMemory<VerifyError<A>>>
     requires { IsWholeClaim claims.now.ipv4 }
     ensures { MatchResult result
         (IsIssuedOfEach issuer.now claims.now.asn claims.now.ipv4 claims.now.ipv6 mode)
@@ -65,13 +65,13 @@ fn issued_numbers<A: Allocator + Copy>(
     issuer: &AsBlocks<A>,
     claim: &AsResources<A>,
     mode: Overclaim,
-) -> Result<AsBlocks<A>, OrMemory<Unverified<A>>>
+) -> Result<AsBlocks<A>, OrMemory<VerifyError<A>>>
     ensures { MatchResult result (IsIssued (Holds issuer.now) claim.now mode)
         (IfRefused (IsAsExcess issuer.now claim.now mode)) }
 {
     match issuer.verify_issued(alloc, claim, mode) {
         Ok(set) => Ok(set),
-        Err(error) => Err(error.map_refused(|excess| Unverified::Asn(excess))),
+        Err(error) => Err(error.map_refused(|excess| VerifyError::Asn(excess))),
     }
 }
 
@@ -82,7 +82,7 @@ fn issued_addresses<A: Allocator + Copy>(
     v4: &IpResources<A>,
     v6: &IpResources<A>,
     mode: Overclaim,
-) -> Result<(Ipv4Blocks<A>, Ipv6Blocks<A>), OrMemory<Unverified<A>>>
+) -> Result<(Ipv4Blocks<A>, Ipv6Blocks<A>), OrMemory<VerifyError<A>>>
     requires { IsWholeClaim v4.now }
     ensures { MatchResult result (AreIssued issuer.now v4.now v6.now mode)
         (IfRefused (AreNotIssued issuer.now v4.now v6.now mode)) }
@@ -98,14 +98,14 @@ fn issued_v4<A: Allocator + Copy>(
     issuer: &Ipv4Blocks<A>,
     claim: &IpResources<A>,
     mode: Overclaim,
-) -> Result<Ipv4Blocks<A>, OrMemory<Unverified<A>>>
+) -> Result<Ipv4Blocks<A>, OrMemory<VerifyError<A>>>
     requires { IsWholeClaim claim.now }
     ensures { MatchResult result (IsIssued (Holds issuer.now) claim.now mode)
         (IfRefused (IsV4Excess issuer.now claim.now mode)) }
 {
     match issuer.verify_issued(alloc, claim, mode) {
         Ok(set) => Ok(set),
-        Err(error) => Err(error.map_refused(|excess| Unverified::Ipv4(excess))),
+        Err(error) => Err(error.map_refused(|excess| VerifyError::Ipv4(excess))),
     }
 }
 
@@ -115,12 +115,12 @@ fn issued_v6<A: Allocator + Copy>(
     issuer: &Ipv6Blocks<A>,
     claim: &IpResources<A>,
     mode: Overclaim,
-) -> Result<Ipv6Blocks<A>, OrMemory<Unverified<A>>>
+) -> Result<Ipv6Blocks<A>, OrMemory<VerifyError<A>>>
     ensures { MatchResult result (IsIssued (Holds issuer.now) claim.now mode)
         (IfRefused (IsV6Excess issuer.now claim.now mode)) }
 {
     match issuer.verify_issued(alloc, claim, mode) {
         Ok(set) => Ok(set),
-        Err(error) => Err(error.map_refused(|excess| Unverified::Ipv6(excess))),
+        Err(error) => Err(error.map_refused(|excess| VerifyError::Ipv6(excess))),
     }
 }

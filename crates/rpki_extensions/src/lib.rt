@@ -27,9 +27,12 @@ pub mod write;
 
 pub use anchor::anchor_set;
 pub use encoding::Encoding;
-pub use error::{RefusedBelow, Unverified, UnverifiedCertificate};
+pub use error::{VerifyBelowError, VerifyError, VerifyPathError};
 pub use extensions::{Claims, Extensions};
 pub use issued::verified_octets;
 pub use path::{verified_below, verified_path};
-pub use read::{address_claims, numbers_claim, read_as, read_claims, read_families};
-pub use write::{write_address_claims, write_addresses, write_numbers, write_numbers_claim};
+pub use read::{
+    read_as_claim, read_ip_claims, read_ip_families, read_optional_as_claim,
+    read_optional_ip_claims,
+};
+pub use write::{write_as_claim, write_as_extension, write_ip_claims, write_ip_extension};

@@ -2,12 +2,12 @@
 ghost use Rattle.std.specs.Prelude.{◌≡◌, IfOk, MatchResult};
 ghost use Rattle.rpki_text.specs.Memory.{IfRefused};
 ghost use Rattle.rpki_resources.specs.Triples.{HasEachOf};
-ghost use Rattle.rpki_extensions.specs.Issued.{IsUnverified, IsVerified};
-ghost use Rattle.rpki_extensions.specs.Below.{IsLeftBelow, IsRefusedBelow, IsRefusedBelowRoot, LiesInAnchor};
-ghost use Rattle.rpki_extensions.specs.Paths.{IsFirstUnverified, IsVerifiedPath};
+ghost use Rattle.rpki_extensions.specs.Issued.{HasVerifyError, IsVerified};
+ghost use Rattle.rpki_extensions.specs.Below.{IsLeftBelow, IsVerifyBelowError, IsVerifyBelowErrorOfRoot, LiesInAnchor};
+ghost use Rattle.rpki_extensions.specs.Paths.{IsFirstVerifyError, IsVerifiedPath};
 
 use crate::anchor::anchor_set;
-use crate::error::{RefusedBelow, UnverifiedCertificate};
+use crate::error::{VerifyBelowError, VerifyPathError};
 use crate::extensions::Extensions;
 use crate::issued::verified_octets;
 use rpki_resources::OrMemory;
@@ -26,9 +26,9 @@ pub fn verified_path<A: Allocator + Copy>(
     alloc: A,
     anchor: &ResourceSet<A>,
     certificates: &[Extensions<'_>],
-) -> Result<ResourceSet<A>, OrMemory<UnverifiedCertificate<A>>>
+) -> Result<ResourceSet<A>, OrMemory<VerifyPathError<A>>>
     ensures path { MatchResult result (IsVerifiedPath anchor.now certificates.now)
-        (IfRefused (IsFirstUnverified anchor.now certificates.now)) }
+        (IfRefused (IsFirstVerifyError anchor.now certificates.now)) }
     ensures inside { IfOk result (HasEachOf anchor.now) }
 {
     let mut issuer = anchor.clone()?;
@@ -47,15 +47,15 @@ fn verified_at<A: Allocator + Copy>(
     issuer: &ResourceSet<A>,
     step: usize,
     certificate: &Extensions<'_>,
-) -> Result<ResourceSet<A>, OrMemory<UnverifiedCertificate<A>>>
+) -> Result<ResourceSet<A>, OrMemory<VerifyPathError<A>>>
     ensures { MatchResult result (IsVerified issuer.now certificate.now)
         (IfRefused (λ refusal. (refusal.step ≡ step)
-        × IsUnverified issuer.now certificate.now refusal.reason)) }
+        × HasVerifyError issuer.now certificate.now refusal.reason)) }
 {
     match verified_octets(alloc, issuer, certificate) {
         Ok(set) => Ok(set),
         Err(OrMemory::Refused(reason)) => {
-            Err(OrMemory::Refused(UnverifiedCertificate { step, reason }))
+            Err(OrMemory::Refused(VerifyPathError { step, reason }))
         }
         Err(OrMemory::Memory(error)) => Err(OrMemory::Memory(error)),
     }
@@ -68,21 +68,21 @@ fn verified_at<A: Allocator + Copy>(
 ///
 /// # Errors
 ///
-/// - `Refused` with [`RefusedBelow::Anchor`] and the reason if the anchor lists no set.
-/// - `Refused` with [`RefusedBelow::Certificate`] and the first certificate that isn't verified.
+/// - `Refused` with [`VerifyBelowError::Anchor`] and the reason if the anchor lists no set.
+/// - `Refused` with [`VerifyBelowError::Certificate`] and the first certificate that isn't verified.
 /// - `Memory` if an allocation on the way fails.
 pub fn verified_below<A: Allocator + Copy>(
     alloc: A,
     anchor: &Extensions<'_>,
     certificates: &[Extensions<'_>],
-) -> Result<ResourceSet<A>, OrMemory<RefusedBelow<A>>>
+) -> Result<ResourceSet<A>, OrMemory<VerifyBelowError<A>>>
     ensures below { MatchResult result (IsLeftBelow anchor.now certificates.now)
-        (IfRefused (IsRefusedBelow anchor.now certificates.now)) }
+        (IfRefused (IsVerifyBelowError anchor.now certificates.now)) }
     ensures inside { IfOk result (LiesInAnchor anchor.now) }
 {
     match anchor_set(alloc, anchor) {
         Ok(root) => below_root(alloc, &root, certificates),
-        Err(OrMemory::Refused(reason)) => Err(OrMemory::Refused(RefusedBelow::Anchor(reason))),
+        Err(OrMemory::Refused(reason)) => Err(OrMemory::Refused(VerifyBelowError::Anchor(reason))),
         Err(OrMemory::Memory(error)) => Err(OrMemory::Memory(error)),
     }
 }
@@ -92,15 +92,15 @@ fn below_root<A: Allocator + Copy>(
     alloc: A,
     root: &ResourceSet<A>,
     certificates: &[Extensions<'_>],
-) -> Result<ResourceSet<A>, OrMemory<RefusedBelow<A>>>
+) -> Result<ResourceSet<A>, OrMemory<VerifyBelowError<A>>>
     ensures path { MatchResult result (IsVerifiedPath root.now certificates.now)
-        (IfRefused (IsRefusedBelowRoot root.now certificates.now)) }
+        (IfRefused (IsVerifyBelowErrorOfRoot root.now certificates.now)) }
     ensures inside { IfOk result (HasEachOf root.now) }
 {
     match verified_path(alloc, root, certificates) {
         Ok(set) => Ok(set),
         Err(OrMemory::Refused(refusal)) => {
-            Err(OrMemory::Refused(RefusedBelow::Certificate(refusal)))
+            Err(OrMemory::Refused(VerifyBelowError::Certificate(refusal)))
         }
         Err(OrMemory::Memory(error)) => Err(OrMemory::Memory(error)),
     }

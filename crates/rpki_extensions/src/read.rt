@@ -14,13 +14,13 @@ use std::alloc::Allocator;
 
 /// Reads the AS resources from the value of the AS identifiers extension (RFC 3779, 3.2).
 ///
-/// The value has to be read to its end. [`numbers_claim`] also accepts an absent extension.
+/// The value has to be read to its end. [`read_optional_as_claim`] also accepts an absent extension.
 ///
 /// # Errors
 ///
 /// - `Refused` with the first fault of the octets.
 /// - `Memory` if an allocation fails.
-pub fn read_as<A: Allocator + Copy>(
+pub fn read_as_claim<A: Allocator + Copy>(
     alloc: A,
     octets: &[u8],
     encoding: Encoding,
@@ -36,13 +36,13 @@ pub fn read_as<A: Allocator + Copy>(
 
 /// Reads the IPv4 and the IPv6 resources from the value of the IP address blocks extension (RFC 3779, 2.2).
 ///
-/// The call returns None for a family that isn't in the value. [`read_claims`] returns missing resources instead.
+/// The call returns None for a family that isn't in the value. [`read_ip_claims`] returns missing resources instead.
 ///
 /// # Errors
 ///
 /// - `Refused` with the first fault of the octets.
 /// - `Memory` if an allocation fails.
-pub fn read_families<A: Allocator + Copy>(
+pub fn read_ip_families<A: Allocator + Copy>(
     alloc: A,
     octets: &[u8],
     encoding: Encoding,
@@ -59,14 +59,14 @@ pub fn read_families<A: Allocator + Copy>(
 
 /// Reads the claims on IPv4 and on IPv6 from the value of the IP address blocks extension (RFC 3779, 2.2).
 ///
-/// A family that isn't in the value claims missing resources. [`read_families`] returns None instead, and
-/// [`address_claims`] also accepts an absent extension.
+/// A family that isn't in the value claims missing resources. [`read_ip_families`] returns None instead, and
+/// [`read_optional_ip_claims`] also accepts an absent extension.
 ///
 /// # Errors
 ///
 /// - `Refused` with the first fault of the octets.
 /// - `Memory` if an allocation fails.
-pub fn read_claims<A: Allocator + Copy>(
+pub fn read_ip_claims<A: Allocator + Copy>(
     alloc: A,
     octets: &[u8],
     encoding: Encoding,
@@ -75,7 +75,7 @@ pub fn read_claims<A: Allocator + Copy>(
         (IfRefused (HasAddressValueFault encoding octets.now)) }
     ensures whole { IfOk result (λ claims. IsWholeClaim claims.0) }
 {
-    match read_families(alloc, octets, encoding) {
+    match read_ip_families(alloc, octets, encoding) {
         Ok(found) => Ok(each_or_missing(found)),
         Err(error) => Err(error),
     }
@@ -83,13 +83,13 @@ pub fn read_claims<A: Allocator + Copy>(
 
 /// Reads the claim on AS numbers from the AS identifiers extension, which may be absent (RFC 3779, 3.2).
 ///
-/// An absent extension, None, claims missing resources. [`read_as`] reads one that is present.
+/// An absent extension, None, claims missing resources. [`read_as_claim`] reads one that is present.
 ///
 /// # Errors
 ///
 /// - `Refused` with the first fault of the octets.
 /// - `Memory` if an allocation fails.
-pub fn numbers_claim<A: Allocator + Copy>(
+pub fn read_optional_as_claim<A: Allocator + Copy>(
     alloc: A,
     octets: Option<&[u8]>,
     encoding: Encoding,
@@ -100,19 +100,19 @@ pub fn numbers_claim<A: Allocator + Copy>(
 {
     match octets {
         None => Ok(AsResources::missing()),
-        Some(octets) => read_as(alloc, octets, encoding),
+        Some(octets) => read_as_claim(alloc, octets, encoding),
     }
 }
 
 /// Reads the claims on IPv4 and on IPv6 from the IP address blocks extension, which may be absent (RFC 3779, 2.2).
 ///
-/// An absent extension, None, claims missing resources of both families. [`read_claims`] reads one that is present.
+/// An absent extension, None, claims missing resources of both families. [`read_ip_claims`] reads one that is present.
 ///
 /// # Errors
 ///
 /// - `Refused` with the first fault of the octets.
 /// - `Memory` if an allocation fails.
-pub fn address_claims<A: Allocator + Copy>(
+pub fn read_optional_ip_claims<A: Allocator + Copy>(
     alloc: A,
     octets: Option<&[u8]>,
     encoding: Encoding,
@@ -124,7 +124,7 @@ pub fn address_claims<A: Allocator + Copy>(
 {
     match octets {
         None => Ok((IpResources::missing(), IpResources::missing())),
-        Some(octets) => read_claims(alloc, octets, encoding),
+        Some(octets) => read_ip_claims(alloc, octets, encoding),
     }
 }
 

@@ -16,8 +16,8 @@ use std::alloc::{AllocError, Allocator};
 /// # Errors
 ///
 /// [`AllocError`] if an allocation fails.
-#[tactic(auto, using(rpki_as::proofs::ResourcesDer::resources_written))]
-pub fn write_numbers_claim<A: Allocator>(
+#[tactic(auto, using(rpki_as::proofs::AsResourcesDer::resources_written))]
+pub fn write_as_claim<A: Allocator>(
     alloc: A,
     claim: &AsResources<A>,
 ) -> Result<Option<Vec<u8, A>>, AllocError>
@@ -42,8 +42,8 @@ pub fn write_numbers_claim<A: Allocator>(
 /// # Errors
 ///
 /// [`AllocError`] if an allocation fails.
-#[tactic(auto, using(crate::proofs::WrittenLemmas::is_written))]
-pub fn write_address_claims<A: Allocator>(
+#[tactic(auto, using(crate::proofs::WrittenClaimLemmas::is_written))]
+pub fn write_ip_claims<A: Allocator>(
     alloc: A,
     v4: &IpResources<A>,
     v6: &IpResources<A>,
@@ -62,14 +62,14 @@ pub fn write_address_claims<A: Allocator>(
     Ok(Some(octets))
 }
 
-/// Returns the value of the AS identifiers extension that lists the AS numbers of a set, as by [`write_numbers_claim`].
+/// Returns the value of the AS identifiers extension that lists the AS numbers of a set, as by [`write_as_claim`].
 ///
 /// The call returns None if the set has no AS numbers: the extension is then absent.
 ///
 /// # Errors
 ///
 /// [`AllocError`] if an allocation fails.
-pub fn write_numbers<A: Allocator + Copy>(
+pub fn write_as_extension<A: Allocator + Copy>(
     alloc: A,
     set: &ResourceSet<A>,
 ) -> Result<Option<Vec<u8, A>>, AllocError>
@@ -80,17 +80,17 @@ pub fn write_numbers<A: Allocator + Copy>(
         (claim_of set.now.asn)) }
 {
     let claim = set.to_as_resources()?;
-    write_numbers_claim(alloc, &claim)
+    write_as_claim(alloc, &claim)
 }
 
-/// Returns the value of the IP address blocks extension that lists a set's addresses, as by [`write_address_claims`].
+/// Returns the value of the IP address blocks extension that lists a set's addresses, as by [`write_ip_claims`].
 ///
 /// The call returns None if the set has no addresses: the extension is then absent.
 ///
 /// # Errors
 ///
 /// [`AllocError`] if an allocation fails.
-pub fn write_addresses<A: Allocator + Copy>(
+pub fn write_ip_extension<A: Allocator + Copy>(
     alloc: A,
     set: &ResourceSet<A>,
 ) -> Result<Option<Vec<u8, A>>, AllocError>
@@ -102,5 +102,5 @@ pub fn write_addresses<A: Allocator + Copy>(
 {
     let v4 = set.to_ip_resources_v4()?;
     let v6 = set.to_ip_resources_v6()?;
-    write_address_claims(alloc, &v4, &v6)
+    write_ip_claims(alloc, &v4, &v6)
 }

@@ -6,7 +6,7 @@ pub use Rattle.std.specs.List.{All}
 pub use Rattle.std.specs.Slice.Iter.{iter_rest}
 pub use Rattle.rpki_ip.specs.AddrText.{family_of}
 pub use Rattle.rpki_chain.specs.Runs.{Holds, IsRunsOfBlocks, Runs}
-pub use Rattle.rpki_chains.specs.Sets.{IsWithin}
+pub use Rattle.rpki_chain_core.specs.Sets.{IsWithin}
 pub use Rattle.rpki_cover.specs.Covers.{IsShortestCover, IsV4CoverList, widened}
 pub use Rattle.rpki_ip.specs.Whole.{HasWholeBounds, IsWhole}
 pub use Rattle.rpki_ip_block.specs.Blocks.{ip_bounds, new_ip_block, prefix_bounds}

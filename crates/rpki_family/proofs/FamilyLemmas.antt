@@ -4,13 +4,13 @@ use Rattle.rpki_der.specs.declared.family.AddressFamily.{AddressFamily}
 use Rattle.rpki_der.specs.declared.family.AddressFamily.TheVariants.{Ipv4, Ipv6}
 use Rattle.rpki_chain.specs.Claims.{Claim}
 use Rattle.rpki_chain.specs.Paths.{IsUncovered}
-use Rattle.rpki_family.proofs.CoverLemmas.{v4_covered}
+use Rattle.rpki_family.proofs.FamilyCoverLemmas.{v4_covered}
 use Rattle.rpki_prefix.specs.Values.{FamilyPrefix, IsFamilyPrefix}
 use Rattle.rpki_ip.specs.AddrText.{first_of}
 use Rattle.rpki_cover.specs.Prefixes.{PrefixValue}
-use Rattle.rpki_ip_block.proofs.WholeReadings.{whole_family_prefix}
+use Rattle.rpki_ip_block.proofs.WholeBlockReadings.{whole_family_prefix}
 use Rattle.rpki_ipres.proofs.SetTextLemmas.{blocks_of_family}
-use Rattle.rpki_ipres.proofs.WholeReadings.{whole_cover}
+use Rattle.rpki_ipres.proofs.WholeSetReadings.{whole_cover}
 use Rattle.rpki_ipres.proofs.WholeClaims.{whole_uncovered}
 use Rattle.rpki_ipres.specs.Families.{IsClaimIn, IsWholeIn}
 

@@ -1,3 +1,3 @@
 pub mod Common
-pub mod CoverLemmas
+pub mod FamilyCoverLemmas
 pub mod FamilyLemmas

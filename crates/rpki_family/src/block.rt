@@ -159,7 +159,7 @@ impl<F: Family> FromStr for FamilyBlock<F> {
 
     ghost from_str_gives = { ReadsFamilyBlock F.FAMILY };
 
-    #[tactic(auto, using(rpki_ip_block::proofs::WholeReadings::whole_text))]
+    #[tactic(auto, using(rpki_ip_block::proofs::WholeBlockReadings::whole_text))]
     fn from_str(text: &str) -> Result<FamilyBlock<F>, FromStrError> {
         match read_block(F::FAMILY, text) {
             Ok(block) => Ok(FamilyBlock::of(block)),

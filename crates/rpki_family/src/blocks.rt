@@ -2,12 +2,12 @@
 ghost use Rattle.std.specs.Prelude.{◌≡◌, ℕ, ◌↔◌, [], ◌∷◌, IsTrue, IfOk, Some, map, MatchResult};
 ghost use Rattle.rpki_text.specs.Memory.{IsMemory};
 ghost use Rattle.rpki_text.specs.Reading.{AnswersOrMemory};
-ghost use Rattle.rpki_chains.specs.Equality.{same_runs};
-ghost use Rattle.rpki_chains.specs.EqualityLaws.{runs_per, runs_equiv};
+ghost use Rattle.rpki_chain_core.specs.Equality.{same_runs};
+ghost use Rattle.rpki_chain_core.specs.EqualityLaws.{runs_per, runs_equiv};
 ghost use Rattle.rpki_chain.specs.Claims.{claim_of};
 ghost use Rattle.rpki_chain.specs.Operations.{IsDifference, IsIntersection, IsUnion};
 ghost use Rattle.rpki_chain.specs.Runs.{Runs, Holds, IsRunsOfBlocks};
-ghost use Rattle.rpki_chains.specs.Sets.{IsWithin};
+ghost use Rattle.rpki_chain_core.specs.Sets.{IsWithin};
 ghost use Rattle.rpki_ip_block.specs.Blocks.{ip_bounds, new_ip_block};
 ghost use Rattle.rpki_ip_block.specs.ListText.{HasBlocks, HasBlocksFault};
 ghost use Rattle.rpki_ipres.specs.Families.{IsWholeIn};
@@ -108,10 +108,10 @@ impl<F: Family, A: Allocator> FamilyBlocks<F, A> {
     /// This call is no test. It does nothing and returns nothing.
     #[doc(hidden)]
     #[tactic(auto, using(crate::proofs::FamilyLemmas::is_family_set))]
-    pub fn is_lawful(&self)
+    pub fn recall_invariant(&self)
         ensures { IsFamilySet F.FAMILY self.now }
     {
-        self.blocks.is_lawful();
+        self.blocks.recall_invariant();
     }
 
     /// Returns the set as one of addresses of either family.
@@ -121,7 +121,7 @@ impl<F: Family, A: Allocator> FamilyBlocks<F, A> {
         ensures set { IsFamilySet F.FAMILY self.now }
         ensures whole { IsWholeIn F.FAMILY self.now }
     {
-        self.blocks.is_lawful();
+        self.blocks.recall_invariant();
         &self.blocks
     }
 
@@ -274,7 +274,7 @@ impl<F: Family, A: Allocator> FamilyBlocks<F, A> {
             → text.now ≡ set_text F.FAMILY set
             → MatchResult result (λ read. read ≡ set) IsMemory }
     {
-        match IpBlocks::from_family_str(alloc, F::FAMILY, text) {
+        match IpBlocks::from_str_with_family(alloc, F::FAMILY, text) {
             Ok(set) => Ok(FamilyBlocks::of(set)),
             Err(error) => Err(error),
         }
@@ -335,6 +335,6 @@ impl<F: Family, A: Allocator> fmt::Display for FamilyBlocks<F, A> {
     ghost output = { λ set. Some (set_text F.FAMILY set) };
 
     fn fmt<W: fmt::Write>(&self, f: &mut fmt::Formatter<W>) -> fmt::Result {
-        fmt::Display::fmt(&self.blocks.as_family(F::FAMILY), f)
+        fmt::Display::fmt(&self.blocks.display_with_family(F::FAMILY), f)
     }
 }

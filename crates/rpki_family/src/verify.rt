@@ -47,7 +47,7 @@ impl<F: Family, A: Allocator> FamilyBlocks<F, A> {
     {
         match self.blocks.verify_issued(alloc, resources, mode) {
             Ok(set) => Ok(FamilyBlocks::of(set)),
-            Err(OrMemory::Refused(fault)) => Err(OrMemory::Refused(fault.of_family())),
+            Err(OrMemory::Refused(fault)) => Err(OrMemory::Refused(fault.into_family())),
             Err(OrMemory::Memory(error)) => Err(OrMemory::Memory(error)),
         }
     }
@@ -78,7 +78,7 @@ impl<F: Family, A: Allocator> FamilyBlocks<F, A> {
     {
         match self.blocks.verify_covered(alloc, issuer) {
             Ok(()) => Ok(()),
-            Err(OrMemory::Refused(fault)) => Err(OrMemory::Refused(fault.of_family())),
+            Err(OrMemory::Refused(fault)) => Err(OrMemory::Refused(fault.into_family())),
             Err(OrMemory::Memory(error)) => Err(OrMemory::Memory(error)),
         }
     }
@@ -111,7 +111,7 @@ impl<F: Family, A: Allocator> FamilyBlocks<F, A> {
             Ok(set) => Ok(FamilyBlocks::of(set)),
             Err(OrMemory::Refused(refusal)) => Err(OrMemory::Refused(PathRefusal {
                 step: refusal.step,
-                fault: refusal.fault.of_family(),
+                fault: refusal.fault.into_family(),
             })),
             Err(OrMemory::Memory(error)) => Err(OrMemory::Memory(error)),
         }

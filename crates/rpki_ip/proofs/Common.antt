@@ -12,23 +12,23 @@ pub use Rattle.std.specs.Int.Count.{count_leading_zeros, count_trailing_zeros}
 pub use Rattle.rpki_addr.proofs.WidthLemmas.{width_small}
 pub use Rattle.rpki_addr.specs.AddressText.{IsIpv4Text, IsIpv6Text}
 pub use Rattle.rpki_addr.specs.Widths.{width}
-pub use Rattle.rpki_cover.proofs.Masks.{clear_host, host_ones, set_host}
+pub use Rattle.rpki_cover.proofs.BitMasks.{clear_host, host_ones, set_host}
 pub use Rattle.rpki_cover.proofs.Multiples.{IsMultiple, mod_multiple, multiple_diff, multiple_gap, multiple_least, multiple_mod, multiple_self, multiple_smaller, multiple_sum, zeros_divide, zeros_greatest}
 pub use Rattle.rpki_cover.proofs.PrefixNumbers.{cleared_first, power_is}
-pub use Rattle.rpki_cover.proofs.Shortest.{cover_prefixes}
-pub use Rattle.rpki_cover.proofs.Widening.{whole_cover, widened_prefix}
+pub use Rattle.rpki_cover.proofs.ShortestCover.{cover_prefixes}
+pub use Rattle.rpki_cover.proofs.WidenedCovers.{whole_cover, widened_prefix}
 pub use Rattle.rpki_cover.specs.Bits.{cleared}
 pub use Rattle.rpki_cover.specs.Covers.{IsShortestCover, widened}
 pub use Rattle.rpki_cover.specs.Prefixes.{IsPrefix, PrefixValue, last_of}
-pub use Rattle.rpki_der.proofs.FamilyLemmas.{family_reading, family_written}
+pub use Rattle.rpki_der.proofs.FamilyDerLemmas.{family_reading, family_written}
 pub use Rattle.rpki_der.specs.Families.{bits_of}
 pub use Rattle.rpki_block.specs.Bounds.{IsWithin}
-pub use Rattle.rpki_der.proofs.Contents.{bits_check}
-pub use Rattle.rpki_der.proofs.Cursors.{parses_by, reads_by}
-pub use Rattle.rpki_der.proofs.Modes.{bind_tightens, exact_by, is_padded_of, looked_tightens, padded_is, passed_is, passes, refused_by, refused_in, same_found, then_passing}
-pub use Rattle.rpki_der.proofs.Readings.{IsTagged, content_reading, fits_content, on_bytes, one_front, same_reading}
-pub use Rattle.rpki_der.proofs.Steps.{IsBytes-rest, IsCheck, bind_ok, fits_front, ok_or_err}
-pub use Rattle.rpki_der.proofs.Written.{value_is}
+pub use Rattle.rpki_der.proofs.ContentReadings.{bits_check}
+pub use Rattle.rpki_der.proofs.CursorReadings.{parses_by, reads_by}
+pub use Rattle.rpki_der.proofs.ReadingModes.{bind_tightens, exact_by, is_padded_of, looked_tightens, padded_is, passed_is, passes, refused_by, refused_in, same_found, then_passing}
+pub use Rattle.rpki_der.proofs.ValueReadings.{IsTagged, content_reading, fits_content, on_bytes, one_front, same_reading}
+pub use Rattle.rpki_der.proofs.ReadingSteps.{IsBytes-rest, IsCheck, bind_ok, fits_front, ok_or_err}
+pub use Rattle.rpki_der.proofs.WrittenValues.{value_is}
 pub use Rattle.rpki_der.specs.Der.{Bits, IsBitString, IsBits, IsBytes, IsPadded, IsSequence, Refines, Spells, Where, big_endian, big_endian_after, bit_content, bit_string_value, bits_with, last_octet}
 unfoldable pub use Rattle.rpki_der.specs.Der.{header, length_octets}
 pub use Rattle.rpki_der.specs.Reading.{Gives, IsModal, IsReading, Tightens, is_longer, is_padded, tagged_at, ◌>>=◌}

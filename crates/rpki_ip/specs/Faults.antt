@@ -1,7 +1,7 @@
 -- The printed texts of the faults of prefixes, ranges and blocks, as the Rust crate `rpki` 0.20.1 prints them.
 use Rattle.std.specs.Prelude.{ℕ, List, ◌++◌, codes}
 use Rattle.rpki_text.specs.Numbers.{number_fault_text}
-use Rattle.rpki_addr.specs.ReadsAddress.{address_fault_text}
+use Rattle.rpki_addr.specs.FromStrResults.{address_fault_text}
 use Rattle.rpki_ip.specs.declared.error.FromStrError.{FromStrError}
 use Rattle.rpki_ip.specs.declared.error.FromStrError.TheVariants.{Addr, PrefixLen, MissingSeparator, FamilyMismatch, BadBlocks, BadRange}
 

@@ -78,7 +78,7 @@ impl Addr {
     ///
     /// This call is no test. It does nothing and returns nothing.
     #[doc(hidden)]
-    pub fn is_lawful(self)
+    pub fn recall_invariant(self)
         ensures { self < 2 ^ 128 }
     {
         let _number = self.0;
@@ -115,7 +115,7 @@ impl Addr {
     /// Returns the least address with the same first `len` bits: the other bits are cleared.
     ///
     /// For `len` from 128 on, the result is the address itself.
-    #[tactic(auto, using(crate::proofs::Masks::least_by))]
+    #[tactic(auto, using(crate::proofs::AddressMasks::least_by))]
     pub fn to_min(self, len: u8) -> Addr
         ensures { result ≡ cleared 128 self len }
     {
@@ -129,7 +129,7 @@ impl Addr {
     /// Returns the greatest address with the same first `len` bits: the other bits are set.
     ///
     /// For `len` from 128 on, the result is the address itself.
-    #[tactic(auto, using(crate::proofs::Masks::greatest_by, crate::proofs::Masks::greatest_fits))]
+    #[tactic(auto, using(crate::proofs::AddressMasks::greatest_by, crate::proofs::AddressMasks::greatest_fits))]
     pub fn to_max(self, len: u8) -> Addr
         ensures { result + 1 ≡ cleared 128 self len + 2 ^ (128 - len) }
     {

@@ -9,7 +9,7 @@ ghost use Rattle.rpki_ip.specs.BlockText.{IsAddressText, IsPrefixAt, IsRangeFrom
 use crate::addr::Addr;
 use crate::prefix::Prefix;
 use crate::range::AddressRange;
-use rpki_addr::addr::front::{ipv4_front, ipv6_front};
+use rpki_addr::addr::front::{ipv4_at_front, ipv6_at_front};
 use rpki_addr::addr::{Ipv4Addr, Ipv6Addr};
 use rpki_text::number::digits_from;
 
@@ -33,7 +33,7 @@ pub trait FamilyAddr: Copy {
     const BITS: u8;
 
     /// Returns the address whose text is at the front, and the rest of the text.
-    fn at_front(text: &[u8]) -> Option<(Self, &[u8])>
+    fn addr_at_front(text: &[u8]) -> Option<(Self, &[u8])>
         ensures { IfSome result
             (λ found. IsAtFront (IsAddressText (Some family)) text.now (ip found.0) found.1.now) };
 
@@ -70,8 +70,8 @@ impl FamilyAddr for Ipv4Addr {
     const BITS: u8 = 32;
 
     #[inline(always)]
-    fn at_front(text: &[u8]) -> Option<(Ipv4Addr, &[u8])> {
-        ipv4_front(text)
+    fn addr_at_front(text: &[u8]) -> Option<(Ipv4Addr, &[u8])> {
+        ipv4_at_front(text)
     }
 
     #[inline(always)]
@@ -103,8 +103,8 @@ impl FamilyAddr for Ipv6Addr {
     const BITS: u8 = 128;
 
     #[inline(always)]
-    fn at_front(text: &[u8]) -> Option<(Ipv6Addr, &[u8])> {
-        ipv6_front(text)
+    fn addr_at_front(text: &[u8]) -> Option<(Ipv6Addr, &[u8])> {
+        ipv6_at_front(text)
     }
 
     #[inline(always)]
@@ -120,12 +120,12 @@ impl FamilyAddr for Ipv6Addr {
 
 /// Returns the range from `first` to the address of its family whose text is at the front, and the rest of the text.
 #[inline(always)]
-pub fn range_to_front<A: FamilyAddr>(first: A, text: &[u8]) -> Option<(AddressRange, &[u8])>
+pub fn range_end_at_front<A: FamilyAddr>(first: A, text: &[u8]) -> Option<(AddressRange, &[u8])>
     ensures { IfSome result (λ found. IsAtFront
         (λ t r. WithAddress (Some A.family) t (λ last. IsRangeFrom (A.ip first) last r))
         text.now found.0 found.1.now) }
 {
-    let Some((last, rest)) = A::at_front(text) else {
+    let Some((last, rest)) = A::addr_at_front(text) else {
         return None;
     };
     let (min, max) = (first.least(), last.greatest());
@@ -139,7 +139,7 @@ pub fn range_to_front<A: FamilyAddr>(first: A, text: &[u8]) -> Option<(AddressRa
 ///
 /// The bits after the length are cleared.
 #[inline(always)]
-pub fn prefix_to_front<A: FamilyAddr>(first: A, text: &[u8]) -> Option<(Prefix, &[u8])>
+pub fn prefix_len_at_front<A: FamilyAddr>(first: A, text: &[u8]) -> Option<(Prefix, &[u8])>
     ensures { IfSome result
         (λ found. IsAtFront (λ t p. AllDigits 10 t × IsPrefixAt (A.ip first) t p)
         text.now found.0 found.1.now) }

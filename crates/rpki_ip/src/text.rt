@@ -55,7 +55,7 @@ fn read_address(wanted: Option<AddressFamily>, text: &str) -> Result<IpAddr, Add
 ///
 /// - [`FromStrError::Addr`]: `left` isn't an address of the family.
 /// - [`FromStrError::PrefixLen`]: `left` is an address, but `right` isn't a number from 0 to the number of its bits.
-#[tactic(auto, using(crate::proofs::TextLemmas::too_long))]
+#[tactic(auto, using(crate::proofs::RangeTextLemmas::too_long))]
 pub fn prefix_between(
     wanted: Option<AddressFamily>,
     left: &str,
@@ -272,7 +272,7 @@ impl Prefix {
     ///
     /// An IPv4 address is the first 32 bits. The slash and the length are left out if the length is the number of bits
     /// of the family's addresses.
-    pub fn fmt_as<W: fmt::Write>(
+    pub fn fmt_with_family<W: fmt::Write>(
         &self,
         family: AddressFamily,
         f: &mut fmt::Formatter<W>,
@@ -284,18 +284,18 @@ impl Prefix {
         write_front(&out, end, f)
     }
 
-    /// Prints the prefix as an IPv4 prefix, as [`Prefix::fmt_as`] does.
+    /// Prints the prefix as an IPv4 prefix, as [`Prefix::fmt_with_family`] does.
     pub fn fmt_v4<W: fmt::Write>(&self, f: &mut fmt::Formatter<W>) -> fmt::Result
         ensures { WritesOnOk W.write_str_gives f.old result (ip_prefix_text Ipv4 self.now) f.new }
     {
-        self.fmt_as(AddressFamily::Ipv4, f)
+        self.fmt_with_family(AddressFamily::Ipv4, f)
     }
 
-    /// Prints the prefix as an IPv6 prefix, as [`Prefix::fmt_as`] does.
+    /// Prints the prefix as an IPv6 prefix, as [`Prefix::fmt_with_family`] does.
     pub fn fmt_v6<W: fmt::Write>(&self, f: &mut fmt::Formatter<W>) -> fmt::Result
         ensures { WritesOnOk W.write_str_gives f.old result (ip_prefix_text Ipv6 self.now) f.new }
     {
-        self.fmt_as(AddressFamily::Ipv6, f)
+        self.fmt_with_family(AddressFamily::Ipv6, f)
     }
 }
 
@@ -347,7 +347,7 @@ impl AddressRange {
     /// Prints the range as a range of the family: the least address, a dash and the greatest address.
     ///
     /// An IPv4 address is the first 32 bits. If the two addresses are printed alike, only one is printed.
-    pub fn fmt_as<W: fmt::Write>(
+    pub fn fmt_with_family<W: fmt::Write>(
         &self,
         family: AddressFamily,
         f: &mut fmt::Formatter<W>,
@@ -359,18 +359,18 @@ impl AddressRange {
         write_front(&out, end, f)
     }
 
-    /// Prints the range as an IPv4 range, as [`AddressRange::fmt_as`] does.
+    /// Prints the range as an IPv4 range, as [`AddressRange::fmt_with_family`] does.
     pub fn fmt_v4<W: fmt::Write>(&self, f: &mut fmt::Formatter<W>) -> fmt::Result
         ensures { WritesOnOk W.write_str_gives f.old result (ip_range_text Ipv4 self.now) f.new }
     {
-        self.fmt_as(AddressFamily::Ipv4, f)
+        self.fmt_with_family(AddressFamily::Ipv4, f)
     }
 
-    /// Prints the range as an IPv6 range, as [`AddressRange::fmt_as`] does.
+    /// Prints the range as an IPv6 range, as [`AddressRange::fmt_with_family`] does.
     pub fn fmt_v6<W: fmt::Write>(&self, f: &mut fmt::Formatter<W>) -> fmt::Result
         ensures { WritesOnOk W.write_str_gives f.old result (ip_range_text Ipv6 self.now) f.new }
     {
-        self.fmt_as(AddressFamily::Ipv6, f)
+        self.fmt_with_family(AddressFamily::Ipv6, f)
     }
 }
 

@@ -10,7 +10,7 @@ pub use Rattle.std.specs.Int.{IsInRange}
 pub use Rattle.std.specs.List.{AllByRecursion, flat_map}
 pub use Rattle.std.specs.Prelude.{IfOk}
 pub use Rattle.rpki_addr.proofs.AddressBytes.{no_dash, no_slash, not_slash}
-pub use Rattle.rpki_addr.proofs.AddressReads.{IsIpText-ip_text}
+pub use Rattle.rpki_addr.proofs.AddressTextLemmas.{IsIpText-ip_text}
 pub use Rattle.rpki_ip.specs.AddrText.{family_of, first_of, greatest_of}
 pub use Rattle.rpki_addr.specs.PrintedAddress.{ip_text}
 pub use Rattle.rpki_addr.specs.declared.addr.IpAddr.{IpAddr}
@@ -22,14 +22,14 @@ pub use Rattle.rpki_der.proofs.SequenceCursors.{reads_optional_value_by}
 pub use Rattle.rpki_der.specs.Families.{bits_of}
 pub use Rattle.rpki_der.specs.declared.family.AddressFamily.{AddressFamily}
 pub use Rattle.rpki_der.specs.declared.family.AddressFamily.TheVariants.{Ipv4, Ipv6}
-pub use Rattle.rpki_der.proofs.Modes.{exact_optional_by, refused_optional_by}
-pub use Rattle.rpki_der.proofs.Readings.{fits_content, one_front, same_reading}
+pub use Rattle.rpki_der.proofs.ReadingModes.{exact_optional_by, refused_optional_by}
+pub use Rattle.rpki_der.proofs.ValueReadings.{fits_content, one_front, same_reading}
 pub use Rattle.rpki_der.specs.Der.{Each, IsBytes, Spells}
 pub use Rattle.rpki_der.specs.Reading.{IsReading, optional, value_at}
 pub use Rattle.rpki_der.specs.Views.{Lenient, NotCanonicalOr, ReadsOptional, Strict, Takes, is_strict, left}
-pub use Rattle.rpki_ip.proofs.DerModes.{bits_few_enough, prefix_is_spelled, spelled_is_prefix, within}
-pub use Rattle.rpki_ip.proofs.DerWritten.{few_bits, prefix_written, range_spelled, range_written}
-pub use Rattle.rpki_ip.proofs.TextLemmas.{answers_by_one, prefix_one, range_one, single_of, single_one}
+pub use Rattle.rpki_ip.proofs.PrefixDerModes.{bits_few_enough, prefix_is_spelled, spelled_is_prefix, within}
+pub use Rattle.rpki_ip.proofs.PrefixDerWritten.{few_bits, prefix_written, range_spelled, range_written}
+pub use Rattle.rpki_ip.proofs.RangeTextLemmas.{answers_by_one, prefix_one, range_one, single_of, single_one}
 pub use Rattle.rpki_ip.specs.BlockText.{HasAddressFault, HasIpPrefixTextFault, HasRangeTextFault, IsAddressText, IsIpPrefixText, IsPrefixAt, IsRangeFrom, IsRangeText, IsSingleText}
 pub use Rattle.rpki_ip.specs.PrefixDer.{IsStrictPrefix, prefix_at, prefix_der, prefix_in}
 pub use Rattle.rpki_ip.specs.PrintedText.{as_ip, shown_bits}
@@ -37,14 +37,14 @@ pub use Rattle.rpki_ip.specs.RangeDer.{IsSpan, is_written_as, range_content, ran
 pub use Rattle.rpki_ip.specs.Ranges.{IsRangeOf, RangeValue, range_bounds}
 pub use Rattle.rpki_ip.specs.declared.error.FromStrError.{FromStrError}
 pub use Rattle.rpki_prefix.specs.Values.{FamilyPrefix, IsFamilyPrefix}
-pub use Rattle.rpki_text.proofs.PrintedLemmas.{IsElement, elements-joined}
+pub use Rattle.rpki_text.proofs.PrintedListLemmas.{IsElement, elements-joined}
 pub use Rattle.rpki_text.specs.Cuts.{Around, HasNo, IsCutAt, dash, slash}
 pub use Rattle.rpki_text.specs.Lists.{HasFirstFault, HaveValues, elements}
 pub use Rattle.rpki_text.specs.Memory.{IfRefused, IsMemory}
 pub use Rattle.rpki_text.specs.Reading.{Answers, AnswersOrMemory}
 pub use Rattle.rpki_text.specs.declared.memory.OrMemory.{OrMemory}
 pub use Rattle.rpki_ip_block.specs.BlockDer.{IsBlockWithin, IsIpBlockDer, IsSetIpBlock, ip_block_der}
-pub use Rattle.rpki_ip_block.specs.BlockFronts.{IsBehindSpace, IsBlockAtFront, IsPrefixBehind, IsRangeBehind}
+pub use Rattle.rpki_ip_block.specs.BlockFronts.{IsAfterOptionalSpace, IsBlockAtFront, IsPrefixAfterSlash, IsRangeAfterDash}
 pub use Rattle.rpki_ip_block.specs.BlockModeLaws.{ip_block_modal, next_ip_block_modal}
 pub use Rattle.rpki_ip_block.specs.BlockModes.{IsNextIpBlock, IsStrictIpBlock}
 pub use Rattle.rpki_ip_block.specs.BlockReading.{ip_block_at, ip_block_by, ip_block_of, is_range, is_set_range, next_ip_block_by, prefix_block_in, range_block_in, span}

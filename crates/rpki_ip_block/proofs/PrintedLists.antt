@@ -1,7 +1,7 @@
 -- What is printed of a list of blocks is read as blocks of their bounds.
 use Rattle.rpki_ip_block.proofs.Common.{All, List, MatchResult, Result, Some, [], arith, codes, inl, inr, lit<, map, refl, ℕ, ◌++◌, ◌<◌, ◌∷◌, ◌≡◌, All-append, All-cons, All-head, All-nil, All-tail, Contains-append_left, AllByRecursion, flat_map, AddressFamily, Ipv4, Ipv6, FromStrError, IsElement, elements-joined, HaveValues, elements, IsMemory, AnswersOrMemory, OrMemory, IsIpBlockText, ip_bounds, HasBlocks, HasBlocksFault, HasIpBlocks, HasIpBlocksFault, IsElementText, IsFamilyOf, colon, IsBlockOf, block_list_text, ip_block_text, IpBlock}
-use Rattle.rpki_ip_block.proofs.FrontLemmas.{IsPlainBlock, not_foreign}
-use Rattle.rpki_ip_block.proofs.PrintedLemmas.{written_of}
+use Rattle.rpki_ip_block.proofs.BlockFrontLemmas.{IsPlainBlock, not_foreign}
+use Rattle.rpki_ip_block.proofs.PrintedBlockLemmas.{written_of}
 
 -- what is printed behind the first block of a list
 abbrev behind : AddressFamily → List IpBlock → List ℕ
@@ -66,19 +66,19 @@ pub record WritesList (text : List ℕ) (bs : List IpBlock) : Type 0 where
   pub is : IsFamilyOf text family
   pub writes : WritesAll (IsIpBlockText (Some family)) (elements text) bs
 
-told_v4 : (text : List ℕ) (bs : List IpBlock) → All (IsBlockOf Ipv4) bs → text ≡ block_list_text Ipv4 bs
+v4_list_with_its_family : (text : List ℕ) (bs : List IpBlock) → All (IsBlockOf Ipv4) bs → text ≡ block_list_text Ipv4 bs
     → WritesList text bs
-told_v4 text bs is printed = record {
+v4_list_with_its_family text bs is printed = record {
   family = Ipv4;
   is = inr (rw printed (not_foreign Ipv4 (block_list_text Ipv4 bs) (small_list bs is)), refl);
   writes = list_written Ipv4 (IsIpBlockText (Some Ipv4)) (λ text b plain. plain.writes) text bs is printed;
 }
 
-pub list_told : (family : AddressFamily) (text : List ℕ) (bs : List IpBlock) → All (IsBlockOf family) bs
+pub list_with_its_family : (family : AddressFamily) (text : List ℕ) (bs : List IpBlock) → All (IsBlockOf family) bs
     → text ≡ block_list_text family bs → WritesList text bs
-list_told Ipv4 text bs is printed = told_v4 text bs is printed
-list_told Ipv6 text [] is printed = told_v4 text [] (All-nil (IsBlockOf Ipv4)) printed
-list_told Ipv6 text (b ∷ bs) is printed =
+list_with_its_family Ipv4 text bs is printed = v4_list_with_its_family text bs is printed
+list_with_its_family Ipv6 text [] is printed = v4_list_with_its_family text [] (All-nil (IsBlockOf Ipv4)) printed
+list_with_its_family Ipv6 text (b ∷ bs) is printed =
     let own = (written_of Ipv6 b (All-head (IsBlockOf Ipv6) b bs is)).plain.own in
     record {
       family = Ipv6;
@@ -100,6 +100,6 @@ module _ {V : Type 0} (view : V → List IpBlock) (text : List ℕ) (r : Result 
       → (family : AddressFamily) (bs : List IpBlock) → All (IsBlockOf family) bs → text ≡ block_list_text family bs
       → MatchResult r (λ v. map ip_bounds (view v) ≡ map ip_bounds bs) IsMemory
   ip_list_back exact family bs is printed =
-      let told = list_told family text bs is printed in
-      let all = told.writes in
-      grind (arith, all.bounds, exact.each_value all.values (told.family, told.is, all.have))
+      let ensured = list_with_its_family family text bs is printed in
+      let all = ensured.writes in
+      grind (arith, all.bounds, exact.each_value all.values (ensured.family, ensured.is, all.have))

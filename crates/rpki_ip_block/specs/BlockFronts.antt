@@ -21,18 +21,18 @@ pub record IsBlockAtFront (family : AddressFamily) (text : List ℕ) (b : IpBloc
   pub shown : AllByRecursion (IsInRange 45 126) front
 
 -- the block is the range from an address to an address of the family at the front of the text, and rest is after it
-abbrev pub IsRangeBehind : AddressFamily → IpAddr → List ℕ → IpBlock → List ℕ → Type 0
-IsRangeBehind family first text (Range r) rest = IsAtFront (λ t r. WithAddress (Some family) t (λ last. IsRangeFrom first last r)) text r rest
-IsRangeBehind family first text (Prefix p) rest = ⊥
+abbrev pub IsRangeAfterDash : AddressFamily → IpAddr → List ℕ → IpBlock → List ℕ → Type 0
+IsRangeAfterDash family first text (Range r) rest = IsAtFront (λ t r. WithAddress (Some family) t (λ last. IsRangeFrom first last r)) text r rest
+IsRangeAfterDash family first text (Prefix p) rest = ⊥
 
 -- the block is the prefix at an address whose length in digits is at the front, and rest is after it
-abbrev pub IsPrefixBehind : IpAddr → List ℕ → IpBlock → List ℕ → Type 0
-IsPrefixBehind first text (Prefix p) rest = IsAtFront (λ t p. AllDigits 10 t × IsPrefixAt first t p) text p rest
-IsPrefixBehind first text (Range r) rest = ⊥
+abbrev pub IsPrefixAfterSlash : IpAddr → List ℕ → IpBlock → List ℕ → Type 0
+IsPrefixAfterSlash first text (Prefix p) rest = IsAtFront (λ t p. AllDigits 10 t × IsPrefixAt first t p) text p rest
+IsPrefixAfterSlash first text (Range r) rest = ⊥
 
 -- rest is after a space (32) at the front of the text, or is the whole text
-abbrev pub IsBehindSpace : List ℕ → List ℕ → Type 0
-IsBehindSpace text rest = (rest ≡ text) ⊎ (text ≡ 32 ∷ rest)
+abbrev pub IsAfterOptionalSpace : List ℕ → List ℕ → Type 0
+IsAfterOptionalSpace text rest = (rest ≡ text) ⊎ (text ≡ 32 ∷ rest)
 
 -- a space alone, or no byte
 abbrev pub IsSpaceOrNothing : List ℕ → Type 0

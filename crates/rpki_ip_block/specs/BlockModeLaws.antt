@@ -4,16 +4,16 @@ use Rattle.rpki_der.specs.SequenceReading.{SaysByTag}
 use Rattle.rpki_der.proofs.SequenceModes.{by_tag_tightens, tested_pair_check, tested_pair_tightens}
 use Rattle.rpki_der.proofs.SequenceReadings.{by_tag_reading, mapped_check}
 use Rattle.rpki_block.specs.Beyond.{IsBeyond, is_beyond}
-use Rattle.rpki_block.proofs.Beyond.{beyond_is, is_beyond_of}
+use Rattle.rpki_block.proofs.BlockStartTest.{beyond_is, is_beyond_of}
 use Rattle.rpki_der.specs.Der.{IsBytes, IsTlv, IsValue, Refines, bit_content}
 use Rattle.rpki_der.specs.Reading.{IsModal, Tightens, value_at}
-use Rattle.rpki_der.proofs.Modes.{bind_tightens, looked_tightens, tested_modal}
-use Rattle.rpki_der.proofs.Readings.{same_reading}
-use Rattle.rpki_der.proofs.Steps.{IsCheck}
+use Rattle.rpki_der.proofs.ReadingModes.{bind_tightens, looked_tightens, tested_modal}
+use Rattle.rpki_der.proofs.ValueReadings.{same_reading}
+use Rattle.rpki_der.proofs.ReadingSteps.{IsCheck}
 use Rattle.rpki_ip.specs.PrefixDer.{IsStrictContent, IsStrictPrefix, prefix_at, prefix_by, prefix_in, prefix_in_by}
 use Rattle.rpki_ip.specs.RangeDer.{IsSpan, range_in, span_of}
-use Rattle.rpki_ip.proofs.DerModes.{content_tightens, prefix_modal, strict_content_check}
-use Rattle.rpki_ip.proofs.DerReadings.{span_again, span_says}
+use Rattle.rpki_ip.proofs.PrefixDerModes.{content_tightens, prefix_modal, strict_content_check}
+use Rattle.rpki_ip.proofs.PrefixDerReadings.{span_again, span_says}
 use Rattle.rpki_ip_block.specs.BlockModes.{IsNextIpBlock, IsStrictIpBlock, SaysStrictRange}
 use Rattle.rpki_ip_block.specs.BlockReading.{ip_block_at, ip_block_by, ip_block_of, ip_block_of_by, is_set_range, next_ip_block_by, prefix_block_in, prefix_block_in_by, range_block_in, range_block_in_by, range_in_by}
 use Rattle.rpki_ip_block.specs.Blocks.{ip_bounds}

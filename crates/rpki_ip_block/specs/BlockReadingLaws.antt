@@ -3,14 +3,14 @@
 use Rattle.std.proofs.Common.{◌≡◌, ℕ, ◌<◌, List, length, refl, sym, subst, arith, inl, inr}
 use Rattle.rpki_der.specs.Der.{IsBytes, IsTlv, IsValue, Refines, Tlv, bit_content}
 use Rattle.rpki_der.specs.Reading.{IsReading}
-use Rattle.rpki_der.proofs.Lists.{value_has_octets}
-use Rattle.rpki_der.proofs.Readings.{same_reading}
-use Rattle.rpki_der.proofs.Steps.{IsCheck}
+use Rattle.rpki_der.proofs.ValueLists.{value_has_octets}
+use Rattle.rpki_der.proofs.ValueReadings.{same_reading}
+use Rattle.rpki_der.proofs.ReadingSteps.{IsCheck}
 use Rattle.rpki_der.proofs.SequenceReadings.{by_tag_reading, mapped_check, sequence_reading}
 use Rattle.rpki_der.specs.SequenceReading.{IsSequenceOf, SaysByTag}
 use Rattle.rpki_ip.specs.PrefixDer.{IsPrefixContent, prefix_in}
 use Rattle.rpki_ip.specs.RangeDer.{SaysRange, range_in}
-use Rattle.rpki_ip.proofs.DerReadings.{prefix_check, range_check}
+use Rattle.rpki_ip.proofs.PrefixDerReadings.{prefix_check, range_check}
 use Rattle.rpki_ip_block.specs.BlockDer.{IsIpBlockDer}
 use Rattle.rpki_ip_block.specs.BlockReading.{prefix_block_in, range_block_in, ip_block_at, ip_blocks_at}
 use Rattle.rpki_ip_block.specs.declared.block.IpBlock.{IpBlock}

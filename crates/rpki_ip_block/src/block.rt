@@ -191,7 +191,7 @@ impl From<FamilyPrefix> for IpBlock {
     ghost from_gives = { λ prefix block. block
         ≡ Prefix (record { first = first_of prefix.addr; len = prefix.len }) };
 
-    #[tactic(auto, using(crate::proofs::FormLemmas::family_prefix))]
+    #[tactic(auto, using(crate::proofs::BlockFormLemmas::family_prefix))]
     fn from(prefix: FamilyPrefix) -> IpBlock {
         IpBlock::Prefix(Prefix::new(Addr::from(prefix.addr()), prefix.len()))
     }

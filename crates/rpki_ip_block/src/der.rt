@@ -43,7 +43,7 @@ impl IpBlock {
     /// - In a SEQUENCE: the faults of its two prefixes. Then `ReversedRange` if the least address is above the
     ///   greatest, and then `TrailingData` if octets are left.
     /// - `NotCanonical`, from a strict cursor: the octets aren't the encoding of a block that sets have.
-    #[tactic(auto, using(crate::proofs::BlockWritten::taken_exact, crate::proofs::BlockWritten::taken_reads, crate::proofs::BlockWritten::taken_strict, crate::proofs::BlockWritten::taken_refused))]
+    #[tactic(auto, using(crate::proofs::IpBlockDerWritten::taken_exact, crate::proofs::IpBlockDerWritten::taken_reads, crate::proofs::IpBlockDerWritten::taken_strict, crate::proofs::IpBlockDerWritten::taken_refused))]
     pub fn take_opt_from(cursor: &mut Cursor<'_>) -> Result<Option<IpBlock>, DerError>
         ensures reads { Lenient cursor.old
             (ReadsOptional (IsIpBlockDer 128) (λ block. block) cursor.old cursor.new result) }
@@ -65,7 +65,7 @@ impl IpBlock {
             (optional (ip_block_by (is_strict cursor.old) 128)) }
         ensures mode { is_strict cursor.new ≡ is_strict cursor.old }
     {
-        Self::next_opt(cursor, AddressFamily::Ipv6)
+        Self::take_opt_from_with_family_by_mode(cursor, AddressFamily::Ipv6)
     }
 
     /// Reads a block of `family` as `take_opt_from` does.
@@ -74,7 +74,7 @@ impl IpBlock {
     ///
     /// The errors are those of `take_opt_from`. `BadPrefix` is also returned for a prefix that is longer than the
     /// family's addresses, alone and in a SEQUENCE. The cursor is unchanged then.
-    #[tactic(auto, using(crate::proofs::BlockWritten::taken_exact, crate::proofs::BlockWritten::taken_reads, crate::proofs::BlockWritten::taken_strict, crate::proofs::BlockWritten::taken_refused, rpki_ip::proofs::DerModes::bits_few_enough))]
+    #[tactic(auto, using(crate::proofs::IpBlockDerWritten::taken_exact, crate::proofs::IpBlockDerWritten::taken_reads, crate::proofs::IpBlockDerWritten::taken_strict, crate::proofs::IpBlockDerWritten::taken_refused, rpki_ip::proofs::PrefixDerModes::bits_few_enough))]
     pub fn take_opt_from_with_family(
         cursor: &mut Cursor<'_>,
         family: AddressFamily,
@@ -101,7 +101,7 @@ impl IpBlock {
             (optional (ip_block_by (is_strict cursor.old) (bits_of family))) }
         ensures mode { is_strict cursor.new ≡ is_strict cursor.old }
     {
-        Self::next_opt(cursor, family)
+        Self::take_opt_from_with_family_by_mode(cursor, family)
     }
 
     /// Returns how many octets `encode` appends: fewer than 64.
@@ -123,7 +123,7 @@ impl IpBlock {
     /// # Errors
     ///
     /// [`AllocError`] if an allocation fails. The octets of `out` are unchanged then.
-    #[tactic(auto, using(crate::proofs::BlockWritten::block_back))]
+    #[tactic(auto, using(crate::proofs::IpBlockDerWritten::block_back))]
     pub fn encode<A: Allocator>(&self, out: &mut Vec<u8, A>) -> Result<(), AllocError>
         ensures ok { OnOk result (out.new.items ≡ out.old.items ++ ip_block_der self.now) }
         ensures err { OnErr result (out.new.items ≡ out.old.items) }
@@ -170,7 +170,10 @@ impl IpBlock {
     ghost use Rattle.rpki_ip_block.specs.Blocks.{ip_bounds};
 
     #[tactic(auto, unfolding(rpki_der::specs::Reading::optional, rpki_der::specs::Reading::refined, rpki_der::specs::SequenceReading::by_tag))]
-    fn next_opt(cursor: &mut Cursor<'_>, family: AddressFamily) -> Result<Option<IpBlock>, DerError>
+    fn take_opt_from_with_family_by_mode(
+        cursor: &mut Cursor<'_>,
+        family: AddressFamily,
+    ) -> Result<Option<IpBlock>, DerError>
         ensures by_mode { Takes (λ block. block) cursor.old cursor.new result
             (optional (ip_block_by (is_strict cursor.old) (bits_of family))) }
         ensures mode { is_strict cursor.new ≡ is_strict cursor.old }
@@ -199,7 +202,7 @@ impl IpBlock {
         ensures mode { is_strict cursor.new ≡ is_strict cursor.old }
     {
         let mut ahead = *cursor;
-        let Some(block) = Self::next_opt(&mut ahead, family)? else {
+        let Some(block) = Self::take_opt_from_with_family_by_mode(&mut ahead, family)? else {
             return Ok(None);
         };
         if cursor.is_strict() && !block.is_beyond(before) {

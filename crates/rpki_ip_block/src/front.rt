@@ -1,17 +1,17 @@
 //! Blocks of the usual form at the front of a text, and lists of such blocks.
 ghost use Rattle.std.specs.Prelude.{◌≡◌, ◌∷◌, IfOk, IfSome, IsTrue};
 ghost use Rattle.rpki_ip_block.specs.ListText.{HasBlocks};
-ghost use Rattle.rpki_ip_block.specs.BlockFronts.{IsBlockAtFront, IsRangeBehind, IsPrefixBehind, IsBehindSpace, IsSpaceOrNothing};
+ghost use Rattle.rpki_ip_block.specs.BlockFronts.{IsBlockAtFront, IsRangeAfterDash, IsPrefixAfterSlash, IsAfterOptionalSpace, IsSpaceOrNothing};
 
 use crate::block::IpBlock;
 use rpki_addr::addr::{Ipv4Addr, Ipv6Addr};
 use rpki_ip::family::AddressFamily;
-use rpki_ip::front::{FamilyAddr, prefix_to_front, range_of, range_to_front};
+use rpki_ip::front::{FamilyAddr, prefix_len_at_front, range_end_at_front, range_of};
 use std::alloc::{AllocError, Allocator};
 
 /// Returns the text after this byte, if the byte is at the front.
 #[inline(always)]
-fn behind(byte: u8, text: &[u8]) -> Option<&[u8]>
+fn strip_byte(byte: u8, text: &[u8]) -> Option<&[u8]>
     ensures { IfSome result (λ rest. text.now ≡ byte ∷ rest.now) }
 {
     let (first, rest) = text.split_first()?;
@@ -20,11 +20,11 @@ fn behind(byte: u8, text: &[u8]) -> Option<&[u8]>
 
 /// Returns the range from `first` to the address at the front, as a block, and the rest of the text.
 #[inline(always)]
-fn range_behind<F: FamilyAddr>(first: F, text: &[u8]) -> Option<(IpBlock, &[u8])>
+fn range_after_dash<F: FamilyAddr>(first: F, text: &[u8]) -> Option<(IpBlock, &[u8])>
     ensures { IfSome result
-        (λ found. IsRangeBehind F.family (F.ip first) text.now found.0 found.1.now) }
+        (λ found. IsRangeAfterDash F.family (F.ip first) text.now found.0 found.1.now) }
 {
-    match range_to_front(first, text) {
+    match range_end_at_front(first, text) {
         Some((range, rest)) => Some((IpBlock::Range(range), rest)),
         None => None,
     }
@@ -32,10 +32,10 @@ fn range_behind<F: FamilyAddr>(first: F, text: &[u8]) -> Option<(IpBlock, &[u8])
 
 /// Returns the prefix at `first` with the length at the front, as a block, and the rest of the text.
 #[inline(always)]
-fn prefix_behind<F: FamilyAddr>(first: F, text: &[u8]) -> Option<(IpBlock, &[u8])>
-    ensures { IfSome result (λ found. IsPrefixBehind (F.ip first) text.now found.0 found.1.now) }
+fn prefix_after_slash<F: FamilyAddr>(first: F, text: &[u8]) -> Option<(IpBlock, &[u8])>
+    ensures { IfSome result (λ found. IsPrefixAfterSlash (F.ip first) text.now found.0 found.1.now) }
 {
-    match prefix_to_front(first, text) {
+    match prefix_len_at_front(first, text) {
         Some((prefix, rest)) => Some((IpBlock::Prefix(prefix), rest)),
         None => None,
     }
@@ -46,26 +46,26 @@ fn prefix_behind<F: FamilyAddr>(first: F, text: &[u8]) -> Option<(IpBlock, &[u8]
 /// The block is one address, two addresses with a dash between them, or an address, a slash and a length. The call can
 /// return None for other texts of blocks.
 #[inline(always)]
-#[tactic(auto, using(crate::proofs::FrontLemmas::prefix_found, crate::proofs::FrontLemmas::range_found, crate::proofs::FrontLemmas::single_front))]
-fn block_front<F: FamilyAddr>(text: &[u8]) -> Option<(IpBlock, &[u8])>
+#[tactic(auto, using(crate::proofs::BlockFrontLemmas::prefix_found, crate::proofs::BlockFrontLemmas::range_found, crate::proofs::BlockFrontLemmas::single_front))]
+fn block_at_front<F: FamilyAddr>(text: &[u8]) -> Option<(IpBlock, &[u8])>
     ensures { IfSome result (λ found. IsBlockAtFront F.family text.now found.0 found.1.now) }
 {
-    let Some((first, rest)) = F::at_front(text) else {
+    let Some((first, rest)) = F::addr_at_front(text) else {
         return None;
     };
-    if let Some(last) = behind(b'-', rest) {
-        return range_behind(first, last);
+    if let Some(last) = strip_byte(b'-', rest) {
+        return range_after_dash(first, last);
     }
-    if let Some(len) = behind(b'/', rest) {
-        return prefix_behind(first, len);
+    if let Some(len) = strip_byte(b'/', rest) {
+        return prefix_after_slash(first, len);
     }
     Some((IpBlock::Range(range_of(first)), rest))
 }
 
 /// Returns the text after a space at the front, or the whole text if it doesn't begin with a space.
 #[inline(always)]
-fn behind_space(text: &[u8]) -> &[u8]
-    ensures { IsBehindSpace text.now result.now }
+fn skip_space(text: &[u8]) -> &[u8]
+    ensures { IsAfterOptionalSpace text.now result.now }
 {
     match text {
         [b' ', rest @ ..] => rest,
@@ -95,14 +95,14 @@ fn usual_blocks_of<F: FamilyAddr, A: Allocator>(
     let mut blocks = Vec::new(alloc);
     let mut left = text;
     loop {
-        let Some((block, rest)) = block_front::<F>(behind_space(left)) else {
+        let Some((block, rest)) = block_at_front::<F>(skip_space(left)) else {
             return Ok(None);
         };
         blocks.push(block)?;
         if is_end(rest) {
             return Ok(Some(blocks));
         }
-        let Some(more) = behind(b',', rest) else {
+        let Some(more) = strip_byte(b',', rest) else {
             return Ok(None);
         };
         left = more;

@@ -80,7 +80,7 @@ impl ReadElement for ByColon {
 
 /// Parses a list of blocks as [`read_blocks`] does. A list of the usual form is read in one pass, without a search for
 /// its commas.
-fn blocks_of<A: Allocator + Copy>(
+fn read_blocks_matched<A: Allocator + Copy>(
     alloc: A,
     family: AddressFamily,
     text: &str,
@@ -120,7 +120,7 @@ pub fn read_blocks<A: Allocator + Copy>(
     ensures whole { IfOk result (λ v. family ≡ Ipv4
         → All (λ block. HasWholeBounds (ip_bounds block)) v.items) }
 {
-    blocks_of(alloc, family, text)
+    read_blocks_matched(alloc, family, text)
 }
 
 /// Returns the family of a list without a given family.
@@ -177,7 +177,7 @@ impl FmtElement for AsFamily {
         block: &IpBlock,
         f: &mut fmt::Formatter<W>,
     ) -> fmt::Result {
-        block.fmt_as(self.family, f)
+        block.fmt_with_family(self.family, f)
     }
 }
 

@@ -82,8 +82,9 @@ impl IpBlock {
         read_block(Some(AddressFamily::Ipv6), text)
     }
 
-    /// Prints the block as a block of the family, as [`Prefix::fmt_as`] and [`AddressRange::fmt_as`] do.
-    pub fn fmt_as<W: fmt::Write>(
+    /// Prints the block as a block of the family, as [`Prefix::fmt_with_family`] and [`AddressRange::fmt_with_family`]
+    /// do.
+    pub fn fmt_with_family<W: fmt::Write>(
         &self,
         family: AddressFamily,
         f: &mut fmt::Formatter<W>,
@@ -91,8 +92,8 @@ impl IpBlock {
         ensures { WritesOnOk W.write_str_gives f.old result (ip_block_text family self.now) f.new }
     {
         match self {
-            IpBlock::Prefix(prefix) => prefix.fmt_as(family, f),
-            IpBlock::Range(range) => range.fmt_as(family, f),
+            IpBlock::Prefix(prefix) => prefix.fmt_with_family(family, f),
+            IpBlock::Range(range) => range.fmt_with_family(family, f),
         }
     }
 
@@ -104,7 +105,7 @@ impl IpBlock {
     pub fn fmt_v4<W: fmt::Write>(&self, f: &mut fmt::Formatter<W>) -> fmt::Result
         ensures { WritesOnOk W.write_str_gives f.old result (ip_block_text Ipv4 self.now) f.new }
     {
-        self.fmt_as(AddressFamily::Ipv4, f)
+        self.fmt_with_family(AddressFamily::Ipv4, f)
     }
 
     /// Prints the block as an IPv6 block.
@@ -115,7 +116,7 @@ impl IpBlock {
     pub fn fmt_v6<W: fmt::Write>(&self, f: &mut fmt::Formatter<W>) -> fmt::Result
         ensures { WritesOnOk W.write_str_gives f.old result (ip_block_text Ipv6 self.now) f.new }
     {
-        self.fmt_as(AddressFamily::Ipv6, f)
+        self.fmt_with_family(AddressFamily::Ipv6, f)
     }
 
     /// Returns the block for display as an IPv4 block, as [`IpBlock::fmt_v4`] prints it.

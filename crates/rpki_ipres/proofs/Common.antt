@@ -12,7 +12,7 @@ pub use Rattle.rpki_der.proofs.SequenceWriting.{content_shorter, one_content, wr
 pub use Rattle.rpki_der.proofs.FamiliesGathering.{IsThere, each_there}
 pub use Rattle.rpki_der.proofs.FamiliesSaid.{one_families, stands_for, stood_for}
 pub use Rattle.rpki_der.proofs.SaidInModes.{IsSaidInModes, taken_said, written_said}
-pub use Rattle.rpki_der.proofs.FamilyLemmas.{family_reading, family_written}
+pub use Rattle.rpki_der.proofs.FamilyDerLemmas.{family_reading, family_written}
 pub use Rattle.rpki_der.specs.SequenceReading.{IsSequenceFrom, IsSequenceOf, values_of}
 pub use Rattle.rpki_der.specs.SequenceViews.{NotCanonicalOrMemory}
 pub use Rattle.rpki_der.specs.SequenceWriting.{octets_of_all, sequence_octets}
@@ -21,7 +21,7 @@ pub use Rattle.rpki_der.specs.FamiliesDer.{ByFamily, IsFamilies, IsFamiliesInOrd
 pub use Rattle.rpki_der.specs.FamilyDer.{IsFamilyDer, family_at, family_der}
 pub use Rattle.rpki_der.specs.declared.family.AddressFamily.{AddressFamily}
 pub use Rattle.rpki_der.specs.declared.family.AddressFamily.TheVariants.{Ipv4, Ipv6}
-pub use Rattle.rpki_chain.proofs.Ascending.{listed_are}
+pub use Rattle.rpki_chain.proofs.AscendingDer.{listed_are}
 pub use Rattle.rpki_chain.proofs.ClaimLemmas.{claims_decide, lists_one}
 pub use Rattle.rpki_chain.proofs.RunLists.{IsRunsOf-unique, IsRunsOfBlocks-bounds, same_numbers}
 pub use Rattle.rpki_chain.proofs.SetLemmas.{bounds_made}
@@ -30,21 +30,21 @@ pub use Rattle.rpki_chain.specs.Claims.{Claim, claim_of}
 pub use Rattle.rpki_chain.specs.Runs.{Holds, IsRunsOf, IsRunsOfBlocks, Runs}
 pub use Rattle.rpki_chain.specs.declared.choice.ResourcesChoice.{ResourcesChoice}
 pub use Rattle.rpki_chain.specs.declared.choice.ResourcesChoice.TheVariants.{Blocks, Inherit, Missing}
-pub use Rattle.rpki_chains.specs.Sets.{Covers, IsChain, IsChainOf, IsRun}
-pub use Rattle.rpki_der.proofs.Modes.{tested_modal}
-pub use Rattle.rpki_der.proofs.Written.{value_is}
+pub use Rattle.rpki_chain_core.specs.Sets.{Covers, IsChain, IsChainOf, IsRun}
+pub use Rattle.rpki_der.proofs.ReadingModes.{tested_modal}
+pub use Rattle.rpki_der.proofs.WrittenValues.{value_is}
 pub use Rattle.rpki_der.specs.Der.{OneFront, Refines, Spells, Where, sequence_value}
 unfoldable pub use Rattle.rpki_der.specs.Der.{header}
 pub use Rattle.rpki_der.specs.Reading.{tagged_at}
 pub use Rattle.rpki_der.specs.declared.cursor.Cursor.{Cursor}
 pub use Rattle.rpki_der.specs.declared.error.DerError.{DerError}
-pub use Rattle.rpki_ip.proofs.DerModes.{bits_few_enough, within}
-pub use Rattle.rpki_ip.proofs.WholeLemmas.{whole_set}
+pub use Rattle.rpki_ip.proofs.PrefixDerModes.{bits_few_enough, within}
+pub use Rattle.rpki_ip.proofs.WholeRangeLemmas.{whole_set}
 pub use Rattle.rpki_ip.specs.Whole.{HasWholeBounds, IsWhole}
-pub use Rattle.rpki_ip_block.proofs.BlockWritten.{block_written}
-pub use Rattle.rpki_ip_block.proofs.FormLemmas.{new_block_fits}
-pub use Rattle.rpki_ip_block.proofs.ListLemmas.{same_blocks, same_ip_blocks}
-pub use Rattle.rpki_ip_block.proofs.WholeReadings.{whole_each, whole_untold_list}
+pub use Rattle.rpki_ip_block.proofs.IpBlockDerWritten.{block_written}
+pub use Rattle.rpki_ip_block.proofs.BlockFormLemmas.{new_block_fits}
+pub use Rattle.rpki_ip_block.proofs.BlockListLemmas.{same_blocks, same_ip_blocks}
+pub use Rattle.rpki_ip_block.proofs.WholeBlockReadings.{whole_each, whole_list_without_family}
 pub use Rattle.rpki_ip_block.specs.BlockDer.{IsBlockWithin, IsIpBlockDer, IsSetIpBlock, ip_block_der}
 pub use Rattle.rpki_ip_block.specs.BlockFormLaws.{new_ip_block_bounds}
 pub use Rattle.rpki_ip_block.specs.BlockReading.{ip_block_at, ip_block_by, ip_blocks_at, next_ip_block_by}

@@ -1,7 +1,7 @@
 -- A list writes one set at most, or has one fault, and what is printed of a set is read as that set.
 use Rattle.rpki_ipres.proofs.Common.{ap, ℕ, ◌↔◌, same_numbers, Holds, Err, List, Ok, arith, get_or, map, subst, sym, ◌∙◌, ◌≡◌, ◌≤◌, All-map, All, AddressFamily, Ipv4, Ipv6, IsRunsOf-unique, IsRunsOfBlocks-bounds, bounds_made, IsRunsOfBlocks, Runs, Covers, HasWholeBounds, new_block_fits, new_ip_block_bounds, ip_bounds, new_ip_block, IsBlockOf, IpBlock, OrMemory, IsFamilySet, IsIpSet, IsSetOf}
 use Rattle.rpki_text.specs.Reading.{AnswersOrMemory}
-use Rattle.rpki_ipres.proofs.WholeLemmas.{whole_runs}
+use Rattle.rpki_ipres.proofs.WholeRunLemmas.{whole_runs}
 
 module _ {V E : Type 0} (view : V → List IpBlock) (Has : List IpBlock → Type 0) (Fails : E → Type 0) where
   -- the set of the blocks that were read is the one that the text writes

@@ -3,11 +3,11 @@ ghost use Rattle.std.specs.Prelude.{◌≡◌, ℕ, ◌↔◌, [], ◌∷◌, Is
 ghost use Rattle.std.specs.Slice.Iter.{iter_rest};
 ghost use Rattle.rpki_text.specs.Memory.{IsMemory};
 ghost use Rattle.rpki_text.specs.Reading.{AnswersOrMemory};
-ghost use Rattle.rpki_chains.specs.Equality.{same_runs};
-ghost use Rattle.rpki_chains.specs.EqualityLaws.{runs_per, runs_equiv};
+ghost use Rattle.rpki_chain_core.specs.Equality.{same_runs};
+ghost use Rattle.rpki_chain_core.specs.EqualityLaws.{runs_per, runs_equiv};
 ghost use Rattle.rpki_chain.specs.Operations.{IsDifference, IsIntersection, IsUnion};
 ghost use Rattle.rpki_chain.specs.Runs.{Runs, Holds, IsRunsOfBlocks};
-ghost use Rattle.rpki_chains.specs.Sets.{IsChain, IsWithin};
+ghost use Rattle.rpki_chain_core.specs.Sets.{IsChain, IsWithin};
 ghost use Rattle.rpki_ip.specs.Ranges.{range_bounds};
 ghost use Rattle.rpki_ip.specs.Whole.{IsWhole};
 ghost use Rattle.rpki_der.specs.declared.family.AddressFamily.TheVariants.{Ipv4, Ipv6};
@@ -150,10 +150,10 @@ impl<A: Allocator> IpBlocks<A> {
     ///
     /// This call is no test. It does nothing and returns nothing.
     #[doc(hidden)]
-    pub fn is_lawful(&self)
+    pub fn recall_invariant(&self)
         ensures { IsIpSet self.now }
     {
-        self.set.is_lawful();
+        self.set.recall_invariant();
     }
 
     /// Iterates over the blocks of the set, ascending: its runs, each as a Prefix if possible, else as a Range.
@@ -189,7 +189,7 @@ impl<A: Allocator> IpBlocks<A> {
     }
 
     /// Returns the set for display as a set of `family`, as [`IpBlocks::as_v4`] or [`IpBlocks::as_v6`] does.
-    pub fn as_family(&self, family: AddressFamily) -> IpBlocksForFamily<'_, A>
+    pub fn display_with_family(&self, family: AddressFamily) -> IpBlocksForFamily<'_, A>
         ensures { result ≡ (family, self.now) }
     {
         IpBlocksForFamily::of(family, self)
@@ -205,7 +205,7 @@ impl<A: Allocator> IpBlocks<A> {
     ///   [`FromStrError::FamilyMismatch`] if the element has a colon in a list of IPv4, or a dot and no colon in a list
     ///   of IPv6. Else it is the element's own fault.
     /// - [`OrMemory::Memory`]: an allocation failed.
-    pub fn from_family_str(
+    pub fn from_str_with_family(
         alloc: A,
         family: AddressFamily,
         text: &str,
@@ -257,7 +257,7 @@ impl<A: Allocator> IpBlocks<A> {
         self.set.contains(&other.set)
     }
 
-    /// Returns whether the set has every address of a range, for example of an entry of a ROA (route origin
+    /// Returns whether the set has every address of a range, for example of a prefix of a ROA (route origin
     /// authorization).
     pub fn contains_roa(&self, addr: AddressRange) -> bool
         ensures { IsTrue result ↔ ((n : ℕ) → IsWithin (range_bounds addr) n → Holds self.now n) }

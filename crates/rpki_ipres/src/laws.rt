@@ -68,9 +68,9 @@ pub fn printed_sets()
         IsFamilySet family set → IsSetOf (HasBlocks family (set_text family set)) set }
     ensures one_set { (family : _) (text : List ℕ) (a b : Runs) →
         IsSetOf (HasBlocks family text) a → IsSetOf (HasBlocks family text) b → a ≡ b }
-    ensures written_untold { (family : _) (set : Runs) →
+    ensures written_without_family { (family : _) (set : Runs) →
         IsFamilySet family set → IsSetOf (HasIpBlocks (set_text family set)) set }
-    ensures one_set_untold { (text : List ℕ) (a b : Runs) →
+    ensures one_set_without_family { (text : List ℕ) (a b : Runs) →
         IsSetOf (HasIpBlocks text) a → IsSetOf (HasIpBlocks text) b → a ≡ b }
     ensures alike { (family : _) (a b : Runs) → IsFamilySet family a → IsFamilySet family b →
         (set_text family a ≡ set_text family b) ↔ ((n : ℕ) → Holds a n ↔ Holds b n) }

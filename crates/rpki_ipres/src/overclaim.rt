@@ -1,7 +1,7 @@
 //! Faults of claims of addresses, with the overclaimed addresses.
 ghost use Rattle.std.specs.Prelude.{◌≡◌, ◌↔◌, IsTrue, IfOk, Some};
-ghost use Rattle.rpki_chains.specs.Equality.{same_runs};
-ghost use Rattle.rpki_chains.specs.EqualityLaws.{runs_per, runs_equiv};
+ghost use Rattle.rpki_chain_core.specs.Equality.{same_runs};
+ghost use Rattle.rpki_chain_core.specs.EqualityLaws.{runs_per, runs_equiv};
 ghost use Rattle.rpki_chain.specs.Runs.{Holds};
 ghost use Rattle.rpki_ip.specs.Whole.{IsWhole};
 ghost use Rattle.rpki_ipres.specs.Families.{IsWholeIn};
@@ -45,9 +45,9 @@ impl<A: Allocator> OverclaimedIpResources<A> {
     /// Returns the fault for display as a fault of `family`, without the precondition of
     /// [`OverclaimedIpResources::v4`].
     ///
-    /// The family is a value, and the fault is borrowed. [`OverclaimedIpResources::of_family`] takes the fault, and the
-    /// family is a type. Internal API of the crates above: a caller prints the fault that `v4` or `v6` returns.
-    pub fn as_family(&self, family: AddressFamily) -> OverclaimedForFamily<'_, A>
+    /// The family is a value, and the fault is borrowed. [`OverclaimedIpResources::into_family`] takes the fault, and
+    /// the family is a type. Internal API of the crates above: a caller prints the fault that `v4` or `v6` returns.
+    pub fn display_with_family(&self, family: AddressFamily) -> OverclaimedForFamily<'_, A>
         ensures { result ≡ (family, self.now) }
     {
         OverclaimedForFamily {
@@ -79,14 +79,14 @@ impl<A: Allocator> OverclaimedIpResources<A> {
 
     /// Returns the fault as a fault of the family `F`.
     ///
-    /// The family is a type, and the fault is taken. [`OverclaimedIpResources::as_family`] borrows the fault, and the
-    /// family is a value.
+    /// The family is a type, and the fault is taken. [`OverclaimedIpResources::display_with_family`] borrows the fault,
+    /// and the family is a value.
     ///
     /// # Preconditions
     ///
     /// In IPv4 the overclaimed addresses are whole IPv4 addresses, as [`IpBlocks::is_whole_v4`] tests. They are if the
     /// set and all claims consist of whole IPv4 addresses.
-    pub fn of_family<F: Family>(self) -> OverclaimedFamilyResources<F, A>
+    pub fn into_family<F: Family>(self) -> OverclaimedFamilyResources<F, A>
         requires { IsWholeIn F.FAMILY self }
         ensures { result ≡ self }
     {
@@ -106,14 +106,14 @@ impl<A: Allocator> OverclaimedIpResources<A> {
         requires { IsWhole (Holds self) }
         ensures { result ≡ self }
     {
-        self.of_family()
+        self.into_family()
     }
 
     /// Returns the fault as a fault of IPv6.
     pub fn v6(self) -> OverclaimedIpv6Resources<A>
         ensures { result ≡ self }
     {
-        self.of_family()
+        self.into_family()
     }
 }
 
@@ -181,7 +181,7 @@ impl<'a, A: Allocator> fmt::Display for OverclaimedForFamily<'a, A> {
             AddressFamily::Ipv6 => "overclaimed IPv6 resources: ",
         };
         f.write_str(what)?;
-        fmt::Display::fmt(&self.excess.as_family(self.family), f)
+        fmt::Display::fmt(&self.excess.display_with_family(self.family), f)
     }
 }
 

@@ -11,7 +11,7 @@ impl<A: Allocator> IpBlocks<A> {
     ///
     /// The list has all prefixes inside the set that have length 0 or whose parent (one bit shorter) isn't inside. If
     /// the set consists of whole IPv4 addresses ([`IpBlocks::is_whole_v4`]), the lengths are at most 32.
-    #[tactic(auto, using(crate::proofs::CoverLemmas::set_covered))]
+    #[tactic(auto, using(crate::proofs::IpSetCoverLemmas::set_covered))]
     pub fn prefixes(&self) -> SetPrefixes<'_>
         ensures { IsShortestCover 128 (Holds self.now) result }
     {

@@ -4,9 +4,9 @@ ghost use Rattle.rpki_text.specs.Memory.{IsMemory};
 ghost use Rattle.rpki_chain.specs.Choices.{IsRefused, ListsBy, MatchChoice, if_present};
 ghost use Rattle.rpki_der.specs.SequenceWriting.{sequence_octets};
 ghost use Rattle.rpki_der.specs.FamiliesDer.{option_der};
-ghost use Rattle.rpki_chains.specs.Equality.{same_runs};
-ghost use Rattle.rpki_chains.specs.EqualityLaws.{runs_per, runs_equiv};
-ghost use Rattle.rpki_chains.specs.Sets.{IsChain};
+ghost use Rattle.rpki_chain_core.specs.Equality.{same_runs};
+ghost use Rattle.rpki_chain_core.specs.EqualityLaws.{runs_per, runs_equiv};
+ghost use Rattle.rpki_chain_core.specs.Sets.{IsChain};
 ghost use Rattle.rpki_chain.specs.ChoiceDer.{choice_octets};
 ghost use Rattle.rpki_chain.specs.ChoiceEquality.{choice_eq};
 ghost use Rattle.rpki_chain.specs.ChoiceEqualityLaws.{choice_per, choice_equiv};
@@ -21,7 +21,7 @@ ghost use Rattle.rpki_ipres.specs.ResourcesDer.{ip_member_der, ip_resources_der}
 use crate::blocks::IpBlocks;
 use rpki_chain::choice::{InheritedResources, Listed, ResourcesChoice};
 use rpki_chain::der::make_set;
-use rpki_chain::path::Claims;
+use rpki_chain::path::BlockClaim;
 use rpki_chain::set::BlockSet;
 use rpki_ip_block::block::IpBlock;
 use rpki_text::memory::OrMemory;
@@ -175,7 +175,7 @@ impl<A: Allocator> IpResources<A> {
     }
 
     /// Returns the listed blocks, ascending.
-    #[tactic(auto, using(crate::proofs::SetWritten::written_as_runs))]
+    #[tactic(auto, using(crate::proofs::IpSetWritten::written_as_runs))]
     pub(crate) fn as_choice(&self) -> ResourcesChoice<&[IpBlock]>
         ensures octets { choice_octets (λ blocks. sequence_octets ip_block_der blocks.now) result
             ≡ ip_resources_der self.now }
@@ -225,7 +225,7 @@ impl<A: Allocator> Listed for IpBlocks<A> {
     }
 }
 
-impl<A: Allocator> Claims<IpBlock, A> for IpResources<A> {
+impl<A: Allocator> BlockClaim<IpBlock, A> for IpResources<A> {
     ghost claim = { λ claim. claim };
 
     fn claimed(&self) -> ResourcesChoice<&BlockSet<IpBlock, A>> {

@@ -8,7 +8,7 @@ ghost use Rattle.rpki_chain.specs.Runs.{Holds};
 use crate::blocks::IpBlocks;
 use crate::overclaim::OverclaimedIpResources;
 use crate::resources::IpResources;
-use rpki_chain::path::{Claims, Overclaim, PathRefusal, Step};
+use rpki_chain::path::{BlockClaim, Overclaim, PathRefusal, Step};
 use rpki_text::memory::OrMemory;
 use std::alloc::{Allocator, Global};
 

@@ -8,7 +8,7 @@ pub use Rattle.std.specs.declared.cmp.Ordering.TheVariants.{Equal}
 pub use Rattle.rpki_addr.proofs.AddressBytes.{ip_bytes, no_slash, not_dash}
 pub use Rattle.rpki_addr.specs.declared.addr.IpAddr.{IpAddr}
 pub use Rattle.rpki_addr.specs.declared.addr.IpAddr.TheVariants.{V4, V6}
-pub use Rattle.rpki_cover.proofs.Masks.{clear_host, host_ones, set_host}
+pub use Rattle.rpki_cover.proofs.BitMasks.{clear_host, host_ones, set_host}
 pub use Rattle.rpki_text.proofs.CutLemmas.{around_at, none_around}
 pub use Rattle.rpki_text.proofs.NumberTexts.{IsNumberText-decimal, IsNumberText-one}
 pub use Rattle.rpki_text.proofs.ReadingLemmas.{Answers-from_found}

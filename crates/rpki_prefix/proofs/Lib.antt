@@ -1,6 +1,6 @@
 pub mod Common
-pub mod Covering
 pub mod HostBits
 pub mod MaxLenLemmas
-pub mod OrderLemmas
-pub mod TextLemmas
+pub mod PrefixCovering
+pub mod PrefixOrderLemmas
+pub mod PrefixTextLemmas

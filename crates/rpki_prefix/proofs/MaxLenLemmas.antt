@@ -1,4 +1,4 @@
--- A text writes one prefix with a greatest length or without, or has one fault; and what is printed writes what it was
+-- A text writes one prefix with a maximum length or without, or has one fault; and what is printed writes what it was
 -- printed of.
 use Rattle.rpki_prefix.proofs.Common.{List, MatchResult, None, Option, Result, Some, ap, append-nil, arith, decimal, inl, inr, length, refl, subst, ℕ, ◌++◌, ◌-◌, ◌^◌, ◌≡◌, ip_bytes, not_dash, none_around, IsNumberText-decimal, IsNumberText-one, Answers-from_found, Around, HasNo, dash, HasMaxLen, HasMaxLenError, HasMaxLenTextFault, IsMaxLenOf, IsMaxLenText, IsMaxLenTextOf, MaxLenValue, ReadsMaxLen, max_text, IsPrefixText, prefix_text, FamilyPrefix, IsFamilyPrefix, ParsePrefixError}
 use Rattle.std.proofs.lemmas.Fmt.{decimal_is_IsNumeral}
@@ -9,16 +9,16 @@ use Rattle.rpki_prefix.specs.declared.error.MaxLenError.{MaxLenError}
 use Rattle.rpki_prefix.specs.declared.error.ParseMaxLenPrefixError.{ParseMaxLenPrefixError}
 use Rattle.rpki_prefix.specs.declared.error.ParseMaxLenPrefixError.TheVariants.{InvalidPrefix, InvalidMaxLenFormat, InvalidMaxLenValue}
 use Rattle.rpki_addr.proofs.WidthLemmas.{width_small}
-use Rattle.rpki_prefix.proofs.TextLemmas.{both_around, number_apart, same_number_fault, IsPrefixText-one, IsPrefixText-no_fault, HasPrefixTextFault-one, IsPrefixText-prefix_text}
+use Rattle.rpki_prefix.proofs.PrefixTextLemmas.{both_around, number_apart, same_number_fault, IsPrefixText-one, IsPrefixText-no_fault, HasPrefixTextFault-one, IsPrefixText-prefix_text}
 
--- a text has one prefix and one greatest length round its first dash: what holds of some holds of others
+-- a text has one prefix and one maximum length round its first dash: what holds of some holds of others
 both_carry : (text : List ℕ) (P : FamilyPrefix → ℕ → Type 0) (p q : FamilyPrefix) (m n : ℕ) → HasMaxLen text p m
     → HasMaxLen text q n → P p m → P q n
 both_carry text P p q m n h k is = both_around h k (λ l r x y.
     subst (λ o. P o n) (IsPrefixText-one l p q x.prefix_text y.prefix_text)
     (subst (P p) (IsNumberText-one (2 ^ 8 - 1) r m n x.max_len_text y.max_len_text) is))
 
--- a text writes one prefix and greatest length
+-- a text writes one prefix and maximum length
 value_one : (text : List ℕ) (p q : FamilyPrefix) (m n : Option ℕ) → IsMaxLenTextOf text p m → IsMaxLenTextOf text q n
     → (p ≡ q) × (m ≡ n)
 value_one text p q None None h k = (IsPrefixText-one text p q h.1 k.1, refl)
@@ -40,7 +40,7 @@ number_and_fault : (text : List ℕ) (p : FamilyPrefix) (n : ℕ) (f : _) → Ha
     → HasMaxLenTextFault text (InvalidMaxLenFormat f) → ⊥
 number_and_fault text p n f h k = both_around h k (λ l r x (q, is, fault). number_apart r n f x.max_len_text fault)
 
--- a greatest length of a prefix has no error, and any other has one
+-- a maximum length of a prefix has no error, and any other has one
 max_apart : (p : FamilyPrefix) (n : ℕ) (f : MaxLenError) → IsMaxLenOf p (Some n) → HasMaxLenError p (Some n) f → ⊥
 max_apart p n f h above = grind (arith)
 
@@ -48,7 +48,7 @@ max_error_one : (p : FamilyPrefix) (n : ℕ) (f g : MaxLenError) → HasMaxLenEr
     → HasMaxLenError p (Some n) g → f ≡ g
 max_error_one p n f g h k = grind (arith)
 
--- a text that writes a prefix and a greatest length has no fault
+-- a text that writes a prefix and a maximum length has no fault
 apart_of : (text : List ℕ) (p : FamilyPrefix) (m : Option ℕ) (e : ParseMaxLenPrefixError) → IsMaxLenTextOf text p m
     → HasMaxLenTextFault text e → ⊥
 apart_of text p None (InvalidPrefix f) h (inl k) = IsPrefixText-no_fault text p f h.1 k.1

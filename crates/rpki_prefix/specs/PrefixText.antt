@@ -4,7 +4,7 @@ use Rattle.rpki_addr.specs.AddressText.{IsIpText}
 use Rattle.rpki_text.specs.Cuts.{HasNo, Around, slash}
 use Rattle.rpki_text.specs.Numbers.{IsNumberText, HasNumberFault, number_fault_text}
 use Rattle.rpki_addr.specs.PrintedAddress.{ip_text}
-use Rattle.rpki_addr.specs.ReadsAddress.{address_fault_text}
+use Rattle.rpki_addr.specs.FromStrResults.{address_fault_text}
 use Rattle.rpki_text.specs.Reading.{Answers}
 use Rattle.rpki_addr.specs.declared.addr.AddrParseError.TheVariants.{Ip}
 use Rattle.rpki_addr.specs.declared.addr.IpAddr.{IpAddr}

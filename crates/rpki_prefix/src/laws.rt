@@ -19,7 +19,7 @@ pub fn equal_where_the_same()
 
 /// The order of prefixes is total, and two prefixes tie if and only if they are the same. The same holds with maximum
 /// lengths.
-#[tactic(auto, using(crate::proofs::OrderLemmas::max_len_one_place, crate::proofs::OrderLemmas::max_len_total, crate::proofs::OrderLemmas::prefix_total))]
+#[tactic(auto, using(crate::proofs::PrefixOrderLemmas::max_len_one_place, crate::proofs::PrefixOrderLemmas::max_len_total, crate::proofs::PrefixOrderLemmas::prefix_total))]
 pub fn total_order()
     ensures total { IsTotalOrder ⟦<Prefix as Ord>⟧.cmp }
     ensures ties { (p q : FamilyPrefix) → (⟦<Prefix as Ord>⟧.cmp p q ≡ Equal) ↔ (p ≡ q) }

@@ -102,7 +102,7 @@ impl MaxLenPrefix {
     ///
     /// This call is no test. It does nothing and returns nothing.
     #[doc(hidden)]
-    pub fn is_lawful(self)
+    pub fn recall_invariant(self)
         ensures { IsMaxLenPrefix self }
     {
         let _max_len = self.max_len;

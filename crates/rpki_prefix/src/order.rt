@@ -18,7 +18,7 @@ impl Prefix {
     /// Returns whether both prefixes are of one family, and each address of `other` is an address of `self`.
     ///
     /// In the order of prefixes, no prefix is before a prefix that it covers.
-    #[tactic(auto, using(crate::proofs::Covering::covering))]
+    #[tactic(auto, using(crate::proofs::PrefixCovering::covering))]
     pub fn covers(self, other: Prefix) -> bool
         ensures value { IsTrue result ↔ CoversPrefix self other }
         ensures order { IsTrue result → is_lt (prefix_cmp self other) ≡ false }

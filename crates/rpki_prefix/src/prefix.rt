@@ -161,7 +161,7 @@ impl Prefix {
     ///
     /// This call is no test. It does nothing and returns nothing.
     #[doc(hidden)]
-    pub fn is_lawful(self)
+    pub fn recall_invariant(self)
         ensures { IsFamilyPrefix self }
     {
         let _len = self.len;

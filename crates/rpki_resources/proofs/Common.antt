@@ -4,7 +4,7 @@ pub use Rattle.std.specs.Prelude.{IfOk, MatchResult, if◌then◌else◌}
 pub use Rattle.rpki_as.specs.ListText.{IsAsListText, as_list_text}
 pub use Rattle.rpki_chain.specs.Operations.{IsDifference, IsUnion}
 pub use Rattle.rpki_chain.specs.Runs.{Holds, IsRunsOf, Runs}
-pub use Rattle.rpki_chains.proofs.Chains.{Covers-nil}
+pub use Rattle.rpki_chain_core.proofs.Chains.{Covers-nil}
 pub use Rattle.rpki_text.specs.Memory.{IsMemory}
 pub use Rattle.rpki_text.specs.declared.memory.OrMemory.{OrMemory}
 pub use Rattle.rpki_resources.specs.TripleText.{IsIpv4ListText, IsIpv6ListText, IsTripleText, ipv4_list_text, ipv6_list_text, kind_text}

@@ -1,7 +1,7 @@
 mod ChangeLemmas
-mod ClaimLemmas
 pub mod Common
 mod KindLemmas
-mod MadeLemmas
+mod ListedClaimLemmas
 mod PrintLemmas
-mod TextLemmas
+mod TripleLemmas
+mod TripleTextLemmas

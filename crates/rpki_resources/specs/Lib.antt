@@ -6,7 +6,7 @@ pub mod TripleText
 pub use Rattle.rpki_text.specs.Memory
 pub use Rattle.rpki_text.specs.Reading
 pub use Rattle.rpki_der.specs.declared.family.AddressFamily
-pub use Rattle.rpki_chains.specs.Sets
+pub use Rattle.rpki_chain_core.specs.Sets
 pub use Rattle.rpki_chain.specs.Choices
 pub use Rattle.rpki_chain.specs.Claims
 pub use Rattle.rpki_chain.specs.Operations

@@ -1,6 +1,6 @@
 -- Equality of sets of the three kinds, and of changes, is an equivalence.
 use Rattle.std.specs.Cmp.{IsEquivalence, IsPartialEquivalence, on_equiv, and_equiv, partial_equiv_from_equiv}
-use Rattle.rpki_chains.specs.EqualityLaws.{runs_equiv}
+use Rattle.rpki_chain_core.specs.EqualityLaws.{runs_equiv}
 use Rattle.rpki_resources.specs.Triples.{Changes, Triple, are_same_changes, is_same_triple}
 
 pub triples_equiv : IsEquivalence is_same_triple

@@ -1,6 +1,6 @@
 -- Sets of the three kinds of resources (RFC 3779, 2 and 3), and the changes between two sets.
 use Rattle.std.specs.Prelude.{◌≡◌, ℕ, ◌↔◌, ◌⊎◌, [], ◌∷◌, Bool, true, false, ◌&&◌}
-use Rattle.rpki_chains.specs.Equality.{same_runs}
+use Rattle.rpki_chain_core.specs.Equality.{same_runs}
 use Rattle.rpki_chain.specs.Claims.{Claim}
 use Rattle.rpki_chain.specs.Operations.{IsUnion, IsIntersection, IsDifference}
 use Rattle.rpki_chain.specs.Runs.{Runs, Holds}

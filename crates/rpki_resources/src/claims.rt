@@ -27,7 +27,7 @@ impl<A: Allocator> ResourceSet<A> {
     ///
     /// - `Refused` with [`InheritError`] if a claim is inherited. It is returned even if an allocation fails.
     /// - `Memory` if an allocation fails.
-    #[tactic(auto, using(crate::proofs::ClaimLemmas::lists))]
+    #[tactic(auto, using(crate::proofs::ListedClaimLemmas::lists))]
     pub fn from_resources(
         asn: &AsResources<A>,
         ipv4: &IpResources<A>,

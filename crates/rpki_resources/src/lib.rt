@@ -6,8 +6,8 @@
 //! Read a set from three lists, as in the program `rows_calls`:
 //!
 //! ```rust
-//! let (asn, addresses) = cut(lists, ';');
-//! let (ipv4, ipv6) = cut(addresses, ';');
+//! let (asn, addresses) = cut_trimmed_at(lists, ';');
+//! let (ipv4, ipv6) = cut_trimmed_at(addresses, ';');
 //! ResourceSet::from_strs(alloc, asn, ipv4, ipv6)
 //! ```
 #![tactic(auto)]

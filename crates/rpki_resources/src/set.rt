@@ -1,6 +1,6 @@
 //! Sets of AS numbers, IPv4 addresses and IPv6 addresses.
 ghost use Rattle.std.specs.Prelude.{◌≡◌, ◌≢◌, ℕ, ◌↔◌, [], IsTrue, IfOk, Ok, Err, MatchOption, MatchResult};
-ghost use Rattle.rpki_chains.specs.Sets.{IsWithin};
+ghost use Rattle.rpki_chain_core.specs.Sets.{IsWithin};
 ghost use Rattle.rpki_chain.specs.Runs.{Holds};
 ghost use Rattle.rpki_as.specs.Blocks.{IsAsSet};
 ghost use Rattle.rpki_ip.specs.Ranges.{range_bounds};
@@ -101,12 +101,12 @@ impl<A: Allocator> ResourceSet<A> {
     ///
     /// This call is no test. It does nothing and returns nothing.
     #[doc(hidden)]
-    pub fn is_lawful(&self)
+    pub fn recall_invariant(&self)
         ensures { IsTriple self.now }
     {
-        self.asn.is_lawful();
-        self.ipv4.is_lawful();
-        self.ipv6.is_lawful();
+        self.asn.recall_invariant();
+        self.ipv4.recall_invariant();
+        self.ipv6.recall_invariant();
     }
 
     /// Returns whether the set has no resources of any kind.
@@ -115,7 +115,7 @@ impl<A: Allocator> ResourceSet<A> {
         ensures none { IsTrue result ↔ (self.now ≡ no_resources) }
         ensures kinds { IsTriple self.now }
     {
-        self.is_lawful();
+        self.recall_invariant();
         self.asn.is_empty() && self.ipv4.is_empty() && self.ipv6.is_empty()
     }
 
@@ -145,7 +145,7 @@ impl<A: Allocator> ResourceSet<A> {
         ensures value { result.now ≡ self.now.asn }
         ensures set { IsAsSet self.now.asn }
     {
-        self.asn.is_lawful();
+        self.asn.recall_invariant();
         &self.asn
     }
 
@@ -154,7 +154,7 @@ impl<A: Allocator> ResourceSet<A> {
         ensures value { result.now ≡ self.now.ipv4 }
         ensures set { IsFamilySet Ipv4 self.now.ipv4 }
     {
-        self.ipv4.is_lawful();
+        self.ipv4.recall_invariant();
         &self.ipv4
     }
 
@@ -163,7 +163,7 @@ impl<A: Allocator> ResourceSet<A> {
         ensures value { result.now ≡ self.now.ipv6 }
         ensures set { IsFamilySet Ipv6 self.now.ipv6 }
     {
-        self.ipv6.is_lawful();
+        self.ipv6.recall_invariant();
         &self.ipv6
     }
 
@@ -218,7 +218,7 @@ impl<A: Allocator> ResourceSet<A> {
 
     /// Returns whether the set has each address of a range, by its addresses of the given family.
     ///
-    /// Use it for the addresses of a ROA's entries (RFC 9582, 4.3).
+    /// Use it for the addresses of a ROA's prefixes (RFC 9582, 4.3).
     pub fn contains_roa_address(&self, family: AddressFamily, addresses: AddressRange) -> bool
         ensures { IsTrue result ↔ ((n : ℕ) → IsWithin (range_bounds addresses) n
             → Holds (set_of_family family self.now) n) }
@@ -234,7 +234,7 @@ impl<A: Allocator> ResourceSet<A> {
     /// # Errors
     ///
     /// [`AllocError`] if an allocation fails.
-    #[tactic(auto, using(crate::proofs::MadeLemmas::made))]
+    #[tactic(auto, using(crate::proofs::TripleLemmas::made))]
     pub fn union(&self, alloc: A, other: &ResourceSet<A>) -> Result<ResourceSet<A>, AllocError>
     where
         A: Copy,
@@ -250,7 +250,7 @@ impl<A: Allocator> ResourceSet<A> {
     /// # Errors
     ///
     /// [`AllocError`] if an allocation fails.
-    #[tactic(auto, using(crate::proofs::MadeLemmas::made))]
+    #[tactic(auto, using(crate::proofs::TripleLemmas::made))]
     pub fn intersection(
         &self,
         alloc: A,
@@ -270,7 +270,7 @@ impl<A: Allocator> ResourceSet<A> {
     /// # Errors
     ///
     /// [`AllocError`] if an allocation fails.
-    #[tactic(auto, using(crate::proofs::MadeLemmas::made))]
+    #[tactic(auto, using(crate::proofs::TripleLemmas::made))]
     pub fn minus(&self, alloc: A, other: &ResourceSet<A>) -> Result<ResourceSet<A>, AllocError>
     where
         A: Copy,

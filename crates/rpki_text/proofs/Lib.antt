@@ -3,9 +3,9 @@ pub mod Common
 pub mod CutLemmas
 pub mod DigitLemmas
 pub mod LineLemmas
-pub mod ListLemmas
 pub mod NumberLemmas
 pub mod NumberTexts
-pub mod PrintedLemmas
+pub mod PrintedListLemmas
 pub mod ReadingLemmas
+pub mod TextListLemmas
 pub mod TrimLemmas

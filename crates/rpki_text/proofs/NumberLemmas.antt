@@ -4,7 +4,7 @@ use Rattle.std.proofs.lemmas.Int.Digits.{digits_more, digits_value_is, number_af
 use Rattle.std.proofs.lemmas.List.{nil_from_length}
 use Rattle.rpki_text.specs.declared.number.ParseIntError.{ParseIntError}
 use Rattle.rpki_text.specs.declared.number.ParseIntError.TheVariants.{Empty, InvalidDigit}
-use Rattle.rpki_text.proofs.ListLemmas.{parts_at}
+use Rattle.rpki_text.proofs.TextListLemmas.{parts_at}
 
 -- a beginning of digits writes no more than all of them
 value_front : (xs ys : List ℕ) → digits_value 10 xs ≤ digits_value 10 (xs ++ ys)

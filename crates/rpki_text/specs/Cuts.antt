@@ -1,5 +1,5 @@
 -- Texts split at the first occurrence of a byte.
-use Rattle.std.specs.Prelude.{◌≡◌, ℕ, ◌≢◌, List, ◌∷◌, ◌++◌, EachIndex, slice_index}
+use Rattle.std.specs.Prelude.{◌≡◌, ◌==◌, ℕ, ◌≢◌, Bool, List, ◌∷◌, ◌++◌, EachIndex, slice_index}
 
 -- `b'-'`
 abbrev pub dash : ℕ
@@ -8,6 +8,10 @@ dash = 45
 -- `b'/'`
 abbrev pub slash : ℕ
 slash = 47
+
+-- the space, which ends a word
+abbrev pub is_space : ℕ → Bool
+is_space byte = byte == 32
 
 -- no byte of the text is b
 abbrev pub HasNo : ℕ → List ℕ → Type 0

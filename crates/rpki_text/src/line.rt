@@ -12,7 +12,7 @@ use memchr::memchr;
 ///
 /// The text is not empty.
 #[tactic(auto, using(crate::proofs::LineLemmas::first_line, crate::proofs::LineLemmas::only_line))]
-pub fn cut_line(text: &[u8]) -> (&[u8], &[u8])
+pub fn cut_at_line_end(text: &[u8]) -> (&[u8], &[u8])
     requires { 0 < length text.now }
     ensures first { lines_of text.now ≡ result.0.now ∷ lines_of result.1.now }
     ensures shorter { length result.1.now < length text.now }

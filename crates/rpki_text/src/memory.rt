@@ -49,8 +49,8 @@ pub fn refused_as<T, E, D, F: FnOnce(E) -> D>(
 ) -> Result<T, OrMemory<D>>
     requires { (error : _) → answer ≡ Err error → ForRefused error (F.pre f) }
     ensures { MatchResult answer (λ value. result ≡ Ok value)
-        (λ error. IsErrAnd result (λ told. MatchOrMemory error
-        (λ fault. IsRefusedAnd told (F.post f fault)) (IsMemory told))) }
+        (λ error. IsErrAnd result (λ outcome. MatchOrMemory error
+        (λ fault. IsRefusedAnd outcome (F.post f fault)) (IsMemory outcome))) }
 {
     match answer {
         Ok(value) => Ok(value),

@@ -66,7 +66,7 @@ fn read_digits(limit: u64, digits: &[u8]) -> Result<u64, ParseIntError>
 const FEW: usize = 10;
 
 /// Returns the index after the last byte that may be read of a number at index `start`.
-fn few_behind(start: usize, len: usize) -> usize
+fn few_end(start: usize, len: usize) -> usize
     requires { start ≤ len }
     ensures within { (result ≤ len) × (result ≤ start + 10) }
     ensures reached { (result ≡ len) ⊎ (result ≡ start + 10) }
@@ -88,7 +88,7 @@ pub fn digits_from(text: &[u8], start: usize) -> (u64, usize)
 {
     let mut value: u64 = 0;
     let mut end = start;
-    let stop = few_behind(start, text.len());
+    let stop = few_end(start, text.len());
     while end < stop {
         let byte = text[end];
         if !byte.is_ascii_digit() {

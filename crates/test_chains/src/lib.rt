@@ -9,6 +9,6 @@ mod chains;
 #[cfg(test)]
 mod checks;
 #[cfg(test)]
-mod small_sets;
+mod no_allocation;
 #[cfg(test)]
-mod unasked;
+mod small_sets;

@@ -1,5 +1,5 @@
 //! Runs over more octets than any intermediate buffer has: an input of more than 2^24, an answer of more than 2^16.
-use crate::seen::Engine;
+use crate::observed_run::Engine;
 use crate::slices::{Habits, SliceSink, SliceSource};
 use crate::streams::{SliceReader, SliceWriter};
 use lines_engine::adapters::{FromRead, IntoWrite};
@@ -37,13 +37,13 @@ fn is_answered(
     engine: Engine,
     input: &[u8],
     output: &[u8],
-    room: &mut [u8],
+    buffer: &mut [u8],
 ) -> bool {
     let mut reader = SliceReader {
         source: SliceSource::new(input, Habits::GOOD),
     };
     let mut writer = SliceWriter {
-        sink: SliceSink::new(room, Habits::GOOD),
+        sink: SliceSink::new(buffer, Habits::GOOD),
     };
     let ended = engine.run(
         alloc,
@@ -55,10 +55,10 @@ fn is_answered(
 
 fn is_answered_whole(alloc: Global, engine: Engine, output: &[u8]) -> Result<bool, AllocError> {
     let input = input(alloc)?;
-    let mut room = Vec::new(alloc);
-    room.resize(output.len() + 1, 0)?;
+    let mut buffer = Vec::new(alloc);
+    buffer.resize(output.len() + 1, 0)?;
     let is_large = input.len() > 1 << 24 && output.len() > 1 << 16;
-    Ok(is_large && is_answered(alloc, engine, &input, output, &mut room))
+    Ok(is_large && is_answered(alloc, engine, &input, output, &mut buffer))
 }
 
 fn all_is_answered(alloc: Global, engine: Engine) -> Result<bool, AllocError> {

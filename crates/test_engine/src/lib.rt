@@ -9,6 +9,8 @@ mod errors;
 #[cfg(test)]
 mod large;
 #[cfg(test)]
+mod observed_run;
+#[cfg(test)]
 mod refused;
 #[cfg(test)]
 mod retries;
@@ -16,8 +18,6 @@ mod retries;
 mod routes;
 #[cfg(test)]
 mod runs;
-#[cfg(test)]
-mod seen;
 #[cfg(test)]
 mod slices;
 #[cfg(test)]

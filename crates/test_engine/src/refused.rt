@@ -1,5 +1,5 @@
 //! The answers that a run has written when one of its requests for memory is refused.
-use crate::seen::{Engine, Row, run_own};
+use crate::observed_run::{Engine, Row, run_own};
 use crate::slices::Habits;
 use lines_engine::error::RunError;
 use std::alloc::Global;

@@ -1,14 +1,14 @@
 //! Reads that fail at first, by the adapters of `origins`, and its errors in code that passes errors up.
+use crate::observed_run::BUFFER_LEN;
 use crate::routes::{ANSWERS, FILES, ROUTES};
-use crate::seen::ROOM;
 use crate::slices::{Habits, SliceSink};
 use lines_engine::adapters::FromRead;
 use lines_engine::error::RunError;
-use origins_engine::error::{ChangesError, OriginsError, PayloadsError};
-use origins_engine::retrying::Retrying;
-use origins_engine::routes::answer_routes;
-use origins_engine::until_end::UntilEnd;
-use payload_texts::FileFault;
+use origins_lines::error::{ChangesError, OriginsError, ReadVrpsError};
+use origins_lines::retrying::Retrying;
+use origins_lines::routes::answer_routes;
+use origins_lines::until_end::UntilEnd;
+use roa_vrps::FileFault;
 use std::alloc::Global;
 use std::io;
 use std::io::{ErrorKind, Read};
@@ -48,11 +48,11 @@ fn answers(
     of_file: u64,
     of_routes: u64,
 ) -> Result<bool, OriginsError> {
-    let mut room = [0u8; ROOM];
-    let mut payloads = UntilEnd::new(as_read(FILES[0], kind, of_file));
+    let mut buffer = [0u8; BUFFER_LEN];
+    let mut vrps = UntilEnd::new(as_read(FILES[0], kind, of_file));
     let mut routes = FromRead::new(as_read(ROUTES, kind, of_routes));
-    let mut sink = SliceSink::new(&mut room, Habits::GOOD);
-    let count = answer_routes(heap, &mut payloads, false, &mut routes, &mut sink)?;
+    let mut sink = SliceSink::new(&mut buffer, Habits::GOOD);
+    let count = answer_routes(heap, &mut vrps, false, &mut routes, &mut sink)?;
     Ok(count == 2 && sink.written() == ANSWERS && sink.is_flushed())
 }
 
@@ -74,7 +74,7 @@ fn other_failed_reads_are_not_retried(rt: HostRuntime) {
     for kind in [ErrorKind::WouldBlock, ErrorKind::TimedOut, ErrorKind::Other] {
         let of_file = answers(rt.alloc(), kind, 1, 0);
         assert!(rt;
-            of_file == Err(OriginsError::Payloads(PayloadsError::Read)),
+            of_file == Err(OriginsError::Vrps(ReadVrpsError::Read)),
             "{of_file:?}"
         );
         let of_routes = answers(rt.alloc(), kind, 0, 1);
@@ -94,22 +94,22 @@ fn passed_up<E: std::error::Error + Drop>(error: E) -> anyhow::Result<()> {
 
 #[test]
 fn errors_are_passed_up(rt: HostRuntime) {
-    assert!(rt; passed_up(PayloadsError::Read).is_err());
+    assert!(rt; passed_up(ReadVrpsError::Read).is_err());
     assert!(rt; passed_up(OriginsError::Run(RunError::Read)).is_err());
-    assert!(rt; passed_up(ChangesError::New(PayloadsError::Read)).is_err());
+    assert!(rt; passed_up(ChangesError::New(ReadVrpsError::Read)).is_err());
 }
 
 #[test]
 fn errors_are_printed(rt: HostRuntime) {
-    let payloads = [
-        (PayloadsError::Read, "read failed"),
-        (PayloadsError::File(FileFault::NoPayload), "no payload"),
-        (PayloadsError::Memory, "out of memory"),
+    let vrps = [
+        (ReadVrpsError::Read, "read failed"),
+        (ReadVrpsError::File(FileFault::NoVrp), "no VRP"),
+        (ReadVrpsError::Memory, "out of memory"),
     ];
-    assert!(rt; all_print(rt.alloc(), &payloads) == Ok(true));
+    assert!(rt; all_print(rt.alloc(), &vrps) == Ok(true));
     let origins = [
         (
-            OriginsError::Payloads(PayloadsError::Memory),
+            OriginsError::Vrps(ReadVrpsError::Memory),
             "VRP file: out of memory",
         ),
         (OriginsError::Run(RunError::Write), "write failed"),
@@ -117,11 +117,11 @@ fn errors_are_printed(rt: HostRuntime) {
     assert!(rt; all_print(rt.alloc(), &origins) == Ok(true));
     let changes = [
         (
-            ChangesError::Old(PayloadsError::Read),
+            ChangesError::Old(ReadVrpsError::Read),
             "old VRP file: read failed",
         ),
         (
-            ChangesError::New(PayloadsError::Memory),
+            ChangesError::New(ReadVrpsError::Memory),
             "new VRP file: out of memory",
         ),
         (ChangesError::Run(RunError::Write), "write failed"),

@@ -1,9 +1,9 @@
 //! Runs of the engine of `origins` with memory refused.
-use crate::seen::ROOM;
+use crate::observed_run::BUFFER_LEN;
 use crate::slices::{Habits, SliceSink, SliceSource};
 use lines_engine::error::RunError;
-use origins_engine::error::{OriginsError, PayloadsError};
-use origins_engine::routes::answer_routes;
+use origins_lines::error::{OriginsError, ReadVrpsError};
+use origins_lines::routes::answer_routes;
 use std::alloc::Global;
 use test_support::{Outcome, Refusing, refuse_in_turn};
 
@@ -24,15 +24,15 @@ pub const ANSWERS: &[u8] = b"valid\ninvalid-length\ninvalid-as\nnot-found\n";
 /// If it was refused before the VRPs are read, no route was read and nothing written. If it was refused later, nothing
 /// was flushed.
 fn outcome(refusing: &Refusing<Global>, file: &'static [u8]) -> Outcome {
-    let mut room = [0u8; ROOM];
-    let mut payloads = SliceSource::new(file, Habits::GOOD);
+    let mut buffer = [0u8; BUFFER_LEN];
+    let mut vrps = SliceSource::new(file, Habits::GOOD);
     let mut routes = SliceSource::new(ROUTES, Habits::GOOD);
-    let mut sink = SliceSink::new(&mut room, Habits::GOOD);
-    let ended = answer_routes(refusing, &mut payloads, false, &mut routes, &mut sink);
+    let mut sink = SliceSink::new(&mut buffer, Habits::GOOD);
+    let ended = answer_routes(refusing, &mut vrps, false, &mut routes, &mut sink);
     let is_untouched = routes.calls() == 0 && sink.calls() == 0;
     match ended {
         Ok(2) if sink.written() == ANSWERS && sink.is_flushed() => Outcome::Expected,
-        Err(OriginsError::Payloads(PayloadsError::Memory)) if is_untouched => Outcome::OutOfMemory,
+        Err(OriginsError::Vrps(ReadVrpsError::Memory)) if is_untouched => Outcome::OutOfMemory,
         Err(OriginsError::Run(RunError::Memory)) if !sink.is_flushed() => Outcome::OutOfMemory,
         _ => Outcome::Unexpected,
     }

@@ -1,5 +1,5 @@
 //! Runs over devices that move few bytes, fail or fill up, and runs with memory refused.
-use crate::seen::{Devices, Engine, ROOM, Row, Seen, run_own};
+use crate::observed_run::{BUFFER_LEN, Devices, Engine, Row, Seen, run_own};
 use crate::slices::Habits;
 use lines_engine::error::RunError;
 use std::alloc::Global;
@@ -193,7 +193,7 @@ fn no_other_call_is_made(rt: HostRuntime) {
 /// Returns whether the sink was filled, and the error was then that of a write that took nothing.
 fn ends_when_full(run: (Engine, Devices), heap: Global) -> bool {
     let seen = seen_of(run, heap, &LONG, Habits::GOOD, Habits::GOOD);
-    let is_full = seen.written == ROOM && seen.begins && !seen.flushed;
+    let is_full = seen.written == BUFFER_LEN && seen.begins && !seen.flushed;
     matches!(seen.ended, Err(RunError::Write)) && is_full
 }
 

@@ -105,21 +105,21 @@ impl Source for SliceSource<'_> {
 /// A sink that writes into a slice.
 #[derive(Drop)]
 pub struct SliceSink<'a> {
-    room: &'a mut [u8],
+    buffer: &'a mut [u8],
     filled: usize,
     habits: Habits,
     calls: u64,
     failed: bool,
     flushed: bool,
-    ghost in_room: { filled ≤ length room.now },
+    ghost in_buffer: { filled ≤ length buffer.now },
 }
 
 impl<'a> SliceSink<'a> {
-    pub fn new(room: &'a mut [u8], habits: Habits) -> SliceSink<'a>
+    pub fn new(buffer: &'a mut [u8], habits: Habits) -> SliceSink<'a>
         ensures clear { result.failed ≡ false }
     {
         SliceSink {
-            room,
+            buffer,
             filled: 0,
             habits,
             calls: 0,
@@ -130,7 +130,7 @@ impl<'a> SliceSink<'a> {
 
     /// Returns the bytes that were written.
     pub fn written(&self) -> &[u8] {
-        &self.room[..self.filled]
+        &self.buffer[..self.filled]
     }
 
     /// Returns how many times it was called, to write or to flush.
@@ -157,7 +157,7 @@ impl<'a> SliceSink<'a> {
 }
 
 impl Sink for SliceSink<'_> {
-    ghost written = { λ sink. Some (take sink.filled sink.room.now) };
+    ghost written = { λ sink. Some (take sink.filled sink.buffer.now) };
 
     ghost mark = { λ sink. sink.failed };
 
@@ -171,12 +171,12 @@ impl Sink for SliceSink<'_> {
             self.failed = true;
             return Err(DeviceFault);
         }
-        let left = self.room.len() - self.filled;
+        let left = self.buffer.len() - self.filled;
         let count = self.habits.step.min(piece.len()).min(left);
         if count == 0 && !piece.is_empty() {
             self.failed = true;
         }
-        self.room[self.filled..self.filled + count].copy_from_slice(&piece[..count]);
+        self.buffer[self.filled..self.filled + count].copy_from_slice(&piece[..count]);
         self.filled += count;
         Ok(count)
     }

@@ -19,7 +19,7 @@ pub fn printed_and_read<A: Allocator + Copy>(
     ensures { IfOk result (λ read. read ≡ set.now) }
 {
     let text = format!(in alloc; "{set}")?;
-    set.is_lawful();
+    set.recall_invariant();
     match AsBlocks::from_str(alloc, text.as_str()) {
         Ok(read) => Ok(read),
         Err(OrMemory::Memory(error)) => Err(error),

@@ -20,15 +20,15 @@ ghost use Rattle.test_support.specs.Plans.{inner_of, plan_of, IsSomeRefusedCount
 
 use std::alloc::{AllocError, Allocator, Global};
 
-mod asking;
 mod in_turn;
 mod plan;
 mod requests;
+mod value_checks;
 
-pub use asking::{all_print, hash_of, holds_where_refused, prints, shows};
 pub use in_turn::{Outcome, refuse_in_turn};
 pub use plan::Plan;
 use requests::Requests;
+pub use value_checks::{all_print, hash_of, holds_where_refused, prints, shows};
 
 /// An allocator that refuses the requests that its plan selects, and passes the others on.
 ///
@@ -83,7 +83,7 @@ impl<A: Allocator> Refusing<A> {
     }
 
     /// Returns whether some request so far was refused. A run after which this is false met no refusal.
-    #[tactic(auto, using(crate::proofs::Counts::refuses_some))]
+    #[tactic(auto, using(crate::proofs::RefusalCounts::refuses_some))]
     pub fn has_refused(&self) -> bool
         ensures { IsTrue result → RefusesSome (plan_of self.now) }
     {

@@ -26,7 +26,7 @@ impl Plan {
     }
 
     /// Returns the number of refusals among the first `asked` requests.
-    #[tactic(auto, using(crate::proofs::Counts::among_none, crate::proofs::Counts::among_only, crate::proofs::Counts::among_all))]
+    #[tactic(auto, using(crate::proofs::RefusalCounts::among_none, crate::proofs::RefusalCounts::among_only, crate::proofs::RefusalCounts::among_all))]
     pub fn refused_among(self, asked: u64) -> u64
         ensures { result ≡ refused_among self asked }
     {

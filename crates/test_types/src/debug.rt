@@ -1,6 +1,6 @@
 // The output of `{:?}` for a value of each type. A derived one is the name and the fields in their order, as in std.
 use crate::checks::{holds, is_shown};
-use roa_origin::{OriginTable, PayloadTable};
+use roa_origin::{OriginTable, VrpTable};
 use rpki_as::block::AsBlock;
 use rpki_as::blocks::AsBlocks;
 use rpki_as::builder::{AsBlocksBuilder, AsResourcesBuilder};
@@ -14,9 +14,9 @@ use rpki_base::memory::OrMemory;
 use rpki_base::number::ParseIntError;
 use rpki_base::small_set::SmallAsnSet;
 use rpki_chain::path::{Overclaim, PathRefusal};
-use rpki_chains::owned::OwnedChain;
-use rpki_chains::shared::SharedChain;
-use rpki_extensions::error::{RefusedBelow, Unverified};
+use rpki_chain_core::owned::OwnedChain;
+use rpki_chain_core::shared::SharedChain;
+use rpki_extensions::error::{VerifyBelowError, VerifyError};
 use rpki_extensions::extensions::Claims;
 use rpki_family::v4::{Ipv4Block, Ipv4Blocks};
 use rpki_family::v6::{Ipv6Block, Ipv6Blocks};
@@ -345,7 +345,7 @@ fn shows_certificates(alloc: Global) -> bool {
 }
 
 fn shows_refusal(alloc: Global) -> bool {
-    let reason: RefusedBelow = RefusedBelow::Anchor(Unverified::Inherited);
+    let reason: VerifyBelowError = VerifyBelowError::Anchor(VerifyError::Inherited);
     let_go_is_shown(alloc, reason, "a trust anchor inherits resources")
 }
 
@@ -358,26 +358,26 @@ fn debug_of_certificates(rt: HostRuntime) {
 fn shows_table(alloc: Global, table: &OriginTable, prefix: Prefix) -> bool {
     let listed =
         "[(MaxLenPrefix { prefix: Prefix { addr: V4(Ipv4Addr(0)), len: 0 }, max_len: None }, Asn(7))]";
-    let sought = "Sought { route: Prefix { addr: V4(Ipv4Addr(0)), len: 0 }, asn: Asn(9), .. }";
+    let lookup = "Lookup { route: Prefix { addr: V4(Ipv4Addr(0)), len: 0 }, asn: Asn(9), .. }";
     let covering = "Covering { route: Prefix { addr: V4(Ipv4Addr(0)), len: 0 }, .. }";
     is_shown(alloc, table, listed)
-        && is_shown(alloc, &table.payloads(), listed)
-        && is_shown(alloc, &table.sought(prefix, Asn::from_u32(9)), sought)
+        && is_shown(alloc, &table.vrps(), listed)
+        && is_shown(alloc, &table.lookup(prefix, Asn::from_u32(9)), lookup)
         && is_shown(alloc, &table.covering(prefix), covering)
 }
 
-fn shows_changes_of(alloc: Global, table: &PayloadTable) -> bool {
-    let none = "PayloadChanges { announced: [], withdrawn: [] }";
+fn shows_changes_of(alloc: Global, table: &VrpTable) -> bool {
+    let none = "VrpChanges { announced: [], withdrawn: [] }";
     made_is_shown(alloc, table.changes_to(alloc, table), none)
 }
 
 /// Returns whether the tables of one VRP are printed.
 fn shows_tables(alloc: Global, prefix: Prefix) -> Result<bool, AllocError> {
-    let payloads = [(MaxLenPrefix::from(prefix), Asn::from_u32(7))];
+    let vrps = [(MaxLenPrefix::from(prefix), Asn::from_u32(7))];
     let sent =
         "[(MaxLenPrefix { prefix: Prefix { addr: V4(Ipv4Addr(0)), len: 0 }, max_len: Some(0) }, Asn(7))]";
-    let table = OriginTable::new(alloc, &payloads)?;
-    let to_send = PayloadTable::new(alloc, &payloads)?;
+    let table = OriginTable::new(alloc, &vrps)?;
+    let to_send = VrpTable::new(alloc, &vrps)?;
     let is_sent = is_shown(alloc, &to_send, sent) && shows_changes_of(alloc, &to_send);
     Ok(is_sent && shows_table(alloc, &table, prefix))
 }

@@ -173,7 +173,7 @@ fn is_saturated(row: &(&str, Option<u8>, Option<MaxLenError>, Option<u8>)) -> bo
 }
 
 #[test]
-fn greatest_lengths(rt: HostRuntime) {
+fn max_lens(rt: HostRuntime) {
     for row in &MAX_LENGTHS {
         holds(&rt, is_saturated(row));
     }

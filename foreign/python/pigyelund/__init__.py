@@ -15,7 +15,7 @@ A set of resources is the DER of two certificate extensions: AS identifiers (RFC
 (RFC 3779, 2.2.3). The value of an extension is empty if the set lists nothing there. The calls return canonical DER.
 Two sets that calls returned are equal if and only if their octets are equal.
 
-A VRP (validated ROA payload) is a `Payload` here. A call that fails raises a subclass of `Refused`. `pigyelund.raw` has
+A `Vrp` is a VRP (validated ROA payload). A call that fails raises a subclass of `PigyelundError`. `pigyelund.raw` has
 the same calls with the statuses and buffers of `pigyelund.h`.
 """
 
@@ -26,49 +26,49 @@ from ipaddress import IPv4Network, IPv6Network
 from typing import NamedTuple
 
 from . import raw
-from .raw import Family, Mismatch, Operation, Payload, Present, Rooms, Route, Status, Test, Told
-from .reasons import (
-    Absent,
-    BadChange,
-    BadNumber,
-    BadOctets,
-    BadOrigin,
-    Inherited,
-    NoMemory,
-    Overclaimed,
-    Refused,
+from .errors import (
+    BadNumberError,
+    ChangeError,
+    DerError,
+    InheritedError,
+    NoExtensionError,
+    OriginError,
+    OutOfMemoryError,
+    OverclaimedError,
+    PigyelundError,
     Resources,
-    refused,
+    error_for_status,
     status_text,
 )
+from .raw import CallResult, Comparison, Family, Lengths, Mismatch, Operation, Present, Route, Status, Vrp
 from .table import Covering, Table, Validity
 
 __all__ = [
-    "Absent",
-    "BadChange",
-    "BadNumber",
-    "BadOctets",
-    "BadOrigin",
+    "BadNumberError",
     "Certificate",
+    "ChangeError",
+    "Comparison",
     "Covering",
+    "DerError",
     "Encoding",
     "Extensions",
     "Family",
-    "Inherited",
+    "InheritedError",
     "Mismatch",
     "Mode",
-    "NoMemory",
+    "NoExtensionError",
     "Operation",
-    "Overclaimed",
-    "Payload",
+    "OriginError",
+    "OutOfMemoryError",
+    "OverclaimedError",
     "Pigyelund",
-    "Refused",
+    "PigyelundError",
     "Resources",
     "Route",
     "Status",
     "Table",
-    "Test",
     "Validity",
+    "Vrp",
     "raw",
     "status_text",
 ]
@@ -134,19 +134,19 @@ class Certificate(NamedTuple):
     mode: Mode = Mode.REFUSE
 
 
-def laid_out(certificates: Iterable[Certificate]) -> tuple[bytes, list[raw.Certificate]]:
+def concatenate(certificates: Iterable[Certificate]) -> tuple[bytes, list[raw.Certificate]]:
     """Writes the octets of all certificates into one array.
 
     Returns:
         The array, and the position of each certificate's octets in it.
     """
-    run, places = bytearray(), []
+    run, positions = bytearray(), []
     for extensions, mode in certificates:
         asn, ip = extensions.octets()
         at = len(run)
-        places.append(raw.Certificate(at, len(asn), at + len(asn), len(ip), extensions.present(), mode))
+        positions.append(raw.Certificate(at, len(asn), at + len(asn), len(ip), extensions.present(), mode))
         run += asn + ip
-    return bytes(run), places
+    return bytes(run), positions
 
 
 class Pigyelund:
@@ -156,8 +156,8 @@ class Pigyelund:
     or is empty, it is that file in the package's folder. If the package has no such file, the system's loader searches
     for it.
 
-    Every call except `version` may raise `NoMemory`, which says nothing about the input. A number in place of a member
-    of an enum raises `BadNumber` if no member has it, and `OverflowError` if it does not fit 32 bits.
+    Every call except `version` may raise `OutOfMemoryError`, which says nothing about the input. A number in place of a
+    member of an enum raises `BadNumberError` if no member has it, and `OverflowError` if it does not fit 32 bits.
 
     Args:
         path: The file of the shared library, or None.
@@ -196,14 +196,14 @@ class Pigyelund:
             The resources of the certificate.
 
         Raises:
-            BadOctets: An extension of the issuer or of the certificate is invalid.
-            Inherited: The issuer's set inherits, and does not list its resources.
-            Absent: The certificate has neither extension.
-            Overclaimed: The certificate overclaims, and `mode` is `Mode.REFUSE`. The attribute `excess` has the
+            DerError: An extension of the issuer or of the certificate is invalid.
+            InheritedError: The issuer's set inherits, and does not list its resources.
+            NoExtensionError: The certificate has neither extension.
+            OverclaimedError: The certificate overclaims, and `mode` is `Mode.REFUSE`. The attribute `excess` has the
                 overclaimed resources.
         """
         present, octets = certificate.present(), certificate.octets()
-        return with_room(lambda rooms: self.raw.verify(issuer, present, octets, encoding, mode, rooms))
+        return with_buffers(lambda capacities: self.raw.verify(issuer, present, octets, encoding, mode, capacities))
 
     def verify_path(
         self,
@@ -225,12 +225,12 @@ class Pigyelund:
             The resources of the last certificate, or the anchor's set if the path is empty.
 
         Raises:
-            Refused: The anchor's set is refused, or a certificate is not verified. The subclasses are those that
+            PigyelundError: The anchor's set is refused, or a certificate is not verified. The subclasses are those that
                 `verify` raises. The attribute `verified` is the number of verified certificates. It has no meaning with
-                `NoMemory`.
+                `OutOfMemoryError`.
         """
-        run, places = laid_out(certificates)
-        return with_room(lambda rooms: self.raw.verify_path(anchor, run, places, encoding, rooms))
+        run, positions = concatenate(certificates)
+        return with_buffers(lambda capacities: self.raw.verify_path(anchor, run, positions, encoding, capacities))
 
     def cover(
         self, ip: bytes, family: Family, encoding: Encoding = Encoding.LENIENT
@@ -246,51 +246,51 @@ class Pigyelund:
             The prefixes, ascending.
 
         Raises:
-            BadOctets: `ip` is invalid.
-            Inherited: `ip` inherits the addresses of either family.
+            DerError: `ip` is invalid.
+            InheritedError: `ip` inherits the addresses of either family.
         """
-        octets = with_room(lambda rooms: self.raw.cover(ip, encoding, family, rooms[0])).asn
+        octets = with_buffers(lambda capacities: self.raw.cover(ip, encoding, family, capacities[0])).asn
         if family == Family.V4:
             return [IPv4Network((octets[at : at + 4], octets[at + 4])) for at in range(0, len(octets), 5)]
         return [IPv6Network((octets[at : at + 16], octets[at + 16])) for at in range(0, len(octets), 17)]
 
-    def origins(self, payloads: Iterable[Payload], routes: Iterable[Route]) -> list[Validity]:
+    def origins(self, vrps: Iterable[Vrp], routes: Iterable[Route]) -> list[Validity]:
         """Validates routes against VRPs (RFC 6811, 2).
 
         Each call builds a table of the VRPs. Pass many routes at once, or keep a `table`.
 
         Args:
-            payloads: The VRPs, in any order.
+            vrps: The VRPs, in any order.
             routes: The routes to validate.
 
         Returns:
             The validity of each route, in the order of `routes`.
 
         Raises:
-            BadOrigin: A VRP is malformed, or else a route. The attribute `place` is the index of the first one.
+            OriginError: A VRP is malformed, or else a route. The attribute `index` is the index of the first one.
             TypeError: An item is of another type.
         """
         asked = list(routes)
-        told = self.raw.origins(list(payloads), asked, len(asked))
-        if told.status != Status.OK:
-            raise refused(told.status, place=told.number)
-        return [Validity(octet) for octet in told.held[0]]
+        result = self.raw.origins(list(vrps), asked, len(asked))
+        if result.status != Status.OK:
+            raise error_for_status(result.status, index=result.number)
+        return [Validity(octet) for octet in result.contents[0]]
 
-    def table(self, payloads: object) -> Table:
+    def table(self, vrps: object) -> Table:
         """Builds a table of VRPs, which lives until it is closed.
 
         Args:
-            payloads: The VRPs, in any order and in one of the forms that `Table` names. Duplicates are kept.
+            vrps: The VRPs, in any order and in one of the forms that `Table` names. Duplicates are kept.
 
         Returns:
             The table.
 
         Raises:
-            BadOrigin: A VRP is malformed. The attribute `place` is the index of the first one.
-            TypeError: `payloads`, or an item of it, is of another type.
+            OriginError: A VRP is malformed. The attribute `index` is the index of the first one.
+            TypeError: `vrps`, or an item of it, is of another type.
             ValueError: The octets of a buffer end within a VRP.
         """
-        return Table(self.raw, payloads)
+        return Table(self.raw, vrps)
 
     def answer(self, line: str) -> str:
         """Returns the answer of the program `respath` to a line. Errors in the line are part of the answer.
@@ -299,13 +299,13 @@ class Pigyelund:
             line: The line, without its line end. The answer has no line end either.
 
         Raises:
-            NoMemory: Out of memory.
+            OutOfMemoryError: Out of memory.
             UnicodeEncodeError: The line has a surrogate, which UTF-8 cannot encode.
         """
         octets = line.encode("utf-8")
-        return with_room(lambda rooms: self.raw.answer(octets, rooms[0])).asn.decode("utf-8")
+        return with_buffers(lambda capacities: self.raw.answer(octets, capacities[0])).asn.decode("utf-8")
 
-    def made(
+    def combine(
         self, operation: Operation, a: Resources, b: Resources, encoding: Encoding = Encoding.LENIENT
     ) -> Resources:
         """Applies a set operation to two sets.
@@ -320,40 +320,42 @@ class Pigyelund:
             The set that the operation makes.
 
         Raises:
-            BadOctets: An extension of `a`, or else of `b`, is invalid.
-            Inherited: A set inherits, and does not list its resources.
+            DerError: An extension of `a`, or else of `b`, is invalid.
+            InheritedError: A set inherits, and does not list its resources.
         """
-        return with_room(lambda rooms: self.raw.made(operation, a, b, encoding, rooms))
+        return with_buffers(lambda capacities: self.raw.combine(operation, a, b, encoding, capacities))
 
     def union(self, a: Resources, b: Resources, encoding: Encoding = Encoding.LENIENT) -> Resources:
         """Returns the union of `a` and `b`.
 
         Raises:
-            Refused: A set is not valid, as in `made`.
+            PigyelundError: A set is not valid, as in `combine`.
         """
-        return self.made(Operation.UNION, a, b, encoding)
+        return self.combine(Operation.UNION, a, b, encoding)
 
     def intersection(self, a: Resources, b: Resources, encoding: Encoding = Encoding.LENIENT) -> Resources:
         """Returns the intersection of `a` and `b`.
 
         Raises:
-            Refused: A set is not valid, as in `made`.
+            PigyelundError: A set is not valid, as in `combine`.
         """
-        return self.made(Operation.INTERSECTION, a, b, encoding)
+        return self.combine(Operation.INTERSECTION, a, b, encoding)
 
     def difference(self, a: Resources, b: Resources, encoding: Encoding = Encoding.LENIENT) -> Resources:
         """Returns the difference of `a` and `b`: the resources of `a` that `b` does not have.
 
         Raises:
-            Refused: A set is not valid, as in `made`.
+            PigyelundError: A set is not valid, as in `combine`.
         """
-        return self.made(Operation.DIFFERENCE, a, b, encoding)
+        return self.combine(Operation.DIFFERENCE, a, b, encoding)
 
-    def tested(self, test: Test, a: Resources, b: Resources, encoding: Encoding = Encoding.LENIENT) -> bool:
+    def compare(
+        self, comparison: Comparison, a: Resources, b: Resources, encoding: Encoding = Encoding.LENIENT
+    ) -> bool:
         """Evaluates a predicate on two sets.
 
         Args:
-            test: The predicate.
+            comparison: The predicate.
             a: The first set.
             b: The second set.
             encoding: The encodings that are accepted.
@@ -362,31 +364,31 @@ class Pigyelund:
             Whether the predicate holds.
 
         Raises:
-            Refused: A set is not valid, as in `made`.
+            PigyelundError: A set is not valid, as in `combine`.
         """
-        status = self.raw.tested(test, a, b, encoding)
+        status = self.raw.compare(comparison, a, b, encoding)
         if status not in (Status.OK, Status.NO):
-            raise refused(status)
+            raise error_for_status(status)
         return status == Status.OK
 
     def contains(self, a: Resources, b: Resources, encoding: Encoding = Encoding.LENIENT) -> bool:
         """Returns whether `a` has each AS number and each address of `b`.
 
         Raises:
-            Refused: A set is not valid, as in `made`.
+            PigyelundError: A set is not valid, as in `combine`.
         """
-        return self.tested(Test.CONTAINS, a, b, encoding)
+        return self.compare(Comparison.CONTAINS, a, b, encoding)
 
     def equal(self, a: Resources, b: Resources, encoding: Encoding = Encoding.LENIENT) -> bool:
         """Returns whether `a` and `b` are the same set.
 
         Raises:
-            Refused: A set is not valid, as in `made`.
+            PigyelundError: A set is not valid, as in `combine`.
         """
-        return self.tested(Test.EQUAL, a, b, encoding)
+        return self.compare(Comparison.EQUAL, a, b, encoding)
 
 
-def with_room(call: Callable[[Rooms], Told]) -> Resources:
+def with_buffers(call: Callable[[Lengths], CallResult]) -> Resources:
     """Makes a call with buffers of 256 octets, and again with larger ones if these are too small.
 
     Args:
@@ -396,12 +398,12 @@ def with_room(call: Callable[[Rooms], Told]) -> Resources:
         The octets of both outputs.
 
     Raises:
-        Refused: The status is not `Status.OK`.
+        PigyelundError: The status is not `Status.OK`.
     """
-    told = call((256, 256))
-    if told.status == Status.TOO_SMALL:
-        told = call(told.lengths)
-    found = Resources(told.held[0][: told.lengths[0]], told.held[1][: told.lengths[1]])
-    if told.status != Status.OK:
-        raise refused(told.status, found, told.number)
+    result = call((256, 256))
+    if result.status == Status.TOO_SMALL:
+        result = call(result.lengths)
+    found = Resources(result.contents[0][: result.lengths[0]], result.contents[1][: result.lengths[1]])
+    if result.status != Status.OK:
+        raise error_for_status(result.status, found, result.number)
     return found

@@ -19,7 +19,7 @@ from typing import NamedTuple
 
 NAME = "libpigyelund.so"
 VERSION = 4  # the version of the calls below; a library of a later version has them too
-HOW = (
+HOW_TO_BUILD = (
     "build it by 'rt lib' in crates/pigyelund_c, install it by 'make -C foreign/c install PREFIX=..', "
     "and set PIGYELUND_LIB to PREFIX/lib"
 )
@@ -29,7 +29,7 @@ class Status(IntEnum):
     """The status that a call returns.
 
     Attributes:
-        OK: Success. From a test: yes.
+        OK: Success. From a comparison: yes.
         TOO_SMALL: A buffer is too small. Nothing is written, and the lengths are those that are needed.
         MEMORY: Out of memory: `malloc` refused. Nothing is written, and the status says nothing about the input.
         INHERITED: A set inherits resources, and does not list them.
@@ -37,7 +37,7 @@ class Status(IntEnum):
         OVERCLAIM_AS: The certificate claims AS numbers that the issuer does not have. The outputs are these AS numbers.
         OVERCLAIM_V4: The same for IPv4 addresses.
         OVERCLAIM_V6: The same for IPv6 addresses.
-        NO: From a test: no.
+        NO: From a comparison: no.
         BAD_ENCODING: The encoding is unknown.
         ABSENT: The certificate has neither extension (RFC 6487, 4.8.10 and 4.8.11).
         OUTSIDE: A certificate of a path has an extension that is not within the array.
@@ -125,12 +125,12 @@ class Operation(Enum):
         DIFFERENCE: The resources of the first set that the second does not have.
     """
 
-    UNION = "pg_union"
-    INTERSECTION = "pg_intersection"
-    DIFFERENCE = "pg_difference"
+    UNION = "pigy_union"
+    INTERSECTION = "pigy_intersection"
+    DIFFERENCE = "pigy_difference"
 
 
-class Test(Enum):
+class Comparison(Enum):
     """A predicate on two sets. The value is the name of the C function.
 
     Attributes:
@@ -138,11 +138,11 @@ class Test(Enum):
         EQUAL: Both sets are the same.
     """
 
-    CONTAINS = "pg_contains"
-    EQUAL = "pg_equal"
+    CONTAINS = "pigy_contains"
+    EQUAL = "pigy_equal"
 
 
-class Fields(ctypes.Structure):
+class Struct(ctypes.Structure):
     """A C struct of integers and arrays of integers.
 
     ctypes drops the high bits of an integer that does not fit its field. This class raises `OverflowError` instead. Two
@@ -150,17 +150,17 @@ class Fields(ctypes.Structure):
     of a struct that is in a set or is the key of a dict.
     """
 
-    _ends_: dict[str, int]  # for each integer field the least value that does not fit
-    _count_: int  # the number of octets of all fields; the padding of C comes only after them
+    _limits_: dict[str, int]  # for each integer field the least value that does not fit
+    _octet_count_: int  # the number of octets of all fields; the padding of C comes only after them
 
     def __init_subclass__(cls) -> None:
         super().__init_subclass__()
         numbers = [(name, kind) for name, kind in cls._fields_ if not issubclass(kind, ctypes.Array)]
-        cls._ends_ = {name: 1 << 8 * ctypes.sizeof(kind) for name, kind in numbers}
-        cls._count_ = sum(ctypes.sizeof(kind) for _, kind in cls._fields_)
+        cls._limits_ = {name: 1 << 8 * ctypes.sizeof(kind) for name, kind in numbers}
+        cls._octet_count_ = sum(ctypes.sizeof(kind) for _, kind in cls._fields_)
 
     def __setattr__(self, name: str, value: object) -> None:
-        if name in self._ends_ and isinstance(value, int) and not 0 <= value < self._ends_[name]:
+        if name in self._limits_ and isinstance(value, int) and not 0 <= value < self._limits_[name]:
             raise OverflowError(f"{name}: {value}")
         super().__setattr__(name, value)
 
@@ -175,33 +175,33 @@ class Fields(ctypes.Structure):
     def __repr__(self) -> str:
         values = [(name, getattr(self, name)) for name, _ in self._fields_]
         texts = {name: bytes(it).hex() if isinstance(it, ctypes.Array) else str(it) for name, it in values}
-        return spelled(type(self).__name__, texts)
+        return call_text(type(self).__name__, texts)
 
     def _octets(self) -> bytes:
         """Returns the octets of all fields, without padding."""
-        return bytes(self)[: self._count_]
+        return bytes(self)[: self._octet_count_]
 
 
-class Certificate(Fields):
-    """A certificate of a path, as `pg_certificate`: the positions of its extensions in an array, and two numbers.
+class Certificate(Struct):
+    """A certificate of a path, as `pigy_certificate`: the positions of its extensions in an array, and two numbers.
 
     The array has the octets of all certificates. Both ranges must lie within it. For an absent extension use index 0
-    and length 0. The fields `as_at` and `ip_at` are indices from 0. The fields `as_len` and `ip_len` are lengths in
-    octets. The field `present` is a `Present` or 0, and `mode` is a `Mode`.
+    and length 0. The fields `as_start` and `ip_start` are indices from 0. The fields `as_len` and `ip_len` are lengths
+    in octets. The field `present` is a `Present` or 0, and `mode` is a `Mode`.
     """
 
     _fields_ = [
-        ("as_at", ctypes.c_size_t),
+        ("as_start", ctypes.c_size_t),
         ("as_len", ctypes.c_size_t),
-        ("ip_at", ctypes.c_size_t),
+        ("ip_start", ctypes.c_size_t),
         ("ip_len", ctypes.c_size_t),
         ("present", ctypes.c_uint32),
         ("mode", ctypes.c_uint32),
     ]
 
 
-class Payload(Fields):
-    """A VRP (validated ROA payload, RFC 6811, 2), as `pg_payload`.
+class Vrp(Struct):
+    """A VRP (validated ROA payload, RFC 6811, 2), as `pigy_vrp`.
 
     The field `address` has 16 octets in network byte order. An IPv4 address is the first four; calls ignore the others.
     The field `asn` is the AS that may originate the prefix. The field `family` is a `Family`. The prefix length `len`
@@ -218,7 +218,7 @@ class Payload(Fields):
     ]
 
     @classmethod
-    def of(cls, prefix: IPv4Network | IPv6Network, asn: int, max_len: int | None = None) -> "Payload":
+    def of(cls, prefix: IPv4Network | IPv6Network, asn: int, max_len: int | None = None) -> "Vrp":
         """Returns the VRP of a prefix.
 
         Args:
@@ -243,26 +243,26 @@ class Payload(Fields):
         return ip_network((octets, self.len))
 
     def __repr__(self) -> str:
-        return made_by_of(self, asn=self.asn, max_len=self.max_len)
+        return constructor_text(self, asn=self.asn, max_len=self.max_len)
 
 
-class Covering(Fields):
-    """A VRP that covers a route, and why it does not match the route, as `pg_covering`.
+class Covering(Struct):
+    """A VRP that covers a route, and why it does not match the route, as `pigy_covering`.
 
     The octets after an IPv4 address are 0. The field `mismatch` is a `Mismatch`.
     """
 
-    _fields_ = [*Payload._fields_, ("mismatch", ctypes.c_uint8)]
-    prefix = Payload.prefix
+    _fields_ = [*Vrp._fields_, ("mismatch", ctypes.c_uint8)]
+    prefix = Vrp.prefix
 
 
-class Route(Fields):
-    """A route: a prefix and the AS that originates it (RFC 6811, 2), as `pg_route`.
+class Route(Struct):
+    """A route: a prefix and the AS that originates it (RFC 6811, 2), as `pigy_route`.
 
-    The field `asn` is 0 if the path ends in an AS_SET: then no VRP matches. The other fields are those of `Payload`.
+    The field `asn` is 0 if the path ends in an AS_SET: then no VRP matches. The other fields are those of `Vrp`.
     """
 
-    _fields_ = Payload._fields_[:-1]
+    _fields_ = Vrp._fields_[:-1]
 
     @classmethod
     def of(cls, prefix: IPv4Network | IPv6Network, asn: int) -> "Route":
@@ -277,28 +277,28 @@ class Route(Fields):
         """
         return cls(address_of(prefix), asn, family_of(prefix), prefix.prefixlen)
 
-    prefix = Payload.prefix
+    prefix = Vrp.prefix
 
     def __repr__(self) -> str:
-        return made_by_of(self, asn=self.asn)
+        return constructor_text(self, asn=self.asn)
 
 
-def spelled(call: str, texts: dict[str, str]) -> str:
+def call_text(call: str, texts: dict[str, str]) -> str:
     """Returns the text of a call with keyword arguments."""
     return f"{call}({', '.join(f'{name}={text}' for name, text in texts.items())})"
 
 
-def made_by_of(item: Payload | Route, **numbers: int) -> str:
+def constructor_text(item: Vrp | Route, **numbers: int) -> str:
     """Returns the text of the call of `of` that makes an item, or the text of its fields if no such call makes it."""
     kind = type(item)
     try:
         prefix = item.prefix
     except ValueError:
-        return Fields.__repr__(item)
+        return Struct.__repr__(item)
     if kind.of(prefix, **numbers) != item:
-        return Fields.__repr__(item)
+        return Struct.__repr__(item)
     texts = {name: str(number) for name, number in numbers.items()}
-    return spelled(f"{kind.__name__}.of", {"prefix": repr(prefix)} | texts)
+    return call_text(f"{kind.__name__}.of", {"prefix": repr(prefix)} | texts)
 
 
 def address_of(prefix: IPv4Network | IPv6Network) -> ctypes.Array[ctypes.c_uint8]:
@@ -312,35 +312,36 @@ def family_of(prefix: IPv4Network | IPv6Network) -> Family:
 
 
 Pair = tuple[bytes, bytes]
-Rooms = tuple[int, int]
+Lengths = tuple[int, int]
 
 
-class Told(NamedTuple):
+class CallResult(NamedTuple):
     """The result of a call.
 
-    `lengths` are those that the call reports, in octets. `held` is the content of both buffers. `number` is the number
-    of verified certificates of a path, or the index, from 0, of a refused VRP or route. Other calls leave it None.
+    `lengths` are those that the call reports, in octets. `contents` is the content of both buffers. `number` is the
+    number of verified certificates of a path, or the index, from 0, of a refused VRP or route. Other calls leave it
+    None.
     """
 
     status: int
-    lengths: Rooms
-    held: Pair
+    lengths: Lengths
+    contents: Pair
     number: int | None = None
 
 
-class TableTold(NamedTuple):
+class TableResult(NamedTuple):
     """The result of a call that makes a table.
 
-    `table` is the handle, or None if the status is not `Status.OK`. `place` is the index, from 0, of the VRP that is
+    `table` is the handle, or None if the status is not `Status.OK`. `index` is the index, from 0, of the VRP that is
     refused, or 0 if none is.
     """
 
     status: int
     table: int | None
-    place: int
+    index: int
 
 
-def array_of(kind: type[Fields], given: object) -> tuple[ctypes.Array[Fields], int]:
+def array_of(kind: type[Struct], given: object) -> tuple[ctypes.Array[Struct], int]:
     """Copies structs into a new array.
 
     Args:
@@ -360,27 +361,27 @@ def array_of(kind: type[Fields], given: object) -> tuple[ctypes.Array[Fields], i
         listed = list(given)  # type: ignore[call-overload]
         return (kind * max(len(listed), 1))(*listed), len(listed)
     element = getattr(view.obj, "_type_", type(view.obj))
-    if isinstance(element, type) and issubclass(element, ctypes.Structure) and not is_kind(element, kind):
+    if isinstance(element, type) and issubclass(element, ctypes.Structure) and not has_layout_of(element, kind):
         raise TypeError(f"{element.__name__} in place of {kind.__name__}")
     count, rest = divmod(view.nbytes, ctypes.sizeof(kind))
     if rest:
         raise ValueError(f"{view.nbytes} octets of elements of {ctypes.sizeof(kind)}")
-    held = (kind * max(count, 1))()
-    ctypes.memmove(held, view.tobytes(), view.nbytes)
-    return held, count
+    contents = (kind * max(count, 1))()
+    ctypes.memmove(contents, view.tobytes(), view.nbytes)
+    return contents, count
 
 
-def is_kind(element: type[ctypes.Structure], kind: type[Fields]) -> bool:
+def has_layout_of(element: type[ctypes.Structure], kind: type[Struct]) -> bool:
     """Returns whether a type is `kind`, or a subclass of it with the same size."""
     return issubclass(element, kind) and ctypes.sizeof(element) == ctypes.sizeof(kind)
 
 
-def words_of(*sets: Pair) -> list[object]:
+def arguments_of(*sets: Pair) -> list[object]:
     """Returns the arguments of C for some sets: the octets of each extension, and their length."""
-    return [word for part in sets for octets in part for word in (octets, len(octets))]
+    return [argument for part in sets for octets in part for argument in (octets, len(octets))]
 
 
-def found_library() -> str:
+def find_library() -> str:
     """Returns the file of the shared library.
 
     The file is in the folder that PIGYELUND_LIB names. If this variable is not set or is empty, it is that in the
@@ -394,7 +395,7 @@ def found_library() -> str:
     return str(beside) if beside.exists() else NAME
 
 
-def opened(file: str) -> ctypes.CDLL:
+def load_library(file: str) -> ctypes.CDLL:
     """Loads the shared library.
 
     Args:
@@ -405,121 +406,130 @@ def opened(file: str) -> ctypes.CDLL:
             file and says how to build it.
     """
 
-    def refusal(why: str) -> ImportError:
-        return ImportError(f"{file}: {why}; {HOW}", name="pigyelund", path=file)
+    def import_error(why: str) -> ImportError:
+        return ImportError(f"{file}: {why}; {HOW_TO_BUILD}", name="pigyelund", path=file)
 
     try:
         library = ctypes.CDLL(file)
-        library.pg_version.restype, library.pg_version.argtypes = ctypes.c_uint32, []
-        version = library.pg_version()
+        library.pigy_version.restype, library.pigy_version.argtypes = ctypes.c_uint32, []
+        version = library.pigy_version()
     except OSError as fault:
-        raise refusal(str(fault).removeprefix(f"{file}: ")) from None
+        raise import_error(str(fault).removeprefix(f"{file}: ")) from None
     except AttributeError:
-        raise refusal("the library has no call pg_version") from None
+        raise import_error("the library has no call pigy_version") from None
     if version < VERSION:
-        raise refusal(f"the library has version {version} of the calls, and this package needs version {VERSION}")
+        raise import_error(f"the library has version {version} of the calls, and this package needs version {VERSION}")
     return library
 
 
 class Library:
     """The calls of the shared library.
 
-    In the calls below `rooms` are the lengths of both output buffers in octets, and `room` is that of the only one.
+    In the calls below `capacities` are the lengths of both output buffers in octets, and `capacity` is that of the only
+    one.
     Every call except `table_free` raises `OverflowError` if an integer does not fit its C parameter.
 
     Args:
-        path: The file of the library, or None for the one that `found_library` returns.
+        path: The file of the library, or None for the one that `find_library` returns.
 
     Raises:
-        ImportError: The library cannot be loaded, as in `opened`.
+        ImportError: The library cannot be loaded, as in `load_library`.
     """
 
     def __init__(self, path: str | os.PathLike[str] | None = None) -> None:
-        self._library = opened(found_library() if path is None else os.fspath(path))
+        self._library = load_library(find_library() if path is None else os.fspath(path))
         size, number = ctypes.c_size_t, ctypes.c_uint32
         octets = [ctypes.c_char_p, size] * 4
-        rooms = [ctypes.c_void_p, size] * 2 + [ctypes.POINTER(size)] * 2
-        room = [ctypes.c_void_p, size, ctypes.POINTER(size)]
-        path_words = [*octets[:6], ctypes.POINTER(Certificate), size, number, *rooms, ctypes.POINTER(size)]
+        buffers = [ctypes.c_void_p, size] * 2 + [ctypes.POINTER(size)] * 2
+        buffer = [ctypes.c_void_p, size, ctypes.POINTER(size)]
+        path_arguments = [*octets[:6], ctypes.POINTER(Certificate), size, number, *buffers, ctypes.POINTER(size)]
         calls = {
-            "pg_verify": [*octets[:4], number, *octets[4:], number, number, *rooms],
-            "pg_verify_path": path_words,
-            "pg_cover": [*octets[:2], number, number, *room],
-            "pg_origins": [
-                ctypes.POINTER(Payload), size, ctypes.POINTER(Route), size, *room, ctypes.POINTER(size)
+            "pigy_verify": [*octets[:4], number, *octets[4:], number, number, *buffers],
+            "pigy_verify_path": path_arguments,
+            "pigy_cover": [*octets[:2], number, number, *buffer],
+            "pigy_origins": [
+                ctypes.POINTER(Vrp), size, ctypes.POINTER(Route), size, *buffer, ctypes.POINTER(size)
             ],
-            "pg_answer": [*octets[:2], *room],
+            "pigy_answer": [*octets[:2], *buffer],
         }
-        table, place = ctypes.c_void_p, ctypes.POINTER(size)
-        payloads, given = [ctypes.c_void_p, size], ctypes.POINTER(ctypes.c_void_p)
+        table, index = ctypes.c_void_p, ctypes.POINTER(size)
+        vrps, handle_pointer = [ctypes.c_void_p, size], ctypes.POINTER(ctypes.c_void_p)
         calls |= {
-            "pg_table_new": [*payloads, given, place],
-            "pg_table_changed": [table, *payloads, *payloads, given, place],
-            "pg_table_origins": [table, ctypes.c_void_p, size, *room, place],
-            "pg_table_covering": [table, ctypes.POINTER(Route), *room],
-            "pg_table_len": [table, place],
-            "pg_table_payloads": [table, *room],
+            "pigy_table_new": [*vrps, handle_pointer, index],
+            "pigy_table_changed": [table, *vrps, *vrps, handle_pointer, index],
+            "pigy_table_origins": [table, ctypes.c_void_p, size, *buffer, index],
+            "pigy_table_covering": [table, ctypes.POINTER(Route), *buffer],
+            "pigy_table_len": [table, index],
+            "pigy_table_vrps": [table, *buffer],
         }
-        calls |= {call.value: [*octets, number, *rooms] for call in Operation}
-        calls |= {call.value: [*octets, number] for call in Test}
-        for name, words in calls.items():
+        calls |= {call.value: [*octets, number, *buffers] for call in Operation}
+        calls |= {call.value: [*octets, number] for call in Comparison}
+        for name, arguments in calls.items():
             call = getattr(self._library, name)
-            call.restype, call.argtypes = number, words
-        self._library.pg_table_free.restype, self._library.pg_table_free.argtypes = None, [table]
+            call.restype, call.argtypes = number, arguments
+        self._library.pigy_table_free.restype, self._library.pigy_table_free.argtypes = None, [table]
 
-    def _call(self, name: str, words: list[object]) -> int:
+    def _call(self, name: str, arguments: list[object]) -> int:
         """Makes a call and returns its status.
 
         Args:
             name: The name of the C function.
-            words: The arguments.
+            arguments: The arguments.
 
         Raises:
             OverflowError: An integer does not fit its parameter.
         """
         call = getattr(self._library, name)
-        for kind, word in zip(call.argtypes, words, strict=True):
-            if isinstance(word, int) and not 0 <= word < 1 << 8 * ctypes.sizeof(kind):
-                raise OverflowError(f"{name}: {word}")
-        return call(*words)
+        for kind, argument in zip(call.argtypes, arguments, strict=True):
+            if isinstance(argument, int) and not 0 <= argument < 1 << 8 * ctypes.sizeof(kind):
+                raise OverflowError(f"{name}: {argument}")
+        return call(*arguments)
 
-    def _told(self, name: str, words: list[object], rooms: Rooms, number: ctypes.c_size_t | None = None) -> Told:
+    def _call_with_buffers(
+        self, name: str, arguments: list[object], capacities: Lengths, number: ctypes.c_size_t | None = None
+    ) -> CallResult:
         """Makes a call with two output buffers.
 
         Args:
             name: The name of the C function.
-            words: The arguments before the buffers.
-            rooms: The lengths of the buffers.
+            arguments: The arguments before the buffers.
+            capacities: The lengths of the buffers.
             number: The last output, or None.
         """
-        asn, ip = (ctypes.create_string_buffer(max(room, 1)) for room in rooms)
+        asn, ip = (ctypes.create_string_buffer(max(capacity, 1)) for capacity in capacities)
         lengths = ctypes.c_size_t(), ctypes.c_size_t()
-        places = [ctypes.byref(length) for length in lengths]
-        behind = [] if number is None else [ctypes.byref(number)]
-        status = self._call(name, [*words, asn, rooms[0], ip, rooms[1], *places, *behind])
-        held = asn.raw[: rooms[0]], ip.raw[: rooms[1]]
-        return Told(status, (lengths[0].value, lengths[1].value), held, None if number is None else number.value)
+        pointers = [ctypes.byref(length) for length in lengths]
+        last = [] if number is None else [ctypes.byref(number)]
+        status = self._call(name, [*arguments, asn, capacities[0], ip, capacities[1], *pointers, *last])
+        contents = asn.raw[: capacities[0]], ip.raw[: capacities[1]]
+        last_output = None if number is None else number.value
+        return CallResult(status, (lengths[0].value, lengths[1].value), contents, last_output)
 
-    def _told_once(self, name: str, words: list[object], room: int, number: ctypes.c_size_t | None = None) -> Told:
-        """Makes a call with one output buffer. Its output is in the place of the AS identifiers.
+    def _call_with_buffer(
+        self, name: str, arguments: list[object], capacity: int, number: ctypes.c_size_t | None = None
+    ) -> CallResult:
+        """Makes a call with one output buffer. Its output is the first of the two contents.
 
         Args:
             name: The name of the C function.
-            words: The arguments before the buffer.
-            room: The length of the buffer.
+            arguments: The arguments before the buffer.
+            capacity: The length of the buffer.
             number: The last output, or None.
         """
-        held, length = ctypes.create_string_buffer(max(room, 1)), ctypes.c_size_t()
-        behind = [] if number is None else [ctypes.byref(number)]
-        status = self._call(name, [*words, held, room, ctypes.byref(length), *behind])
-        return Told(status, (length.value, 0), (held.raw[:room], b""), None if number is None else number.value)
+        contents, length = ctypes.create_string_buffer(max(capacity, 1)), ctypes.c_size_t()
+        last = [] if number is None else [ctypes.byref(number)]
+        status = self._call(name, [*arguments, contents, capacity, ctypes.byref(length), *last])
+        last_output = None if number is None else number.value
+        return CallResult(status, (length.value, 0), (contents.raw[:capacity], b""), last_output)
 
     def version(self) -> int:
-        """Calls `pg_version`. Returns the version of the library's calls."""
-        return int(self._library.pg_version())
+        """Calls `pigy_version`. Returns the version of the library's calls."""
+        return int(self._library.pigy_version())
 
-    def verify(self, issuer: Pair, present: int, certificate: Pair, encoding: int, mode: int, rooms: Rooms) -> Told:
-        """Calls `pg_verify`: computes the resources of a certificate from its issuer's set.
+    def verify(
+        self, issuer: Pair, present: int, certificate: Pair, encoding: int, mode: int, capacities: Lengths
+    ) -> CallResult:
+        """Calls `pigy_verify`: computes the resources of a certificate from its issuer's set.
 
         Args:
             issuer: The issuer's set.
@@ -527,33 +537,33 @@ class Library:
             certificate: The certificate's extensions.
             encoding: An `Encoding`.
             mode: A `Mode`.
-            rooms: The lengths of the buffers.
+            capacities: The lengths of the buffers.
         """
-        words = [*words_of(issuer), present, *words_of(certificate), encoding, mode]
-        return self._told("pg_verify", words, rooms)
+        arguments = [*arguments_of(issuer), present, *arguments_of(certificate), encoding, mode]
+        return self._call_with_buffers("pigy_verify", arguments, capacities)
 
     def verify_path(
-        self, anchor: Pair, run: bytes, certificates: list[Certificate], encoding: int, rooms: Rooms
-    ) -> Told:
-        """Calls `pg_verify_path`: computes the resources of the last certificate of a path.
+        self, anchor: Pair, run: bytes, certificates: list[Certificate], encoding: int, capacities: Lengths
+    ) -> CallResult:
+        """Calls `pigy_verify_path`: computes the resources of the last certificate of a path.
 
         Args:
             anchor: The trust anchor's set.
             run: The octets of all extensions.
             certificates: The certificates in order.
             encoding: An `Encoding`.
-            rooms: The lengths of the buffers.
+            capacities: The lengths of the buffers.
 
         Returns:
             The result. Its `number` is that of the verified certificates.
         """
         count = len(certificates)
         array = (Certificate * max(count, 1))(*certificates)
-        words = [*words_of(anchor), run, len(run), array, count, encoding]
-        return self._told("pg_verify_path", words, rooms, ctypes.c_size_t())
+        arguments = [*arguments_of(anchor), run, len(run), array, count, encoding]
+        return self._call_with_buffers("pigy_verify_path", arguments, capacities, ctypes.c_size_t())
 
-    def cover(self, ip: bytes, encoding: int, family: int, room: int) -> Told:
-        """Calls `pg_cover`: writes the shortest list of prefixes of one family of a set.
+    def cover(self, ip: bytes, encoding: int, family: int, capacity: int) -> CallResult:
+        """Calls `pigy_cover`: writes the shortest list of prefixes of one family of a set.
 
         A prefix is its address and an octet of length: 5 octets for IPv4, 17 for IPv6.
 
@@ -561,39 +571,39 @@ class Library:
             ip: The IP address blocks of the set.
             encoding: An `Encoding`.
             family: A `Family`.
-            room: The length of the buffer.
+            capacity: The length of the buffer.
         """
-        return self._told_once("pg_cover", [ip, len(ip), encoding, family], room)
+        return self._call_with_buffer("pigy_cover", [ip, len(ip), encoding, family], capacity)
 
-    def origins(self, payloads: list[Payload], routes: list[Route], room: int) -> Told:
-        """Calls `pg_origins`: writes the validity of each route by the VRPs, one octet each.
+    def origins(self, vrps: list[Vrp], routes: list[Route], capacity: int) -> CallResult:
+        """Calls `pigy_origins`: writes the validity of each route by the VRPs, one octet each.
 
         Args:
-            payloads: The VRPs, in any order.
+            vrps: The VRPs, in any order.
             routes: The routes.
-            room: The length of the buffer.
+            capacity: The length of the buffer.
 
         Returns:
             The result. Its `number` is the index of the refused VRP or route.
         """
-        listed = (Payload * max(len(payloads), 1))(*payloads)
+        listed = (Vrp * max(len(vrps), 1))(*vrps)
         asked = (Route * max(len(routes), 1))(*routes)
-        words = [listed, len(payloads), asked, len(routes)]
-        return self._told_once("pg_origins", words, room, ctypes.c_size_t())
+        arguments = [listed, len(vrps), asked, len(routes)]
+        return self._call_with_buffer("pigy_origins", arguments, capacity, ctypes.c_size_t())
 
-    def table_new(self, payloads: object, count: int) -> TableTold:
-        """Calls `pg_table_new`: builds a table of VRPs.
+    def table_new(self, vrps: object, count: int) -> TableResult:
+        """Calls `pigy_table_new`: builds a table of VRPs.
 
         Args:
-            payloads: An array of VRPs, as `array_of` returns it.
+            vrps: An array of VRPs, as `array_of` returns it.
             count: The number of VRPs.
         """
-        return self._table_told("pg_table_new", [payloads, count])
+        return self._call_for_table("pigy_table_new", [vrps, count])
 
     def table_changed(
         self, table: int | None, announced: object, announced_count: int, withdrawn: object, withdrawn_count: int
-    ) -> TableTold:
-        """Calls `pg_table_changed`: makes a table without the withdrawn VRPs, and then with the announced ones.
+    ) -> TableResult:
+        """Calls `pigy_table_changed`: makes a table without the withdrawn VRPs, and then with the announced ones.
 
         Args:
             table: The handle, or None for null.
@@ -602,104 +612,105 @@ class Library:
             withdrawn: An array of VRPs.
             withdrawn_count: Their number.
         """
-        words = [table, announced, announced_count, withdrawn, withdrawn_count]
-        return self._table_told("pg_table_changed", words)
+        arguments = [table, announced, announced_count, withdrawn, withdrawn_count]
+        return self._call_for_table("pigy_table_changed", arguments)
 
-    def _table_told(self, name: str, words: list[object]) -> TableTold:
+    def _call_for_table(self, name: str, arguments: list[object]) -> TableResult:
         """Makes a call that returns a table.
 
         Args:
             name: The name of the C function.
-            words: The arguments before the outputs.
+            arguments: The arguments before the outputs.
         """
-        table, place = ctypes.c_void_p(), ctypes.c_size_t()
-        status = self._call(name, [*words, ctypes.byref(table), ctypes.byref(place)])
-        return TableTold(status, table.value, place.value)
+        table, index = ctypes.c_void_p(), ctypes.c_size_t()
+        status = self._call(name, [*arguments, ctypes.byref(table), ctypes.byref(index)])
+        return TableResult(status, table.value, index.value)
 
-    def table_origins(self, table: int | None, routes: object, count: int, room: int) -> Told:
-        """Calls `pg_table_origins`: writes the validity of each route by a table, one octet each.
+    def table_origins(self, table: int | None, routes: object, count: int, capacity: int) -> CallResult:
+        """Calls `pigy_table_origins`: writes the validity of each route by a table, one octet each.
 
         Args:
             table: The handle, or None for null.
             routes: An array of routes.
             count: Their number.
-            room: The length of the buffer.
+            capacity: The length of the buffer.
 
         Returns:
             The result. Its `number` is the index of the refused route.
         """
-        return self._told_once("pg_table_origins", [table, routes, count], room, ctypes.c_size_t())
+        return self._call_with_buffer("pigy_table_origins", [table, routes, count], capacity, ctypes.c_size_t())
 
-    def table_covering(self, table: int | None, route: Route, room: int) -> tuple[int, list[Covering], int]:
-        """Calls `pg_table_covering`: writes the VRPs of a table that cover a route.
+    def table_covering(self, table: int | None, route: Route, capacity: int) -> tuple[int, list[Covering], int]:
+        """Calls `pigy_table_covering`: writes the VRPs of a table that cover a route.
 
         Args:
             table: The handle, or None for null.
             route: The route.
-            room: The length of the buffer in VRPs.
+            capacity: The length of the buffer in VRPs.
 
         Returns:
             The status, the content of the buffer, and the length in VRPs that the call reports.
         """
-        held, length = (Covering * max(room, 1))(), ctypes.c_size_t()
-        status = self._call("pg_table_covering", [table, ctypes.byref(route), held, room, ctypes.byref(length)])
-        return status, held[:room], length.value
+        contents, length = (Covering * max(capacity, 1))(), ctypes.c_size_t()
+        arguments = [table, ctypes.byref(route), contents, capacity, ctypes.byref(length)]
+        status = self._call("pigy_table_covering", arguments)
+        return status, contents[:capacity], length.value
 
     def table_len(self, table: int | None) -> tuple[int, int]:
-        """Calls `pg_table_len`. Returns the status, and the number of VRPs with duplicates."""
+        """Calls `pigy_table_len`. Returns the status, and the number of VRPs with duplicates."""
         length = ctypes.c_size_t()
-        return self._call("pg_table_len", [table, ctypes.byref(length)]), length.value
+        return self._call("pigy_table_len", [table, ctypes.byref(length)]), length.value
 
-    def table_payloads(self, table: int | None, room: int) -> tuple[int, list[Payload], int]:
-        """Calls `pg_table_payloads`: writes all VRPs of a table.
+    def table_vrps(self, table: int | None, capacity: int) -> tuple[int, list[Vrp], int]:
+        """Calls `pigy_table_vrps`: writes all VRPs of a table.
 
         Args:
             table: The handle, or None for null.
-            room: The length of the buffer in VRPs.
+            capacity: The length of the buffer in VRPs.
 
         Returns:
             The status, the content of the buffer, and the length in VRPs that the call reports.
         """
-        held, length = (Payload * max(room, 1))(), ctypes.c_size_t()
-        status = self._call("pg_table_payloads", [table, held, room, ctypes.byref(length)])
-        return status, held[:room], length.value
+        contents, length = (Vrp * max(capacity, 1))(), ctypes.c_size_t()
+        status = self._call("pigy_table_vrps", [table, contents, capacity, ctypes.byref(length)])
+        return status, contents[:capacity], length.value
 
     def table_free(self, table: int | None) -> None:
-        """Calls `pg_table_free`. Frees a table; None does nothing.
+        """Calls `pigy_table_free`. Frees a table; None does nothing.
 
         Args:
             table: The handle. No other call may use it any more.
         """
-        self._library.pg_table_free(table)
+        self._library.pigy_table_free(table)
 
-    def answer(self, line: bytes, room: int) -> Told:
-        """Calls `pg_answer`: writes the answer of the program `respath` to a line. Neither has a line end.
+    def answer(self, line: bytes, capacity: int) -> CallResult:
+        """Calls `pigy_answer`: writes the answer of the program `respath` to a line. Neither has a line end.
 
         Args:
             line: The line in UTF-8.
-            room: The length of the buffer.
+            capacity: The length of the buffer.
         """
-        return self._told_once("pg_answer", [line, len(line)], room)
+        return self._call_with_buffer("pigy_answer", [line, len(line)], capacity)
 
-    def made(self, operation: Operation, a: Pair, b: Pair, encoding: int, rooms: Rooms) -> Told:
-        """Calls `pg_union`, `pg_intersection` or `pg_difference`.
+    def combine(self, operation: Operation, a: Pair, b: Pair, encoding: int, capacities: Lengths) -> CallResult:
+        """Calls `pigy_union`, `pigy_intersection` or `pigy_difference`.
 
         Args:
             operation: The operation.
             a: The first set.
             b: The second set.
             encoding: An `Encoding`.
-            rooms: The lengths of the buffers.
+            capacities: The lengths of the buffers.
         """
-        return self._told(operation.value, [*words_of(a, b), encoding], rooms)
+        return self._call_with_buffers(operation.value, [*arguments_of(a, b), encoding], capacities)
 
-    def tested(self, test: Test, a: Pair, b: Pair, encoding: int) -> int:
-        """Calls `pg_contains` or `pg_equal`. Returns the status: `Status.OK`, `Status.NO`, or that of an error.
+    def compare(self, comparison: Comparison, a: Pair, b: Pair, encoding: int) -> int:
+        """Calls `pigy_contains` or `pigy_equal`. Returns the status: `Status.OK`, `Status.NO`, or that of an error.
 
         Args:
-            test: The predicate.
+            comparison: The predicate.
             a: The first set.
             b: The second set.
             encoding: An `Encoding`.
         """
-        return self._call(test.value, [*words_of(a, b), encoding])
+        return self._call(comparison.value, [*arguments_of(a, b), encoding])

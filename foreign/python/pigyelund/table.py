@@ -6,8 +6,8 @@ from ipaddress import IPv4Network, IPv6Network
 from typing import NamedTuple, NoReturn, TypeVar
 
 from . import raw
-from .raw import Mismatch, Payload, Route, Status
-from .reasons import refused
+from .errors import error_for_status
+from .raw import Mismatch, Route, Status, Vrp
 
 
 class Validity(IntEnum):
@@ -66,27 +66,27 @@ class Table:
     keeps the memory until the call returns. Other calls on a closed table raise `ValueError`. A table cannot be copied
     or pickled.
 
-    VRPs and routes are iterables of `Payload` and `Route`. They may also be an object with the buffer protocol
+    VRPs and routes are iterables of `Vrp` and `Route`. They may also be an object with the buffer protocol
     (`bytes`, a `memoryview`, an `array`) that has the C structs side by side. Each struct has 24 octets: the fields in
     their order, with integers in the byte order of the processor.
 
-    Calls that return validities, VRPs or a table may raise `NoMemory`, which says nothing about the input.
+    Calls that return validities, VRPs or a table may raise `OutOfMemoryError`, which says nothing about the input.
     """
 
     _owner: _Owner | None = None
 
-    def __init__(self, library: raw.Library, payloads: object) -> None:
+    def __init__(self, library: raw.Library, vrps: object) -> None:
         self._library = library
-        self._owner = _told(library, library.table_new(*raw.array_of(Payload, payloads)))
+        self._owner = _owner_of(library, library.table_new(*raw.array_of(Vrp, vrps)))
 
     @classmethod
-    def _of(cls, library: raw.Library, owner: _Owner) -> "Table":
+    def _from_owner(cls, library: raw.Library, owner: _Owner) -> "Table":
         """Returns a table object for an owner."""
-        made = cls.__new__(cls)
-        made._library, made._owner = library, owner
-        return made
+        table = cls.__new__(cls)
+        table._library, table._owner = library, owner
+        return table
 
-    def _ask(self, call: Callable[[int], Answer]) -> Answer:
+    def _with_handle(self, call: Callable[[int], Answer]) -> Answer:
         """Makes a call with the handle. The table is not freed before the call returns.
 
         Args:
@@ -115,7 +115,7 @@ class Table:
         self._owner = None
 
     def __enter__(self) -> "Table":
-        self._ask(int)
+        self._with_handle(int)
         return self
 
     def __exit__(self, *_: object) -> None:
@@ -123,7 +123,7 @@ class Table:
 
     def _refuse_copy(self, *_: object) -> NoReturn:
         """Raises `TypeError`."""
-        raise TypeError("a Table can't be copied or pickled; table.changed() makes another one of the same payloads")
+        raise TypeError("a Table can't be copied or pickled; table.changed() makes another one of the same VRPs")
 
     __copy__ = __deepcopy__ = __reduce__ = __reduce_ex__ = _refuse_copy
 
@@ -141,16 +141,16 @@ class Table:
             The new table.
 
         Raises:
-            BadOrigin: A VRP of `announced`, or else of `withdrawn`, is malformed.
-            BadChange: A VRP of `withdrawn`, or else of `announced`, breaks the rule above. This is a subclass of
-                `BadOrigin`. The attribute `place` counts in `withdrawn` if the status is UNKNOWN_WITHDRAWAL or has
+            OriginError: A VRP of `announced`, or else of `withdrawn`, is malformed.
+            ChangeError: A VRP of `withdrawn`, or else of `announced`, breaks the rule above. This is a subclass of
+                `OriginError`. The attribute `index` counts in `withdrawn` if the status is UNKNOWN_WITHDRAWAL or has
                 SECOND, else in `announced`.
             TypeError: An item is of another type.
             ValueError: The table is closed, or the octets of a buffer end within a VRP.
         """
-        arrays = (*raw.array_of(Payload, announced), *raw.array_of(Payload, withdrawn))
-        told = self._ask(lambda handle: self._library.table_changed(handle, *arrays))
-        return self._of(self._library, _told(self._library, told))
+        arrays = (*raw.array_of(Vrp, announced), *raw.array_of(Vrp, withdrawn))
+        result = self._with_handle(lambda handle: self._library.table_changed(handle, *arrays))
+        return self._from_owner(self._library, _owner_of(self._library, result))
 
     def origins(self, routes: object) -> list[Validity]:
         """Validates routes (RFC 6811, 2).
@@ -162,7 +162,7 @@ class Table:
             The validity of each route, in the order of `routes`.
 
         Raises:
-            BadOrigin: A route is malformed. The attribute `place` is the index of the first one.
+            OriginError: A route is malformed. The attribute `index` is the index of the first one.
             TypeError: An item is of another type.
             ValueError: The table is closed, or the octets of a buffer end within a route.
         """
@@ -178,15 +178,15 @@ class Table:
             The numbers of `Validity`, one octet each.
 
         Raises:
-            BadOrigin: A route is malformed, as in `origins`.
+            OriginError: A route is malformed, as in `origins`.
             TypeError: An item is of another type.
             ValueError: The table is closed, or the octets of a buffer end within a route.
         """
         asked, count = raw.array_of(Route, routes)
-        told = self._ask(lambda handle: self._library.table_origins(handle, asked, count, count))
-        if told.status != Status.OK:
-            raise refused(told.status, place=told.number)
-        return told.held[0]
+        result = self._with_handle(lambda handle: self._library.table_origins(handle, asked, count, count))
+        if result.status != Status.OK:
+            raise error_for_status(result.status, index=result.number)
+        return result.contents[0]
 
     def origin(self, route: Route) -> Validity:
         """Validates one route (RFC 6811, 2).
@@ -198,7 +198,7 @@ class Table:
             The validity of the route.
 
         Raises:
-            BadOrigin: The route is malformed.
+            OriginError: The route is malformed.
             TypeError: `route` is of another type.
             ValueError: The table is closed.
         """
@@ -215,23 +215,25 @@ class Table:
             prefix and AS come by descending maximum length.
 
         Raises:
-            BadOrigin: The route is malformed.
+            OriginError: The route is malformed.
             TypeError: `route` is of another type; for some types this is a `ctypes.ArgumentError`.
             ValueError: The table is closed.
         """
-        status, held, length = self._ask(lambda handle: self._library.table_covering(handle, route, 8))
+        status, contents, length = self._with_handle(lambda handle: self._library.table_covering(handle, route, 8))
         if status == Status.TOO_SMALL:
-            room = length
-            status, held, length = self._ask(lambda handle: self._library.table_covering(handle, route, room))
+            capacity = length
+            status, contents, length = self._with_handle(
+                lambda handle: self._library.table_covering(handle, route, capacity)
+            )
         if status != Status.OK:
-            raise refused(status, place=0)
-        return [Covering(it.prefix, it.max_len, it.asn, Mismatch(it.mismatch)) for it in held[:length]]
+            raise error_for_status(status, index=0)
+        return [Covering(it.prefix, it.max_len, it.asn, Mismatch(it.mismatch)) for it in contents[:length]]
 
     def __len__(self) -> int:
         """Returns the number of VRPs, duplicates included. Raises `ValueError` if the table is closed."""
-        return self._ask(self._library.table_len)[1]
+        return self._with_handle(self._library.table_len)[1]
 
-    def __iter__(self) -> Iterator[Payload]:
+    def __iter__(self) -> Iterator[Vrp]:
         """Returns an iterator over all VRPs, duplicates included.
 
         IPv4 comes before IPv6. Each family is in the order of the addresses, the shorter prefix first. VRPs of the same
@@ -240,18 +242,18 @@ class Table:
         Raises:
             ValueError: The table is closed.
         """
-        room = len(self)
-        status, held, length = self._ask(lambda handle: self._library.table_payloads(handle, room))
+        capacity = len(self)
+        status, contents, length = self._with_handle(lambda handle: self._library.table_vrps(handle, capacity))
         if status != Status.OK:
-            raise refused(status)
-        return iter(held[:length])
+            raise error_for_status(status)
+        return iter(contents[:length])
 
 
 _VALIDITIES = list(Validity)
 
 
-def _told(library: raw.Library, found: raw.TableTold) -> _Owner:
-    """Returns the owner of a table that a call made. Raises a `Refused` if the call made none."""
+def _owner_of(library: raw.Library, found: raw.TableResult) -> _Owner:
+    """Returns the owner of a table that a call made. Raises a `PigyelundError` if the call made none."""
     if found.status != Status.OK or found.table is None:
-        raise refused(found.status, place=found.place)
+        raise error_for_status(found.status, index=found.index)
     return _Owner(library, found.table)

@@ -1,5 +1,5 @@
 //! Verifies the octets of a certificate's IP address blocks by those of its issuer, and prints what is left.
-use pigyelund::{verify, Encoding, Extensions, Octets, Overclaim, Refused};
+use pigyelund::{verify, Encoding, Extensions, Octets, Overclaim, ResourceError};
 
 fn main() {
     // the issuer has 10.0.0.0/8; the certificate claims 10.0.0.0/8 and 12.0.0.0/8
@@ -16,12 +16,12 @@ fn main() {
         ip: Some(&claim),
     };
     for mode in [Overclaim::Refuse, Overclaim::Trim] {
-        let (text, told) = match verify(issuer, certificate, Encoding::Lenient, mode) {
+        let (text, set) = match verify(issuer, certificate, Encoding::Lenient, mode) {
             Ok(set) => ("done".to_string(), set),
-            Err(Refused { reason, excess }) => (reason.to_string(), excess),
+            Err(ResourceError { reason, excess }) => (reason.to_string(), excess),
         };
         print!("mode {}: {text}:", mode as u32);
-        told.ip.iter().for_each(|octet| print!(" {octet:02x}"));
+        set.ip.iter().for_each(|octet| print!(" {octet:02x}"));
         println!();
     }
 }

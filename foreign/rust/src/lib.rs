@@ -7,7 +7,7 @@
 //! - [`verify`] computes the resources of a certificate. [`verify_path`] computes those of the last one of a path.
 //! - [`union`], [`intersection`], [`difference`], [`contains`] and [`equal`] operate on two sets.
 //! - [`cover`] returns the shortest list of prefixes of a set.
-//! - [`origins`] and [`Table`] validate routes against VRPs. A VRP (validated ROA payload) is a [`Payload`] here.
+//! - [`origins`] and [`Table`] validate routes against VRPs. A [`Vrp`] is a VRP (validated ROA payload).
 //! - [`answer`] returns the answer of the program `respath` to a line.
 //!
 //! A set of resources is the DER of two certificate extensions: AS identifiers (RFC 3779, 3.2.3) and IP address blocks
@@ -40,8 +40,8 @@ pub mod raw;
 mod reason;
 mod table;
 
-pub use raw::{version, Octets, Operation, Payload, Route, Test};
-pub use reason::{Fault, Reason, Refused, RefusedOrigin, RefusedPath, Side};
+pub use raw::{version, Comparison, Octets, Operation, Route, Vrp};
+pub use reason::{Fault, OriginError, PathError, Reason, ResourceError, Side};
 pub use table::{Covering, Table};
 
 use alloc::string::String;
@@ -160,9 +160,9 @@ pub enum Validity {
 }
 
 /// Runs a call that returns a set. The buffers grow to the lengths that the call reports.
-fn with_room(
+fn with_buffers(
     mut call: impl FnMut(&mut [u8], &mut [u8]) -> (u32, usize, usize),
-) -> Result<Resources, Refused> {
+) -> Result<Resources, ResourceError> {
     let mut set = Resources::default();
     loop {
         let (status, as_len, ip_len) = call(&mut set.asn, &mut set.ip);
@@ -176,7 +176,7 @@ fn with_room(
         return if status == OK {
             Ok(set)
         } else {
-            Err(Refused {
+            Err(ResourceError {
                 reason: Reason::of_status(status),
                 excess: set,
             })
@@ -185,7 +185,7 @@ fn with_room(
 }
 
 /// Runs a call with one buffer, which grows to the length that the call reports. Returns the status and the octets.
-fn with_one_room(call: impl Fn(&mut [u8]) -> (u32, usize)) -> (u32, Vec<u8>) {
+fn with_buffer(call: impl Fn(&mut [u8]) -> (u32, usize)) -> (u32, Vec<u8>) {
     let mut octets = Vec::new();
     loop {
         let (status, len) = call(&mut octets);
@@ -220,7 +220,7 @@ fn with_one_room(call: impl Fn(&mut [u8]) -> (u32, usize)) -> (u32, Vec<u8>) {
 /// - [`Reason::Absent`]: the certificate has neither extension.
 /// - [`Reason::BadAs`], [`Reason::BadIp`] with [`Side::Second`]: an extension of the certificate is invalid.
 /// - [`Reason::OverclaimedAs`], [`Reason::OverclaimedV4`], [`Reason::OverclaimedV6`]: the certificate overclaims, and
-///   `mode` is [`Overclaim::Refuse`]. [`Refused::excess`] has the overclaimed resources of this kind.
+///   `mode` is [`Overclaim::Refuse`]. [`ResourceError::excess`] has the overclaimed resources of this kind.
 ///
 /// The call may return [`Reason::Memory`] instead of any other result.
 pub fn verify(
@@ -228,9 +228,9 @@ pub fn verify(
     certificate: Extensions<'_>,
     encoding: Encoding,
     mode: Overclaim,
-) -> Result<Resources, Refused> {
+) -> Result<Resources, ResourceError> {
     let (present, octets) = (certificate.present(), certificate.octets());
-    with_room(|asn, ip| {
+    with_buffers(|asn, ip| {
         raw::verify(
             issuer,
             present,
@@ -244,25 +244,25 @@ pub fn verify(
 }
 
 /// Writes the octets of all certificates into one array. Returns it with the position of each certificate's octets.
-fn laid_out(certificates: &[Certificate<'_>]) -> (Vec<u8>, Vec<raw::Certificate>) {
+fn concatenate(certificates: &[Certificate<'_>]) -> (Vec<u8>, Vec<raw::Certificate>) {
     let mut run = Vec::new();
-    let mut places = Vec::new();
+    let mut positions = Vec::new();
     for Certificate { extensions, mode } in certificates {
         let octets = extensions.octets();
-        let as_at = run.len();
+        let as_start = run.len();
         run.extend_from_slice(octets.asn);
-        let ip_at = run.len();
+        let ip_start = run.len();
         run.extend_from_slice(octets.ip);
-        places.push(raw::Certificate {
-            as_at,
+        positions.push(raw::Certificate {
+            as_start,
             as_len: octets.asn.len(),
-            ip_at,
+            ip_start,
             ip_len: octets.ip.len(),
             present: extensions.present(),
             mode: *mode as u32,
         });
     }
-    (run, places)
+    (run, positions)
 }
 
 /// Computes the resources of the last certificate of a path.
@@ -278,25 +278,25 @@ fn laid_out(certificates: &[Certificate<'_>]) -> (Vec<u8>, Vec<raw::Certificate>
 ///
 /// # Errors
 ///
-/// [`RefusedPath`] has the reason and the number of verified certificates. The anchor's octets are checked first, with
+/// [`PathError`] has the reason and the number of verified certificates. The anchor's octets are checked first, with
 /// the reasons that [`verify`] has for the issuer. The first certificate that is not verified follows, with the other
 /// reasons of [`verify`]. The call may return [`Reason::Memory`] instead of any other result.
 pub fn verify_path(
     anchor: Octets<'_>,
     certificates: &[Certificate<'_>],
     encoding: Encoding,
-) -> Result<Resources, RefusedPath> {
-    let (run, places) = laid_out(certificates);
+) -> Result<Resources, PathError> {
+    let (run, positions) = concatenate(certificates);
     let mut count = 0;
-    with_room(|asn, ip| {
+    with_buffers(|asn, ip| {
         let (status, as_len, ip_len, verified) =
-            raw::verify_path(anchor, &run, &places, encoding as u32, asn, ip);
+            raw::verify_path(anchor, &run, &positions, encoding as u32, asn, ip);
         count = verified;
         (status, as_len, ip_len)
     })
-    .map_err(|refused| RefusedPath {
+    .map_err(|error| PathError {
         verified: count,
-        refused,
+        error,
     })
 }
 
@@ -330,11 +330,11 @@ fn address_of(octets: &[u8]) -> IpAddr {
 /// - [`Reason::Inherited`] with [`Side::First`]: `ip` inherits the addresses of either family.
 ///
 /// The call may return [`Reason::Memory`] instead of any other result.
-pub fn cover(ip: &[u8], encoding: Encoding, family: Family) -> Result<Vec<Prefix>, Refused> {
+pub fn cover(ip: &[u8], encoding: Encoding, family: Family) -> Result<Vec<Prefix>, ResourceError> {
     let (encoding, number) = (encoding as u32, family as u32);
-    let (status, octets) = with_one_room(|out| raw::cover(ip, encoding, number, out));
+    let (status, octets) = with_buffer(|out| raw::cover(ip, encoding, number, out));
     if status != OK {
-        return Err(Refused::of_status(status));
+        return Err(ResourceError::of_status(status));
     }
     let width = if family == Family::V4 { 4 } else { 16 };
     let prefixes = octets.chunks_exact(width + 1).map(|prefix| Prefix {
@@ -359,23 +359,23 @@ fn validity_of(octet: u8) -> Validity {
 ///
 /// # Parameters
 ///
-/// - `payloads`: the VRPs, in any order.
+/// - `vrps`: the VRPs, in any order.
 /// - `routes`: the routes to validate.
 ///
 /// # Errors
 ///
-/// [`RefusedOrigin`] has the index of the first malformed VRP, or else of the first malformed route:
+/// [`OriginError`] has the index of the first malformed VRP, or else of the first malformed route:
 ///
 /// - [`Reason::BadFamily`], [`Reason::BadPrefix`] with [`Side::First`], [`Reason::BadMaxLen`]: a VRP.
 /// - [`Reason::BadFamily`], [`Reason::BadPrefix`] with [`Side::Second`]: a route.
 ///
 /// The call may return [`Reason::Memory`] instead of any other result.
-pub fn origins(payloads: &[Payload], routes: &[Route]) -> Result<Vec<Validity>, RefusedOrigin> {
+pub fn origins(vrps: &[Vrp], routes: &[Route]) -> Result<Vec<Validity>, OriginError> {
     let mut octets = alloc::vec![0; routes.len()];
-    let (status, _, place) = raw::origins(payloads, routes, &mut octets);
+    let (status, _, index) = raw::origins(vrps, routes, &mut octets);
     if status != OK {
         let reason = Reason::of_status(status);
-        return Err(RefusedOrigin { reason, place });
+        return Err(OriginError { reason, index });
     }
     Ok(octets.into_iter().map(validity_of).collect())
 }
@@ -390,7 +390,7 @@ pub fn origins(payloads: &[Payload], routes: &[Route]) -> Result<Vec<Validity>, 
 ///
 /// [`Reason::Memory`] only.
 pub fn answer(line: &[u8]) -> Result<String, Reason> {
-    let (status, octets) = with_one_room(|out| raw::answer(line, out));
+    let (status, octets) = with_buffer(|out| raw::answer(line, out));
     match String::from_utf8(octets) {
         Ok(text) if status == OK => Ok(text),
         _ => Err(Reason::of_status(status)),
@@ -414,61 +414,65 @@ pub fn answer(line: &[u8]) -> Result<String, Reason> {
 /// - [`Reason::Inherited`]: the set inherits, and does not list its resources.
 ///
 /// The call may return [`Reason::Memory`] instead of any other result.
-pub fn made(
+pub fn combine(
     operation: Operation,
     a: Octets<'_>,
     b: Octets<'_>,
     encoding: Encoding,
-) -> Result<Resources, Refused> {
-    with_room(|asn, ip| raw::made(operation, a, b, encoding as u32, asn, ip))
+) -> Result<Resources, ResourceError> {
+    with_buffers(|asn, ip| raw::combine(operation, a, b, encoding as u32, asn, ip))
 }
 
 /// Returns the union of `a` and `b`.
 ///
 /// # Errors
 ///
-/// Those of [`made`].
-pub fn union(a: Octets<'_>, b: Octets<'_>, encoding: Encoding) -> Result<Resources, Refused> {
-    made(Operation::Union, a, b, encoding)
+/// Those of [`combine`].
+pub fn union(a: Octets<'_>, b: Octets<'_>, encoding: Encoding) -> Result<Resources, ResourceError> {
+    combine(Operation::Union, a, b, encoding)
 }
 
 /// Returns the intersection of `a` and `b`.
 ///
 /// # Errors
 ///
-/// Those of [`made`].
+/// Those of [`combine`].
 pub fn intersection(
     a: Octets<'_>,
     b: Octets<'_>,
     encoding: Encoding,
-) -> Result<Resources, Refused> {
-    made(Operation::Intersection, a, b, encoding)
+) -> Result<Resources, ResourceError> {
+    combine(Operation::Intersection, a, b, encoding)
 }
 
 /// Returns the difference of `a` and `b`: the resources of `a` that `b` does not have.
 ///
 /// # Errors
 ///
-/// Those of [`made`].
-pub fn difference(a: Octets<'_>, b: Octets<'_>, encoding: Encoding) -> Result<Resources, Refused> {
-    made(Operation::Difference, a, b, encoding)
+/// Those of [`combine`].
+pub fn difference(
+    a: Octets<'_>,
+    b: Octets<'_>,
+    encoding: Encoding,
+) -> Result<Resources, ResourceError> {
+    combine(Operation::Difference, a, b, encoding)
 }
 
 /// Evaluates a predicate on two sets.
 ///
 /// # Errors
 ///
-/// Those of [`made`].
-pub fn tested(
-    test: Test,
+/// Those of [`combine`].
+pub fn compare(
+    comparison: Comparison,
     a: Octets<'_>,
     b: Octets<'_>,
     encoding: Encoding,
-) -> Result<bool, Refused> {
-    match raw::tested(test, a, b, encoding as u32) {
+) -> Result<bool, ResourceError> {
+    match raw::compare(comparison, a, b, encoding as u32) {
         OK => Ok(true),
         NO => Ok(false),
-        status => Err(Refused::of_status(status)),
+        status => Err(ResourceError::of_status(status)),
     }
 }
 
@@ -476,16 +480,16 @@ pub fn tested(
 ///
 /// # Errors
 ///
-/// Those of [`made`].
-pub fn contains(a: Octets<'_>, b: Octets<'_>, encoding: Encoding) -> Result<bool, Refused> {
-    tested(Test::Contains, a, b, encoding)
+/// Those of [`combine`].
+pub fn contains(a: Octets<'_>, b: Octets<'_>, encoding: Encoding) -> Result<bool, ResourceError> {
+    compare(Comparison::Contains, a, b, encoding)
 }
 
 /// Returns whether `a` and `b` are the same set.
 ///
 /// # Errors
 ///
-/// Those of [`made`].
-pub fn equal(a: Octets<'_>, b: Octets<'_>, encoding: Encoding) -> Result<bool, Refused> {
-    tested(Test::Equal, a, b, encoding)
+/// Those of [`combine`].
+pub fn equal(a: Octets<'_>, b: Octets<'_>, encoding: Encoding) -> Result<bool, ResourceError> {
+    compare(Comparison::Equal, a, b, encoding)
 }

@@ -24,7 +24,7 @@ use core::net::IpAddr;
 
 use crate::Family;
 
-/// Success. From a test: yes.
+/// Success. From a comparison: yes.
 pub const OK: u32 = 0;
 /// A buffer is too small. Nothing is written, and the lengths are those that are needed.
 pub const TOO_SMALL: u32 = 1;
@@ -40,7 +40,7 @@ pub const OVERCLAIM_AS: u32 = 5;
 pub const OVERCLAIM_V4: u32 = 6;
 /// The certificate claims IPv6 addresses that the issuer does not have. The outputs are these addresses.
 pub const OVERCLAIM_V6: u32 = 7;
-/// From a test: no.
+/// From a comparison: no.
 pub const NO: u32 = 8;
 /// The encoding is neither [`LENIENT`] nor [`STRICT`].
 pub const BAD_ENCODING: u32 = 9;
@@ -99,7 +99,7 @@ pub const OTHER_AS: u32 = 1;
 pub const TOO_LONG: u32 = 2;
 
 /// The C type of a set operation: both sets, the encoding, both buffers, and where the output lengths go.
-type Making = unsafe extern "C" fn(
+type OperationFn = unsafe extern "C" fn(
     *const u8,
     usize,
     *const u8,
@@ -117,8 +117,8 @@ type Making = unsafe extern "C" fn(
     *mut usize,
 ) -> u32;
 
-/// The C type of a test of two sets: both sets, and the encoding.
-type Testing = unsafe extern "C" fn(
+/// The C type of a comparison of two sets: both sets, and the encoding.
+type ComparisonFn = unsafe extern "C" fn(
     *const u8,
     usize,
     *const u8,
@@ -131,7 +131,7 @@ type Testing = unsafe extern "C" fn(
 ) -> u32;
 
 /// Declares set operations of the library.
-macro_rules! making {
+macro_rules! operations {
     ($($name:ident)*) => {
         extern "C" {
             $(fn $name(
@@ -145,9 +145,9 @@ macro_rules! making {
                 b_ip_len: usize,
                 encoding: u32,
                 as_out: *mut u8,
-                as_room: usize,
+                as_capacity: usize,
                 ip_out: *mut u8,
-                ip_room: usize,
+                ip_capacity: usize,
                 as_len: *mut usize,
                 ip_len: *mut usize,
             ) -> u32;)*
@@ -155,8 +155,8 @@ macro_rules! making {
     };
 }
 
-/// Declares tests of two sets of the library.
-macro_rules! testing {
+/// Declares comparisons of two sets of the library.
+macro_rules! comparisons {
     ($($name:ident)*) => {
         extern "C" {
             $(fn $name(
@@ -174,12 +174,12 @@ macro_rules! testing {
     };
 }
 
-making!(pg_union pg_intersection pg_difference);
-testing!(pg_contains pg_equal);
+operations!(pigy_union pigy_intersection pigy_difference);
+comparisons!(pigy_contains pigy_equal);
 
 extern "C" {
-    fn pg_version() -> u32;
-    fn pg_verify(
+    fn pigy_version() -> u32;
+    fn pigy_verify(
         issuer_as: *const u8,
         issuer_as_len: usize,
         issuer_ip: *const u8,
@@ -192,13 +192,13 @@ extern "C" {
         encoding: u32,
         mode: u32,
         as_out: *mut u8,
-        as_room: usize,
+        as_capacity: usize,
         ip_out: *mut u8,
-        ip_room: usize,
+        ip_capacity: usize,
         as_len: *mut usize,
         ip_len: *mut usize,
     ) -> u32;
-    fn pg_verify_path(
+    fn pigy_verify_path(
         anchor_as: *const u8,
         anchor_as_len: usize,
         anchor_ip: *const u8,
@@ -209,76 +209,76 @@ extern "C" {
         count: usize,
         encoding: u32,
         as_out: *mut u8,
-        as_room: usize,
+        as_capacity: usize,
         ip_out: *mut u8,
-        ip_room: usize,
+        ip_capacity: usize,
         as_len: *mut usize,
         ip_len: *mut usize,
         verified: *mut usize,
     ) -> u32;
-    fn pg_cover(
+    fn pigy_cover(
         ip: *const u8,
-        ip_count: usize,
+        ip_len: usize,
         encoding: u32,
         family: u32,
         out: *mut u8,
-        room: usize,
+        capacity: usize,
         len: *mut usize,
     ) -> u32;
-    fn pg_origins(
-        payloads: *const Payload,
-        payload_count: usize,
+    fn pigy_origins(
+        vrps: *const Vrp,
+        vrp_count: usize,
         routes: *const Route,
         route_count: usize,
         out: *mut u8,
-        room: usize,
+        capacity: usize,
         len: *mut usize,
-        place: *mut usize,
+        index: *mut usize,
     ) -> u32;
-    fn pg_table_new(
-        payloads: *const Payload,
+    fn pigy_table_new(
+        vrps: *const Vrp,
         count: usize,
         table: *mut *mut Handle,
-        place: *mut usize,
+        index: *mut usize,
     ) -> u32;
-    fn pg_table_changed(
+    fn pigy_table_changed(
         table: *const Handle,
-        announced: *const Payload,
+        announced: *const Vrp,
         announced_count: usize,
-        withdrawn: *const Payload,
+        withdrawn: *const Vrp,
         withdrawn_count: usize,
         next: *mut *mut Handle,
-        place: *mut usize,
+        index: *mut usize,
     ) -> u32;
-    fn pg_table_origins(
+    fn pigy_table_origins(
         table: *const Handle,
         routes: *const Route,
         count: usize,
         out: *mut u8,
-        room: usize,
+        capacity: usize,
         len: *mut usize,
-        place: *mut usize,
+        index: *mut usize,
     ) -> u32;
-    fn pg_table_covering(
+    fn pigy_table_covering(
         table: *const Handle,
         route: *const Route,
         out: *mut Covering,
-        room: usize,
+        capacity: usize,
         len: *mut usize,
     ) -> u32;
-    fn pg_table_len(table: *const Handle, len: *mut usize) -> u32;
-    fn pg_table_payloads(
+    fn pigy_table_len(table: *const Handle, len: *mut usize) -> u32;
+    fn pigy_table_vrps(
         table: *const Handle,
-        out: *mut Payload,
-        room: usize,
+        out: *mut Vrp,
+        capacity: usize,
         len: *mut usize,
     ) -> u32;
-    fn pg_table_free(table: *mut Handle);
-    fn pg_answer(
+    fn pigy_table_free(table: *mut Handle);
+    fn pigy_answer(
         line: *const u8,
         line_len: usize,
         out: *mut u8,
-        room: usize,
+        capacity: usize,
         len: *mut usize,
     ) -> u32;
 }
@@ -292,7 +292,7 @@ pub struct Octets<'a> {
     pub ip: &'a [u8],
 }
 
-/// A certificate of a path, as `pg_certificate` of `pigyelund.h`.
+/// A certificate of a path, as `pigy_certificate` of `pigyelund.h`.
 ///
 /// The octets of all certificates are in one array, the `run` of [`verify_path`]. Both ranges must lie within it. For
 /// an absent extension use index 0 and length 0.
@@ -300,11 +300,11 @@ pub struct Octets<'a> {
 #[derive(Clone, Copy, Debug, Default, PartialEq, Eq)]
 pub struct Certificate {
     /// The index in `run` of the first octet of the AS identifiers.
-    pub as_at: usize,
+    pub as_start: usize,
     /// The length of the AS identifiers in octets.
     pub as_len: usize,
     /// The index in `run` of the first octet of the IP address blocks.
-    pub ip_at: usize,
+    pub ip_start: usize,
     /// The length of the IP address blocks in octets.
     pub ip_len: usize,
     /// The number that says which extensions are present: [`HAS_AS`], [`HAS_IP`], [`HAS_BOTH`], or 0.
@@ -313,12 +313,12 @@ pub struct Certificate {
     pub mode: u32,
 }
 
-/// A VRP (validated ROA payload, RFC 6811, 2), as `pg_payload` of `pigyelund.h`.
+/// A VRP (validated ROA payload, RFC 6811, 2), as `pigy_vrp` of `pigyelund.h`.
 ///
 /// The fields are not checked until a call reads them. Comparisons and hashes read all 16 octets of the address.
 #[repr(C)]
 #[derive(Clone, Copy, Debug, Default, PartialEq, Eq, Hash)]
-pub struct Payload {
+pub struct Vrp {
     /// The address in network byte order. An IPv4 address is the first four octets; calls ignore the others.
     pub address: [u8; 16],
     /// The AS that may originate the prefix.
@@ -331,7 +331,7 @@ pub struct Payload {
     pub max_len: u8,
 }
 
-impl Payload {
+impl Vrp {
     /// Returns a VRP. The values are not checked here.
     ///
     /// # Parameters
@@ -340,9 +340,9 @@ impl Payload {
     /// - `len`: the prefix length in bits, 0 to 32 for IPv4, 0 to 128 for IPv6.
     /// - `max_len`: the maximum length in bits, `len` to 32 or 128.
     /// - `asn`: the AS that may originate the prefix.
-    pub fn new(address: IpAddr, len: u8, max_len: u8, asn: u32) -> Payload {
+    pub fn new(address: IpAddr, len: u8, max_len: u8, asn: u32) -> Vrp {
         let (address, family) = octets_and_family(address);
-        Payload {
+        Vrp {
             address,
             asn,
             family: family as u8,
@@ -352,7 +352,7 @@ impl Payload {
     }
 }
 
-/// A route: a prefix and the AS that originates it (RFC 6811, 2), as `pg_route` of `pigyelund.h`.
+/// A route: a prefix and the AS that originates it (RFC 6811, 2), as `pigy_route` of `pigyelund.h`.
 ///
 /// The fields are not checked until a call reads them. Comparisons and hashes read all 16 octets of the address.
 #[repr(C)]
@@ -387,7 +387,7 @@ impl Route {
     }
 }
 
-/// A VRP that covers a route, and why it does not match the route, as `pg_covering` of `pigyelund.h`.
+/// A VRP that covers a route, and why it does not match the route, as `pigy_covering` of `pigyelund.h`.
 #[repr(C)]
 #[derive(Clone, Copy, Debug, Default, PartialEq, Eq, Hash)]
 pub struct Covering {
@@ -423,8 +423,8 @@ unsafe impl Sync for Table {}
 
 impl Drop for Table {
     fn drop(&mut self) {
-        // SAFETY: the handle is null, or `pg_table_new` or `pg_table_changed` returned it. It is freed once.
-        unsafe { pg_table_free(self.0) }
+        // SAFETY: the handle is null, or `pigy_table_new` or `pigy_table_changed` returned it. It is freed once.
+        unsafe { pigy_table_free(self.0) }
     }
 }
 
@@ -439,86 +439,85 @@ impl Table {
         self.0.is_null()
     }
 
-    /// Calls `pg_table_new`: builds a table of VRPs.
+    /// Calls `pigy_table_new`: builds a table of VRPs.
     ///
     /// Returns the status, the table, and an index. The table is null unless the status is [`OK`]. The index, from 0,
     /// is that of the first malformed VRP, or 0.
-    pub fn new(payloads: &[Payload]) -> (u32, Table, usize) {
-        let (mut table, mut place) = (Table::null(), 0);
+    pub fn new(vrps: &[Vrp]) -> (u32, Table, usize) {
+        let (mut table, mut index) = (Table::null(), 0);
         // SAFETY: as in `origins`. The call overwrites a null handle, so no table is lost.
-        let status =
-            unsafe { pg_table_new(payloads.as_ptr(), payloads.len(), &mut table.0, &mut place) };
-        (status, table, place)
+        let status = unsafe { pigy_table_new(vrps.as_ptr(), vrps.len(), &mut table.0, &mut index) };
+        (status, table, index)
     }
 
-    /// Calls `pg_table_changed`: makes a table without the withdrawn VRPs, and then with the announced ones.
+    /// Calls `pigy_table_changed`: makes a table without the withdrawn VRPs, and then with the announced ones.
     ///
     /// Returns the status, the new table, and an index. The table is null unless the status is [`OK`]. The index, from
     /// 0, is that of the refused VRP, or 0 if none is refused. It counts in `withdrawn` if the status has [`SECOND`] or
     /// is [`UNKNOWN_WITHDRAWAL`], else in `announced`.
-    pub fn changed(&self, announced: &[Payload], withdrawn: &[Payload]) -> (u32, Table, usize) {
-        let (mut next, mut place) = (Table::null(), 0);
+    pub fn changed(&self, announced: &[Vrp], withdrawn: &[Vrp]) -> (u32, Table, usize) {
+        let (mut next, mut index) = (Table::null(), 0);
         // SAFETY: as in `new`; this table is borrowed for the call.
         let status = unsafe {
-            pg_table_changed(
+            pigy_table_changed(
                 self.0,
                 announced.as_ptr(),
                 announced.len(),
                 withdrawn.as_ptr(),
                 withdrawn.len(),
                 &mut next.0,
-                &mut place,
+                &mut index,
             )
         };
-        (status, next, place)
+        (status, next, index)
     }
 
-    /// Calls `pg_table_origins`: writes the validity of each route to `out`, one octet each.
+    /// Calls `pigy_table_origins`: writes the validity of each route to `out`, one octet each.
     ///
     /// Returns the status, the output length, and the index, from 0, of the first malformed route, or 0.
     pub fn origins(&self, routes: &[Route], out: &mut [u8]) -> (u32, usize, usize) {
-        let (mut len, mut place) = (0, 0);
+        let (mut len, mut index) = (0, 0);
         // SAFETY: as in `changed`; `Route` has the layout of C.
         let status = unsafe {
-            pg_table_origins(
+            pigy_table_origins(
                 self.0,
                 routes.as_ptr(),
                 routes.len(),
                 out.as_mut_ptr(),
                 out.len(),
                 &mut len,
-                &mut place,
+                &mut index,
             )
         };
-        (status, len, place)
+        (status, len, index)
     }
 
-    /// Calls `pg_table_covering`: writes the VRPs that cover a route to `out`.
+    /// Calls `pigy_table_covering`: writes the VRPs that cover a route to `out`.
     ///
     /// Returns the status, and the output length in VRPs.
     pub fn covering(&self, route: &Route, out: &mut [Covering]) -> (u32, usize) {
         let mut len = 0;
         // SAFETY: as in `changed`; `Covering` has the layout of C.
         let status =
-            unsafe { pg_table_covering(self.0, route, out.as_mut_ptr(), out.len(), &mut len) };
+            unsafe { pigy_table_covering(self.0, route, out.as_mut_ptr(), out.len(), &mut len) };
         (status, len)
     }
 
-    /// Calls `pg_table_len`. Returns the status, and the number of VRPs with duplicates.
+    /// Calls `pigy_table_len`. Returns the status, and the number of VRPs with duplicates.
     pub fn count(&self) -> (u32, usize) {
         let mut len = 0;
         // SAFETY: as in `changed`.
-        let status = unsafe { pg_table_len(self.0, &mut len) };
+        let status = unsafe { pigy_table_len(self.0, &mut len) };
         (status, len)
     }
 
-    /// Calls `pg_table_payloads`: writes all VRPs of the table to `out`.
+    /// Calls `pigy_table_vrps`: writes all VRPs of the table to `out`.
     ///
     /// Returns the status, and the output length in VRPs.
-    pub fn payloads(&self, out: &mut [Payload]) -> (u32, usize) {
+    pub fn vrps(&self, out: &mut [Vrp]) -> (u32, usize) {
         let mut len = 0;
-        // SAFETY: as in `changed`; `Payload` has the layout of C.
-        let status = unsafe { pg_table_payloads(self.0, out.as_mut_ptr(), out.len(), &mut len) };
+        // SAFETY: as in `changed`; `Vrp` has the layout of C.
+        let status = unsafe { pigy_table_vrps(self.0, out.as_mut_ptr(), out.len(), &mut len) };
         (status, len)
     }
 }
@@ -547,40 +546,40 @@ pub enum Operation {
 }
 
 impl Operation {
-    fn call(self) -> Making {
+    fn call(self) -> OperationFn {
         match self {
-            Operation::Union => pg_union,
-            Operation::Intersection => pg_intersection,
-            Operation::Difference => pg_difference,
+            Operation::Union => pigy_union,
+            Operation::Intersection => pigy_intersection,
+            Operation::Difference => pigy_difference,
         }
     }
 }
 
 /// A predicate on two sets.
 #[derive(Clone, Copy, Debug, PartialEq, Eq)]
-pub enum Test {
+pub enum Comparison {
     /// The first set has each AS number and each address of the second.
     Contains,
     /// Both sets are the same.
     Equal,
 }
 
-impl Test {
-    fn call(self) -> Testing {
+impl Comparison {
+    fn call(self) -> ComparisonFn {
         match self {
-            Test::Contains => pg_contains,
-            Test::Equal => pg_equal,
+            Comparison::Contains => pigy_contains,
+            Comparison::Equal => pigy_equal,
         }
     }
 }
 
-/// Calls `pg_version`. Returns the version of the library's calls, which grows when a call is added.
+/// Calls `pigy_version`. Returns the version of the library's calls, which grows when a call is added.
 pub fn version() -> u32 {
     // SAFETY: the call takes no argument.
-    unsafe { pg_version() }
+    unsafe { pigy_version() }
 }
 
-/// Calls `pg_verify`: computes the resources of a certificate from its issuer's set.
+/// Calls `pigy_verify`: computes the resources of a certificate from its issuer's set.
 ///
 /// Returns the status, and the output lengths of AS identifiers and of IP address blocks, in octets.
 ///
@@ -604,7 +603,7 @@ pub fn verify(
     let (mut as_len, mut ip_len) = (0, 0);
     // SAFETY: pointers and lengths are those of slices that are borrowed for the call, and outputs overlap nothing.
     let status = unsafe {
-        pg_verify(
+        pigy_verify(
             issuer.asn.as_ptr(),
             issuer.asn.len(),
             issuer.ip.as_ptr(),
@@ -627,7 +626,7 @@ pub fn verify(
     (status, as_len, ip_len)
 }
 
-/// Calls `pg_verify_path`: computes the resources of the last certificate of a path.
+/// Calls `pigy_verify_path`: computes the resources of the last certificate of a path.
 ///
 /// Returns the status, the output lengths of AS identifiers and of IP address blocks in octets, and the number of
 /// verified certificates. This number has no meaning if the status is [`MEMORY`].
@@ -650,7 +649,7 @@ pub fn verify_path(
     let (mut as_len, mut ip_len, mut verified) = (0, 0, 0);
     // SAFETY: as in `verify`; `Certificate` has the layout of C.
     let status = unsafe {
-        pg_verify_path(
+        pigy_verify_path(
             anchor.asn.as_ptr(),
             anchor.asn.len(),
             anchor.ip.as_ptr(),
@@ -672,7 +671,7 @@ pub fn verify_path(
     (status, as_len, ip_len, verified)
 }
 
-/// Calls `pg_cover`: writes the shortest list of prefixes of a set to `out`.
+/// Calls `pigy_cover`: writes the shortest list of prefixes of a set to `out`.
 ///
 /// Returns the status, and the output length in octets.
 ///
@@ -686,7 +685,7 @@ pub fn cover(ip: &[u8], encoding: u32, family: u32, out: &mut [u8]) -> (u32, usi
     let mut len = 0;
     // SAFETY: as in `verify`.
     let status = unsafe {
-        pg_cover(
+        pigy_cover(
             ip.as_ptr(),
             ip.len(),
             encoding,
@@ -699,36 +698,36 @@ pub fn cover(ip: &[u8], encoding: u32, family: u32, out: &mut [u8]) -> (u32, usi
     (status, len)
 }
 
-/// Calls `pg_origins`: writes the validity of each route by the VRPs to `out`, one octet each.
+/// Calls `pigy_origins`: writes the validity of each route by the VRPs to `out`, one octet each.
 ///
 /// Returns the status, the output length, and an index. The index, from 0, is that of the first malformed VRP, or else
 /// of the first malformed route, or 0.
-pub fn origins(payloads: &[Payload], routes: &[Route], out: &mut [u8]) -> (u32, usize, usize) {
-    let (mut len, mut place) = (0, 0);
-    // SAFETY: as in `verify`; `Payload` and `Route` have the layout of C.
+pub fn origins(vrps: &[Vrp], routes: &[Route], out: &mut [u8]) -> (u32, usize, usize) {
+    let (mut len, mut index) = (0, 0);
+    // SAFETY: as in `verify`; `Vrp` and `Route` have the layout of C.
     let status = unsafe {
-        pg_origins(
-            payloads.as_ptr(),
-            payloads.len(),
+        pigy_origins(
+            vrps.as_ptr(),
+            vrps.len(),
             routes.as_ptr(),
             routes.len(),
             out.as_mut_ptr(),
             out.len(),
             &mut len,
-            &mut place,
+            &mut index,
         )
     };
-    (status, len, place)
+    (status, len, index)
 }
 
-/// Calls `pg_answer`: writes the answer of the program `respath` to a line to `out`. Neither has a line end.
+/// Calls `pigy_answer`: writes the answer of the program `respath` to a line to `out`. Neither has a line end.
 ///
 /// Returns the status, and the output length in octets.
 pub fn answer(line: &[u8], out: &mut [u8]) -> (u32, usize) {
     let mut len = 0;
     // SAFETY: as in `verify`.
     let status = unsafe {
-        pg_answer(
+        pigy_answer(
             line.as_ptr(),
             line.len(),
             out.as_mut_ptr(),
@@ -739,7 +738,7 @@ pub fn answer(line: &[u8], out: &mut [u8]) -> (u32, usize) {
     (status, len)
 }
 
-/// Calls `pg_union`, `pg_intersection` or `pg_difference`.
+/// Calls `pigy_union`, `pigy_intersection` or `pigy_difference`.
 ///
 /// Returns the status, and the output lengths of AS identifiers and of IP address blocks, in octets.
 ///
@@ -749,7 +748,7 @@ pub fn answer(line: &[u8], out: &mut [u8]) -> (u32, usize) {
 /// - `a`, `b`: the first and the second set.
 /// - `encoding`: [`LENIENT`] or [`STRICT`].
 /// - `asn`, `ip`: the output buffers.
-pub fn made(
+pub fn combine(
     operation: Operation,
     a: Octets<'_>,
     b: Octets<'_>,
@@ -781,11 +780,11 @@ pub fn made(
     (status, as_len, ip_len)
 }
 
-/// Calls `pg_contains` or `pg_equal`. Returns the status: [`OK`], [`NO`], or that of an error.
-pub fn tested(test: Test, a: Octets<'_>, b: Octets<'_>, encoding: u32) -> u32 {
+/// Calls `pigy_contains` or `pigy_equal`. Returns the status: [`OK`], [`NO`], or that of an error.
+pub fn compare(comparison: Comparison, a: Octets<'_>, b: Octets<'_>, encoding: u32) -> u32 {
     // SAFETY: pointers and lengths are those of slices that are borrowed for the call.
     unsafe {
-        test.call()(
+        comparison.call()(
             a.asn.as_ptr(),
             a.asn.len(),
             a.ip.as_ptr(),

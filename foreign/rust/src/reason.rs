@@ -100,7 +100,7 @@ impl Fault {
     }
 }
 
-/// The reason why a call returns no result. `Display` writes the text of `pg_status_text` in `pigyelund.h`.
+/// The reason why a call returns no result. `Display` writes the text of `pigy_status_text` in `pigyelund.h`.
 #[non_exhaustive]
 #[derive(Clone, Copy, Debug, PartialEq, Eq, Hash)]
 pub enum Reason {
@@ -192,7 +192,7 @@ impl Reason {
 fn other_text(status: u32) -> &'static str {
     match status {
         raw::OK => "done",
-        raw::TOO_SMALL => "a room is too small",
+        raw::TOO_SMALL => "a buffer is too small",
         raw::BAD_MODE => "unknown mode",
         raw::NO => "no",
         raw::BAD_ENCODING => "unknown encoding",
@@ -227,15 +227,13 @@ impl Display for Reason {
             Reason::OverclaimedV6 => "overclaimed IPv6 resources",
             Reason::Absent => "the certificate has neither extension",
             Reason::BadFamily(Side::First) => "unknown family",
-            Reason::BadFamily(Side::Second) => {
-                "unknown family of a route or of a withdrawn payload"
-            }
-            Reason::BadPrefix(Side::First) => "bad prefix of a payload",
-            Reason::BadPrefix(Side::Second) => "bad prefix of a route or of a withdrawn payload",
-            Reason::BadMaxLen => "bad greatest length of a payload",
-            Reason::BadWithdrawnMaxLen => "bad greatest length of a withdrawn payload",
-            Reason::UnknownWithdrawal => "withdrawal of an unknown payload",
-            Reason::DuplicateAnnouncement => "duplicate announcement of a payload",
+            Reason::BadFamily(Side::Second) => "unknown family of a route or of a withdrawn VRP",
+            Reason::BadPrefix(Side::First) => "bad prefix of a VRP",
+            Reason::BadPrefix(Side::Second) => "bad prefix of a route or of a withdrawn VRP",
+            Reason::BadMaxLen => "bad maximum length of a VRP",
+            Reason::BadWithdrawnMaxLen => "bad maximum length of a withdrawn VRP",
+            Reason::UnknownWithdrawal => "withdrawal of an unknown VRP",
+            Reason::DuplicateAnnouncement => "duplicate announcement of a VRP",
             Reason::Other(status) => other_text(status),
         })
     }
@@ -245,57 +243,53 @@ impl Error for Reason {}
 
 /// The reason why a call returns no set, with the overclaimed resources if there are any.
 #[derive(Clone, Debug, PartialEq, Eq)]
-pub struct Refused {
+pub struct ResourceError {
     /// The reason.
     pub reason: Reason,
     /// The overclaimed resources of the kind that `reason` names; empty for any other reason.
     pub excess: Resources,
 }
 
-impl Refused {
+impl ResourceError {
     /// Returns the error for a status, without overclaimed resources.
-    pub(crate) fn of_status(status: u32) -> Refused {
-        Refused {
+    pub(crate) fn of_status(status: u32) -> ResourceError {
+        ResourceError {
             reason: Reason::of_status(status),
             excess: Resources::default(),
         }
     }
 }
 
-impl Display for Refused {
+impl Display for ResourceError {
     fn fmt(&self, out: &mut Formatter<'_>) -> Result {
         self.reason.fmt(out)
     }
 }
 
-impl Error for Refused {}
+impl Error for ResourceError {}
 
 /// The reason why a path is not verified, and the number of verified certificates.
 #[derive(Clone, Debug, PartialEq, Eq)]
-pub struct RefusedPath {
+pub struct PathError {
     /// The number of verified certificates. This is also the index, from 0, of the certificate that is not verified.
     ///
     /// It is 0 if the anchor's octets are refused. It has no meaning if the reason is [`Reason::Memory`].
     pub verified: usize,
     /// The reason, and the overclaimed resources if there are any.
-    pub refused: Refused,
+    pub error: ResourceError,
 }
 
-impl Display for RefusedPath {
+impl Display for PathError {
     fn fmt(&self, out: &mut Formatter<'_>) -> Result {
-        write!(
-            out,
-            "after {} certificates: {}",
-            self.verified, self.refused
-        )
+        write!(out, "after {} certificates: {}", self.verified, self.error)
     }
 }
 
-impl Error for RefusedPath {}
+impl Error for PathError {}
 
 /// The reason why a call on VRPs or routes returns no validities, or no table.
 #[derive(Clone, Copy, Debug, PartialEq, Eq)]
-pub struct RefusedOrigin {
+pub struct OriginError {
     /// The reason.
     pub reason: Reason,
     /// The index, from 0, of the VRP or route that is refused.
@@ -304,16 +298,16 @@ pub struct RefusedOrigin {
     ///   routes, or in the withdrawn VRPs.
     /// - With the other reasons it counts in the VRPs, or in the announced VRPs.
     /// - It is 0 if none of them is refused.
-    pub place: usize,
+    pub index: usize,
 }
 
-impl Display for RefusedOrigin {
+impl Display for OriginError {
     fn fmt(&self, out: &mut Formatter<'_>) -> Result {
         match self.reason {
             Reason::Memory => self.reason.fmt(out),
-            reason => write!(out, "at place {}: {reason}", self.place),
+            reason => write!(out, "at index {}: {reason}", self.index),
         }
     }
 }
 
-impl Error for RefusedOrigin {}
+impl Error for OriginError {}

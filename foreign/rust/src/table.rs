@@ -4,7 +4,7 @@ use alloc::vec::{IntoIter, Vec};
 use core::net::IpAddr;
 
 use crate::raw::{self, OK, OTHER_AS, TOO_LONG, TOO_SMALL};
-use crate::{address_of, validity_of, Payload, Prefix, Reason, RefusedOrigin, Route, Validity};
+use crate::{address_of, validity_of, OriginError, Prefix, Reason, Route, Validity, Vrp};
 
 /// A table of VRPs (validated ROA payloads) for route origin validation (RFC 6811, 2).
 ///
@@ -14,17 +14,17 @@ use crate::{address_of, validity_of, Payload, Prefix, Reason, RefusedOrigin, Rou
 /// # Example
 ///
 /// ```
-/// use pigyelund::{Payload, Route, Table, Validity};
+/// use pigyelund::{Route, Table, Validity, Vrp};
 ///
 /// fn main() -> Result<(), pigyelund::RefusedOrigin> {
 ///     let net = "10.0.0.0".parse().unwrap();
-///     let table = Table::new(&[Payload::new(net, 8, 16, 64496)])?;
+///     let table = Table::new(&[Vrp::new(net, 8, 16, 64496)])?;
 ///     let route = Route::new(net, 24, 64497);
 ///     assert_eq!(table.origin(&route).unwrap(), Validity::Invalid);
-///     for payload in table.covering(&route).unwrap() {
-///         assert!(payload.is_other_as() && payload.is_too_long());
+///     for vrp in table.covering(&route).unwrap() {
+///         assert!(vrp.is_other_as() && vrp.is_too_long());
 ///     }
-///     let next = table.changed(&[Payload::new(net, 8, 24, 64497)], &[])?;
+///     let next = table.changed(&[Vrp::new(net, 8, 24, 64497)], &[])?;
 ///     assert_eq!(next.origin(&route).unwrap(), Validity::Valid);
 ///     Ok(())
 /// }
@@ -42,12 +42,12 @@ use crate::{address_of, validity_of, Payload, Prefix, Reason, RefusedOrigin, Rou
 pub struct Table(raw::Table);
 
 /// Returns the table if the status is [`OK`], or else the reason.
-fn told((status, table, place): (u32, raw::Table, usize)) -> Result<Table, RefusedOrigin> {
+fn table_or_error((status, table, index): (u32, raw::Table, usize)) -> Result<Table, OriginError> {
     if status == OK {
         return Ok(Table(table));
     }
     let reason = Reason::of_status(status);
-    Err(RefusedOrigin { reason, place })
+    Err(OriginError { reason, index })
 }
 
 /// Runs a call that returns elements. The buffer grows to the length that the call reports.
@@ -74,7 +74,7 @@ impl Table {
     ///
     /// # Errors
     ///
-    /// [`RefusedOrigin::place`] is the index, from 0, of the first malformed VRP. The first reason that applies to it
+    /// [`OriginError::index`] is the index, from 0, of the first malformed VRP. The first reason that applies to it
     /// is reported:
     ///
     /// - [`Reason::BadFamily`] with [`Side::First`]: its family is neither IPv4 nor IPv6.
@@ -84,8 +84,8 @@ impl Table {
     /// The call may return [`Reason::Memory`] instead of any other result.
     ///
     /// [`Side::First`]: crate::Side::First
-    pub fn new(payloads: &[Payload]) -> Result<Table, RefusedOrigin> {
-        told(raw::Table::new(payloads))
+    pub fn new(vrps: &[Vrp]) -> Result<Table, OriginError> {
+        table_or_error(raw::Table::new(vrps))
     }
 
     /// Returns a new table: this one without `withdrawn`, and then with `announced` (RFC 8210, 5.6).
@@ -100,7 +100,7 @@ impl Table {
     ///
     /// # Errors
     ///
-    /// [`RefusedOrigin::place`] is the index, from 0, of the VRP in its list. The reasons come in this order:
+    /// [`OriginError::index`] is the index, from 0, of the VRP in its list. The reasons come in this order:
     ///
     /// - [`Reason::BadFamily`], [`Reason::BadPrefix`] with [`Side::First`], [`Reason::BadMaxLen`]: the first malformed
     ///   VRP of `announced`.
@@ -115,19 +115,15 @@ impl Table {
     ///
     /// [`Side::First`]: crate::Side::First
     /// [`Side::Second`]: crate::Side::Second
-    pub fn changed(
-        &self,
-        announced: &[Payload],
-        withdrawn: &[Payload],
-    ) -> Result<Table, RefusedOrigin> {
-        told(self.0.changed(announced, withdrawn))
+    pub fn changed(&self, announced: &[Vrp], withdrawn: &[Vrp]) -> Result<Table, OriginError> {
+        table_or_error(self.0.changed(announced, withdrawn))
     }
 
     /// Validates routes (RFC 6811, 2). Returns the validity of each route, in the order of `routes`.
     ///
     /// # Errors
     ///
-    /// [`RefusedOrigin::place`] is the index, from 0, of the first malformed route:
+    /// [`OriginError::index`] is the index, from 0, of the first malformed route:
     ///
     /// - [`Reason::BadFamily`] with [`Side::Second`]: its family is neither IPv4 nor IPv6.
     /// - [`Reason::BadPrefix`] with [`Side::Second`]: its prefix is invalid.
@@ -135,12 +131,12 @@ impl Table {
     /// The call may return [`Reason::Memory`] instead of any other result.
     ///
     /// [`Side::Second`]: crate::Side::Second
-    pub fn origins(&self, routes: &[Route]) -> Result<Vec<Validity>, RefusedOrigin> {
+    pub fn origins(&self, routes: &[Route]) -> Result<Vec<Validity>, OriginError> {
         let mut octets = vec![0; routes.len()];
-        let (status, _, place) = self.0.origins(routes, &mut octets);
+        let (status, _, index) = self.0.origins(routes, &mut octets);
         if status != OK {
             let reason = Reason::of_status(status);
-            return Err(RefusedOrigin { reason, place });
+            return Err(OriginError { reason, index });
         }
         Ok(octets.into_iter().map(validity_of).collect())
     }
@@ -193,8 +189,8 @@ impl Table {
     /// # Errors
     ///
     /// [`Reason::Memory`] only.
-    pub fn payloads(&self) -> Result<IntoIter<Payload>, Reason> {
-        let found = with_items(|out| self.0.payloads(out))?;
+    pub fn vrps(&self) -> Result<IntoIter<Vrp>, Reason> {
+        let found = with_items(|out| self.0.vrps(out))?;
         Ok(found.into_iter())
     }
 }
@@ -212,21 +208,21 @@ pub struct Covering {
 }
 
 impl Covering {
-    fn of(told: &raw::Covering) -> Covering {
-        let width = if u32::from(told.family) == raw::IPV4 {
+    fn of(covering: &raw::Covering) -> Covering {
+        let width = if u32::from(covering.family) == raw::IPV4 {
             4
         } else {
             16
         };
-        let address: IpAddr = address_of(&told.address[..width]);
+        let address: IpAddr = address_of(&covering.address[..width]);
         Covering {
             prefix: Prefix {
                 address,
-                len: told.len,
+                len: covering.len,
             },
-            max_len: told.max_len,
-            asn: told.asn,
-            mismatch: u32::from(told.mismatch),
+            max_len: covering.max_len,
+            asn: covering.asn,
+            mismatch: u32::from(covering.mismatch),
         }
     }
 

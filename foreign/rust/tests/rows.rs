@@ -7,9 +7,9 @@ use pigyelund::raw;
 use pigyelund::raw::{NO, OK, TOO_SMALL};
 use pigyelund::{
     answer, contains, cover, difference, equal, intersection, origins, union, verify, verify_path,
-    version, Certificate, Encoding, Extensions, Family, Fault, Octets, Operation, Overclaim,
-    Payload, Reason, Refused, RefusedOrigin, RefusedPath, Resources, Route, Side, Table, Test,
-    Validity,
+    version, Certificate, Comparison, Encoding, Extensions, Family, Fault, Octets, Operation,
+    OriginError, Overclaim, PathError, Reason, ResourceError, Resources, Route, Side, Table,
+    Validity, Vrp,
 };
 use std::collections::{BTreeMap, HashSet};
 use std::error::Error;
@@ -41,14 +41,14 @@ fn mode_of(number: u32) -> Option<Overclaim> {
     }
 }
 
-fn place(word: &str) -> raw::Certificate {
+fn certificate(word: &str) -> raw::Certificate {
     let numbers: Vec<&str> = word.split(':').collect();
-    let places: Vec<usize> = numbers[..4].iter().map(|n| n.parse().unwrap()).collect();
+    let ranges: Vec<usize> = numbers[..4].iter().map(|n| n.parse().unwrap()).collect();
     raw::Certificate {
-        as_at: places[0],
-        as_len: places[1],
-        ip_at: places[2],
-        ip_len: places[3],
+        as_start: ranges[0],
+        as_len: ranges[1],
+        ip_start: ranges[2],
+        ip_len: ranges[3],
         present: numbers[4].parse().unwrap(),
         mode: numbers[5].parse().unwrap(),
     }
@@ -63,15 +63,15 @@ fn extensions_of(present: u32, octets: Octets<'_>) -> Extensions<'_> {
 }
 
 /// Returns the certificate at a position of `run`, or None if the position is outside or a number is unknown.
-fn certificate_at<'a>(run: &'a [u8], place: &raw::Certificate) -> Option<Certificate<'a>> {
-    let asn = run.get(place.as_at..place.as_at.checked_add(place.as_len)?)?;
-    let ip = run.get(place.ip_at..place.ip_at.checked_add(place.ip_len)?)?;
-    if place.present > raw::HAS_BOTH {
+fn certificate_at<'a>(run: &'a [u8], position: &raw::Certificate) -> Option<Certificate<'a>> {
+    let asn = run.get(position.as_start..position.as_start.checked_add(position.as_len)?)?;
+    let ip = run.get(position.ip_start..position.ip_start.checked_add(position.ip_len)?)?;
+    if position.present > raw::HAS_BOTH {
         return None;
     }
     Some(Certificate {
-        extensions: extensions_of(place.present, Octets { asn, ip }),
-        mode: mode_of(place.mode)?,
+        extensions: extensions_of(position.present, Octets { asn, ip }),
+        mode: mode_of(position.mode)?,
     })
 }
 
@@ -86,8 +86,8 @@ fn asn(octets: &[u8]) -> u32 {
     u32::from_be_bytes(octets[16..20].try_into().unwrap())
 }
 
-fn payload(octets: &[u8]) -> Payload {
-    Payload {
+fn vrp(octets: &[u8]) -> Vrp {
+    Vrp {
         address: octets[..16].try_into().unwrap(),
         asn: asn(octets),
         family: octets[20],
@@ -106,15 +106,15 @@ fn route(octets: &[u8]) -> Route {
 }
 
 /// Returns the octets that `rows.txt` has for a VRP.
-fn told_octets(address: [u8; 16], asn: u32, rest: &[u8]) -> Vec<u8> {
+fn row_octets(address: [u8; 16], asn: u32, rest: &[u8]) -> Vec<u8> {
     [&address[..], &asn.to_be_bytes()[..], rest].concat()
 }
 
 /// Returns the octets that `rows.txt` has for all VRPs of a table.
-fn payload_octets(table: &Table) -> Vec<u8> {
-    let all = table.payloads().unwrap();
+fn vrp_octets(table: &Table) -> Vec<u8> {
+    let all = table.vrps().unwrap();
     assert_eq!(all.len(), table.len());
-    all.flat_map(|it| told_octets(it.address, it.asn, &[it.family, it.len, it.max_len]))
+    all.flat_map(|it| row_octets(it.address, it.asn, &[it.family, it.len, it.max_len]))
         .collect()
 }
 
@@ -126,7 +126,7 @@ struct Row<'a> {
     runs: Vec<Vec<u8>>,
     certificates: Vec<raw::Certificate>,
     status: u32,
-    told: Resources,
+    expected: Resources,
     verified: Option<usize>,
 }
 
@@ -143,12 +143,12 @@ impl Row<'_> {
                 .map(|word| octets(word))
                 .collect(),
             certificates: if is_path {
-                words[5].split(';').map(place).collect()
+                words[5].split(';').map(certificate).collect()
             } else {
                 Vec::new()
             },
             status: words[6].parse().unwrap(),
-            told: Resources {
+            expected: Resources {
                 asn: octets(words[7]),
                 ip: octets(words[8]),
             },
@@ -171,38 +171,43 @@ impl Row<'_> {
     }
 
     fn lengths(&self) -> (usize, usize) {
-        (self.told.asn.len(), self.told.ip.len())
+        (self.expected.asn.len(), self.expected.ip.len())
     }
 
     /// Makes the call with buffers of each length up to the needed one.
-    fn ask_rooms(&self, call: impl Fn(&mut [u8], &mut [u8]) -> (u32, usize, usize)) {
+    fn ask_capacities(&self, call: impl Fn(&mut [u8], &mut [u8]) -> (u32, usize, usize)) {
         let (as_len, ip_len) = self.lengths();
-        for room in 0..=as_len.max(ip_len) {
-            let (mut asn, mut ip) = (vec![0xa5; room], vec![0xa5; room]);
+        for capacity in 0..=as_len.max(ip_len) {
+            let (mut asn, mut ip) = (vec![0xa5; capacity], vec![0xa5; capacity]);
             let found = call(&mut asn, &mut ip);
-            let fits = as_len <= room && ip_len <= room;
+            let fits = as_len <= capacity && ip_len <= capacity;
             let status = if fits { self.status } else { TOO_SMALL };
             assert_eq!(found, (status, as_len, ip_len), "{}", self.text);
-            let (mut told, mut also) = (vec![0xa5; room], vec![0xa5; room]);
+            let (mut expected_asn, mut expected_ip) = (vec![0xa5; capacity], vec![0xa5; capacity]);
             if fits {
-                told[..as_len].copy_from_slice(&self.told.asn);
-                also[..ip_len].copy_from_slice(&self.told.ip);
+                expected_asn[..as_len].copy_from_slice(&self.expected.asn);
+                expected_ip[..ip_len].copy_from_slice(&self.expected.ip);
             }
-            assert_eq!((asn, ip), (told, also), "{}", self.text);
+            assert_eq!((asn, ip), (expected_asn, expected_ip), "{}", self.text);
         }
     }
 
-    fn expect(&self, found: Result<Resources, Refused>) {
+    fn expect(&self, found: Result<Resources, ResourceError>) {
         let (status, set) = match found {
             Ok(set) => (OK, set),
-            Err(Refused { reason, excess }) => (reason.status(), excess),
+            Err(ResourceError { reason, excess }) => (reason.status(), excess),
         };
-        assert_eq!((status, &set), (self.status, &self.told), "{}", self.text);
+        assert_eq!(
+            (status, &set),
+            (self.status, &self.expected),
+            "{}",
+            self.text
+        );
     }
 
     /// Makes a call of one output with buffers of each length up to the needed one.
-    fn ask_room(&self, call: impl Fn(&mut [u8]) -> (u32, usize)) {
-        self.ask_rooms(|asn, _| {
+    fn ask_one_buffer(&self, call: impl Fn(&mut [u8]) -> (u32, usize)) {
+        self.ask_capacities(|asn, _| {
             let (status, len) = call(asn);
             (status, len, 0)
         });
@@ -212,7 +217,9 @@ impl Row<'_> {
         let (issuer, octets) = (self.first(), self.second());
         let (present, mode) = (self.numbers[1], self.numbers[2]);
         let encoding = self.numbers[0];
-        self.ask_rooms(|asn, ip| raw::verify(issuer, present, octets, encoding, mode, asn, ip));
+        self.ask_capacities(|asn, ip| {
+            raw::verify(issuer, present, octets, encoding, mode, asn, ip)
+        });
         if present > 3 {
             return;
         }
@@ -224,7 +231,7 @@ impl Row<'_> {
 
     fn ask_path(&self) {
         let (anchor, run, certificates) = (self.first(), &self.runs[2], &self.certificates);
-        self.ask_rooms(|asn, ip| {
+        self.ask_capacities(|asn, ip| {
             let (status, as_len, ip_len, verified) =
                 raw::verify_path(anchor, run, certificates, self.numbers[0], asn, ip);
             assert_eq!(Some(verified), self.verified, "{}", self.text);
@@ -243,15 +250,15 @@ impl Row<'_> {
         let found = verify_path(anchor, &path, encoding);
         let verified = match &found {
             Ok(_) => path.len(),
-            Err(RefusedPath { verified, .. }) => *verified,
+            Err(PathError { verified, .. }) => *verified,
         };
         assert_eq!(Some(verified), self.verified, "{}", self.text);
-        self.expect(found.map_err(|refused| refused.refused));
+        self.expect(found.map_err(|refused| refused.error));
     }
 
     fn ask_cover(&self) {
         let (ip, encoding, number) = (&self.runs[0], self.numbers[0], self.numbers[1]);
-        self.ask_room(|out| raw::cover(ip, encoding, number, out));
+        self.ask_one_buffer(|out| raw::cover(ip, encoding, number, out));
         let family = match number {
             1 => Family::V4,
             2 => Family::V6,
@@ -271,14 +278,14 @@ impl Row<'_> {
     }
 
     fn ask_origins(&self) {
-        let payloads: Vec<Payload> = self.runs[0].chunks(23).map(payload).collect();
+        let vrps: Vec<Vrp> = self.runs[0].chunks(23).map(vrp).collect();
         let routes: Vec<Route> = self.runs[2].chunks(22).map(route).collect();
-        self.ask_room(|out| {
-            let (status, len, place) = raw::origins(&payloads, &routes, out);
-            assert_eq!(Some(place), self.verified, "{}", self.text);
+        self.ask_one_buffer(|out| {
+            let (status, len, index) = raw::origins(&vrps, &routes, out);
+            assert_eq!(Some(index), self.verified, "{}", self.text);
             (status, len)
         });
-        match origins(&payloads, &routes) {
+        match origins(&vrps, &routes) {
             Ok(found) => self.expect_validities(&found),
             Err(refused) => self.expect_refused(refused),
         }
@@ -286,23 +293,28 @@ impl Row<'_> {
 
     fn expect_validities(&self, found: &[Validity]) {
         let octets: Vec<u8> = found.iter().map(|validity| *validity as u8).collect();
-        assert_eq!((OK, &octets), (self.status, &self.told.asn), "{}", self.text);
+        assert_eq!(
+            (OK, &octets),
+            (self.status, &self.expected.asn),
+            "{}",
+            self.text
+        );
     }
 
-    fn payloads(&self, at: usize) -> Vec<Payload> {
-        self.runs[at].chunks(23).map(payload).collect()
+    fn vrps(&self, at: usize) -> Vec<Vrp> {
+        self.runs[at].chunks(23).map(vrp).collect()
     }
 
     /// Compares the status and the index of an error with those of the golden test.
-    fn expect_refused(&self, RefusedOrigin { reason, place }: RefusedOrigin) {
-        let found = (reason.status(), Some(place));
+    fn expect_refused(&self, OriginError { reason, index }: OriginError) {
+        let found = (reason.status(), Some(index));
         assert_eq!(found, (self.status, self.verified), "{}", self.text);
     }
 
     /// Validates the routes of a golden test by a table: all at once, and each alone.
     fn ask_table_origins(&self) {
         let routes: Vec<Route> = self.runs[2].chunks(22).map(route).collect();
-        let table = match Table::new(&self.payloads(0)) {
+        let table = match Table::new(&self.vrps(0)) {
             Ok(table) => table,
             Err(refused) => return self.expect_refused(refused),
         };
@@ -319,7 +331,7 @@ impl Row<'_> {
 
     fn ask_covering(&self) {
         let route = route(&self.runs[2]);
-        let table = match Table::new(&self.payloads(0)) {
+        let table = match Table::new(&self.vrps(0)) {
             Ok(table) => table,
             Err(refused) => return self.expect_refused(refused),
         };
@@ -335,67 +347,72 @@ impl Row<'_> {
                 let family = if it.prefix.address.is_ipv4() { 1 } else { 2 };
                 let why = u8::from(it.is_other_as()) + 2 * u8::from(it.is_too_long());
                 assert_eq!(it.is_match(), why == 0);
-                told_octets(padded, it.asn, &[family, it.prefix.len, it.max_len, why])
+                row_octets(padded, it.asn, &[family, it.prefix.len, it.max_len, why])
             })
             .collect();
         assert_eq!(
             (OK, &octets),
-            (self.status, &self.told.asn),
+            (self.status, &self.expected.asn),
             "{}",
             self.text
         );
     }
 
     /// Compares all VRPs of a table, or of a changed table, with those of the golden test.
-    fn ask_payloads(&self) {
-        let table = match Table::new(&self.payloads(0)) {
+    fn ask_vrps(&self) {
+        let table = match Table::new(&self.vrps(0)) {
             Ok(table) => table,
             Err(refused) => return self.expect_refused(refused),
         };
-        if self.call == "payloads" {
+        if self.call == "vrps" {
             assert_eq!(
-                (OK, payload_octets(&table)),
-                (self.status, self.told.asn.clone())
+                (OK, vrp_octets(&table)),
+                (self.status, self.expected.asn.clone())
             );
             return;
         }
-        let before = payload_octets(&table);
-        match table.changed(&self.payloads(2), &self.payloads(3)) {
+        let before = vrp_octets(&table);
+        match table.changed(&self.vrps(2), &self.vrps(3)) {
             Ok(next) => {
-                let found = (OK, payload_octets(&next));
-                assert_eq!(found, (self.status, self.told.asn.clone()), "{}", self.text);
+                let found = (OK, vrp_octets(&next));
+                assert_eq!(
+                    found,
+                    (self.status, self.expected.asn.clone()),
+                    "{}",
+                    self.text
+                );
             }
             Err(refused) => self.expect_refused(refused),
         }
-        assert_eq!(payload_octets(&table), before, "{}", self.text);
+        assert_eq!(vrp_octets(&table), before, "{}", self.text);
     }
 
     fn ask_answer(&self) {
         let line = &self.runs[0];
-        self.ask_room(|out| raw::answer(line, out));
+        self.ask_one_buffer(|out| raw::answer(line, out));
         let found = answer(line).map(String::into_bytes);
-        assert_eq!(found.as_ref(), Ok(&self.told.asn), "{}", self.text);
+        assert_eq!(found.as_ref(), Ok(&self.expected.asn), "{}", self.text);
     }
 
     fn ask_operation(
         &self,
         operation: Operation,
-        safe: fn(Octets<'_>, Octets<'_>, Encoding) -> Result<Resources, Refused>,
+        safe: fn(Octets<'_>, Octets<'_>, Encoding) -> Result<Resources, ResourceError>,
     ) {
         let (a, b) = (self.first(), self.second());
-        self.ask_rooms(|asn, ip| raw::made(operation, a, b, self.numbers[0], asn, ip));
+        self.ask_capacities(|asn, ip| raw::combine(operation, a, b, self.numbers[0], asn, ip));
         if let Some(encoding) = encoding_of(self.numbers[0]) {
             self.expect(safe(a, b, encoding));
         }
     }
 
-    fn ask_test(
+    fn ask_comparison(
         &self,
-        test: Test,
-        safe: fn(Octets<'_>, Octets<'_>, Encoding) -> Result<bool, Refused>,
+        comparison: Comparison,
+        safe: fn(Octets<'_>, Octets<'_>, Encoding) -> Result<bool, ResourceError>,
     ) {
         let (a, b) = (self.first(), self.second());
-        let status = raw::tested(test, a, b, self.numbers[0]);
+        let status = raw::compare(comparison, a, b, self.numbers[0]);
         assert_eq!(status, self.status, "{}", self.text);
         let Some(encoding) = encoding_of(self.numbers[0]) else {
             return;
@@ -403,7 +420,7 @@ impl Row<'_> {
         let found = match safe(a, b, encoding) {
             Ok(true) => OK,
             Ok(false) => NO,
-            Err(Refused { reason, .. }) => reason.status(),
+            Err(ResourceError { reason, .. }) => reason.status(),
         };
         assert_eq!(found, self.status, "{}", self.text);
     }
@@ -418,13 +435,13 @@ impl Row<'_> {
                 self.ask_table_origins();
             }
             "covering" => self.ask_covering(),
-            "payloads" | "changed" => self.ask_payloads(),
+            "vrps" | "changed" => self.ask_vrps(),
             "answer" => self.ask_answer(),
             "union" => self.ask_operation(Operation::Union, union),
             "intersection" => self.ask_operation(Operation::Intersection, intersection),
             "difference" => self.ask_operation(Operation::Difference, difference),
-            "contains" => self.ask_test(Test::Contains, contains),
-            "equal" => self.ask_test(Test::Equal, equal),
+            "contains" => self.ask_comparison(Comparison::Contains, contains),
+            "equal" => self.ask_comparison(Comparison::Equal, equal),
             call => panic!("no call {call}"),
         }
     }
@@ -547,8 +564,8 @@ fn reasons_of(issuer: Octets<'_>, claim: &[u8], at: usize) -> Result<(), Box<dyn
             verify_path(issuer, &path, Encoding::Lenient).map(drop)?
         }
         2 => {
-            let payloads = [Payload::new(ten, 8, 8, 1), Payload::new(ten, 8, 7, 1)];
-            origins(&payloads, &[]).map(drop)?
+            let vrps = [Vrp::new(ten, 8, 8, 1), Vrp::new(ten, 8, 7, 1)];
+            origins(&vrps, &[]).map(drop)?
         }
         _ => answer(b"norm as 1").map(drop)?,
     }
@@ -562,7 +579,7 @@ fn reasons_are_errors() {
     let texts = [
         "overclaimed IPv4 resources",
         "after 1 certificates: overclaimed IPv4 resources",
-        "at place 1: bad greatest length of a payload",
+        "at index 1: bad maximum length of a VRP",
     ];
     let issuer = Octets {
         asn: &[],
@@ -590,42 +607,40 @@ fn reasons_are_errors() {
 #[test]
 fn a_table_is_asked_on_threads() {
     let net = |at: usize| IpAddr::V4(Ipv4Addr::from((at as u32) << 12));
-    let payloads: Vec<Payload> = (0..4000)
-        .map(|at| Payload::new(net(at), 20, 24, 7))
-        .collect();
-    let table = Table::new(&payloads).unwrap();
+    let vrps: Vec<Vrp> = (0..4000).map(|at| Vrp::new(net(at), 20, 24, 7)).collect();
+    let table = Table::new(&vrps).unwrap();
     thread::scope(|scope| {
         for turn in 0..THREADS {
-            let (table, payloads) = (&table, &payloads);
+            let (table, vrps) = (&table, &vrps);
             scope.spawn(move || {
-                for at in (turn..payloads.len()).step_by(3) {
+                for at in (turn..vrps.len()).step_by(3) {
                     let found = table.origin(&Route::new(net(at), 24, 7));
                     assert_eq!(found, Ok(Validity::Valid));
                 }
-                let next = table.changed(&[], &payloads[turn..turn + 1]).unwrap();
-                assert_eq!(next.len(), payloads.len() - 1);
+                let next = table.changed(&[], &vrps[turn..turn + 1]).unwrap();
+                assert_eq!(next.len(), vrps.len() - 1);
                 let gone = next.origin(&Route::new(net(turn), 24, 7));
                 assert_eq!(gone, Ok(Validity::NotFound));
             });
         }
     });
-    assert_eq!(table.len(), payloads.len());
+    assert_eq!(table.len(), vrps.len());
 }
 
 /// The set differences of two lists of VRPs, as changes, turn the table of one list into that of the other.
 #[test]
 fn changes_are_made_by_sets() {
     let ten = IpAddr::V4(Ipv4Addr::new(10, 0, 0, 0));
-    let of = |numbers: std::ops::Range<u32>, lengths: u32| -> HashSet<Payload> {
-        let payload = |asn| Payload::new(ten, 8, 8 + (asn % lengths) as u8, asn);
-        numbers.map(payload).collect()
+    let of = |numbers: std::ops::Range<u32>, lengths: u32| -> HashSet<Vrp> {
+        let vrp = |asn| Vrp::new(ten, 8, 8 + (asn % lengths) as u8, asn);
+        numbers.map(vrp).collect()
     };
     let (old, new) = (of(1..9, 3), of(3..12, 2));
     let table = Table::new(&Vec::from_iter(old.clone())).unwrap();
     let (announced, withdrawn) = (Vec::from_iter(&new - &old), Vec::from_iter(&old - &new));
     let next = table.changed(&announced, &withdrawn).unwrap();
     let wanted = Table::new(&Vec::from_iter(new)).unwrap();
-    assert_eq!(payload_octets(&next), payload_octets(&wanted));
+    assert_eq!(vrp_octets(&next), vrp_octets(&wanted));
     let routes = [9, 9, 10].map(|len| Route::new(ten, len, 3));
     assert_eq!(HashSet::from(routes).len(), 2);
     let covering = routes.map(|route| HashSet::<_>::from_iter(wanted.covering(&route).unwrap()));
@@ -636,26 +651,26 @@ fn changes_are_made_by_sets() {
 #[test]
 fn a_table_has_copies() {
     let ten = IpAddr::V4(Ipv4Addr::new(10, 0, 0, 0));
-    let [twice, other] = [1, 2].map(|asn| Payload::new(ten, 8, 8, asn));
+    let [twice, other] = [1, 2].map(|asn| Vrp::new(ten, 8, 8, asn));
     let table = Table::new(&[twice, other, twice]).unwrap();
-    let told = |table: Table| table.payloads().unwrap().collect::<Vec<_>>();
+    let listed = |table: Table| table.vrps().unwrap().collect::<Vec<_>>();
     assert_eq!(table.covering(&Route::new(ten, 8, 1)).unwrap().len(), 3);
-    assert_eq!(told(table.changed(&[], &[twice]).unwrap()), [other]);
+    assert_eq!(listed(table.changed(&[], &[twice]).unwrap()), [other]);
     assert_eq!(
-        told(table.changed(&[twice], &[twice]).unwrap()),
+        listed(table.changed(&[twice], &[twice]).unwrap()),
         [other, twice]
     );
     let refused = table.changed(&[], &[twice, twice]).unwrap_err();
     assert_eq!(
-        (refused.reason, refused.place),
+        (refused.reason, refused.index),
         (Reason::UnknownWithdrawal, 1)
     );
     let refused = table.changed(&[twice], &[]).unwrap_err();
     assert_eq!(
-        (refused.reason, refused.place),
+        (refused.reason, refused.index),
         (Reason::DuplicateAnnouncement, 0)
     );
-    assert_eq!(told(table), [other, twice, twice]);
+    assert_eq!(listed(table), [other, twice, twice]);
 }
 
 #[test]
@@ -666,25 +681,22 @@ fn a_null_table_is_refused() {
     assert_eq!(null.origins(&[route], &mut [0]), (raw::NO_TABLE, 0, 0));
     assert_eq!(null.covering(&route, &mut []), (raw::NO_TABLE, 0));
     assert_eq!(null.count(), (raw::NO_TABLE, 0));
-    assert_eq!(null.payloads(&mut []), (raw::NO_TABLE, 0));
-    let (status, next, place) = null.changed(&[], &[]);
-    assert_eq!((status, next.is_null(), place), (raw::NO_TABLE, true, 0));
+    assert_eq!(null.vrps(&mut []), (raw::NO_TABLE, 0));
+    let (status, next, index) = null.changed(&[], &[]);
+    assert_eq!((status, next.is_null(), index), (raw::NO_TABLE, true, 0));
 }
 
 #[test]
 fn addresses_are_of_their_families() {
     let v4 = IpAddr::V4(Ipv4Addr::new(10, 0, 0, 0));
     let v6 = IpAddr::from([0x2001, 0xdb8, 0, 0, 0, 0, 0, 0]);
-    let payloads = [
-        Payload::new(v4, 8, 16, 64496),
-        Payload::new(v6, 32, 48, 64496),
-    ];
+    let vrps = [Vrp::new(v4, 8, 16, 64496), Vrp::new(v6, 32, 48, 64496)];
     let routes = [
         Route::new(v4, 16, 64496),
         Route::new(v6, 49, 64496),
         Route::new(v6, 31, 64496),
     ];
-    let found = origins(&payloads, &routes);
+    let found = origins(&vrps, &routes);
     assert_eq!(
         found,
         Ok(vec![Validity::Valid, Validity::Invalid, Validity::NotFound])

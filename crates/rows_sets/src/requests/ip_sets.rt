@@ -27,7 +27,7 @@ pub fn answer(
 
 fn text(alloc: Global, counting: &Refusing, list: &str) -> Result<String, AllocError> {
     let before = Asked::of(counting);
-    before.told(alloc, counting, Ok(IpBlocks::from_str(counting, list)))
+    before.since_result(alloc, counting, Ok(IpBlocks::from_str(counting, list)))
 }
 
 fn of_blocks(
@@ -39,9 +39,13 @@ fn of_blocks(
 ) -> Result<String, AllocError> {
     let before = Asked::of(counting);
     match call {
-        "from_blocks" => before.told(alloc, counting, IpBlocks::from_blocks(counting, blocks)),
-        "from_vec" => before.told(alloc, counting, from_vec(counting, blocks)),
-        "build" => before.told(alloc, counting, built(counting, blocks, more)),
+        "from_blocks" => before.since_result(
+            alloc,
+            counting,
+            IpBlocks::from_blocks(counting, blocks),
+        ),
+        "from_vec" => before.since_result(alloc, counting, from_vec(counting, blocks)),
+        "build" => before.since_result(alloc, counting, built(counting, blocks, more)),
         _ => with(
             alloc,
             counting,
@@ -120,11 +124,11 @@ fn of_sets<'a>(
 ) -> Result<String, AllocError> {
     let before = Asked::of(counting);
     match call {
-        "octets" => before.told(alloc, counting, octets(counting, set)),
+        "octets" => before.since_result(alloc, counting, octets(counting, set)),
         "refuse" => path(alloc, counting, Overclaim::Refuse, set, other),
         "trim" => path(alloc, counting, Overclaim::Trim, set, other),
         _ => match made(counting, call, set, other) {
-            Some(made) => before.told(alloc, counting, made),
+            Some(made) => before.since_result(alloc, counting, made),
             None => String::from_str(alloc, "no such call"),
         },
     }
@@ -174,7 +178,7 @@ fn path<'a>(
 ) -> Result<String, AllocError> {
     let steps = steps(anchor, claimed, mode)?;
     let before = Asked::of(counting);
-    before.told(alloc, counting, Ok(anchor.verify_path(counting, &steps)))
+    before.since_result(alloc, counting, Ok(anchor.verify_path(counting, &steps)))
 }
 
 fn steps<A: Allocator>(

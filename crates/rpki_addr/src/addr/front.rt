@@ -10,7 +10,7 @@ use super::{Ipv4Addr, Ipv6Addr};
 ///
 /// An address that is not followed by a digit is always found.
 #[tactic(auto, using(crate::proofs::AddressFronts::ipv4_reader, crate::proofs::AddressFronts::found))]
-pub fn ipv4_front(text: &[u8]) -> Option<(Ipv4Addr, &[u8])>
+pub fn ipv4_at_front(text: &[u8]) -> Option<(Ipv4Addr, &[u8])>
     ensures found { IfSome result (λ found. IsAtFront IsIpv4Text text.now found.0 found.1.now) }
     // An address that no digit follows is found.
     ensures each { (n : ℕ) (rest : List ℕ) → IsAtFront IsIpv4Text text.now n rest → EndsIpv4 rest
@@ -26,7 +26,7 @@ pub fn ipv4_front(text: &[u8]) -> Option<(Ipv4Addr, &[u8])>
 ///
 /// An address that is not followed by a hexadecimal digit, a dot or a colon is always found.
 #[tactic(auto, using(crate::proofs::AddressFronts::ipv6_reader, crate::proofs::AddressFronts::found))]
-pub fn ipv6_front(text: &[u8]) -> Option<(Ipv6Addr, &[u8])>
+pub fn ipv6_at_front(text: &[u8]) -> Option<(Ipv6Addr, &[u8])>
     ensures found { IfSome result (λ found. IsAtFront IsIpv6Text text.now found.0 found.1.now) }
     // An address that neither a hexadecimal digit nor a dot nor a colon follows is found.
     ensures each { (n : ℕ) (rest : List ℕ) → IsAtFront IsIpv6Text text.now n rest → EndsIpv6 rest

@@ -5,8 +5,8 @@ ghost use Rattle.std.specs.Prelude.{◌≡◌, ◌==◌, true, ◌*◌, ◌^◌,
 ghost use Rattle.std.specs.Char.{digit_value};
 ghost use Rattle.std.specs.Net.Reader as Reader;
 ghost use Rattle.rpki_text.specs.Digits.{from_octets};
-ghost use Rattle.rpki_addr.specs.AddressReading.{numbered, with_number, with_octets, hex_value};
-ghost use Rattle.rpki_addr.specs.GroupsRead.{IsSoFar, parts};
+ghost use Rattle.rpki_addr.specs.ReaderResults.{numbered, with_number, with_octets, hex_value};
+ghost use Rattle.rpki_addr.specs.GroupProgress.{IsSoFar, parts};
 
 /// Returns the value of the decimal digit at an index, or 10 or more if there is no digit.
 #[inline(always)]
@@ -24,7 +24,7 @@ fn decimal_at(text: &[u8], at: usize) -> u8
 
 /// Takes a decimal from 0 to 255 without leading zeros.
 #[inline(always)]
-#[tactic(auto, using(crate::proofs::AddressReading::octet_read))]
+#[tactic(auto, using(crate::proofs::DigitGroupLemmas::octet_read))]
 fn take_octet(text: &[u8]) -> Option<(u8, &[u8])>
     ensures { Reader.read_view (λ n. n) result ≡ Reader.read_octet text.now }
 {
@@ -55,7 +55,7 @@ fn take_octet(text: &[u8]) -> Option<(u8, &[u8])>
 
 /// Returns the text after this byte, if the text begins with it.
 #[inline(always)]
-fn behind(byte: u8, text: &[u8]) -> Option<&[u8]>
+fn strip_byte(byte: u8, text: &[u8]) -> Option<&[u8]>
     ensures { option_map (λ rest. rest.now) result ≡ Reader.read_byte byte text.now }
 {
     let (first, rest) = text.split_first()?;
@@ -68,7 +68,7 @@ fn take_next_octet(text: &[u8]) -> Option<(u8, &[u8])>
     ensures { Reader.read_view (λ n. n) result
         ≡ option_and_then Reader.read_octet (Reader.read_byte 46 text.now) }
 {
-    take_octet(behind(b'.', text)?)
+    take_octet(strip_byte(b'.', text)?)
 }
 
 /// Takes an IPv4 address and returns its number.
@@ -100,16 +100,16 @@ fn is_dot(text: &[u8], at: usize) -> bool
     at < text.len() && text[at] == b'.'
 }
 
-/// Takes an IPv4 address at a place where it may replace two groups, so both must fit (`has_room`). `behind_group` is
+/// Takes an IPv4 address at a place where it may replace two groups, so both must fit (`both_fit`). `behind_group` is
 /// the text after the first group. An IPv4 address here begins with a group that a dot follows.
 #[inline(always)]
-#[tactic(auto, using(crate::proofs::AddressReading::no_last_two))]
-fn take_last_two<'a>(text: &'a [u8], behind_group: &[u8], has_room: bool) -> Option<(u32, &'a [u8])>
+#[tactic(auto, using(crate::proofs::DigitGroupLemmas::no_last_two))]
+fn take_last_two<'a>(text: &'a [u8], behind_group: &[u8], both_fit: bool) -> Option<(u32, &'a [u8])>
     requires { (group : ℕ) × (Reader.read_segment text.now ≡ Some (group, behind_group.now)) }
     ensures { Reader.read_view (λ n. n) result
-        ≡ option_map with_octets (Reader.read_ipv4_if has_room text.now) }
+        ≡ option_map with_octets (Reader.read_ipv4_if both_fit text.now) }
 {
-    if !has_room {
+    if !both_fit {
         return None;
     }
     if is_dot(behind_group, 0) {
@@ -143,7 +143,7 @@ fn hex_value(byte: u8) -> u8
 
 /// Returns the value of the hexadecimal digit at an index, or 16 if there is no digit.
 #[inline(always)]
-#[tactic(auto, unfolding(crate::specs::AddressReading::hex_value))]
+#[tactic(auto, unfolding(crate::specs::ReaderResults::hex_value))]
 fn hex_at(text: &[u8], at: usize) -> u8
     ensures digit { result < 16 → digit_value (get_or text.now at 0) ≡ result }
     ensures some { result < 16 → at < length text.now }
@@ -158,7 +158,7 @@ fn hex_at(text: &[u8], at: usize) -> u8
 
 /// Takes a group: one to four hexadecimal digits.
 #[inline(always)]
-#[tactic(auto, using(crate::proofs::AddressReading::group_read))]
+#[tactic(auto, using(crate::proofs::DigitGroupLemmas::group_read))]
 fn take_group(text: &[u8]) -> Option<(u16, &[u8])>
     ensures { Reader.read_view (λ n. n) result ≡ Reader.read_segment text.now }
 {
@@ -209,26 +209,26 @@ impl<'a> Groups<'a> {
         if self.count == 0 {
             return Some(self.rest);
         }
-        behind(b':', self.rest)
+        strip_byte(b':', self.rest)
     }
 
     /// Returns the groups with the next group, or with the next two from an IPv4 address. Returns None if no group
-    /// follows, or if `room` groups were read.
+    /// follows, or if `max_count` groups were read.
     #[inline(always)]
-    #[tactic(auto, using(crate::proofs::GroupReading::one_fits, crate::proofs::GroupReading::two_fit, crate::proofs::GroupReading::with_ipv4, crate::proofs::GroupReading::with_group))]
-    fn longer(&self, room: usize) -> Option<Groups<'a>>
-        requires within { self.now.count ≤ room }
+    #[tactic(auto, using(crate::proofs::GroupLemmas::one_fits, crate::proofs::GroupLemmas::two_fit, crate::proofs::GroupLemmas::with_ipv4, crate::proofs::GroupLemmas::with_group))]
+    fn longer(&self, max_count: usize) -> Option<Groups<'a>>
+        requires within { self.now.count ≤ max_count }
         requires small { self.now.bits < 0x10000 ^ self.now.count }
-        requires at_most { room ≤ 8 }
-        ensures so_far { (text : List ℕ) → IsSoFar room text self.now → MatchOption result
-            (parts self.now ≡ numbered (Reader.read_segments room true text))
-            (λ groups. IsSoFar room text groups) }
+        requires at_most { max_count ≤ 8 }
+        ensures so_far { (text : List ℕ) → IsSoFar max_count text self.now → MatchOption result
+            (parts self.now ≡ numbered (Reader.read_segments max_count true text))
+            (λ groups. IsSoFar max_count text groups) }
         ensures more { IfSome result (λ groups. self.now.count < groups.count) }
     {
         if self.closed {
             return None;
         }
-        if self.count == room {
+        if self.count == max_count {
             return None;
         }
         let Some(text) = self.next_text() else {
@@ -237,7 +237,7 @@ impl<'a> Groups<'a> {
         let Some((group, rest)) = take_group(text) else {
             return None;
         };
-        if let Some((low, rest)) = take_last_two(text, rest, self.count + 1 < room) {
+        if let Some((low, rest)) = take_last_two(text, rest, self.count + 1 < max_count) {
             return Some(Groups {
                 bits: self.bits * 0x1_0000_0000 + u128::from(low),
                 count: self.count + 2,
@@ -254,12 +254,12 @@ impl<'a> Groups<'a> {
     }
 }
 
-/// Takes groups for as long as one follows and fewer than `room` were read.
-fn take_groups(text: &[u8], room: usize) -> Groups<'_>
-    requires { room ≤ 8 }
-    ensures value { parts result ≡ numbered (Reader.read_segments room true text.now) }
+/// Takes groups for as long as one follows and fewer than `max_count` were read.
+fn take_groups(text: &[u8], max_count: usize) -> Groups<'_>
+    requires { max_count ≤ 8 }
+    ensures value { parts result ≡ numbered (Reader.read_segments max_count true text.now) }
     ensures small { result.bits < 0x10000 ^ result.count }
-    ensures within { result.count ≤ room }
+    ensures within { result.count ≤ max_count }
 {
     let mut groups = Groups {
         bits: 0,
@@ -267,7 +267,7 @@ fn take_groups(text: &[u8], room: usize) -> Groups<'_>
         closed: false,
         rest: text,
     };
-    while let Some(longer) = groups.longer(room) {
+    while let Some(longer) = groups.longer(max_count) {
         groups = longer;
     }
     groups
@@ -275,15 +275,15 @@ fn take_groups(text: &[u8], room: usize) -> Groups<'_>
 
 /// Returns the text after two colons, if the text begins with them.
 #[inline(always)]
-fn behind_colons(text: &[u8]) -> Option<&[u8]>
+fn strip_colons(text: &[u8]) -> Option<&[u8]>
     ensures { option_map (λ rest. rest.now) result
         ≡ option_and_then (Reader.read_byte 58) (Reader.read_byte 58 text.now) }
 {
-    behind(b':', behind(b':', text)?)
+    strip_byte(b':', strip_byte(b':', text)?)
 }
 
 /// Returns the number of these groups followed by `count` zero groups.
-#[tactic(auto, using(crate::proofs::GroupReading::one_zero_more, crate::proofs::GroupReading::power_less))]
+#[tactic(auto, using(crate::proofs::GroupLemmas::one_zero_more, crate::proofs::GroupLemmas::power_less))]
 fn with_zeros(bits: u128, count: usize) -> u128
     requires { bits * 0x10000 ^ count < 2 ^ 128 }
     ensures { result ≡ bits * 0x10000 ^ count }
@@ -298,7 +298,7 @@ fn with_zeros(bits: u128, count: usize) -> u128
 }
 
 /// Takes an IPv6 address and returns its number.
-#[tactic(auto, using(crate::proofs::GroupReading::number_elided, crate::proofs::GroupReading::elided_fits), unfolding(std::specs::Net::Reader::read_ipv6))]
+#[tactic(auto, using(crate::proofs::GroupLemmas::number_elided, crate::proofs::GroupLemmas::elided_fits), unfolding(std::specs::Net::Reader::read_ipv6))]
 pub(super) fn take_ipv6(text: &[u8]) -> Option<(u128, &[u8])>
     ensures { Reader.read_view (λ n. n) result
         ≡ option_map with_number (Reader.read_ipv6 text.now) }
@@ -310,7 +310,7 @@ pub(super) fn take_ipv6(text: &[u8]) -> Option<(u128, &[u8])>
     if front.closed {
         return None;
     }
-    let Some(text) = behind_colons(front.rest) else {
+    let Some(text) = strip_colons(front.rest) else {
         return None;
     };
     // Two colons stand for at least one zero group.

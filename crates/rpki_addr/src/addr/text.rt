@@ -1,7 +1,7 @@
 //! Parses and prints addresses.
 ghost use Rattle.std.specs.Prelude.{Some};
 ghost use Rattle.rpki_addr.specs.PrintedAddress.{ipv4_text, ipv6_text, ip_text};
-ghost use Rattle.rpki_addr.specs.ReadsAddress.{ReadsIpv4, ReadsIpv6, ReadsIp};
+ghost use Rattle.rpki_addr.specs.FromStrResults.{ReadsIpv4, ReadsIpv6, ReadsIp};
 
 use super::print::{IP_ROOM, IPV4_ROOM, put_ipv4, put_ipv6, write_front};
 use super::read::{ipv4_of, ipv6_of};

@@ -52,7 +52,7 @@ impl<A: Allocator> AsBlocks<A> {
             (as_blocks_by (is_strict cursor.old)) }
         ensures mode { is_strict cursor.new ≡ is_strict cursor.old }
     {
-        Self::next_set(alloc, cursor)
+        Self::take_from_by_mode(alloc, cursor)
     }
 
     /// Appends the blocks of the set to `out`, ascending, without an enclosing SEQUENCE. They are its runs: a run of
@@ -61,7 +61,7 @@ impl<A: Allocator> AsBlocks<A> {
     /// # Errors
     ///
     /// [`AllocError`] if there is no memory for all blocks. The octets of `out` are unchanged then.
-    #[tactic(auto, using(crate::proofs::AsDerLemmas::blocks_octets))]
+    #[tactic(auto, using(crate::proofs::AsSetDerLemmas::blocks_octets))]
     pub fn encode<B: Allocator>(&self, out: &mut Vec<u8, B>) -> Result<(), AllocError>
         ensures ok { OnOk result (out.new.items ≡ out.old.items ++ as_set_octets self.now) }
         ensures err { OnErr result (out.new.items ≡ out.old.items) }
@@ -74,7 +74,10 @@ impl<A: Allocator> AsBlocks<A> {
     }
 
     // Reads the set for `take_from`.
-    fn next_set(alloc: A, cursor: &mut Cursor<'_>) -> Result<AsBlocks<A>, OrMemory<DerError>>
+    fn take_from_by_mode(
+        alloc: A,
+        cursor: &mut Cursor<'_>,
+    ) -> Result<AsBlocks<A>, OrMemory<DerError>>
     where
         A: Copy,
         ensures by_mode { TakesSaidOrMemory (IsRunsOfBlocks as_bounds) cursor.old cursor.new result

@@ -40,14 +40,14 @@ pub fn written_resources()
 
 /// Resources are refused for a list of no blocks if and only if the SEQUENCE of blocks is empty. The octets after it
 /// don't matter.
-#[tactic(auto, using(crate::proofs::DerFaults::empty_blocks))]
+#[tactic(auto, using(crate::proofs::AsResourcesDerFaults::empty_blocks))]
 pub fn empty_blocks()
     ensures { (bytes : List ℕ) → (as_choice_at bytes ≡ Err EmptyBlocks)
         ↔ BeginsWithValue 48 (BeginsWithValue 160 BeginsEmpty) bytes }
 {}
 
 /// Only a strict cursor refuses octets as not canonical.
-#[tactic(auto, using(crate::proofs::DerFaults::blocks_names, crate::proofs::DerFaults::resources_names))]
+#[tactic(auto, using(crate::proofs::AsResourcesDerFaults::blocks_names, crate::proofs::AsResourcesDerFaults::resources_names))]
 pub fn not_canonical()
     ensures sequence { (bytes : List ℕ) → as_blocks_at bytes ≢ Err NotCanonical }
     ensures resources { (bytes : List ℕ) → as_choice_at bytes ≢ Err NotCanonical }

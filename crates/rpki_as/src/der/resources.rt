@@ -65,7 +65,7 @@ impl<A: Allocator> AsResources<A> {
             cursor.new result (as_choice_by (is_strict cursor.old)) }
         ensures mode { is_strict cursor.new ≡ is_strict cursor.old }
     {
-        Self::next_resources(alloc, cursor)
+        Self::take_from_by_mode(alloc, cursor)
     }
 
     /// Appends the encoding of the resources to `out`, in a tag and a SEQUENCE.
@@ -104,7 +104,7 @@ impl<A: Allocator> AsResources<A> {
 
     // Reads the resources for `take_from`.
     #[tactic(auto, unfolding(rpki_der::specs::Reading::refined, rpki_der::specs::SequenceReading::only))]
-    fn next_resources(
+    fn take_from_by_mode(
         alloc: A,
         cursor: &mut Cursor<'_>,
     ) -> Result<AsResources<A>, OrMemory<DerError>>

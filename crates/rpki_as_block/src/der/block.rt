@@ -37,7 +37,7 @@ impl AsBlock {
     /// - `ReversedRange`: the first number of a range is above the second
     /// - `TrailingData`: a range has more than two numbers
     /// - `NotCanonical`, from a strict cursor only: a range has only one number
-    #[tactic(auto, using(crate::proofs::AsDerLemmas::block_back, crate::proofs::AsDerLemmas::set_block_reading, rpki_der::proofs::SequenceCursors::reads_optional_value_by))]
+    #[tactic(auto, using(crate::proofs::AsBlockDerLemmas::block_back, crate::proofs::AsBlockDerLemmas::set_block_reading, rpki_der::proofs::SequenceCursors::reads_optional_value_by))]
     pub fn take_opt_from(cursor: &mut Cursor<'_>) -> Result<Option<AsBlock>, DerError>
         ensures reads { Lenient cursor.old
             (ReadsOptional IsAsBlock (λ block. block) cursor.old cursor.new result) }
@@ -59,7 +59,7 @@ impl AsBlock {
             (optional (as_block_by (is_strict cursor.old))) }
         ensures mode { is_strict cursor.new ≡ is_strict cursor.old }
     {
-        AsBlock::next_opt(cursor)
+        AsBlock::take_opt_from_by_mode(cursor)
     }
 
     /// Skips the next block. It returns None at the end, and only there.
@@ -74,11 +74,11 @@ impl AsBlock {
         ensures exact { Takes (λ u. u) cursor.old cursor.new result (optional skip_block_at) }
         ensures mode { is_strict cursor.new ≡ is_strict cursor.old }
     {
-        AsBlock::pass_over_opt(cursor)
+        AsBlock::skip_opt_in_exact(cursor)
     }
 
     /// Returns how many octets `encode` appends, at most 16.
-    #[tactic(auto, using(crate::proofs::AsDerLemmas::header_lengths))]
+    #[tactic(auto, using(crate::proofs::AsBlockDerLemmas::header_lengths))]
     pub fn encoded_len(&self) -> usize
         ensures len { result ≡ length (as_block_octets self.now) }
         ensures short { result ≤ 16 }
@@ -97,7 +97,7 @@ impl AsBlock {
     /// # Errors
     ///
     /// [`AllocError`] if an allocation fails. The octets of `out` are unchanged then.
-    #[tactic(auto, using(crate::proofs::AsDerLemmas::read_again))]
+    #[tactic(auto, using(crate::proofs::AsBlockDerLemmas::read_again))]
     pub fn encode<A: Allocator>(&self, out: &mut Vec<u8, A>) -> Result<(), AllocError>
         ensures ok { OnOk result (out.new.items ≡ out.old.items ++ as_block_octets self.now) }
         ensures err { OnErr result (out.new.items ≡ out.old.items) }
@@ -109,7 +109,7 @@ impl AsBlock {
         ensures read_back { (rest : List ℕ)
             → as_block_at (as_block_octets self.now ++ rest) ≡ Ok (self.now, rest) }
     {
-        AsBlock::max(self).is_lawful();
+        AsBlock::max(self).recall_invariant();
         self.put(out)
     }
 }
@@ -138,7 +138,7 @@ impl AsBlock {
     }
 
     fn append_to<A: Allocator>(&self, out: &mut Vec<u8, A>)
-        requires room { vec_len out.old + length (as_block_octets self.now) ≤ vec_capacity out.old }
+        requires fits { vec_len out.old + length (as_block_octets self.now) ≤ vec_capacity out.old }
         ensures items { out.new.items ≡ out.old.items ++ as_block_octets self.now }
         ensures capacity { vec_capacity out.old ≤ vec_capacity out.new }
     {
@@ -153,7 +153,7 @@ impl AsBlock {
     }
 
     #[tactic(auto, unfolding(rpki_der::specs::Reading::optional, rpki_der::specs::Reading::refined, rpki_der::specs::Reading::passing, rpki_der::specs::SequenceReading::by_tag))]
-    fn next_opt(cursor: &mut Cursor<'_>) -> Result<Option<AsBlock>, DerError>
+    fn take_opt_from_by_mode(cursor: &mut Cursor<'_>) -> Result<Option<AsBlock>, DerError>
         ensures by_mode { Takes (λ block. block) cursor.old cursor.new result
             (optional (as_block_by (is_strict cursor.old))) }
         ensures mode { is_strict cursor.new ≡ is_strict cursor.old }
@@ -184,7 +184,7 @@ impl AsBlock {
         ensures mode { is_strict cursor.new ≡ is_strict cursor.old }
     {
         let mut ahead = *cursor;
-        let Some(block) = AsBlock::next_opt(&mut ahead)? else {
+        let Some(block) = AsBlock::take_opt_from_by_mode(&mut ahead)? else {
             return Ok(None);
         };
         if cursor.is_strict() && !block.is_beyond(before) {
@@ -217,7 +217,7 @@ impl AsBlock {
     }
 
     #[tactic(auto, unfolding(rpki_der::specs::Reading::optional, rpki_der::specs::Reading::refined))]
-    fn pass_over_opt(cursor: &mut Cursor<'_>) -> Result<Option<()>, DerError>
+    fn skip_opt_in_exact(cursor: &mut Cursor<'_>) -> Result<Option<()>, DerError>
         ensures exact { Takes (λ u. u) cursor.old cursor.new result (optional skip_block_at) }
         ensures mode { is_strict cursor.new ≡ is_strict cursor.old }
     {

@@ -18,7 +18,7 @@ impl Asn {
     /// # Errors
     ///
     /// The errors of [`Cursor::take_u32`]. The cursor is unchanged after an error.
-    #[tactic(auto, using(rpki_der::proofs::Readings::u32_reading, rpki_der::proofs::Written::u32_is))]
+    #[tactic(auto, using(rpki_der::proofs::ValueReadings::u32_reading, rpki_der::proofs::WrittenValues::u32_is))]
     #[inline]
     pub fn take_from(cursor: &mut Cursor<'_>) -> Result<Asn, DerError>
         ensures reads { ReadsValue IsAsNumber (λ n. n) cursor.old cursor.new result }
@@ -29,7 +29,7 @@ impl Asn {
             → (result ≡ Ok n) × (left cursor.new ≡ rest) }
         ensures mode { is_strict cursor.new ≡ is_strict cursor.old }
     {
-        Asn::next(cursor)
+        Asn::take_from_exact(cursor)
     }
 
     /// Takes an AS number as `take_from` does, if the next octet is the tag of an INTEGER.
@@ -39,23 +39,23 @@ impl Asn {
     /// # Errors
     ///
     /// The errors of `take_from`. The cursor is unchanged after an error.
-    #[tactic(auto, using(rpki_der::proofs::SequenceCursors::reads_tagged_by, rpki_der::proofs::Readings::u32_reading))]
+    #[tactic(auto, using(rpki_der::proofs::SequenceCursors::reads_tagged_by, rpki_der::proofs::ValueReadings::u32_reading))]
     pub fn take_opt_from(cursor: &mut Cursor<'_>) -> Result<Option<Asn>, DerError>
         ensures reads { ReadsTagged 2 IsAsNumber cursor.old cursor.new result }
         ensures exact { Takes (λ n. n) cursor.old cursor.new result (if_tagged 2 as_number_at) }
         ensures mode { is_strict cursor.new ≡ is_strict cursor.old }
     {
-        Asn::next_opt(cursor)
+        Asn::take_opt_from_exact(cursor)
     }
 
     /// Skips an AS number, with the errors of `take_from`. The cursor is unchanged after an error.
-    #[tactic(auto, using(rpki_der::proofs::Cursors::reads_by, rpki_der::proofs::SequenceReadings::number_skipped))]
+    #[tactic(auto, using(rpki_der::proofs::CursorReadings::reads_by, rpki_der::proofs::SequenceReadings::number_skipped))]
     pub fn skip_in(cursor: &mut Cursor<'_>) -> Result<(), DerError>
         ensures reads { ReadsValue (Skips IsAsNumber) (λ u. u) cursor.old cursor.new result }
         ensures exact { Takes (λ u. u) cursor.old cursor.new result (skipping as_number_at) }
         ensures mode { is_strict cursor.new ≡ is_strict cursor.old }
     {
-        Asn::pass_over(cursor)
+        Asn::skip_in_exact(cursor)
     }
 
     /// Reads the AS number of a content. The tag is not checked.
@@ -97,7 +97,7 @@ impl Asn {
     /// # Errors
     ///
     /// `AllocError`: out of memory. The octets in `out` are unchanged.
-    #[tactic(auto, using(rpki_der::proofs::Readings::u32_reading, rpki_der::proofs::Written::u32_is))]
+    #[tactic(auto, using(rpki_der::proofs::ValueReadings::u32_reading, rpki_der::proofs::WrittenValues::u32_is))]
     pub fn encode<A: Allocator>(&self, out: &mut Vec<u8, A>) -> Result<(), AllocError>
         ensures ok { OnOk result (out.new.items ≡ out.old.items ++ as_number_octets self.now) }
         ensures err { OnErr result (out.new.items ≡ out.old.items) }
@@ -118,7 +118,7 @@ impl Asn {
     ///
     /// The capacity of `out` suffices for these octets.
     pub fn append<A: Allocator>(&self, out: &mut Vec<u8, A>)
-        requires room { vec_len out.old + length (as_number_octets self.now)
+        requires fits { vec_len out.old + length (as_number_octets self.now)
             ≤ vec_capacity out.old }
         ensures items { out.new.items ≡ out.old.items ++ as_number_octets self.now }
         ensures capacity { vec_capacity out.old ≤ vec_capacity out.new }
@@ -136,7 +136,7 @@ impl Asn {
     ghost use Rattle.rpki_der.specs.SequenceReading.{if_tagged, skipping};
 
     #[inline]
-    fn next(cursor: &mut Cursor<'_>) -> Result<Asn, DerError>
+    fn take_from_exact(cursor: &mut Cursor<'_>) -> Result<Asn, DerError>
         ensures exact { Takes (λ n. n) cursor.old cursor.new result as_number_at }
         ensures mode { is_strict cursor.new ≡ is_strict cursor.old }
     {
@@ -145,7 +145,7 @@ impl Asn {
     }
 
     #[tactic(auto, unfolding(rpki_der::specs::SequenceReading::if_tagged))]
-    fn next_opt(cursor: &mut Cursor<'_>) -> Result<Option<Asn>, DerError>
+    fn take_opt_from_exact(cursor: &mut Cursor<'_>) -> Result<Option<Asn>, DerError>
         ensures exact { Takes (λ n. n) cursor.old cursor.new result (if_tagged 2 as_number_at) }
         ensures mode { is_strict cursor.new ≡ is_strict cursor.old }
     {
@@ -156,7 +156,7 @@ impl Asn {
     }
 
     #[tactic(auto, unfolding(rpki_der::specs::Reading::refined))]
-    fn pass_over(cursor: &mut Cursor<'_>) -> Result<(), DerError>
+    fn skip_in_exact(cursor: &mut Cursor<'_>) -> Result<(), DerError>
         ensures exact { Takes (λ u. u) cursor.old cursor.new result (skipping as_number_at) }
         ensures mode { is_strict cursor.new ≡ is_strict cursor.old }
     {

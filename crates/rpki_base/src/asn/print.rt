@@ -20,7 +20,7 @@ const RANGE_ROOM: usize = 25;
 fn put_before(out: &mut [u8], end: usize, asn: Asn) -> usize
     requires { (12 ≤ end) × (end ≤ length out.old) }
     ensures text { drop result out.new ≡ asn_text asn ++ drop end out.old }
-    ensures room { (end ≤ result + 12) × (result ≤ end) }
+    ensures fits { (end ≤ result + 12) × (result ≤ end) }
 {
     let digits = write_digits(u64::from(asn.into_u32()), out, end);
     out[digits - 1] = b'S';

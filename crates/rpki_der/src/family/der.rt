@@ -24,7 +24,7 @@ impl AddressFamily {
         ensures { MatchResult result (SaysFamily octets.now)
             (λ _. (family : SomeFamily) → ¬ SaysFamily octets.now family) }
     {
-        Self::named_by(octets).map_err(|_| DecodeFamilyError)
+        Self::from_octets_exact(octets).map_err(|_| DecodeFamilyError)
     }
 
     /// Takes the OCTET STRING of a family (RFC 3779, 2.2.3.3; RFC 6487, 4.8.10).
@@ -35,7 +35,7 @@ impl AddressFamily {
     ///
     /// - [`DerError::BadTag`]: the value has another tag.
     /// - [`DerError::BadFamily`]: the octets name no family.
-    #[tactic(auto, using(crate::proofs::Cursors::reads_by, crate::proofs::FamilyLemmas::family_reading, crate::proofs::FamilyLemmas::family_again))]
+    #[tactic(auto, using(crate::proofs::CursorReadings::reads_by, crate::proofs::FamilyDerLemmas::family_reading, crate::proofs::FamilyDerLemmas::family_again))]
     pub fn take_from(cursor: &mut Cursor<'_>) -> Result<AddressFamily, DerError>
         ensures reads { ReadsValue IsFamilyDer (λ f. f) cursor.old cursor.new result }
         ensures exact { Takes (λ f. f) cursor.old cursor.new result family_at }
@@ -45,7 +45,7 @@ impl AddressFamily {
             → (result ≡ Ok family) × (left cursor.new ≡ rest) }
         ensures mode { is_strict cursor.new ≡ is_strict cursor.old }
     {
-        Self::next(cursor)
+        Self::take_from_exact(cursor)
     }
 
     /// Takes a family as `take_from` does, if the next octet is the tag of an OCTET STRING.
@@ -55,28 +55,28 @@ impl AddressFamily {
     /// # Errors
     ///
     /// The errors of `take_from`. The cursor is unchanged after an error.
-    #[tactic(auto, using(crate::proofs::SequenceCursors::reads_tagged_by, crate::proofs::FamilyLemmas::family_reading))]
+    #[tactic(auto, using(crate::proofs::SequenceCursors::reads_tagged_by, crate::proofs::FamilyDerLemmas::family_reading))]
     pub fn take_opt_from(cursor: &mut Cursor<'_>) -> Result<Option<AddressFamily>, DerError>
         ensures reads { ReadsTagged 4 IsFamilyDer cursor.old cursor.new result }
         ensures exact { Takes (λ f. f) cursor.old cursor.new result (if_tagged 4 family_at) }
         ensures mode { is_strict cursor.new ≡ is_strict cursor.old }
     {
-        Self::next_opt(cursor)
+        Self::take_opt_from_exact(cursor)
     }
 
     /// Skips what `take_opt_from` takes, with the same errors.
-    #[tactic(auto, using(crate::proofs::SequenceCursors::reads_tagged_by, crate::proofs::FamilyLemmas::family_skipped))]
+    #[tactic(auto, using(crate::proofs::SequenceCursors::reads_tagged_by, crate::proofs::FamilyDerLemmas::family_skipped))]
     pub fn skip_opt_in(cursor: &mut Cursor<'_>) -> Result<Option<()>, DerError>
         ensures reads { ReadsTagged 4 (Skips IsFamilyDer) cursor.old cursor.new result }
         ensures exact { Takes (λ u. u) cursor.old cursor.new result
             (if_tagged 4 (skipping family_at)) }
         ensures mode { is_strict cursor.new ≡ is_strict cursor.old }
     {
-        Self::pass_over_opt(cursor)
+        Self::skip_opt_in_exact(cursor)
     }
 
     /// Returns the number of octets that `encode` appends, which is 4.
-    #[tactic(auto, using(crate::proofs::FamilyLemmas::length_family))]
+    #[tactic(auto, using(crate::proofs::FamilyDerLemmas::length_family))]
     pub fn encoded_len(&self) -> usize
         ensures len { result ≡ length (family_der self.now) }
         ensures short { result ≡ 4 }
@@ -89,7 +89,7 @@ impl AddressFamily {
     /// # Errors
     ///
     /// `AllocError`: out of memory. The octets in `out` are unchanged.
-    #[tactic(auto, using(crate::proofs::FamilyLemmas::family_again))]
+    #[tactic(auto, using(crate::proofs::FamilyDerLemmas::family_again))]
     pub fn encode<A: Allocator>(&self, out: &mut Vec<u8, A>) -> Result<(), AllocError>
         ensures ok { OnOk result (out.new.items ≡ out.old.items ++ family_der self.now) }
         ensures err { OnErr result (out.new.items ≡ out.old.items) }
@@ -109,7 +109,7 @@ impl AddressFamily {
     ///
     /// The capacity of `out` suffices for these octets.
     pub fn append<A: Allocator>(&self, out: &mut Vec<u8, A>)
-        requires room { vec_len out.old + length (family_der self.now) ≤ vec_capacity out.old }
+        requires fits { vec_len out.old + length (family_der self.now) ≤ vec_capacity out.old }
         ensures items { out.new.items ≡ out.old.items ++ family_der self.now }
         ensures capacity { vec_capacity out.old ≤ vec_capacity out.new }
     {
@@ -136,7 +136,7 @@ impl AddressFamily {
     ghost use Rattle.rpki_der.specs.FamilyDer.{family_at, family_of_octets};
 
     #[tactic(auto, unfolding(crate::specs::FamilyDer::family_of_octets))]
-    fn named_by(octets: &[u8]) -> Result<AddressFamily, DerError>
+    fn from_octets_exact(octets: &[u8]) -> Result<AddressFamily, DerError>
         ensures exact { Gives (λ f. f) result (family_of_octets octets.now) }
     {
         match octets {
@@ -147,29 +147,29 @@ impl AddressFamily {
     }
 
     #[tactic(auto, unfolding(crate::specs::Reading::refined))]
-    fn next(cursor: &mut Cursor<'_>) -> Result<AddressFamily, DerError>
+    fn take_from_exact(cursor: &mut Cursor<'_>) -> Result<AddressFamily, DerError>
         ensures exact { Takes (λ f. f) cursor.old cursor.new result family_at }
         ensures mode { is_strict cursor.new ≡ is_strict cursor.old }
     {
         let mut ahead = *cursor;
-        let family = Self::named_by(ahead.take_octets()?)?;
+        let family = Self::from_octets_exact(ahead.take_octets()?)?;
         *cursor = ahead;
         Ok(family)
     }
 
     #[tactic(auto, unfolding(crate::specs::SequenceReading::if_tagged))]
-    fn next_opt(cursor: &mut Cursor<'_>) -> Result<Option<AddressFamily>, DerError>
+    fn take_opt_from_exact(cursor: &mut Cursor<'_>) -> Result<Option<AddressFamily>, DerError>
         ensures exact { Takes (λ f. f) cursor.old cursor.new result (if_tagged 4 family_at) }
         ensures mode { is_strict cursor.new ≡ is_strict cursor.old }
     {
         if cursor.peek_tag() != Some(tag::OCTET_STRING) {
             return Ok(None);
         }
-        Ok(Some(Self::next(cursor)?))
+        Ok(Some(Self::take_from_exact(cursor)?))
     }
 
     #[tactic(auto, unfolding(crate::specs::SequenceReading::if_tagged))]
-    fn pass_over_opt(cursor: &mut Cursor<'_>) -> Result<Option<()>, DerError>
+    fn skip_opt_in_exact(cursor: &mut Cursor<'_>) -> Result<Option<()>, DerError>
         ensures exact { Takes (λ u. u) cursor.old cursor.new result
             (if_tagged 4 (skipping family_at)) }
         ensures mode { is_strict cursor.new ≡ is_strict cursor.old }
@@ -177,15 +177,15 @@ impl AddressFamily {
         if cursor.peek_tag() != Some(tag::OCTET_STRING) {
             return Ok(None);
         }
-        Ok(Some(Self::pass_over(cursor)?))
+        Ok(Some(Self::skip_in(cursor)?))
     }
 
     #[tactic(auto, unfolding(crate::specs::Reading::refined))]
-    fn pass_over(cursor: &mut Cursor<'_>) -> Result<(), DerError>
+    fn skip_in(cursor: &mut Cursor<'_>) -> Result<(), DerError>
         ensures exact { Takes (λ u. u) cursor.old cursor.new result (skipping family_at) }
         ensures mode { is_strict cursor.new ≡ is_strict cursor.old }
     {
-        Self::next(cursor)?;
+        Self::take_from_exact(cursor)?;
         Ok(())
     }
 }

@@ -104,13 +104,13 @@ pub fn take_families<R: ReadClaim>(
         (families_by (is_strict cursor.old) (R.reading_by reader.now (is_strict cursor.old))) }
     ensures mode { is_strict cursor.new ≡ is_strict cursor.old }
 {
-    next_families(reader, cursor)
+    take_families_by_mode(reader, cursor)
 }
 
 // The implementation of `take_families`, whose further clauses, `reads` and `exact`, follow from `by_mode` by
 // theorems on the grammar.
 #[tactic(auto, unfolding(crate::specs::Reading::refined))]
-fn next_families<R: ReadClaim>(
+fn take_families_by_mode<R: ReadClaim>(
     reader: &R,
     cursor: &mut Cursor<'_>,
 ) -> Result<ByFamily<R::Claim>, OrMemory<DerError>>

@@ -98,11 +98,11 @@ pub fn read_values<R: ReadNext, A: Allocator>(
         (values_from (R.after reader.now) (R.reading_by reader.now (is_strict content.entry))
         (R.first reader.now) (left content.entry)) }
 {
-    values_within(alloc, reader, content)
+    read_values_by_mode(alloc, reader, content)
 }
 
 // The implementation of `read_values`, whose further clause, `exact`, follows from `by_mode`.
-fn values_within<R: ReadNext, A: Allocator>(
+fn read_values_by_mode<R: ReadNext, A: Allocator>(
     alloc: A,
     reader: &R,
     content: Cursor<'_>,
@@ -170,13 +170,13 @@ pub fn take_sequence_of<R: ReadNext, A: Allocator>(
         (R.first reader.now)) }
     ensures mode { is_strict cursor.new ≡ is_strict cursor.old }
 {
-    next_sequence(alloc, reader, cursor)
+    take_sequence_of_by_mode(alloc, reader, cursor)
 }
 
 // The implementation of `take_sequence_of`, whose further clauses, `reads` and `exact`, follow from `by_mode` by
 // theorems on the grammar.
 #[tactic(auto, unfolding(crate::specs::Reading::refined))]
-fn next_sequence<R: ReadNext, A: Allocator>(
+fn take_sequence_of_by_mode<R: ReadNext, A: Allocator>(
     alloc: A,
     reader: &R,
     cursor: &mut Cursor<'_>,

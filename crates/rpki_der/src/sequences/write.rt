@@ -22,7 +22,7 @@ pub trait Encode {
     ///
     /// The capacity of `out` suffices for these octets.
     fn append<A: Allocator>(&self, out: &mut Vec<u8, A>)
-        requires room { vec_len out.old + length (octets self.now) ≤ vec_capacity out.old }
+        requires fits { vec_len out.old + length (octets self.now) ≤ vec_capacity out.old }
         ensures items { out.new.items ≡ out.old.items ++ octets self.now }
         ensures capacity { vec_capacity out.old ≤ vec_capacity out.new };
 }
@@ -65,7 +65,7 @@ pub fn encode_all<V: Encode, A: Allocator>(
 
 /// Appends the encodings of the values, for which the capacity suffices.
 fn append_all<V: Encode, A: Allocator>(values: &[V], out: &mut Vec<u8, A>)
-    requires room { vec_len out.old + length (octets_of_all V.octets values.now)
+    requires fits { vec_len out.old + length (octets_of_all V.octets values.now)
         ≤ vec_capacity out.old }
     ensures items { out.new.items ≡ out.old.items ++ octets_of_all V.octets values.now }
     ensures capacity { vec_capacity out.old ≤ vec_capacity out.new }
@@ -123,7 +123,7 @@ pub fn append_sequence<V: Encode, A: Allocator>(
     out: &mut Vec<u8, A>,
 )
     requires len { content_len ≡ length (octets_of_all V.octets values.now) }
-    requires room { vec_len out.old + length (sequence_octets V.octets values.now)
+    requires fits { vec_len out.old + length (sequence_octets V.octets values.now)
         ≤ vec_capacity out.old }
     ensures items { out.new.items ≡ out.old.items ++ sequence_octets V.octets values.now }
     ensures capacity { vec_capacity out.old ≤ vec_capacity out.new }

@@ -40,7 +40,7 @@ pub fn is_prefix()
 ///
 /// An address without the zeros at its end is the shortest prefix that begins with this address. An address without the
 /// ones at its end is the shortest prefix that ends with it.
-#[tactic(auto, using(crate::proofs::Shortest::shortest_from_is, crate::proofs::Shortest::shortest_to_is))]
+#[tactic(auto, using(crate::proofs::ShortestPrefixes::shortest_from_is, crate::proofs::ShortestPrefixes::shortest_to_is))]
 pub fn shortest()
     ensures zeros { (a : ℕ) → a < 2 ^ 128 → IsShortestFrom a (without_end_zeros a) }
     ensures ones { (a : ℕ) → a < 2 ^ 128 → IsShortestTo a (without_end_ones a) }
@@ -50,7 +50,7 @@ pub fn shortest()
 ///
 /// It is if and only if its content begins with two prefixes of which the second ends before the first begins. Any
 /// octets may follow the two prefixes.
-#[tactic(auto, using(crate::proofs::DerFaults::range_fails))]
+#[tactic(auto, using(crate::proofs::PrefixDerFaults::range_fails))]
 pub fn reversed()
     ensures { (limit : ℕ) (content : List ℕ) → (range_in limit content ≡ Err ReversedRange)
         ↔ BeginsWithTwo (prefix_at limit) (λ p q. last_of 128 q < p.first) content }
@@ -60,7 +60,7 @@ pub fn reversed()
 ///
 /// It refuses a prefix by `NotCanonical` only if a lenient cursor accepts the prefix. Each other fault is reported
 /// first, such as `BadPrefix` for too many bits.
-#[tactic(auto, using(crate::proofs::DerFaults::prefix_names, crate::proofs::DerFaults::range_names, crate::proofs::DerFaults::prefix_last))]
+#[tactic(auto, using(crate::proofs::PrefixDerFaults::prefix_names, crate::proofs::PrefixDerFaults::range_names, crate::proofs::PrefixDerFaults::prefix_last))]
 pub fn not_canonical()
     ensures prefix { (limit : ℕ) (bytes : List ℕ) → prefix_at limit bytes ≢ Err NotCanonical }
     ensures range { (limit : ℕ) (content : List ℕ) → range_in limit content ≢ Err NotCanonical }

@@ -51,7 +51,7 @@ impl Prefix {
     /// - A fault of [`Cursor::take_bit_string`].
     /// - `BadPrefix`: the BIT STRING has more than sixteen octets. A strict cursor reports this before `NotCanonical`
     ///   for an unused bit that is set.
-    #[tactic(auto, using(crate::proofs::DerModes::taken_exact, crate::proofs::DerModes::taken_reads, crate::proofs::DerModes::taken_strict, crate::proofs::DerModes::taken_refused))]
+    #[tactic(auto, using(crate::proofs::PrefixDerModes::taken_exact, crate::proofs::PrefixDerModes::taken_reads, crate::proofs::PrefixDerModes::taken_strict, crate::proofs::PrefixDerModes::taken_refused))]
     pub fn take_from(cursor: &mut Cursor<'_>) -> Result<Prefix, DerError>
         ensures reads { Lenient cursor.old
             (ReadsValue (IsPrefixDer 128) (λ p. p) cursor.old cursor.new result) }
@@ -69,7 +69,7 @@ impl Prefix {
             (prefix_by (is_strict cursor.old) 128) }
         ensures mode { is_strict cursor.new ≡ is_strict cursor.old }
     {
-        Self::next(cursor, AddressFamily::Ipv6)
+        Self::take_from_with_family_by_mode(cursor, AddressFamily::Ipv6)
     }
 
     /// Reads the BIT STRING of a prefix of `family` as `take_from` does.
@@ -78,7 +78,7 @@ impl Prefix {
     ///
     /// The errors are those of `take_from`. `BadPrefix` is also returned for a prefix that is longer than the family's
     /// addresses. The cursor is unchanged then.
-    #[tactic(auto, using(crate::proofs::DerModes::taken_exact, crate::proofs::DerModes::taken_reads, crate::proofs::DerModes::taken_strict, crate::proofs::DerModes::taken_refused, crate::proofs::DerModes::bits_few_enough))]
+    #[tactic(auto, using(crate::proofs::PrefixDerModes::taken_exact, crate::proofs::PrefixDerModes::taken_reads, crate::proofs::PrefixDerModes::taken_strict, crate::proofs::PrefixDerModes::taken_refused, crate::proofs::PrefixDerModes::bits_few_enough))]
     pub fn take_from_with_family(
         cursor: &mut Cursor<'_>,
         family: AddressFamily,
@@ -100,7 +100,7 @@ impl Prefix {
             (prefix_by (is_strict cursor.old) (bits_of family)) }
         ensures mode { is_strict cursor.new ≡ is_strict cursor.old }
     {
-        Self::next(cursor, family)
+        Self::take_from_with_family_by_mode(cursor, family)
     }
 
     /// Parses the content as the BIT STRING of a prefix, with any tag.
@@ -112,7 +112,7 @@ impl Prefix {
     /// - `BadBitString`: the content isn't that of a BIT STRING.
     /// - `BadPrefix`: the BIT STRING has more than sixteen octets.
     /// - `NotCanonical`: an unused bit is set. Only the content from a strict cursor has this fault.
-    #[tactic(auto, using(crate::proofs::DerModes::said_exact, crate::proofs::DerModes::said_reads, crate::proofs::DerModes::said_strict, crate::proofs::DerModes::said_refused))]
+    #[tactic(auto, using(crate::proofs::PrefixDerModes::said_exact, crate::proofs::PrefixDerModes::said_reads, crate::proofs::PrefixDerModes::said_strict, crate::proofs::PrefixDerModes::said_refused))]
     pub fn parse_content(content: &Content<'_>) -> Result<Prefix, DerError>
         ensures reads { LenientIn content.now
             (Parses (IsPrefixContent 128) (λ p. p) (content_octets content.now) result) }
@@ -125,7 +125,7 @@ impl Prefix {
         ensures by_mode { Gives (λ p. p) result
             (prefix_in_by (is_strict_in content.now) 128 (content_octets content.now)) }
     {
-        Self::of_content(content, AddressFamily::Ipv6)
+        Self::parse_content_with_family_by_mode(content, AddressFamily::Ipv6)
     }
 
     /// Parses the content as the BIT STRING of a prefix of `family`, with any tag.
@@ -137,7 +137,7 @@ impl Prefix {
     /// - `BadBitString`: the content isn't that of a BIT STRING.
     /// - `BadPrefix`: the BIT STRING has more than sixteen octets, or the prefix is longer than the family's addresses.
     /// - `NotCanonical`: as in `parse_content`.
-    #[tactic(auto, using(crate::proofs::DerModes::said_exact, crate::proofs::DerModes::said_reads, crate::proofs::DerModes::said_strict, crate::proofs::DerModes::said_refused))]
+    #[tactic(auto, using(crate::proofs::PrefixDerModes::said_exact, crate::proofs::PrefixDerModes::said_reads, crate::proofs::PrefixDerModes::said_strict, crate::proofs::PrefixDerModes::said_refused))]
     pub fn parse_content_with_family(
         content: &Content<'_>,
         family: AddressFamily,
@@ -156,11 +156,11 @@ impl Prefix {
             (prefix_in_by (is_strict_in content.now) (bits_of family)
             (content_octets content.now)) }
     {
-        Self::of_content(content, family)
+        Self::parse_content_with_family_by_mode(content, family)
     }
 
     /// Returns how many octets `encode` appends.
-    #[tactic(auto, using(crate::proofs::DerWritten::length_prefix))]
+    #[tactic(auto, using(crate::proofs::PrefixDerWritten::length_prefix))]
     pub fn encoded_len(&self) -> usize
         ensures len { result ≡ length (prefix_der self.now) }
         ensures short { result < 20 }
@@ -195,7 +195,7 @@ impl Prefix {
     ///
     /// The free capacity of `out` suffices for the encoding.
     pub fn append<A: Allocator>(&self, out: &mut Vec<u8, A>)
-        requires room { vec_len out.old + length (prefix_der self.now) ≤ vec_capacity out.old }
+        requires fits { vec_len out.old + length (prefix_der self.now) ≤ vec_capacity out.old }
         ensures items { out.new.items ≡ out.old.items ++ prefix_der self.now }
         ensures capacity { vec_capacity out.old ≤ vec_capacity out.new }
     {
@@ -232,8 +232,11 @@ impl Prefix {
     ghost use Rattle.rpki_ip.specs.PrefixDer.{prefix_by, prefix_in_by};
 
     // The length is checked before the unused bits are.
-    #[tactic(auto, using(crate::proofs::DerModes::length_first, crate::proofs::DerModes::few_enough, crate::proofs::PrefixBits::used_bits), unfolding(crate::specs::PrefixDer::prefix_of))]
-    fn of_content(content: &Content<'_>, family: AddressFamily) -> Result<Prefix, DerError>
+    #[tactic(auto, using(crate::proofs::PrefixDerModes::length_first, crate::proofs::PrefixDerModes::few_enough, crate::proofs::PrefixBits::used_bits), unfolding(crate::specs::PrefixDer::prefix_of))]
+    fn parse_content_with_family_by_mode(
+        content: &Content<'_>,
+        family: AddressFamily,
+    ) -> Result<Prefix, DerError>
         ensures by_mode { Gives (λ p. p) result
             (prefix_in_by (is_strict_in content.now) (bits_of family)
             (content_octets content.now)) }
@@ -247,7 +250,10 @@ impl Prefix {
     }
 
     #[tactic(auto, unfolding(rpki_der::specs::Reading::refined, rpki_der::specs::Reading::tagged_at))]
-    fn next(cursor: &mut Cursor<'_>, family: AddressFamily) -> Result<Prefix, DerError>
+    fn take_from_with_family_by_mode(
+        cursor: &mut Cursor<'_>,
+        family: AddressFamily,
+    ) -> Result<Prefix, DerError>
         ensures by_mode { Takes (λ p. p) cursor.old cursor.new result
             (prefix_by (is_strict cursor.old) (bits_of family)) }
         ensures mode { is_strict cursor.new ≡ is_strict cursor.old }
@@ -257,7 +263,7 @@ impl Prefix {
         if value.tag() != tag::BIT_STRING {
             return Err(DerError::BadTag);
         }
-        let prefix = Self::of_content(&value, family)?;
+        let prefix = Self::parse_content_with_family_by_mode(&value, family)?;
         *cursor = ahead;
         Ok(prefix)
     }

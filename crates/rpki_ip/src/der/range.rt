@@ -51,7 +51,7 @@ impl AddressRange {
     ///
     /// The free capacity of `out` suffices for the encoding.
     pub fn append<A: Allocator>(&self, out: &mut Vec<u8, A>)
-        requires room { vec_len out.old + length (range_der self.now) ≤ vec_capacity out.old }
+        requires fits { vec_len out.old + length (range_der self.now) ≤ vec_capacity out.old }
         ensures items { out.new.items ≡ out.old.items ++ range_der self.now }
         ensures capacity { vec_capacity out.old ≤ vec_capacity out.new }
     {
@@ -87,7 +87,7 @@ impl AddressRange {
 }
 
 // Returns the shortest prefix that begins with an address.
-#[tactic(auto, using(crate::proofs::Shortest::cleared_from, crate::proofs::Shortest::shortest_from_is))]
+#[tactic(auto, using(crate::proofs::ShortestPrefixes::cleared_from, crate::proofs::ShortestPrefixes::shortest_from_is))]
 fn shortest_from(min: Addr) -> Prefix
     ensures value { result ≡ without_end_zeros min }
     ensures shortest { IsShortestFrom min result }
@@ -96,7 +96,7 @@ fn shortest_from(min: Addr) -> Prefix
 }
 
 // Returns the shortest prefix that ends with an address.
-#[tactic(auto, using(crate::proofs::Shortest::cleared_to, crate::proofs::Shortest::shortest_to_is))]
+#[tactic(auto, using(crate::proofs::ShortestPrefixes::cleared_to, crate::proofs::ShortestPrefixes::shortest_to_is))]
 fn shortest_to(max: Addr) -> Prefix
     ensures value { result ≡ without_end_ones max }
     ensures shortest { IsShortestTo max result }

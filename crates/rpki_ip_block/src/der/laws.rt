@@ -15,7 +15,7 @@ pub fn one_block()
 {}
 
 /// The octets that `encode` appends denote the block, if its bounds need no more bits than the limit.
-#[tactic(auto, using(crate::proofs::BlockWritten::block_written))]
+#[tactic(auto, using(crate::proofs::IpBlockDerWritten::block_written))]
 pub fn written()
     ensures { (limit : ℕ) (block : IpBlock) → limit ≤ 128 → IsBlockWithin limit block
         → IsIpBlockDer limit (ip_block_der block) block }
@@ -25,7 +25,7 @@ pub fn written()
 ///
 /// It is if and only if it is a SEQUENCE that begins with two prefixes of which the second ends before the first
 /// begins. Any octets may follow the two prefixes.
-#[tactic(auto, using(crate::proofs::DerFaults::block_fails))]
+#[tactic(auto, using(crate::proofs::IpBlockDerFaults::block_fails))]
 pub fn reversed()
     ensures { (limit : ℕ) (bytes : List ℕ) → (ip_block_at limit bytes ≡ Err ReversedRange)
         ↔ BeginsWithValue 48 (BeginsWithTwo (prefix_at limit) (λ p q. last_of 128 q < p.first))
@@ -33,7 +33,7 @@ pub fn reversed()
 {}
 
 /// Only a strict cursor refuses octets by `NotCanonical`.
-#[tactic(auto, using(crate::proofs::DerFaults::never_lenient))]
+#[tactic(auto, using(crate::proofs::IpBlockDerFaults::never_lenient))]
 pub fn not_canonical()
     ensures { (limit : ℕ) (bytes : List ℕ) → ip_block_at limit bytes ≢ Err NotCanonical }
 {}

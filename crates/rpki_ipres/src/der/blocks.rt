@@ -70,7 +70,7 @@ impl<A: Allocator> IpBlocks<A> {
             (ip_blocks_by (is_strict cursor.old) 128) }
         ensures mode { is_strict cursor.new ≡ is_strict cursor.old }
     {
-        Self::next_set(alloc, cursor, AddressFamily::Ipv6)
+        Self::take_from_with_family_by_mode(alloc, cursor, AddressFamily::Ipv6)
     }
 
     /// Reads a SEQUENCE of blocks of `family` as `take_from` does.
@@ -108,7 +108,7 @@ impl<A: Allocator> IpBlocks<A> {
             (ip_blocks_by (is_strict cursor.old) (bits_of family)) }
         ensures mode { is_strict cursor.new ≡ is_strict cursor.old }
     {
-        Self::next_set(alloc, cursor, family)
+        Self::take_from_with_family_by_mode(alloc, cursor, family)
     }
 
     /// Appends the SEQUENCE of the set's runs to `out`, ascending.
@@ -118,7 +118,7 @@ impl<A: Allocator> IpBlocks<A> {
     /// # Errors
     ///
     /// [`AllocError`] if an allocation fails. The octets of `out` are unchanged then.
-    #[tactic(auto, using(crate::proofs::SetWritten::written_as_runs))]
+    #[tactic(auto, using(crate::proofs::IpSetWritten::written_as_runs))]
     pub fn encode<B: Allocator>(&self, out: &mut Vec<u8, B>) -> Result<(), AllocError>
         ensures ok { OnOk result (out.new.items ≡ out.old.items ++ ip_set_der self.now) }
         ensures err { OnErr result (out.new.items ≡ out.old.items) }
@@ -139,7 +139,7 @@ impl<A: Allocator> IpBlocks<A> {
     /// # Errors
     ///
     /// [`AllocError`] if an allocation fails. The octets of `out` are unchanged then.
-    #[tactic(auto, using(crate::proofs::SetWritten::family_written))]
+    #[tactic(auto, using(crate::proofs::IpSetWritten::family_written))]
     pub fn encode_family<B: Allocator>(
         &self,
         family: AddressFamily,
@@ -160,7 +160,7 @@ impl<A: Allocator> IpBlocks<A> {
     }
 
     // Reads for both `take_from` and `take_from_with_family`.
-    fn next_set(
+    fn take_from_with_family_by_mode(
         alloc: A,
         cursor: &mut Cursor<'_>,
         family: AddressFamily,
@@ -274,7 +274,7 @@ impl<'a> Member<'a> {
 
     /// Appends what `put_family` appends, if `out` has the capacity for it.
     pub(crate) fn append<B: Allocator>(&self, out: &mut Vec<u8, B>)
-        requires room { vec_len out.old + length self.now ≤ vec_capacity out.old }
+        requires fits { vec_len out.old + length self.now ≤ vec_capacity out.old }
         ensures items { out.new.items ≡ out.old.items ++ self.now }
         ensures capacity { vec_capacity out.old ≤ vec_capacity out.new }
     {

@@ -58,7 +58,7 @@ pub fn canonical()
 ///
 /// The encoding of resources of a family denotes these resources. If at least one family isn't missing, the encoding of
 /// families denotes the families that aren't missing.
-#[tactic(auto, using(crate::proofs::ResourcesWritten::claims_written, crate::proofs::ResourcesWritten::resources_written))]
+#[tactic(auto, using(crate::proofs::IpResourcesWritten::claims_written, crate::proofs::IpResourcesWritten::resources_written))]
 pub fn written_resources()
     ensures resources { (family : _) (claim : Claim) → IsFamilyClaim family claim
         → claim ≢ Missing →
@@ -76,7 +76,7 @@ pub fn written_resources()
 /// [`IpResources::take_families_from`](crate::resources::IpResources::take_families_from) reads each of them back. A
 /// caller that appends the members one by one needs a proof file. Only the caller knows that its octets are those of
 /// this lemma, as a sum of lists.
-#[tactic(auto, using(crate::proofs::ResourcesWritten::set_as_member))]
+#[tactic(auto, using(crate::proofs::IpResourcesWritten::set_as_member))]
 pub fn members()
     ensures families { (v4 v6 : Claim) →
         ip_families_der v4 v6 ≡ sequence_value (ip_member_der Ipv4 v4 ++ ip_member_der Ipv6 v6) }
@@ -88,7 +88,7 @@ pub fn members()
 ///
 /// If at least one family isn't missing, families have the same encoding if and only if their claims are the same. This
 /// holds for fewer than 2^64 octets.
-#[tactic(auto, using(crate::proofs::ResourcesWritten::families_as_claims, crate::proofs::ResourcesWritten::members_as_claims, crate::proofs::ResourcesWritten::resources_as_claims))]
+#[tactic(auto, using(crate::proofs::IpResourcesWritten::families_as_claims, crate::proofs::IpResourcesWritten::members_as_claims, crate::proofs::IpResourcesWritten::resources_as_claims))]
 pub fn canonical_resources()
     ensures resources { (a b : Claim) → IsIpClaim a → IsIpClaim b
         → (ip_resources_der a ≡ ip_resources_der b) ↔ (a ≡ b) }
@@ -107,7 +107,7 @@ pub fn canonical_resources()
 /// - `NoFamily`: families have this fault if and only if their SEQUENCE is empty.
 /// - `DuplicateFamily`: families have this fault if and only if members without a fault are followed by a SEQUENCE that
 ///   begins with the family of one of them.
-#[tactic(auto, using(crate::proofs::DerFaults::empty_blocks, crate::proofs::DerFaults::families_empty, crate::proofs::DerFaults::families_repeat))]
+#[tactic(auto, using(crate::proofs::IpResourcesDerFaults::empty_blocks, crate::proofs::IpResourcesDerFaults::families_empty, crate::proofs::IpResourcesDerFaults::families_repeat))]
 pub fn faults()
     ensures empty_blocks { (limit : ℕ) (bytes : List ℕ) →
         (ip_resources_at limit bytes ≡ Err EmptyBlocks) ↔ BeginsEmpty bytes }
@@ -118,7 +118,7 @@ pub fn faults()
 {}
 
 /// Only a strict cursor refuses octets by `NotCanonical`.
-#[tactic(auto, using(crate::proofs::DerFaults::all_names, crate::proofs::DerFaults::resources_names, crate::proofs::DerFaults::sequence_names))]
+#[tactic(auto, using(crate::proofs::IpResourcesDerFaults::all_names, crate::proofs::IpResourcesDerFaults::resources_names, crate::proofs::IpResourcesDerFaults::sequence_names))]
 pub fn not_canonical()
     ensures set { (limit : ℕ) (bytes : List ℕ) → ip_blocks_at limit bytes ≢ Err NotCanonical }
     ensures resources { (limit : ℕ) (bytes : List ℕ) →

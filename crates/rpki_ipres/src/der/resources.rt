@@ -74,7 +74,7 @@ impl<A: Allocator> IpResources<A> {
             (ip_resources_by (is_strict cursor.old) (bits_of family)) }
         ensures mode { is_strict cursor.new ≡ is_strict cursor.old }
     {
-        Self::next(alloc, cursor, family)
+        Self::take_from_by_mode(alloc, cursor, family)
     }
 
     /// Appends a NULL for inherited resources, else the SEQUENCE of the set's runs, ascending.
@@ -168,7 +168,7 @@ impl<A: Allocator> IpResources<A> {
             (ip_families_by (is_strict cursor.old)) }
         ensures mode { is_strict cursor.new ≡ is_strict cursor.old }
     {
-        Self::next_families(alloc, cursor)
+        Self::take_families_from_by_mode(alloc, cursor)
     }
 
     /// Appends the SEQUENCE of the families that have resources, IPv4 first, each as `encode_family` appends it.
@@ -214,7 +214,7 @@ impl<A: Allocator> IpResources<A> {
     }
 
     // Read for `take_from` and `take_families_from`.
-    fn next(
+    fn take_from_by_mode(
         alloc: A,
         cursor: &mut Cursor<'_>,
         family: AddressFamily,
@@ -232,7 +232,7 @@ impl<A: Allocator> IpResources<A> {
         Ok(resources)
     }
 
-    fn next_families(
+    fn take_families_from_by_mode(
         alloc: A,
         cursor: &mut Cursor<'_>,
     ) -> Result<(Option<IpResources<A>>, Option<IpResources<A>>), OrMemory<DerError>>

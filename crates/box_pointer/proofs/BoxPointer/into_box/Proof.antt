@@ -4,7 +4,7 @@ use contract.BorrowLft.{◌⊑◌}
 use denote.Triple.Clauses.{Lasts, lasts}
 use Rattle.std.proofs.VecSteps.Shapes.{after}
 use Rattle.std.proofs.BoxSteps.Form as box
-use Rattle.box_pointer.proofs.Words.{Parts, apart, fit, words}
+use Rattle.box_pointer.proofs.BoxWords.{Parts, apart, fit, words}
 use Rattle.std.specs.contracts.boxed.Box.from_raw as callee
 use Rattle.std.proofs.boxed.Box.from_raw.Met.{met}
 use Rattle.box_pointer.specs.contracts.BoxPointer.into_box.{ended, clauses}

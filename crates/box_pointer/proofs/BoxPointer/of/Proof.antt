@@ -3,7 +3,7 @@ use Rattle.box_pointer.proofs.Common.{List, [], ap, refl, subst, sym, ◌++◌, 
 use mir.Raw.{raw as bare}
 use denote.Struct.Tuple.{Tuple}
 use Rattle.std.proofs.BoxSteps.Form as box
-use Rattle.box_pointer.proofs.Words.{Boxed, fit, together, words}
+use Rattle.box_pointer.proofs.BoxWords.{Boxed, fit, together, words}
 use Rattle.std.specs.contracts.boxed.Box.into_raw_with_allocator as callee
 use Rattle.std.proofs.boxed.Box.into_raw_with_allocator.Met.{met}
 use Rattle.box_pointer.specs.contracts.BoxPointer.of.{ended, clauses}

@@ -1,5 +1,5 @@
 -- What is sorted and freed of duplicates is in order, and has the prefixes of the list.
-use Rattle.example_calls.proofs.TableLemmas.{ascending, members}
+use Rattle.example_calls.proofs.SortedPrefixLemmas.{ascending, members}
 use Rattle.example_calls.proofs.cache.table.Goals as goal
 
 pub returns-clause-ascending : goal.returns-clause-ascending

@@ -1,5 +1,5 @@
--- The table's payloads are those of the list in another order.
+-- The table's VRPs are those of the list in another order.
 use Rattle.example_calls.proofs.routes.by_table.Goals as goal
 
 pub returns : goal.returns
-returns g c = (c.laws_of_validities.ensures.any_order c.args.route c.args.asn c.args.payloads.now c.in_ok-table.table c.origin.result c.in_ok-table.ensures.payloads).1 c.origin.ensures
+returns g c = (c.laws_of_validities.ensures.any_order c.args.route c.args.asn c.args.vrps.now c.in_ok-table.table c.origin.result c.in_ok-table.ensures.vrps).1 c.origin.ensures

@@ -8,8 +8,8 @@ pub returns-in_err-answer_line-clause-some_written :
 returns-in_err-answer_line-clause-some_written g c is =
     let same = rw is at c.from_residual.ensures.1 in
     let part = c.in_err-answer_line.ensures.some_written (ap Err (sym same)) in
-    let had = rw c.cut_line.ensures.first at c.loop-rest.invariant.answered in
-    (lines_of c.cut_line.result.1.now, (part.0, answered_more _ _ _ _ _ _ _ _ had part.1))
+    let had = rw c.cut_at_line_end.ensures.first at c.loop-rest.invariant.answered in
+    (lines_of c.cut_at_line_end.result.1.now, (part.0, answered_more _ _ _ _ _ _ _ _ had part.1))
 
 pub loop-rest-preserved : goal.loop-rest-preserved
 loop-rest-preserved g c = grind (arith, answered_more)

@@ -6,7 +6,7 @@ abbrev pub invariant-loop-count : goal.invariant-loop-count
 invariant-loop-count g l = record {
   reader_unmarked : g.R.Source.mark l.reader ≡ g.R.Source.mark l.fn.reader;
   writer_unmarked : g.W.Sink.mark l.writer ≡ g.W.Sink.mark l.fn.writer;
-  has_room : 0 < length l.piece;
+  not_empty : 0 < length l.piece;
   unended : HasNo 10 l.part.items;
   answered : AnswersBut (g.L.Answers.is_answer l.fn.answers) (g.W.Sink.written l.fn.writer) (g.W.Sink.written l.writer)
       (g.R.Source.left l.fn.reader) (g.R.Source.left l.reader) l.part.items;

@@ -1,6 +1,6 @@
 -- The table is held against the digits of std, by computing.
 use Rattle.respath_lines.proofs.Common.{arith, refl, hex_value}
-use Rattle.rpki_addr.proofs.Tables.{agrees_below, agrees_at}
+use Rattle.rpki_addr.proofs.LookupTables.{agrees_below, agrees_at}
 use Rattle.respath_lines.specs.declared.hexadecimal.TheConstants.{DIGIT_VALUES}
 use Rattle.respath_lines.proofs.hexadecimal.value_of.Goals as goal
 

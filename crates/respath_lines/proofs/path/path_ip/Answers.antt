@@ -1,5 +1,5 @@
 use Rattle.respath_lines.proofs.Common.{inl, inr, refl, on_ok_weaker, string_bytes, ip_from_str_error_text, overclaimed_ip_text, set_text}
-use Rattle.respath_lines.proofs.PathLemmas.{shows_path}
+use Rattle.respath_lines.proofs.PathCommandLemmas.{shows_path}
 use Rattle.respath_lines.proofs.path.path_ip.Goals as goal
 
 pub returns-in-Ok : goal.returns-in-Ok
@@ -8,18 +8,18 @@ returns-in-Ok g c =
     let root = c.in-Ok.root in
     let steps = c.in-Ok.steps.items in
     let left = rw c.as_slice.ensures.value at c.verify_path.ensures in
-    on_ok_weaker c.told_ip.result
+    on_ok_weaker c.write_left_ip.result
     (λ shows. inl (
       root,
       steps,
       c.in-Ok.ensures,
       shows_path (set_text family) (overclaimed_ip_text family) root steps c.verify_path.result left
-          (string_bytes c.told_ip.new.answer) shows,
+          (string_bytes c.write_left_ip.new.answer) shows,
     ))
-    c.told_ip.ensures
+    c.write_left_ip.ensures
 
 pub returns-in-Err-Refused : goal.returns-in-Err-Refused
 returns-in-Err-Refused g c =
     let fails = rw c.in-Err-Refused.field-0-is at c.in-Err-Refused.ensures in
-    let told = rw c.in-Err-Refused.field-0-is at (c.unread.ensures ip_from_str_error_text (λ fault. refl)) in
-    on_ok_weaker c.unread.result (λ is. inr (c.in-Err-Refused.fault, fails, is)) told
+    let fault_written = rw c.in-Err-Refused.field-0-is at (c.write_part_fault.ensures ip_from_str_error_text (λ fault. refl)) in
+    on_ok_weaker c.write_part_fault.result (λ is. inr (c.in-Err-Refused.fault, fails, is)) fault_written

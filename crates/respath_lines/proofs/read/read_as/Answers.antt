@@ -1,6 +1,6 @@
 use Rattle.respath_lines.proofs.Common.{refl, on_ok_weaker, string_bytes, IsAsResources, as_choice_at, fault_text}
 use Rattle.rpki_as.specs.ResourcesText.{as_resources_text}
-use Rattle.respath_lines.proofs.ReadLemmas.{shows_octets, shows_text}
+use Rattle.respath_lines.proofs.ReadCommandLemmas.{shows_octets, shows_text}
 use Rattle.respath_lines.proofs.read.read_as.Goals as goal
 
 pub returns : goal.returns

@@ -1,5 +1,5 @@
 use Rattle.respath_lines.proofs.Common.{[], lit<, err_from_is_err_and, parts_of}
-use Rattle.respath_lines.proofs.PathLemmas.{first_part, one_part, refused_root, refused_step}
+use Rattle.respath_lines.proofs.PathCommandLemmas.{first_part, one_part, refused_root, refused_step}
 use Rattle.respath_lines.proofs.steps.read_path.Goals as goal
 
 -- no bar: the root's list is all of the path

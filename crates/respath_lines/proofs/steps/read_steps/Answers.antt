@@ -1,8 +1,8 @@
 use Rattle.respath_lines.proofs.Common.{[], ◌∷◌, length, lit<, map, map-append, HasStepFault, IsStepText, parts_of}
 use Rattle.std.proofs.lemmas.Iterator.Splits.{YieldsList-from_str_split}
 use Rattle.std.proofs.lemmas.Iterator.Consumers.{YieldsList-turn, YieldsList-end, YieldsList-so_far, YieldsList-at}
-use Rattle.rpki_text.proofs.ListLemmas.{HaveValues-append}
-use Rattle.respath_lines.proofs.PathLemmas.{first_refused}
+use Rattle.rpki_text.proofs.TextListLemmas.{HaveValues-append}
+use Rattle.respath_lines.proofs.PathCommandLemmas.{first_refused}
 use Rattle.respath_lines.proofs.steps.read_steps.Goals as goal
 
 -- one more step

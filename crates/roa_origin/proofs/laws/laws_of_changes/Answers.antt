@@ -1,14 +1,14 @@
--- What is left and what is announced are the payloads of the next table.
-use Rattle.roa_origin.proofs.Common.{◌≡◌, Less, payload_cmp}
-use Rattle.roa_origin.proofs.Lists.{decide, nothing, only_next}
-use Rattle.roa_origin.proofs.Members.{same_list}
-use Rattle.roa_origin.proofs.Totals.{not_back, ties, total}
+-- What is left and what is announced are the VRPs of the next table.
+use Rattle.roa_origin.proofs.Common.{◌≡◌, Less, vrp_cmp}
+use Rattle.roa_origin.proofs.SortedLists.{decide, nothing, only_next}
+use Rattle.roa_origin.proofs.ListMembers.{same_list}
+use Rattle.roa_origin.proofs.VrpOrder.{not_back, ties, total}
 use Rattle.roa_origin.proofs.laws.laws_of_changes.Goals as goal
 
 pub returns-clause-leads : goal.returns-clause-leads
 returns-clause-leads c table next announced withdrawn set ascends new gone after =
-    let cases = decide payload_cmp total ties in
-    same_list (λ p q. payload_cmp p q ≡ Less) (not_back total) set next after.ascending ascends
+    let cases = decide vrp_cmp total ties in
+    same_list (λ p q. vrp_cmp p q ≡ Less) (not_back total) set next after.ascending ascends
     (λ p. only_next (cases table p) (cases next p) (new.members p) (gone.members p) (after.members p))
 
 pub returns-clause-none : goal.returns-clause-none

@@ -1,5 +1,5 @@
 -- What is listed is what is kept and what is announced.
-use Rattle.roa_origin.proofs.Kept.{lists, one_updated, sends}
+use Rattle.roa_origin.proofs.TableAfterChanges.{lists, one_updated, sends}
 use Rattle.roa_origin.proofs.laws.laws_of_updates.Goals as goal
 
 pub returns : goal.returns

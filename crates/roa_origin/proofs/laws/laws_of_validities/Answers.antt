@@ -1,6 +1,6 @@
 -- A validity is told by what it stands for.
 use Rattle.roa_origin.proofs.Common.{IsPermutation-sym}
-use Rattle.roa_origin.proofs.Scans.{same_validity}
+use Rattle.roa_origin.proofs.ValidityScans.{same_validity}
 use Rattle.roa_origin.proofs.laws.laws_of_validities.Goals as goal
 
 pub returns-clause-any_order : goal.returns-clause-any_order

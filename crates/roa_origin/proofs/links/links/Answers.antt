@@ -1,6 +1,6 @@
--- Each payload gets its link.
+-- Each VRP gets its link.
 use Rattle.roa_origin.proofs.Common.{arith, length_push}
-use Rattle.roa_origin.proofs.Walks.{linked_more}
+use Rattle.roa_origin.proofs.LinkWalks.{linked_more}
 use Rattle.roa_origin.proofs.links.links.Goals as goal
 
 pub next_link-link-requires-clause-linked : goal.next_link-link-requires-clause-linked
@@ -13,5 +13,5 @@ loop-at-preserved g c =
     let one = c.next_link-link in
     rw c.in_ok-push.ensures.items (
       omega (arith, many, length_push links one.result),
-      linked_more c.args.payloads.now links c.loop-at.at one.result many linked one.ensures,
+      linked_more c.args.vrps.now links c.loop-at.at one.result many linked one.ensures,
     )

@@ -1,5 +1,5 @@
 use Rattle.roa_origin.proofs.Common.{arith, length-append}
-use Rattle.roa_origin.proofs.Firsts.{few_numbers, starts_more}
+use Rattle.roa_origin.proofs.FirstBits.{few_numbers, starts_more}
 use Rattle.roa_origin.proofs.starts.starts.Goals as goal
 
 pub loop-number-preserved : goal.loop-number-preserved

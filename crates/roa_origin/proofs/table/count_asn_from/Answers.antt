@@ -1,6 +1,6 @@
--- The test parts the payloads of a group.
+-- The test parts the VRPs of a group.
 use Rattle.roa_origin.proofs.Common.{rules}
-use Rattle.roa_origin.proofs.Groups.{last_of}
+use Rattle.roa_origin.proofs.PrefixGroups.{last_of}
 use Rattle.roa_origin.proofs.table.count_asn_from.Goals as goal
 
 pub returns-clause-last : goal.returns-clause-last

@@ -1,5 +1,5 @@
--- What covers the route stands on the walk along the links from the last payload that comes no later.
-use Rattle.roa_origin.proofs.Steps.{begun, matched_at, step_covered, step_free}
+-- What covers the route stands on the walk along the links from the last VRP that comes no later.
+use Rattle.roa_origin.proofs.LinkSteps.{begun, matched_at, step_covered, step_free}
 use Rattle.roa_origin.proofs.table.validity_in.Goals as goal
 
 pub loop-at-init : goal.loop-at-init
@@ -14,13 +14,13 @@ returns-then-has_match c =
 
 pub loop-at-preserved-else-has_match : goal.loop-at-preserved-else-has_match
 loop-at-preserved-else-has_match c =
-    let x = c.index-payloads-at in
+    let x = c.index-vrps-at in
     let f = c.if-has_match.false in
     step_covered c.loop-at.invariant c.loop-at-test.true x.result x.is (c.covers.ensures.0 c.if-covers.true)
     (λ h. let is_true = c.has_match.ensures.1 (rw c.between-group.ensures h) in cc)
 
 pub loop-at-preserved : goal.loop-at-preserved
 loop-at-preserved c =
-    let x = c.index-payloads-at in
+    let x = c.index-vrps-at in
     let f = c.if-covers.false in
     step_free c.loop-at.invariant c.loop-at-test.true x.result x.is (λ h. let is_true = c.covers.ensures.1 h in cc)

@@ -1,6 +1,6 @@
--- Each turn takes the next payload, of the table or announced.
+-- Each turn takes the next VRP, of the table or announced.
 use Rattle.roa_origin.proofs.Common.{arith, take_all}
-use Rattle.roa_origin.proofs.Updated.{advanced, comes, goes, in_order, run}
+use Rattle.roa_origin.proofs.TableUpdates.{advanced, comes, goes, in_order, run}
 use Rattle.roa_origin.proofs.updates.updated.Goals as goal
 
 pub loop-at-preserved-then-announced_is_next : goal.loop-at-preserved-then-announced_is_next

@@ -1,6 +1,6 @@
--- So far the list has what is kept of the payloads gone through, and what was announced, in order.
+-- So far the list has what is kept of the VRPs gone through, and what was announced, in order.
 use Rattle.roa_origin.proofs.Common.{length, ◌+◌, ◌-◌}
-use Rattle.roa_origin.proofs.Updated.{IsSoFar}
+use Rattle.roa_origin.proofs.TableUpdates.{IsSoFar}
 use Rattle.roa_origin.proofs.updates.updated.Given as goal
 
 abbrev pub invariant-loop-at : goal.invariant-loop-at

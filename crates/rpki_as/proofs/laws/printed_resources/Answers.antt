@@ -1,6 +1,6 @@
 -- A text writes one claim at most, and what is printed writes its own.
 use Rattle.rpki_as.proofs.Common.{ap, refl, as_resources_text}
-use Rattle.rpki_as.proofs.ResourcesTexts.{one_claim, printed_resources}
+use Rattle.rpki_as.proofs.AsResourcesTexts.{one_claim, printed_resources}
 use Rattle.rpki_as.proofs.laws.printed_resources.Goals as goal
 
 pub returns : goal.returns

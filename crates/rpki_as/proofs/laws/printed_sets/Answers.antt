@@ -1,5 +1,5 @@
 use Rattle.rpki_as.proofs.Common.{as_list_text, refl}
-use Rattle.rpki_as.proofs.ListLemmas.{alike_as_numbers, list_says, one_list}
+use Rattle.rpki_as.proofs.AsListLemmas.{alike_as_numbers, list_says, one_list}
 use Rattle.rpki_as.proofs.laws.printed_sets.Goals as goal
 
 pub returns : goal.returns

@@ -1,7 +1,7 @@
 -- Each block completes those so far, and the last ends the list.
 use Rattle.std.proofs.lemmas.Bool.Decides.{not_from_Decides}
 use Rattle.rpki_as_block.proofs.Common.{sym, ◌∙◌}
-use Rattle.rpki_as_block.proofs.BlockListLemmas.{all_read, first_block, goes_no_further, one_more}
+use Rattle.rpki_as_block.proofs.AsBlockListLemmas.{all_read, first_block, goes_no_further, one_more}
 use Rattle.rpki_as_block.proofs.list.usual_blocks.Goals as goal
 
 pub returns-then-is_end : goal.returns-then-is_end

@@ -1,6 +1,6 @@
 -- What the loop over the elements keeps.
 use Rattle.rpki_as_block.proofs.Common.{length, ◌-◌}
-use Rattle.rpki_as_block.proofs.BlockListLemmas.{IsSoFar}
+use Rattle.rpki_as_block.proofs.AsBlockListLemmas.{IsSoFar}
 use Rattle.rpki_as_block.proofs.list.usual_blocks.Given as goal
 
 -- what is left completes the blocks so far

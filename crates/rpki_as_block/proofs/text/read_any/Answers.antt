@@ -1,5 +1,5 @@
 use Rattle.std.proofs.lemmas.Result.{err_from_is_err_and}
-use Rattle.rpki_as_block.proofs.BlockLemmas.{around_split, no_cut, reads_block}
+use Rattle.rpki_as_block.proofs.AsBlockTextLemmas.{around_split, no_cut, reads_block}
 use Rattle.rpki_as_block.proofs.text.read_any.Goals as goal
 
 pub returns-in_err-from_str : goal.returns-in_err-from_str

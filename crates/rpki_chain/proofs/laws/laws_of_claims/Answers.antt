@@ -1,5 +1,5 @@
 use Rattle.rpki_chain.proofs.Common.{Holds}
-use Rattle.rpki_chain.proofs.LawLemmas.{one_set}
+use Rattle.rpki_chain.proofs.SetLawLemmas.{one_set}
 use Rattle.rpki_chain.proofs.PathLaws.{path_of_one, refusal_of_one, trimmed_twice}
 use Rattle.rpki_chain.proofs.laws.laws_of_claims.Goals as goal
 

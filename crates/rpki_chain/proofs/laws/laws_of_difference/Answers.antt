@@ -1,6 +1,6 @@
 use Rattle.rpki_chain.proofs.Common.{arith}
 use Rattle.rpki_chain.proofs.RunLists.{Holds-decided}
-use Rattle.rpki_chain.proofs.LawLemmas.{one_set, inside_where_none}
+use Rattle.rpki_chain.proofs.SetLawLemmas.{one_set, inside_where_none}
 use Rattle.rpki_chain.proofs.laws.laws_of_difference.Goals as goal
 
 pub returns : goal.returns

@@ -1,5 +1,5 @@
 use Rattle.rpki_chain.proofs.Common.{All-nil}
-use Rattle.rpki_chain.proofs.LawLemmas.{one_set}
+use Rattle.rpki_chain.proofs.SetLawLemmas.{one_set}
 use Rattle.rpki_chain.proofs.PathLaws.{any_order, inside_issuer, not_trimmed}
 use Rattle.rpki_chain.proofs.laws.laws_of_paths.Goals as goal
 

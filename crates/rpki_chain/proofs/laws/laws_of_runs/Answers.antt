@@ -1,5 +1,5 @@
 -- Blocks cover one list of runs, and sets with the same numbers are one list.
-use Rattle.rpki_chain.proofs.LawLemmas.{one_set}
+use Rattle.rpki_chain.proofs.SetLawLemmas.{one_set}
 use Rattle.rpki_chain.proofs.RunLists.{IsRunsOf-unique}
 use Rattle.rpki_chain.proofs.laws.laws_of_runs.Goals as goal
 

@@ -1,5 +1,5 @@
 use Rattle.rpki_chain.proofs.Common.{arith}
-use Rattle.rpki_chain.proofs.LawLemmas.{one_set}
+use Rattle.rpki_chain.proofs.SetLawLemmas.{one_set}
 use Rattle.rpki_chain.proofs.laws.laws_of_union.Goals as goal
 
 pub returns : goal.returns

@@ -1,5 +1,5 @@
 use Rattle.rpki_chain.proofs.Common.{refl, ℕ, false≢true, Holds}
-use Rattle.rpki_chain.proofs.Issued.{issued_inside, issued_trim, excess_refused, handed_on}
+use Rattle.rpki_chain.proofs.IssuedClaims.{issued_inside, issued_trim, excess_refused, handed_on}
 use Rattle.rpki_chain.proofs.verify.listed_by.Goals as goal
 use Rattle.rpki_chain.proofs.verify.listed_by.Goals.{in-Refuse+in_ok-covered_by-in-Refuse, in-Trim+in_default}
 

@@ -1,4 +1,4 @@
-use Rattle.rpki_cover.proofs.Nesting.{nested_share, prefixes_nested}
+use Rattle.rpki_cover.proofs.NestedPrefixes.{nested_share, prefixes_nested}
 use Rattle.rpki_cover.proofs.laws.nested_prefixes.Goals as goal
 
 pub returns : goal.returns

@@ -1,5 +1,5 @@
 -- The spelling of an integer meets its conditions; the others are found.
-use Rattle.rpki_der.proofs.Contents.{spelled_unsigned}
+use Rattle.rpki_der.proofs.ContentReadings.{spelled_unsigned}
 use Rattle.rpki_der.proofs.laws.spelled.Goals as goal
 
 pub returns-clause-integer_again : goal.returns-clause-integer_again

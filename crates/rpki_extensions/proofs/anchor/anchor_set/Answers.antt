@@ -7,4 +7,4 @@ pub returns-in-Ok : goal.returns-in-Ok
 returns-in-Ok g c =
     let claims = c.in-Ok.ensures.claims in
     MatchResult-weaker c.listed_by.result c.listed_by.ensures (λ set listed. (_, _, _, claims, listed))
-    (λ error told. grind (arith, claims, told))
+    (λ error ensured. grind (arith, claims, ensured))

@@ -1,5 +1,5 @@
 use Rattle.rpki_extensions.proofs.Common.{arith}
-use Rattle.rpki_extensions.proofs.IssuedLemmas.{answer_inside, of_claims}
+use Rattle.rpki_extensions.proofs.IssuedSetLemmas.{answer_inside, of_claims}
 use Rattle.rpki_extensions.proofs.issued.verified_octets.Goals as goal
 
 pub returns-in-Ok-clause-verified : goal.returns-in-Ok-clause-verified

@@ -1,5 +1,5 @@
 use Rattle.rpki_extensions.proofs.Common.{None, arith, take_all, Any, Extensions}
-use Rattle.rpki_extensions.proofs.PathLemmas.{path-inside, path-more, path-refused}
+use Rattle.rpki_extensions.proofs.VerifiedPathLemmas.{path-inside, path-more, path-refused}
 use Rattle.rpki_chain.specs.declared.path.Overclaim.TheVariants.{Refuse}
 use Rattle.rpki_extensions.proofs.path.verified_path.Goals as goal
 

@@ -1,5 +1,5 @@
 use Rattle.rpki_ip.proofs.Common.{None, Some, lit<, split_parts, slash, HasPrefixFault, IsPrefixBetween}
-use Rattle.rpki_ip.proofs.TextLemmas.{prefix_one, cut_answers, no_cut_answers}
+use Rattle.rpki_ip.proofs.RangeTextLemmas.{prefix_one, cut_answers, no_cut_answers}
 use Rattle.rpki_ip.proofs.text.read_prefix.Goals as goal
 
 pub returns-in-Some : goal.returns-in-Some

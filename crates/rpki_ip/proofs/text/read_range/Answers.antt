@@ -1,5 +1,5 @@
 use Rattle.rpki_ip.proofs.Common.{None, Some, lit<, split_parts, dash, HasRangeFault, IsIpRangeBetween}
-use Rattle.rpki_ip.proofs.TextLemmas.{range_one, cut_answers, no_cut_answers}
+use Rattle.rpki_ip.proofs.RangeTextLemmas.{range_one, cut_answers, no_cut_answers}
 use Rattle.rpki_ip.proofs.text.read_range.Goals as goal
 
 pub returns-in-Some : goal.returns-in-Some

@@ -1,5 +1,5 @@
 use Rattle.rpki_ip.proofs.Common.{Ok}
-use Rattle.rpki_ip.proofs.TextLemmas.{single_one, answers_by_one, single_of}
+use Rattle.rpki_ip.proofs.RangeTextLemmas.{single_one, answers_by_one, single_of}
 use Rattle.rpki_ip.proofs.text.read_single.Goals as goal
 
 pub returns : goal.returns

@@ -1,6 +1,6 @@
 -- What the loop over the elements keeps.
 use Rattle.rpki_ip_block.proofs.Common.{length}
-use Rattle.rpki_ip_block.proofs.ListFronts.{IsSoFar}
+use Rattle.rpki_ip_block.proofs.BlockListFronts.{IsSoFar}
 use Rattle.rpki_ip_block.proofs.front.usual_blocks_of.Given as goal
 
 -- what is left completes the blocks so far

@@ -1,5 +1,5 @@
 use Rattle.rpki_ip_block.proofs.Common.{Vec, IpBlock}
-use Rattle.rpki_ip_block.proofs.ListLemmas.{ip_answers}
+use Rattle.rpki_ip_block.proofs.BlockListLemmas.{ip_answers}
 use Rattle.rpki_ip_block.proofs.PrintedLists.{ip_list_back}
 use Rattle.rpki_ip_block.proofs.list.read_ip_blocks.Goals as goal
 

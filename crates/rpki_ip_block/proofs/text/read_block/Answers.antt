@@ -1,8 +1,8 @@
 use Rattle.rpki_ip_block.proofs.Common.{Err, None, Ok, inl, inr, lit<, dash, slash, Prefix, Range}
 use Rattle.std.proofs.lemmas.Result.{err_from_is_err_and}
 use Rattle.std.proofs.lemmas.Str.Pattern.{split_parts}
-use Rattle.rpki_prefix.proofs.TextLemmas.{around_split}
-use Rattle.rpki_ip_block.proofs.TextLemmas.{block_answers}
+use Rattle.rpki_prefix.proofs.PrefixTextLemmas.{around_split}
+use Rattle.rpki_ip_block.proofs.BlockTextLemmas.{block_answers}
 use Rattle.rpki_ip_block.proofs.text.read_block.Goals as goal
 
 pub returns-in_err-prefix_between : goal.returns-in_err-prefix_between

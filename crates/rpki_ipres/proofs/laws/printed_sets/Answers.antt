@@ -6,7 +6,7 @@ pub returns : goal.returns
 returns c = record {
   written = family_written;
   one_set = λ family text. one_set (HasBlocks family text) (same_blocks family text);
-  written_untold = either_written;
-  one_set_untold = λ text. one_set (HasIpBlocks text) (same_ip_blocks text);
+  written_without_family = either_written;
+  one_set_without_family = λ text. one_set (HasIpBlocks text) (same_ip_blocks text);
   alike = printed_as_numbers;
 }

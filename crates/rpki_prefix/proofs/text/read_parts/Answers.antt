@@ -1,6 +1,6 @@
 use Rattle.rpki_prefix.proofs.Common.{None, ap, length, lit<, sym, ◌∙◌, eqb-false, split_parts}
 use Rattle.rpki_prefix.specs.PrefixText.{FindsParts}
-use Rattle.rpki_prefix.proofs.TextLemmas.{around_split, passed_on}
+use Rattle.rpki_prefix.proofs.PrefixTextLemmas.{around_split, passed_on}
 use Rattle.rpki_prefix.proofs.text.read_parts.Goals as goal
 
 pub returns-in_default : goal.returns-in_default

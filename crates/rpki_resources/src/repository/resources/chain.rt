@@ -1,9 +1,9 @@
 //! Blocks of any kind, and chains of blocks.
 
-pub use rpki_chains::block::Block;
-pub use rpki_chains::chain::Chain;
-pub use rpki_chains::counted::Counted;
-pub use rpki_chains::owned::OwnedChain;
-pub use rpki_chains::reads::Reads;
-pub use rpki_chains::shared::SharedChain;
-pub use rpki_chains::{contains_item_counted, difference_counted, trim_counted, union_counted};
+pub use rpki_chain_core::block::Block;
+pub use rpki_chain_core::chain::Chain;
+pub use rpki_chain_core::counted::Counted;
+pub use rpki_chain_core::owned::OwnedChain;
+pub use rpki_chain_core::reads::Reads;
+pub use rpki_chain_core::shared::SharedChain;
+pub use rpki_chain_core::{contains_item_counted, difference_counted, trim_counted, union_counted};

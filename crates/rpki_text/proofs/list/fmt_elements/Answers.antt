@@ -1,7 +1,7 @@
 -- The first item and the loop write the joined texts.
 use Rattle.rpki_text.proofs.Common.{codes, refl, ◌++◌}
 use Rattle.std.proofs.Output.{has_written_append, has_written_of_eq}
-use Rattle.rpki_text.proofs.PrintedLemmas.{joined_by_loop, written_more}
+use Rattle.rpki_text.proofs.PrintedListLemmas.{joined_by_loop, written_more}
 use Rattle.rpki_text.proofs.list.fmt_elements.Goals as goal
 
 pub loop-item-preserved : goal.loop-item-preserved

@@ -2,7 +2,7 @@
 use Rattle.rpki_text.proofs.Common.{arith, length, lit<, sym, ◌∙◌, eqb-false, map-append}
 use Rattle.std.proofs.lemmas.Iterator.Splits.{YieldsList-from_str_split}
 use Rattle.std.proofs.lemmas.Iterator.Consumers.{YieldsList-turn, YieldsList-end, YieldsList-so_far, YieldsList-at}
-use Rattle.rpki_text.proofs.ListLemmas.{fault_at, values_more, elements_are}
+use Rattle.rpki_text.proofs.TextListLemmas.{fault_at, values_more, elements_are}
 use Rattle.rpki_text.proofs.list.read_elements.Goals as goal
 
 -- one more value

@@ -5,7 +5,7 @@ use Rattle.rpki_text.proofs.number.digits_from.Goals as goal
 
 pub loop-end-preserved : goal.loop-end-preserved
 loop-end-preserved c =
-    let stop = c.few_behind-stop.ensures.within in
+    let stop = c.few_end-stop.ensures.within in
     let few : c.loop-end.end - c.args.start < 10 =
     omega (arith, c.loop-end-test.true, stop.1, c.loop-end.invariant.in_order) in
     let left : c.loop-end.end < length c.args.text.now = omega (arith, c.loop-end-test.true, stop.0) in

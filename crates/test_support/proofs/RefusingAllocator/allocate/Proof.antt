@@ -1,8 +1,8 @@
 -- A refused request is answered by an error, and any other as the allocator inside answers it. Assumes `Logic`.
-use Rattle.test_support.proofs.Steps.{◌≡◌, Bool, true, false, [], ◌∷◌, Ok, Err, refl, w64, proved, after, Val, vbool, vint, inst_fn, ftrue, flft, size, align, capped, ◌⊑◌, ⊑_trans, fact, tables, ‵, raw, ◌⊛◌, some, later, given, at_ret, prop, Sq, ◌$◌, ◌∵◌, !, qed, move, keep, use0, use1, use2, split, join, pick, learn, fsplit, fjoin, suffices, await, done, agg, enter, lit, addr, stop, fld, no_more, and_then, first, branches, skips, exec, returns, returns_within, alloc_all, pass_all, free_all, look_at, get, through, sets, lands_as, env, usize, yes, uint_vals, uint_Tells, owns, block_ptr, shr_vals, plain, types_at, heard, nothing, calls_at, framed, Stays, stay_dropped, Goes-dropped, walk_of, ends_at}
+use Rattle.test_support.proofs.AllocatorSteps.{◌≡◌, Bool, true, false, [], ◌∷◌, Ok, Err, refl, w64, proved, after, Val, vbool, vint, inst_fn, ftrue, flft, size, align, capped, ◌⊑◌, ⊑_trans, fact, tables, ‵, raw, ◌⊛◌, some, later, given, at_ret, prop, Sq, ◌$◌, ◌∵◌, !, qed, move, keep, use0, use1, use2, split, join, pick, learn, fsplit, fjoin, suffices, await, done, agg, enter, lit, addr, stop, fld, no_more, and_then, first, branches, skips, exec, returns, returns_within, alloc_all, pass_all, free_all, look_at, get, through, sets, lands_as, env, usize, yes, uint_vals, uint_Tells, owns, block_ptr, shr_vals, plain, types_at, heard, nothing, calls_at, framed, Stays, stay_dropped, Goes-dropped, walk_of, ends_at}
 use Rattle.std.specs.Allocator.{block_if_ok}
 use Rattle.std.proofs.alloc.Calls.{Al, seen, token, Answer, answer_val, Answer-typed, Answer-Ok, Answer-err, Takes, at_takes, Answered, Takes-goes, Takes-gives, answers}
-use Rattle.test_support.proofs.Parts.{args, self, inner_at, requests_at, counted, fields, Asks, at_asks, Asks-goes, Asks-gives}
+use Rattle.test_support.proofs.AllocatorParts.{args, self, inner_at, requests_at, counted, fields, Asks, at_asks, Asks-goes, Asks-gives}
 use Rattle.test_support.specs.contracts.RefusingAllocator.allocate as F
 use Rattle.test_support.proofs.RefusingAllocator.allocate.Statement.{statement}
 use Rattle.test_support.proofs.RefusingAllocator.allocate.Code as code

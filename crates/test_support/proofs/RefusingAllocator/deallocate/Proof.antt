@@ -1,7 +1,7 @@
 -- A block goes back to the allocator inside. Assumes `Logic`.
-use Rattle.test_support.proofs.Steps.{◌≡◌, List, [], ◌∷◌, ◌++◌, refl, w64, proved, Val, vunit, vint, inst_fn, never, fst∗, ftrue, flft, fsep, size, align, capped, WpFn, sem, ◌⊑◌, ⊑_trans, fact, tables, ‵, raw, ◌⊛◌, later, given, prop, ◌$◌, ◌∵◌, !, qed, move, keep, use1, split, split3, join, group, learn, fsplit, fjoin, feq_i, regoal, suffices, await, done, enter, of_opd, unit_lit, addr, stop, fld, no_more, and_then, returns, alloc_all, pass_all, free_all, look_at, get, through, sets, lands_as, usize, yes, uint_vals, uint_Tells, owns, RawPtr, Ptr, block_ptr, null_ptr, in_a_block, room_for, rawptr_vals, rawptr_Tells, shr_vals, plain, types_at, heard, nothing, calls_at, framed, Stays, stay_dropped, Goes-dropped, walk_of, ends_at}
+use Rattle.test_support.proofs.AllocatorSteps.{◌≡◌, List, [], ◌∷◌, ◌++◌, refl, w64, proved, Val, vunit, vint, inst_fn, never, fst∗, ftrue, flft, fsep, size, align, capped, WpFn, sem, ◌⊑◌, ⊑_trans, fact, tables, ‵, raw, ◌⊛◌, later, given, prop, ◌$◌, ◌∵◌, !, qed, move, keep, use1, split, split3, join, group, learn, fsplit, fjoin, feq_i, regoal, suffices, await, done, enter, of_opd, unit_lit, addr, stop, fld, no_more, and_then, returns, alloc_all, pass_all, free_all, look_at, get, through, sets, lands_as, usize, yes, uint_vals, uint_Tells, owns, RawPtr, Ptr, block_ptr, null_ptr, in_a_block, room_for, rawptr_vals, rawptr_Tells, shr_vals, plain, types_at, heard, nothing, calls_at, framed, Stays, stay_dropped, Goes-dropped, walk_of, ends_at}
 use Rattle.std.proofs.alloc.Calls.{Al, seen, token, Gives, at_gives, Gives-goes, Gives-Gives}
-use Rattle.test_support.proofs.Parts.{args, self, inner_at, requests_at, counted, fields}
+use Rattle.test_support.proofs.AllocatorParts.{args, self, inner_at, requests_at, counted, fields}
 use Rattle.test_support.specs.contracts.RefusingAllocator.deallocate as F
 use Rattle.test_support.proofs.RefusingAllocator.deallocate.Statement.{statement}
 use Rattle.test_support.proofs.RefusingAllocator.deallocate.Code as code

@@ -1,9 +1,9 @@
--- The nearest payload that covers the route is the first of those left, and its link tells the others.
+-- The nearest VRP that covers the route is the first of those left, and its link tells the others.
 use Rattle.roa_origin.proofs.Common.{ap, arith, length, refl, sym, ◌<◌, ◌∙◌, ◌≡◌}
-use Rattle.roa_origin.proofs.Covered.{gives, walk_on}
+use Rattle.roa_origin.proofs.CoveringVrps.{gives, walk_on}
 use Rattle.roa_origin.proofs.covering.CoveringIterator.next.Goals as goal
 
-some : (c : goal.After-payload) → 0 < c.nearest-at.result
+some : (c : goal.After-vrp) → 0 < c.nearest-at.result
 some c = (let other : c.nearest-at.result ≡ 0 → ⊥ = c.if-at-eq0.false in omega (arith, other))
 
 pub invariant_of-self-2 : goal.invariant_of-self-2
@@ -13,7 +13,7 @@ pub returns-clause-steps : goal.returns-clause-steps
 returns-clause-steps c =
     let x = c.index-self-last.result in
     let near = c.nearest-at.ensures in
-    rw c.payload.ensures (sym c.self.view_is
+    rw c.vrp.ensures (sym c.self.view_is
     ∙ gives c.self.invariant (some c) near.back refl c.left-self-inside.ensures x (near.found x (some c)) near.none)
 
 pub returns-clause-goes : goal.returns-clause-goes

@@ -1,7 +1,7 @@
 -- The table is held against the definition at each of the 256 bytes, by computing.
 use Rattle.rpki_addr.proofs.Common.{arith, refl, hex_value}
 use Rattle.rpki_addr.specs.declared.addr.read.TheConstants.{HEX_VALUES}
-use Rattle.rpki_addr.proofs.Tables.{agrees_below, agrees_at}
+use Rattle.rpki_addr.proofs.LookupTables.{agrees_below, agrees_at}
 use Rattle.rpki_addr.proofs.addr.read.hex_value.Goals as goal
 
 pub returns : goal.returns

@@ -1,5 +1,5 @@
 use Rattle.rpki_as.proofs.Common.{arith, ◌+◌, ◌^◌, ◌≤◌}
-use Rattle.rpki_as.proofs.CountLemmas.{count_fits, count_step}
+use Rattle.rpki_as.proofs.AsCountLemmas.{count_fits, count_step}
 use Rattle.rpki_as.proofs.blocks.AsBlocks.asn_count.Goals as goal
 
 pub overflow_add-count : goal.overflow_add-count

@@ -1,5 +1,5 @@
 use Rattle.rpki_as.proofs.Common.{Err, Ok, Vec, err_from_is_err_and, HasAsBlockFault, IsAsBlockText, ReadsAsBlock, AsBlock, found_weaker, elements}
-use Rattle.rpki_as.proofs.ListLemmas.{list_answers, list_says}
+use Rattle.rpki_as.proofs.AsListLemmas.{list_answers, list_says}
 use Rattle.rpki_as.proofs.blocks.AsBlocks.from_str.Goals as goal
 
 pub returns-in_err-blocks-clause-exact : goal.returns-in_err-blocks-clause-exact

@@ -1,4 +1,4 @@
-use Rattle.rpki_as.proofs.CountLemmas.{numbers_listed}
+use Rattle.rpki_as.proofs.AsCountLemmas.{numbers_listed}
 use Rattle.rpki_as.proofs.blocks.AsBlocks.iter_asns.Goals as goal
 
 pub returns : goal.returns

@@ -1,10 +1,10 @@
 -- What the reading gives is the value of the grammar of the mode, and it gives what was written.
-use Rattle.rpki_as.proofs.AsDerLemmas.{set_in_modes}
+use Rattle.rpki_as.proofs.AsSetDerLemmas.{set_in_modes}
 use Rattle.rpki_as.proofs.Common.{taken_said}
 use Rattle.rpki_as.proofs.blocks.AsBlocks.take_from.Goals as goal
 
 pub returns : goal.returns
 returns g c =
-    let taken = taken_said set_in_modes c.args.cursor.now c.next_set.new.cursor c.next_set.result
-    c.next_set.ensures.by_mode in
+    let taken = taken_said set_in_modes c.args.cursor.now c.take_from_by_mode.new.cursor c.take_from_by_mode.result
+    c.take_from_by_mode.ensures.by_mode in
     assumption taken

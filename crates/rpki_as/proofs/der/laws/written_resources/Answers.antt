@@ -1,6 +1,6 @@
 -- Resources are read back.
 use Rattle.rpki_as.proofs.Common.{ap, as_resources_octets, said_alike}
-use Rattle.rpki_as.proofs.ResourcesDer.{one_resources, resources_in_modes, resources_short, resources_written}
+use Rattle.rpki_as.proofs.AsResourcesDer.{one_resources, resources_in_modes, resources_short, resources_written}
 use Rattle.rpki_as.proofs.der.laws.written_resources.Goals as goal
 
 pub returns : goal.returns

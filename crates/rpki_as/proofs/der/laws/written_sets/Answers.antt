@@ -1,7 +1,7 @@
 -- The blocks of a set are read back, so sets that are written alike are one.
-use Rattle.rpki_as.proofs.AsDerLemmas.{set_in_modes, set_short}
+use Rattle.rpki_as.proofs.AsSetDerLemmas.{set_in_modes, set_short}
 use Rattle.rpki_as.proofs.Common.{ap, as_set_octets, said_alike, sequence_value, written_said}
-use Rattle.rpki_as.proofs.ListLemmas.{alike_as_numbers}
+use Rattle.rpki_as.proofs.AsListLemmas.{alike_as_numbers}
 use Rattle.rpki_as.proofs.der.laws.written_sets.Goals as goal
 
 pub returns : goal.returns

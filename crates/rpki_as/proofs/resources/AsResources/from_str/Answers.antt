@@ -1,7 +1,7 @@
 -- The text is `inherit`, or is read as a list.
 use Rattle.rpki_as.proofs.Common.{Err, Ok, codes, sym, ◌∙◌, err_from_is_err_and, claim_of, Inherit, IsInherit}
 use Rattle.std.specs.Cmp.Lexicographic.{bytes_decides}
-use Rattle.rpki_as.proofs.ResourcesTexts.{list_claim, list_fault, not_true, one_claim, printed_resources, resources_answers}
+use Rattle.rpki_as.proofs.AsResourcesTexts.{list_claim, list_fault, not_true, one_claim, printed_resources, resources_answers}
 use Rattle.rpki_as.proofs.resources.AsResources.from_str.Goals as goal
 
 pub returns-then-eq-clause-reads_back : goal.returns-then-eq-clause-reads_back

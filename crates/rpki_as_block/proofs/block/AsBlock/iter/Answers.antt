@@ -1,4 +1,4 @@
-use Rattle.rpki_as_block.proofs.NumberLemmas.{IsListOf-numbers_within}
+use Rattle.rpki_as_block.proofs.IntervalNumberLemmas.{IsListOf-numbers_within}
 use Rattle.rpki_as_block.proofs.block.AsBlock.iter.Goals as goal
 
 pub returns-clause-numbers : goal.returns-clause-numbers

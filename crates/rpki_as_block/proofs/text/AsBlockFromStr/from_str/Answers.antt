@@ -1,5 +1,5 @@
 -- A block of the usual form that takes the whole text is the answer.
-use Rattle.rpki_as_block.proofs.BlockPlaceLemmas.{reads_whole}
+use Rattle.rpki_as_block.proofs.AsBlockIndexLemmas.{reads_whole}
 use Rattle.rpki_as_block.proofs.text.AsBlockFromStr.from_str.Goals as goal
 
 pub returns-in-Some : goal.returns-in-Some

@@ -1,5 +1,5 @@
 -- A number of the usual form that takes the whole text is the answer.
-use Rattle.rpki_base.proofs.AsnPlaceLemmas.{reads_whole}
+use Rattle.rpki_base.proofs.AsnIndexLemmas.{reads_whole}
 use Rattle.rpki_base.proofs.asn.AsnFromStr.from_str.Goals as goal
 
 pub returns-in-Some : goal.returns-in-Some

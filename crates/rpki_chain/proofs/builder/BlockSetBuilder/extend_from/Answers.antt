@@ -8,7 +8,7 @@ loop-block-preserved g c =
     let pushed = c.push_reserved.ensures in
     let same = c.new.ensures.bounds ∙ (λ i. (c.bounds-min.ensures.min i, c.bounds-min.ensures.max i)) in
     record {
-      room = omega (arith, c.loop-block-test.true, c.loop-block.invariant.room, pushed.len, pushed.capacity);
+      fits = omega (arith, c.loop-block-test.true, c.loop-block.invariant.fits, pushed.len, pushed.capacity);
       added = rw pushed.items (added_next g.T.Block.bounds _ _ _ _ _ _ c.loop-block.invariant.added
           c.loop-block-test.true c.block-item.is same);
     }

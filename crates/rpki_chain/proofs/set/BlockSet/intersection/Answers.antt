@@ -1,5 +1,5 @@
 use Rattle.rpki_chain.proofs.Common.{refl}
-use Rattle.rpki_chain.proofs.LawLemmas.{common_inside}
+use Rattle.rpki_chain.proofs.SetLawLemmas.{common_inside}
 use Rattle.rpki_chain.proofs.SetLemmas.{made}
 use Rattle.rpki_chain.proofs.set.BlockSet.intersection.Goals as goal
 

@@ -1,5 +1,5 @@
 -- A missing claim covers the empty set, an inherited one each, and one that lists a set what lies in it.
-use Rattle.rpki_chain.proofs.Covered.{covered_missing, refused_listed}
+use Rattle.rpki_chain.proofs.CoveredSets.{covered_missing, refused_listed}
 use Rattle.rpki_chain.proofs.set.BlockSet.verify_covered.Goals as goal
 
 pub returns-in-Missing-clause-ok : goal.returns-in-Missing-clause-ok
@@ -11,5 +11,5 @@ returns-in-Blocks-clause-ok g c = rw c.in-Blocks.is c.covered_by.ensures.ok
 
 pub returns-in-Blocks-clause-refused : goal.returns-in-Blocks-clause-refused
 returns-in-Blocks-clause-refused g c =
-    let told = c.covered_by.ensures in
-    rw c.in-Blocks.is (refused_listed c.args.self.now _ c.covered_by.result told.ok told.refused)
+    let ensured = c.covered_by.ensures in
+    rw c.in-Blocks.is (refused_listed c.args.self.now _ c.covered_by.result ensured.ok ensured.refused)

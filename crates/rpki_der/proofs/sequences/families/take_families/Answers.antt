@@ -1,6 +1,6 @@
 -- What the reading gives is what stands there, and the claims that it stands for.
 use Rattle.rpki_der.proofs.Common.{arith, false, left, Refines, IsFamilies, SaysByFamily}
-use Rattle.rpki_der.proofs.Below.{same_found}
+use Rattle.rpki_der.proofs.ValueProofs.{same_found}
 use Rattle.rpki_der.proofs.SequenceCursors.{reads_said_by}
 use Rattle.rpki_der.proofs.FamiliesGathering.{families_reading}
 use Rattle.rpki_der.proofs.FamiliesModes.{families_tighten}

@@ -1,6 +1,6 @@
 -- Leniently the readings are one.
 use Rattle.rpki_der.proofs.Common.{false, left}
-use Rattle.rpki_der.proofs.Below.{same_found}
+use Rattle.rpki_der.proofs.ValueProofs.{same_found}
 use Rattle.rpki_der.proofs.SequenceModes.{values_tighten}
 use Rattle.rpki_der.proofs.sequences.read.read_values.Goals as goal
 
@@ -12,4 +12,4 @@ returns-clause-exact g c lenient =
     let tight = values_tighten false next by (g.R.ReadNext.reading reader)
     (λ state. (g.met.R.ReadNext.is_modal reader state).tightens false)
     (g.R.ReadNext.first reader) (left c.args.content) in
-    rw (← same_found _ _ tight, ← lenient) c.values_within.ensures.by_mode
+    rw (← same_found _ _ tight, ← lenient) c.read_values_by_mode.ensures.by_mode

@@ -1,6 +1,6 @@
 -- What the reading gives is the value of the grammar.
 use Rattle.rpki_der.proofs.Common.{arith}
-use Rattle.rpki_der.proofs.Below.{lenient_is}
+use Rattle.rpki_der.proofs.ValueProofs.{lenient_is}
 use Rattle.rpki_der.proofs.SequenceCursors.{reads_or_memory_by}
 use Rattle.rpki_der.proofs.SequenceModes.{sequence_modal}
 use Rattle.rpki_der.proofs.SequenceReadings.{sequence_reading}

@@ -6,6 +6,6 @@ use Rattle.rpki_family.proofs.blocks.FamilyBlocks.verify_issued.Goals as goal
 pub of-requires : goal.of-requires
 of-requires g c = grind (arith, whole_issued c.self.inside.blocks c.in-Ok.set c.args.resources.now c.args.mode)
 
-pub of_family-requires : goal.of_family-requires
-of_family-requires g c =
+pub into_family-requires : goal.into_family-requires
+into_family-requires g c =
     grind (arith, whole_excess c.self.inside.blocks c.in-Err-Refused.fault c.args.resources.now c.args.mode)

@@ -1,5 +1,5 @@
 use Rattle.rpki_ip.proofs.Common.{ap, map, sym, ◌∙◌, ◌∷◌, ◌≡◌, All-head, IsPrefix, widened, All-rest}
-use Rattle.rpki_ip.proofs.CoverLemmas.{widened_made}
+use Rattle.rpki_ip.proofs.RangeCoverLemmas.{widened_made}
 use Rattle.rpki_ip.proofs.cover.V4PrefixesIterator.next.Goals as goal
 
 pub invariant_of-self-2 : goal.invariant_of-self-2

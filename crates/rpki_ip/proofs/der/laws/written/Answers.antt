@@ -1,5 +1,5 @@
 use Rattle.rpki_ip.proofs.Common.{family_written}
-use Rattle.rpki_ip.proofs.DerWritten.{prefix_written, range_written}
+use Rattle.rpki_ip.proofs.PrefixDerWritten.{prefix_written, range_written}
 use Rattle.rpki_ip.proofs.der.laws.written.Goals as goal
 
 pub returns : goal.returns

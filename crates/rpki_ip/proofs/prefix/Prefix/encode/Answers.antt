@@ -1,7 +1,7 @@
 -- The reading finds what is written.
 use Rattle.rpki_ip.proofs.Common.{prefix_der}
-use Rattle.rpki_ip.proofs.DerReadings.{prefix_reading}
-use Rattle.rpki_ip.proofs.DerWritten.{prefix_written}
+use Rattle.rpki_ip.proofs.PrefixDerReadings.{prefix_reading}
+use Rattle.rpki_ip.proofs.PrefixDerWritten.{prefix_written}
 use Rattle.rpki_ip.proofs.prefix.Prefix.encode.Goals as goal
 
 pub returns-clause-read_back : goal.returns-clause-read_back

@@ -1,6 +1,6 @@
 -- The header, and the two prefixes behind it.
 use Rattle.rpki_ip.proofs.Common.{ap, arith, length, ◌+◌, ◌∙◌, ◌≡◌, length-append, header, prefix_der, range_content, without_end_ones, without_end_zeros}
-use Rattle.rpki_ip.proofs.DerWritten.{joined}
+use Rattle.rpki_ip.proofs.PrefixDerWritten.{joined}
 use Rattle.rpki_ip.proofs.range.AddressRange.append.Goals as goal
 
 pub returns-clause-items : goal.returns-clause-items

@@ -1,5 +1,5 @@
 use Rattle.rpki_ip.proofs.Common.{rules, range_bounds}
-use Rattle.rpki_ip.proofs.WholeLemmas.{whole_test}
+use Rattle.rpki_ip.proofs.WholeRangeLemmas.{whole_test}
 use Rattle.rpki_ip.proofs.range.AddressRange.is_whole_v4.Goals as goal
 
 pub returns-then-eq-clause-set : goal.returns-then-eq-clause-set

@@ -1,5 +1,5 @@
 use Rattle.rpki_ip.proofs.Common.{ap, arith, refl, ◌/◌, ◌^◌, ◌∙◌, ◌≡◌, IsWithin, cover_prefixes, whole_cover, IsShortestCover}
-use Rattle.rpki_ip.proofs.CoverLemmas.{range_of}
+use Rattle.rpki_ip.proofs.RangeCoverLemmas.{range_of}
 use Rattle.rpki_ip.proofs.range.AddressRange.to_v4_prefixes.Goals as goal
 
 last : (c : goal.After-new) → c.from-2.result ≡ c.args.self.max / 2 ^ 96

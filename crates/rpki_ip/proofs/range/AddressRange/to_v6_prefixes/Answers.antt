@@ -1,5 +1,5 @@
 use Rattle.rpki_ip.proofs.Common.{◌∙◌, cover_prefixes}
-use Rattle.rpki_ip.proofs.CoverLemmas.{range_of}
+use Rattle.rpki_ip.proofs.RangeCoverLemmas.{range_of}
 use Rattle.rpki_ip.proofs.range.AddressRange.to_v6_prefixes.Goals as goal
 
 pub returns-clause-cover : goal.returns-clause-cover

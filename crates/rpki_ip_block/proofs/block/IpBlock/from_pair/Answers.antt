@@ -1,5 +1,5 @@
 use Rattle.rpki_ip_block.proofs.Common.{Ok, ap, arith, subst, sym, ◌∙◌, ◌≡◌, IsRangeOf, RangeValue, new_ip_block}
-use Rattle.rpki_ip_block.proofs.FormLemmas.{new_prefix, new_range}
+use Rattle.rpki_ip_block.proofs.BlockFormLemmas.{new_prefix, new_range}
 use Rattle.rpki_ip_block.proofs.block.IpBlock.from_pair.Goals as goal
 
 pub returns-in-Ok-clause-value : goal.returns-in-Ok-clause-value

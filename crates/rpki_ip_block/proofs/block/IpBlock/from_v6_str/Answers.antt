@@ -1,5 +1,5 @@
 use Rattle.rpki_ip_block.proofs.Common.{Ipv6}
-use Rattle.rpki_ip_block.proofs.PrintedLemmas.{block_back}
+use Rattle.rpki_ip_block.proofs.PrintedBlockLemmas.{block_back}
 use Rattle.rpki_ip_block.proofs.block.IpBlock.from_v6_str.Goals as goal
 
 pub returns-clause-reads_back : goal.returns-clause-reads_back

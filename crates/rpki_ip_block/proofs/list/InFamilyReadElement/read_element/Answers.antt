@@ -1,4 +1,4 @@
-use Rattle.rpki_ip_block.proofs.ListLemmas.{element_found}
+use Rattle.rpki_ip_block.proofs.BlockListLemmas.{element_found}
 use Rattle.rpki_ip_block.proofs.list.InFamilyReadElement.read_element.Goals as goal
 
 pub returns : goal.returns

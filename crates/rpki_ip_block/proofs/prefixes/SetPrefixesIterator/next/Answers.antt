@@ -1,5 +1,5 @@
 use Rattle.rpki_ip_block.proofs.Common.{arith}
-use Rattle.rpki_ip_block.proofs.CoverLemmas.{block_below, set_step}
+use Rattle.rpki_ip_block.proofs.BlockCoverLemmas.{block_below, set_step}
 use Rattle.rpki_ip_block.proofs.prefixes.SetPrefixesIterator.next.Goals as goal
 
 pub returns-clause-steps : goal.returns-clause-steps

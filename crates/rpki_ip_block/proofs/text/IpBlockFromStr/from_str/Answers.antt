@@ -1,4 +1,4 @@
-use Rattle.rpki_ip_block.proofs.PrintedLemmas.{reads_block}
+use Rattle.rpki_ip_block.proofs.PrintedBlockLemmas.{reads_block}
 use Rattle.rpki_ip_block.proofs.text.IpBlockFromStr.from_str.Goals as goal
 
 pub returns : goal.returns

@@ -1,5 +1,5 @@
-use Rattle.rpki_ipres.proofs.Common.{err_from_is_err_and, whole_untold_list}
-use Rattle.rpki_ipres.proofs.WholeReadings.{whole_cover}
+use Rattle.rpki_ipres.proofs.Common.{err_from_is_err_and, whole_list_without_family}
+use Rattle.rpki_ipres.proofs.WholeSetReadings.{whole_cover}
 use Rattle.rpki_ipres.proofs.SetTextLemmas.{set_answers, set_refused, blocks_of_family, read_as}
 use Rattle.rpki_ipres.proofs.blocks.IpBlocks.from_str.Goals as goal
 
@@ -19,5 +19,5 @@ returns g c = record {
   reads_back = λ family set is printed.
       let read = c.in_ok-blocks.ensures.reads_back family _ (blocks_of_family family set is) printed in
       read_as family _ set _ is read c.in_ok-set.ensures;
-  whole = λ v4. whole_cover _ _ (whole_untold_list _ _ v4 c.in_ok-blocks.ensures.exact.found) c.in_ok-set.ensures;
+  whole = λ v4. whole_cover _ _ (whole_list_without_family _ _ v4 c.in_ok-blocks.ensures.exact.found) c.in_ok-set.ensures;
 }

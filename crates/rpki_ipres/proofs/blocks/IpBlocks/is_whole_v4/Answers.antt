@@ -1,6 +1,6 @@
 use Rattle.std.proofs.lemmas.List.Elements.{All-more}
 use Rattle.rpki_ipres.proofs.Common.{arith, false, refl, subst, sym, true, ◌∙◌, ◌≡◌, HasWholeBounds, ip_bounds}
-use Rattle.rpki_ipres.proofs.WholeLemmas.{whole_block, blocks_whole}
+use Rattle.rpki_ipres.proofs.WholeRunLemmas.{whole_block, blocks_whole}
 use Rattle.rpki_ipres.proofs.blocks.IpBlocks.is_whole_v4.Goals as goal
 
 pub loop-block-preserved : goal.loop-block-preserved

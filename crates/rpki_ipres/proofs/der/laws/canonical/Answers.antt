@@ -1,5 +1,5 @@
 use Rattle.rpki_ipres.proofs.FamilyWritten.{family_as_numbers}
-use Rattle.rpki_ipres.proofs.SetWritten.{written_as_numbers}
+use Rattle.rpki_ipres.proofs.IpSetWritten.{written_as_numbers}
 use Rattle.rpki_ipres.proofs.der.laws.canonical.Goals as goal
 
 pub returns : goal.returns

@@ -1,6 +1,6 @@
 use Rattle.rpki_prefix.proofs.Common.{ArePrefixAndMax, None, Ok, inl, inr, lit<, split_parts, ReadsMaxLen}
 use Rattle.rpki_prefix.proofs.MaxLenLemmas.{reads_max_len}
-use Rattle.rpki_prefix.proofs.TextLemmas.{around_split, passed_on}
+use Rattle.rpki_prefix.proofs.PrefixTextLemmas.{around_split, passed_on}
 use Rattle.rpki_prefix.proofs.max_len.MaxLenPrefixFromStr.from_str.Goals as goal
 
 -- no dash

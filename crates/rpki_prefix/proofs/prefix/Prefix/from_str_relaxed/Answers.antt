@@ -1,6 +1,6 @@
 use Rattle.rpki_prefix.proofs.Common.{Ok, inl, inr, refl, IsRelaxedPrefixText}
 use Rattle.rpki_text.specs.Reading.{Answers}
-use Rattle.rpki_prefix.proofs.TextLemmas.{passed_on, reads_relaxed}
+use Rattle.rpki_prefix.proofs.PrefixTextLemmas.{passed_on, reads_relaxed}
 use Rattle.rpki_prefix.proofs.prefix.Prefix.from_str_relaxed.Goals as goal
 
 pub returns-in_err-addr : goal.returns-in_err-addr

@@ -1,5 +1,5 @@
 use Rattle.rpki_prefix.proofs.Common.{Ok, inl, inr, refl, ReadsPrefix}
-use Rattle.rpki_prefix.proofs.TextLemmas.{passed_on, reads_prefix}
+use Rattle.rpki_prefix.proofs.PrefixTextLemmas.{passed_on, reads_prefix}
 use Rattle.rpki_prefix.proofs.text.PrefixFromStr.from_str.Goals as goal
 
 pub returns-in_err-addr : goal.returns-in_err-addr

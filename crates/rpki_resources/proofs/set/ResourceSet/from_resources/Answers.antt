@@ -1,5 +1,5 @@
 use Rattle.rpki_resources.proofs.Common.{arith}
-use Rattle.rpki_resources.proofs.ClaimLemmas.{inherit, lists, lists_whole}
+use Rattle.rpki_resources.proofs.ListedClaimLemmas.{inherit, lists, lists_whole}
 use Rattle.rpki_resources.proofs.set.ResourceSet.from_resources.Goals as goal
 
 pub from_ip_blocks-requires : goal.from_ip_blocks-requires

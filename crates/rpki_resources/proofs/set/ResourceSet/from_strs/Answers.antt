@@ -1,5 +1,5 @@
 use Rattle.rpki_resources.proofs.Common.{IsIpv6ListText, Asn, Ipv4, Ipv6}
-use Rattle.rpki_resources.proofs.TextLemmas.{all_read, asn_fault, ipv4_fault, ipv6_fault, parts_of, wants_memory}
+use Rattle.rpki_resources.proofs.TripleTextLemmas.{all_read, asn_fault, ipv4_fault, ipv6_fault, parts_of, wants_memory}
 use Rattle.rpki_resources.proofs.set.ResourceSet.from_strs.Goals as goal
 
 pub returns-in-Err-clause-exact : goal.returns-in-Err-clause-exact

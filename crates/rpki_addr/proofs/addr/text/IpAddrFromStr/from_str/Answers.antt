@@ -1,6 +1,6 @@
 -- The address of the family whose text it is, or none.
 use Rattle.rpki_addr.specs.declared.addr.IpAddr.TheVariants.{V4, V6}
-use Rattle.rpki_addr.proofs.AddressReads.{reads_ip_ok}
+use Rattle.rpki_addr.proofs.AddressTextLemmas.{reads_ip_ok}
 use Rattle.rpki_addr.proofs.addr.text.IpAddrFromStr.from_str.Goals as goal
 
 pub returns-in-Ok : goal.returns-in-Ok

@@ -1,6 +1,6 @@
 -- The address that is read, or none.
 use Rattle.rpki_addr.proofs.Common.{Err, Ok, refl, rules, ◌≡◌}
-use Rattle.rpki_addr.proofs.AddressReads.{reads_ipv4}
+use Rattle.rpki_addr.proofs.AddressTextLemmas.{reads_ipv4}
 use Rattle.rpki_addr.specs.declared.addr.AddrParseError.TheVariants.{Ipv4}
 use Rattle.rpki_addr.proofs.addr.text.Ipv4AddrFromStr.from_str.Goals as goal
 

@@ -1,6 +1,6 @@
 -- The address that is read, or none.
 use Rattle.rpki_addr.proofs.Common.{Err, Ok, refl, rules, ◌≡◌}
-use Rattle.rpki_addr.proofs.AddressReads.{reads_ipv6}
+use Rattle.rpki_addr.proofs.AddressTextLemmas.{reads_ipv6}
 use Rattle.rpki_addr.specs.declared.addr.AddrParseError.TheVariants.{Ipv6}
 use Rattle.rpki_addr.proofs.addr.text.Ipv6AddrFromStr.from_str.Goals as goal
 

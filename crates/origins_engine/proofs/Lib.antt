@@ -1,5 +1,0 @@
--- Lemmas on runs.
-pub mod AnswerLemmas
-pub mod CheckLemmas
-pub mod Common
-pub mod LineLemmas

@@ -1,0 +1,11 @@
+-- Lemmas on the lines of routes, and on their answers. Also lemmas on runs.
+pub mod AnswerLemmas
+pub mod CheckLemmas
+pub mod Common
+pub mod FieldLemmas
+pub mod LineLemmas
+pub mod Members
+pub mod OrderLemmas
+pub mod RouteAnswerLemmas
+pub mod RouteLineLemmas
+pub mod WhyLemmas

@@ -1,0 +1,94 @@
+-- An answer is the only one, and the same in whatever order the VRPs stand.
+use Rattle.origins_lines.proofs.Common.{Bool, List, [], ap, arith, false, inl, inr, sym, true, ℕ, ◌∙◌, ◌∷◌, ◌≡◌, Contains-permutation, IsPermutation-map, IsPermutation-sym, IsPermutation, Vrp, as_sent, FamilyPrefix, IsOriginAnswer, IsExplanationIf, IsRouteAnswer, IsExplanation, IsReason, IsExplainedBefore, AreReasonTexts, IsOutcomeOf, asked_asn, route_fault_text, fault_line, Reason, Outcome}
+use Rattle.roa_origin.specs.declared.validation.Validity.TheVariants as Validities
+use Rattle.roa_origin.proofs.SortedSearch.{any_moved}
+use Rattle.roa_origin.proofs.ListMembers.{same_list}
+use Rattle.roa_origin.proofs.ChangedRoutes.{one_validity}
+use Rattle.roa_origin.proofs.ValidityScans.{same_validity}
+use Rattle.origins_lines.specs.declared.outcome.Outcome.TheVariants.{InvalidAs}
+use Rattle.origins_lines.proofs.RouteLineLemmas.{route_decided}
+use Rattle.origins_lines.proofs.WhyLemmas.{not_back}
+
+-- ---- VRPs in another order
+
+outcome_moved : (route : FamilyPrefix) (asn : ℕ) (vrps others : List Vrp) (outcome : Outcome)
+    → IsPermutation vrps others → IsOutcomeOf route asn vrps outcome → IsOutcomeOf route asn others outcome
+outcome_moved route asn vrps others InvalidAs moved (h, free) =
+    search (arith, IsPermutation-sym, any_moved, same_validity)
+outcome_moved route asn vrps others outcome moved h = search (arith, any_moved, same_validity)
+
+explanation_moved : (route : FamilyPrefix) (vrps others explained : List Vrp) → IsPermutation vrps others
+    → IsExplanation route vrps explained → IsExplanation route others explained
+explanation_moved route vrps others explained moved h =
+    let sent = IsPermutation-map as_sent vrps others moved in
+    let back = IsPermutation-sym _ _ sent in
+    record {
+      ordered = h.ordered;
+      members = λ p. grind (arith, h.members p, Contains-permutation _ _ p sent, Contains-permutation _ _ p back);
+    }
+
+explanation_if_moved : (why : Bool) (vrps others : List Vrp) (route : FamilyPrefix) (asn : ℕ) (text : List ℕ)
+    → IsPermutation vrps others → IsExplanationIf why vrps route asn text → IsExplanationIf why others route asn text
+explanation_if_moved false vrps others route asn text moved h = h
+explanation_if_moved true vrps others route asn text moved (explained, is, each) =
+    (explained, explanation_moved route vrps others explained moved is, each)
+
+pub any_order : (why : Bool) (vrps others : List Vrp) (line text : List ℕ) → IsPermutation vrps others
+    → IsOriginAnswer why vrps line text → IsOriginAnswer why others line text
+any_order why vrps others line text moved (inl (route, is, (outcome, is_outcome, behind, texts, whole))) =
+    let asn = asked_asn route.origin in
+    let same = outcome_moved route.prefix asn vrps others outcome moved is_outcome in
+    let explained = explanation_if_moved why vrps others route.prefix asn behind moved texts in
+    inl (route, is, (outcome, same, behind, explained, whole))
+any_order why vrps others line text moved (inr wrong) = inr wrong
+
+-- ---- one answer alone
+
+outcome_one : (route : FamilyPrefix) (asn : ℕ) (xs : List Vrp) (a b : Outcome) → IsOutcomeOf route asn xs a
+    → IsOutcomeOf route asn xs b → a ≡ b
+outcome_one route asn xs a b h k =
+    grind (
+      arith,
+      one_validity route asn xs Validities.Valid Validities.Invalid,
+      one_validity route asn xs Validities.Valid Validities.NotFound,
+      one_validity route asn xs Validities.Invalid Validities.NotFound,
+    )
+
+explained_one : (route : FamilyPrefix) (vrps explained other : List Vrp) → IsExplanation route vrps explained
+    → IsExplanation route vrps other → explained ≡ other
+explained_one route vrps explained other h k =
+    same_list IsExplainedBefore not_back explained other h.ordered k.ordered (λ p. grind (arith, h.members p, k.members p))
+
+-- ---- so one text
+
+reason_one : (route : FamilyPrefix) (asn : ℕ) (p : Vrp) (a b : Reason) → IsReason route asn p a
+    → IsReason route asn p b → a ≡ b
+reason_one route asn p a b h k = grind (arith)
+
+each_one : (route : FamilyPrefix) (asn : ℕ) (explained : List Vrp) (text other : List ℕ)
+    → AreReasonTexts route asn explained text → AreReasonTexts route asn explained other → text ≡ other
+each_one route asn [] text other h k = h ∙ sym k
+each_one route asn (p ∷ explained) text other h k = grind (arith, reason_one, each_one route asn explained)
+
+why_one : (why : Bool) (vrps : List Vrp) (route : FamilyPrefix) (asn : ℕ) (text other : List ℕ)
+    → IsExplanationIf why vrps route asn text → IsExplanationIf why vrps route asn other → text ≡ other
+why_one false vrps route asn text other h k = h ∙ sym k
+why_one true vrps route asn text other (explained, is, each) (others, are, all) =
+    each_one route asn others text other (rw (explained_one route vrps explained others is are) at each) all
+
+route_answer_one : (why : Bool) (vrps : List Vrp) (route : FamilyPrefix) (asn : ℕ) (text other : List ℕ)
+    → IsRouteAnswer why vrps route asn text → IsRouteAnswer why vrps route asn other → text ≡ other
+route_answer_one why vrps route asn text other h h2 = grind (arith, outcome_one, why_one)
+
+pub answer_one : (why : Bool) (vrps : List Vrp) (line text other : List ℕ)
+    → IsOriginAnswer why vrps line text → IsOriginAnswer why vrps line other → text ≡ other
+answer_one why vrps line text other (inl (a, is_a, h)) (inl (b, is_b, k)) =
+    let same = (route_decided line).one a b is_a is_b in
+    route_answer_one why vrps b.prefix (asked_asn b.origin) text other (rw same at h) k
+answer_one why vrps line text other (inl (a, is_a, h)) (inr (f, wrong, k)) =
+    absurd ((route_decided line).apart a f is_a wrong)
+answer_one why vrps line text other (inr (f, wrong, h)) (inl (b, is_b, k)) =
+    absurd ((route_decided line).apart b f is_b wrong)
+answer_one why vrps line text other (inr (f, wrong, h)) (inr (g, other_wrong, k)) =
+    let same = (route_decided line).same f g wrong other_wrong in
+    h ∙ ap (λ fault. fault_line (route_fault_text fault)) same ∙ sym k

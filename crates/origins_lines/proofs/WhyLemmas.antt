@@ -1,0 +1,200 @@
+-- The VRPs that cover a route, explained one after another.
+use Rattle.origins_lines.proofs.Common.{List, None, Option, Some, [], append_assoc, arith, get_or, inl, inr, length, map, refl, reverse, sym, ℕ, ◌++◌, ◌+◌, ◌↔◌, ◌∷◌, ◌≡◌, ◌≢◌, ◌≤◌, ◌⊎◌, append-nil, length-append, map-append, AllPairs, Contains, IsNonDecreasingBy, AreThose, CoversRoute, IsLawfulVrp, Vrp, prefix_len, as_sent, FamilyPrefix, IsFamilyPrefix, IsExplanation, IsReason, IsExplainedBefore, AreReasonTexts, IsNextReasonText, reason_and_vrp_text, Reason}
+use Rattle.std.proofs.lemmas.Bool.{cases_lt}
+use Rattle.std.proofs.lemmas.Grind.{reverse_onto}
+use Rattle.std.proofs.lemmas.List.{get_or-append-add, reverse-append}
+use Rattle.std.proofs.lemmas.List.Elements.{Contains-append_left, Contains-append_right, Contains-get_or, Contains-push, Contains-push_cases}
+use Rattle.std.proofs.lemmas.List.Quantifiers.{all_pairs_push}
+use Rattle.roa_origin.specs.Places.{table_place}
+use Rattle.roa_origin.proofs.NestedRoutes.{covers_between}
+use Rattle.roa_origin.proofs.OrderNumbers.{by_ranks, covers_place, no_earlier, rank_asn, rank_longest, rank_small, same_prefix, upper}
+use Rattle.roa_origin.proofs.ListMembers.{here, map_from, map_has, those_are, those_have}
+use Rattle.origins_lines.proofs.Members.{from_reverse, to_reverse}
+
+-- ---- the order in which they are explained
+
+-- a VRP that is explained before another isn't explained after it
+pub not_back : (p q : Vrp) → IsExplainedBefore p q → IsExplainedBefore q p → ⊥
+not_back p q h k = grind (arith)
+
+-- of two VRPs that cover a route, the one that a table has later is explained before the other, or is the same as it is
+-- sent
+module _ (route : FamilyPrefix) (is : IsFamilyPrefix route) (y x : Vrp) (of_y : IsLawfulVrp y)
+    (of_x : IsLawfulVrp x) (covers_y : CoversRoute route y) (covers_x : CoversRoute route x)
+    (places : table_place x ≤ table_place y) where
+  -- of one prefix
+  by_prefix : x.0.prefix ≡ y.0.prefix → IsExplainedBefore y x ⊎ (as_sent y ≡ as_sent x)
+  by_prefix same = grind (arith, by_ranks, cases_lt, rank_asn, rank_longest)
+
+  pub explained_or_same : prefix_len x ≤ prefix_len y → IsExplainedBefore y x ⊎ (as_sent y ≡ as_sent x)
+  explained_or_same lens =
+      grind (arith, by_prefix, cases_lt, covers_between, covers_place, no_earlier, rank_small, same_prefix, upper)
+
+-- ---- two that stand together in a list whose other end is the least
+
+pub adjacent : (f : Vrp → ℕ) (all done front rest : List Vrp) (y x : Vrp)
+    → IsNonDecreasingBy f (reverse all) → all ≡ done ++ x ∷ rest → done ≡ front ++ y ∷ [] → f x ≤ f y
+adjacent f all done front rest y x ordered cut ends =
+    let turned = x ∷ y ∷ reverse front in
+    let back : reverse all ≡ reverse rest ++ turned = grind (arith, append_assoc, reverse-append, reverse_onto) in
+    let place = length (reverse rest) in
+    let long = length-append (reverse rest) turned in
+    let le = (rw back at ordered) (place + 0) (place + 1) y (omega arith) (omega (arith, long)) in
+    rw (get_or-append-add (reverse rest) turned 0 y, get_or-append-add (reverse rest) turned 1 y) at le
+
+-- ---- one more behind those of a list
+
+-- the members are those before, and it
+over_pushed : (xs ys : List Vrp) (x p : Vrp) → (Contains xs p → Contains (ys ++ x ∷ []) p)
+    → Contains (xs ++ x ∷ []) p → Contains (ys ++ x ∷ []) p
+over_pushed xs ys x p over h = elim (Contains-push_cases xs x p h) [
+  | inl there ↦ over there
+  | inr e ↦ rw (← e) (Contains-push ys x)
+]
+
+-- behind two lists with the same members
+same_pushed : (xs ys : List Vrp) (x p : Vrp) → (Contains xs p ↔ Contains ys p)
+    → (Contains (xs ++ x ∷ []) p ↔ Contains (ys ++ x ∷ []) p)
+same_pushed xs ys x p same = (
+  over_pushed xs ys x p (λ h. Contains-append_left ys (x ∷ []) p (same.0 h)),
+  over_pushed ys xs x p (λ h. Contains-append_left xs (x ∷ []) p (same.1 h)),
+)
+
+-- or behind one of them that has it already
+again_pushed : (xs ys : List Vrp) (x p : Vrp) → ((q : Vrp) → Contains xs q ↔ Contains ys q) → Contains ys x
+    → (Contains xs p ↔ Contains (ys ++ x ∷ []) p)
+again_pushed xs ys x p same there = (
+  λ h. Contains-append_left ys (x ∷ []) p ((same p).0 h),
+  λ h. elim (Contains-push_cases ys x p h) [
+    | inl had ↦ (same p).1 had
+    | inr e ↦ rw (← e) ((same x).1 there)
+  ],
+)
+
+-- ---- what is explained so far
+
+-- the last VRP of those that are done
+abbrev IsLastOf : Option Vrp → List Vrp → Type 0
+IsLastOf None done = done ≡ []
+IsLastOf (Some y) done = ((front : List Vrp) × (done ≡ front ++ y ∷ [])) × IsLawfulVrp y
+
+-- each explained VRP is explained before it, or is the same as it is sent
+abbrev IsUpTo : Option Vrp → List Vrp → Type 0
+IsUpTo None explained = explained ≡ []
+IsUpTo (Some y) explained = (q : Vrp) → Contains explained q → IsExplainedBefore q y ⊎ (q ≡ as_sent y)
+
+pub record IsExplainedSo (route : FamilyPrefix) (asn : ℕ) (done : List Vrp) (last : Option Vrp) (text : List ℕ)
+    : Type 0 where
+  pub explained : List Vrp
+  pub ordered : AllPairs IsExplainedBefore explained
+  pub members : (p : Vrp) → Contains explained p ↔ Contains (map as_sent done) p
+  pub texts : AreReasonTexts route asn explained text
+  pub up_to : IsUpTo last explained
+  pub at_end : IsLastOf last done
+
+-- so it is explained before the next VRP, if the last one is
+before : (last : Option Vrp) (explained : List Vrp) (x : Vrp) → IsUpTo last explained
+    → ((y : Vrp) → last ≡ Some y → IsExplainedBefore y x) → (q : Vrp) → Contains explained q → IsExplainedBefore q x
+before last explained x up_to next q h = grind (arith)
+
+pub explained_none : (route : FamilyPrefix) (asn : ℕ) → IsExplainedSo route asn [] None []
+explained_none route asn = grind (arith)
+
+-- the text of one more
+reason_texts_push : (route : FamilyPrefix) (asn : ℕ) (explained : List Vrp) (text : List ℕ) (p : Vrp) (reason : Reason)
+    → IsReason route asn p reason → AreReasonTexts route asn explained text
+    → AreReasonTexts route asn (explained ++ p ∷ []) (text ++ reason_and_vrp_text reason p)
+reason_texts_push route asn [] text p reason is e = grind (arith, append-nil)
+reason_texts_push route asn (q ∷ explained) text p reason is (r, of_q, more, e, rest) =
+    grind (arith, append_assoc, reason_texts_push route asn explained more p reason is rest)
+
+module _ (route : FamilyPrefix) (asn : ℕ) (done : List Vrp) (x : Vrp) (lawful : IsLawfulVrp x) where
+  more_sent : map as_sent (done ++ x ∷ []) ≡ map as_sent done ++ as_sent x ∷ []
+  more_sent = map-append as_sent done (x ∷ [])
+
+  -- a VRP that is the same, as it is sent, as the last one isn't explained again
+  pub explained_same : (y : Vrp) (text : List ℕ) → as_sent y ≡ as_sent x → IsExplainedSo route asn done (Some y) text
+      → IsExplainedSo route asn (done ++ x ∷ []) (Some x) text
+  explained_same y text same had = record {
+    explained = had.explained;
+    ordered = had.ordered;
+    members = λ p. rw more_sent (again_pushed had.explained (map as_sent done) (as_sent x) p had.members was);
+    texts = had.texts;
+    up_to = λ q h. grind (arith, had.up_to q h);
+    at_end = ((done, refl), lawful);
+  }
+    where
+      was : Contains (map as_sent done) (as_sent x)
+      was = rw (← same) (map_has as_sent done y (rw had.at_end.0.1 (Contains-push had.at_end.0.0 y)))
+
+  -- a VRP as it is sent has the same against it
+  reason_sent : (reason : Reason) → IsReason route asn x reason → IsReason route asn (as_sent x) reason
+  reason_sent reason h = grind (arith)
+
+  -- and any other is
+  pub explained_more : (last : Option Vrp) (text : List ℕ) (reason : Reason) → IsReason route asn x reason
+      → ((y : Vrp) → last ≡ Some y → IsExplainedBefore y x) → IsExplainedSo route asn done last text
+      → IsExplainedSo route asn (done ++ x ∷ []) (Some x) (text ++ reason_and_vrp_text reason x)
+  explained_more last text reason is next had =
+      let earlier = before last had.explained x had.up_to next in
+      record {
+        explained = had.explained ++ as_sent x ∷ [];
+        ordered = all_pairs_push IsExplainedBefore had.explained (as_sent x) had.ordered
+            (λ k d small. earlier (get_or had.explained k d) (Contains-get_or had.explained k d small));
+        members = λ p. rw more_sent (same_pushed had.explained (map as_sent done) (as_sent x) p (had.members p));
+        texts = reason_texts_push route asn had.explained text (as_sent x) reason (reason_sent reason is) had.texts;
+        up_to = λ q h. elim (Contains-push_cases had.explained (as_sent x) q h) [
+          | inl there ↦ inl (earlier q there)
+          | inr e ↦ inr (sym e)
+        ];
+        at_end = ((done, refl), lawful);
+      }
+
+-- of a table those that cover a route, as they are sent, are all that were given
+module _ (route : FamilyPrefix) (table all : List Vrp) (those : AreThose (CoversRoute route) table (reverse all))
+    (p : Vrp) where
+  sent_on : Contains (map as_sent all) p → CoversRoute route p × Contains (map as_sent table) p
+  sent_on h =
+      let (x, inside, e) = map_from as_sent all p h in
+      let both = those_are (CoversRoute route) table (reverse all) x those (to_reverse all x inside) in
+      grind (arith, both, map_has as_sent table x)
+
+  sent_back : CoversRoute route p → Contains (map as_sent table) p → Contains (map as_sent all) p
+  sent_back covers h =
+      let (x, inside, e) = map_from as_sent table p h in
+      let there = those_have (CoversRoute route) table (reverse all) x those inside in
+      grind (arith, there, from_reverse all x, map_has as_sent all x)
+
+-- when all are done, the list explains the route
+pub all_explained : (route : FamilyPrefix) (asn : ℕ) (table all : List Vrp) (last : Option Vrp) (text : List ℕ)
+    → AreThose (CoversRoute route) table (reverse all) → (had : IsExplainedSo route asn all last text)
+    → IsExplanation route table had.explained
+all_explained route asn table all last text those had = record {
+  ordered = had.ordered;
+  members = λ p. grind (arith, had.members p, sent_on route table all those p, sent_back route table all those p);
+}
+
+-- the next VRP of those that cover a route
+module _ (route : FamilyPrefix) (is : IsFamilyPrefix route) (asn : ℕ) (table all done rest : List Vrp) (x : Vrp)
+    (lawful : IsLawfulVrp x) (those : AreThose (CoversRoute route) table (reverse all))
+    (lens : IsNonDecreasingBy prefix_len (reverse all)) (places : IsNonDecreasingBy table_place (reverse all))
+    (cut : all ≡ done ++ x ∷ rest) where
+  covers : (y : Vrp) → Contains (done ++ x ∷ rest) y → CoversRoute route y
+  covers y h = (those_are (CoversRoute route) table (reverse all) y those (to_reverse all y (rw cut h))).0
+
+  -- after another it isn't explained before it
+  behind : (y : Vrp) → IsLastOf (Some y) done → as_sent y ≢ as_sent x → IsExplainedBefore y x
+  behind y ((front, ends), of_y) other =
+      let covers_x = covers x (Contains-append_right done (x ∷ rest) x (here x rest)) in
+      let covers_y = covers y (Contains-append_left done (x ∷ rest) y (rw ends (Contains-push front y))) in
+      let far = adjacent table_place all done front rest y x places cut ends in
+      let long = adjacent prefix_len all done front rest y x lens cut ends in
+      grind (arith, explained_or_same route is y x of_y lawful covers_y covers_x far long)
+
+  pub explained_next : (last : Option Vrp) (why more : List ℕ) → IsExplainedSo route asn done last why
+      → IsNextReasonText route asn last x more → IsExplainedSo route asn (done ++ x ∷ []) (Some x) (why ++ more)
+  explained_next None why more had k = grind (arith, explained_more)
+  explained_next (Some y) why more had (inl (again, e)) = grind (arith, append-nil, explained_same)
+  explained_next (Some y) why more had (inr (other, (reason, against, e))) =
+      let next = behind y had.at_end other in
+      rw e (explained_more route asn done x lawful (Some y) why reason against (λ z f. grind (arith, next)) had)

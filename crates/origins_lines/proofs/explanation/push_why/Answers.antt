@@ -1,0 +1,42 @@
+-- The VRPs that cover the route are those that were given, and then those that are left.
+use Rattle.origins_lines.proofs.Common.{List, [], ap, append_assoc, subst, sym, ◌++◌, ◌∙◌, ◌∷◌, ◌≡◌, append-nil, string_bytes, Vrp}
+use Rattle.origins_lines.proofs.Members.{walked}
+use Rattle.origins_lines.proofs.WhyLemmas.{IsExplainedSo, all_explained, explained_next, explained_none}
+use Rattle.origins_lines.proofs.explanation.push_why.Goals as goal
+
+pub loop-vrp-init : goal.loop-vrp-init
+loop-vrp-init g c = ([], explained_none c.args.route c.args.asn, sym (append-nil (string_bytes c.args.text.now)))
+
+pub loop-vrp-preserved : goal.loop-vrp-preserved
+loop-vrp-preserved g c =
+    let all : List Vrp = c.covering-vrp-items.result in
+    let covering = c.covering-vrp-items.ensures in
+    let done : List Vrp = c.loop-vrp.yielded in
+    let x : Vrp = c.in-Some.vrp in
+    let rest : List Vrp = c.next.new.self in
+    let had = c.loop-vrp.invariant in
+    let next = c.in_ok-push_next.ensures in
+    let given = walked _ done c.loop-vrp.vrp-iterator c.loop-vrp.yielded_by in
+    let cut : all ≡ done ++ x ∷ rest =
+    sym c.into_iter-vrp-iterator.ensures.into_iter_gives ∙ given
+    ∙ ap (λ left. done ++ left) c.in-Some.ensures.steps in (
+      had.0 ++ next.0,
+      explained_next c.args.route c.recall_invariant.ensures c.args.asn c.args.table.now all done rest x
+          (record { prefix = c.recall_invariant-in-loop-vrp.ensures; number = c.recall_invariant-in-loop-vrp-2.ensures })
+          covering.covering covering.longest_first covering.order cut c.loop-vrp.last had.0 next.0 had.1 next.1,
+      next.2 ∙ ap (λ t. t ++ next.0) had.2 ∙ append_assoc _ had.0 next.0,
+    )
+
+pub returns : goal.returns
+returns g c =
+    let all : List Vrp = c.covering-vrp-items.result in
+    let done : List Vrp = c.loop-vrp.yielded in
+    let had = c.loop-vrp.invariant in
+    let given = walked _ done c.loop-vrp.vrp-iterator c.loop-vrp.yielded_by in
+    let whole : done ≡ all =
+    sym (ap (λ left. done ++ left) c.in-None.ensures.steps.0 ∙ append-nil done) ∙ sym given
+    ∙ c.into_iter-vrp-iterator.ensures.into_iter_gives in
+    let explained = subst (λ ys. IsExplainedSo c.args.route c.args.asn ys c.loop-vrp.last had.0) whole had.1 in
+    let those = c.covering-vrp-items.ensures.covering in
+    let explains = all_explained c.args.route c.args.asn c.args.table.now all c.loop-vrp.last had.0 those explained in
+    (had.0, (explained.explained, explains, explained.texts), had.2)

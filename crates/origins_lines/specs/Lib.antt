@@ -1,0 +1,11 @@
+-- Definitions: the lines of routes, and their answers by VRPs. Also the rest of a reader, the result for a file, the
+-- bytes that runs leave in a writer by the octets of their inputs, and the lines that a check looks for in these bytes.
+pub mod Answers
+pub mod Checks
+pub mod Explanations
+pub mod FileResult
+pub mod Outcomes
+pub mod Readers
+pub mod Routes
+pub mod Runs
+pub mod Words

@@ -1,0 +1,160 @@
+-- The route of a line: a prefix and an AS number, or a line of `bgpdump -m`, which prints the tables of route
+-- collectors (RFC 6396, 4.3; RFC 8050, 4).
+use Rattle.std.specs.Prelude.{◌≡◌, ◌≢◌, ◌⊎◌, ◌==◌, ◌-◌, ◌++◌, ℕ, Bool, List, [], Option, Some, None, codes, length, slice_get, slice_index}
+use Rattle.std.specs.List.{after_first, after_last, before_first, position_or_len, slice_split}
+use Rattle.std.specs.Str.{IsUtf8, trim}
+use Rattle.rpki_text.specs.Cuts.{is_space}
+use Rattle.origins_lines.specs.Words.{is_comma_byte}
+use Rattle.rpki_base.specs.AsnText.{IsAsnText}
+use Rattle.rpki_prefix.specs.PrefixText.{IsPrefixText, HasPrefixTextFault, prefix_fault_text}
+use Rattle.rpki_prefix.specs.Values.{FamilyPrefix}
+use Rattle.origins_lines.specs.declared.fault.RouteFault.{RouteFault}
+use Rattle.origins_lines.specs.declared.fault.RouteFault.TheVariants.{NotUtf8, TooFewFields, CommaForSpace, Prefix, Asn}
+use Rattle.origins_lines.specs.declared.route.Route.{Route}
+
+-- a text is the prefix of a route, and Origin holds of its origin
+pub record IsRouteBy (Origin : Option ℕ → Type 0) (prefix_text : List ℕ) (route : Route) : Type 0 where
+  pub prefix : IsPrefixText prefix_text route.prefix
+  pub origin : Origin route.origin
+
+-- the first fault of both: the text is not a prefix, or it is one and the origin is wrong
+abbrev pub HasFaultBy : Type 0 → List ℕ → RouteFault → Type 0
+HasFaultBy NoOrigin prefix_text NotUtf8 = ⊥
+HasFaultBy NoOrigin prefix_text TooFewFields = ⊥
+HasFaultBy NoOrigin prefix_text CommaForSpace = ⊥
+HasFaultBy NoOrigin prefix_text (Prefix f) = HasPrefixTextFault prefix_text f
+HasFaultBy NoOrigin prefix_text (Asn f) = ((p : FamilyPrefix) × IsPrefixText prefix_text p) × NoOrigin
+
+-- the text is not an AS number
+abbrev pub IsNoAsnText : List ℕ → Type 0
+IsNoAsnText text = (n : ℕ) → ¬ IsAsnText text n
+
+-- ---- a prefix and an AS number
+
+-- the text of a line up to its first space, and the text after that, without white space round them
+abbrev pub prefix_word : List ℕ → List ℕ
+prefix_word line = trim (before_first is_space line)
+
+abbrev pub origin_word : List ℕ → List ℕ
+origin_word line = trim (after_first is_space line)
+
+-- the text is the AS number of the origin
+abbrev pub IsAsnOrigin : List ℕ → Option ℕ → Type 0
+IsAsnOrigin text None = ⊥
+IsAsnOrigin text (Some n) = IsAsnText text n
+
+abbrev pub AreRouteWords : List ℕ → Route → Type 0
+AreRouteWords line = IsRouteBy (IsAsnOrigin (origin_word line)) (prefix_word line)
+
+-- the text of a line up to its first comma, and the text after that, without white space round them
+abbrev pub prefix_part : List ℕ → List ℕ
+prefix_part line = trim (before_first is_comma_byte line)
+
+abbrev pub origin_part : List ℕ → List ℕ
+origin_part line = trim (after_first is_comma_byte line)
+
+-- the line has no space, and would give a route with a space in place of its first comma
+pub record HasCommaForSpace (line : List ℕ) : Type 0 where
+  pub no_space : position_or_len is_space line ≡ length line
+  pub route : Route
+  pub writes : IsRouteBy (IsAsnOrigin (origin_part line)) (prefix_part line) route
+
+-- that comma, or else the first fault of both words
+abbrev pub HaveWordsFault : List ℕ → RouteFault → Type 0
+HaveWordsFault line fault =
+    (HasCommaForSpace line × (fault ≡ CommaForSpace))
+    ⊎ ((¬ HasCommaForSpace line) × HasFaultBy (IsNoAsnText (origin_word line)) (prefix_word line) fault)
+
+-- ---- a line of a dump
+
+-- `b'|'`, which separates two fields
+abbrev pub is_bar : ℕ → Bool
+is_bar byte = byte == 124
+
+abbrev pub fields_of : List ℕ → List (List ℕ)
+fields_of line = slice_split is_bar line
+
+-- the field of a line at an index
+abbrev pub IsFieldAt : ℕ → List ℕ → List ℕ → Type 0
+IsFieldAt n line text = slice_get (fields_of line) n ≡ Some text
+
+abbrev pub IsNoFieldAt : ℕ → List ℕ → Type 0
+IsNoFieldAt n line = slice_get (fields_of line) n ≡ None
+
+-- the index of the path in a dump's line; the first field says whether an identifier precedes it
+abbrev pub IsPathPlace : List ℕ → ℕ → Type 0
+IsPathPlace line n =
+    (IsFieldAt 0 line (codes "TABLE_DUMP2") × (n ≡ 6))
+    ⊎ (IsFieldAt 0 line (codes "TABLE_DUMP2_AP") × (n ≡ 7))
+
+-- the sixth field, and the one of the path
+pub record AreDumpTexts (n : ℕ) (line prefix path : List ℕ) : Type 0 where
+  pub prefix_is : IsFieldAt 5 line prefix
+  pub path_is : IsFieldAt n line path
+
+-- the last word of a path
+abbrev pub last_word : List ℕ → List ℕ
+last_word path = after_last is_space (trim path)
+
+-- a set of AS numbers: the word begins with `{` and ends with `}`
+pub record IsSetWord (word : List ℕ) : Type 0 where
+  pub begins : slice_index word 0 ≡ 123
+  pub ends : slice_index word (length word - 1) ≡ 125
+
+-- The word ends a segment of a confederation (RFC 5065, 3): with `)` a sequence, with `]` a set. The segment may have
+-- spaces, so the bracket that opens it need not be in the word.
+abbrev pub IsConfedWord : List ℕ → Type 0
+IsConfedWord word = (slice_index word (length word - 1) ≡ 41) ⊎ (slice_index word (length word - 1) ≡ 93)
+
+-- The last word of a path that gives no origin (RFC 6811, 2). A path that ends in a set has none. The origin of an
+-- empty path, and of one that ends in a segment of a confederation, is the speaker's own AS, which the line doesn't
+-- have.
+abbrev pub HasNoOrigin : List ℕ → Type 0
+HasNoOrigin word = (word ≡ []) ⊎ IsSetWord word ⊎ IsConfedWord word
+
+-- the origin that the last word of a path gives: of any other path this word
+abbrev pub IsWordOrigin : List ℕ → Option ℕ → Type 0
+IsWordOrigin word None = HasNoOrigin word
+IsWordOrigin word (Some n) = (¬ HasNoOrigin word) × IsAsnText word n
+
+abbrev pub HasWordFault : List ℕ → Type 0
+HasWordFault word = (¬ HasNoOrigin word) × IsNoAsnText word
+
+-- the route of a dump's line whose path has the index n
+abbrev pub IsDumpRoute : ℕ → List ℕ → Route → Type 0
+IsDumpRoute n line route = (prefix : List ℕ) × (path : List ℕ) × AreDumpTexts n line prefix path × IsRouteBy (IsWordOrigin (last_word path)) prefix route
+
+-- a field is missing, or both have a fault
+abbrev pub HasDumpFault : ℕ → List ℕ → RouteFault → Type 0
+HasDumpFault n line fault =
+    ((IsNoFieldAt 5 line ⊎ IsNoFieldAt n line) × (fault ≡ TooFewFields))
+    ⊎ ((prefix : List ℕ) × (path : List ℕ) × AreDumpTexts n line prefix path × HasFaultBy (HasWordFault (last_word path)) prefix fault)
+
+-- ---- any line
+
+-- the line is not from a dump
+abbrev pub IsNoDump : List ℕ → Type 0
+IsNoDump line = (n : ℕ) → ¬ IsPathPlace line n
+
+-- the route of a line without white space round it
+abbrev pub IsLineOf : List ℕ → Route → Type 0
+IsLineOf line route = (IsNoDump line × AreRouteWords line route) ⊎ ((n : ℕ) × IsPathPlace line n × IsDumpRoute n line route)
+
+abbrev pub HasLineFault : List ℕ → RouteFault → Type 0
+HasLineFault line fault = (IsNoDump line × HaveWordsFault line fault) ⊎ ((n : ℕ) × IsPathPlace line n × HasDumpFault n line fault)
+
+-- the route of a line
+abbrev pub IsRouteLine : List ℕ → Route → Type 0
+IsRouteLine line route = IsUtf8 line × IsLineOf (trim line) route
+
+-- this is the first fault of a line
+abbrev pub HasRouteFault : List ℕ → RouteFault → Type 0
+HasRouteFault line fault = ((¬ IsUtf8 line) × (fault ≡ NotUtf8)) ⊎ (IsUtf8 line × HasLineFault (trim line) fault)
+
+-- the text printed for it
+abbrev pub route_fault_text : RouteFault → List ℕ
+route_fault_text NotUtf8 = codes "not UTF-8"
+route_fault_text TooFewFields = codes "too few fields"
+route_fault_text CommaForSpace = codes "a comma where a space is expected"
+route_fault_text (Prefix f) = codes "invalid prefix: " ++ prefix_fault_text f
+route_fault_text (Asn f) = codes "invalid AS number"

@@ -1,0 +1,57 @@
+-- The bytes that runs leave in a writer, by the octets of VRP files.
+use Rattle.std.specs.Prelude.{◌++◌, ◌∷◌, ℕ, Bool, true, List, [], Option, None, Some, codes, if◌then◌else◌, ◌==◌}
+use Rattle.std.specs.List.{flat_map}
+use Rattle.lines_engine.specs.Run.{HasWritten, as_line}
+use Rattle.roa_vrps.specs.Files.{IsVrpFile}
+use Rattle.roa_origin.specs.Vrps.{Vrp}
+use Rattle.roa_origin.specs.Tables.{IsTableOf, IsWithout}
+use Rattle.rpki_base.specs.AsnText.{asn_text}
+use Rattle.rpki_prefix.specs.MaxLen.{max_len_text}
+
+-- the text has VRPs of which P holds
+pub record ByFile (P : List Vrp → Type 0) (text : List ℕ) : Type 0 where
+  pub listed : List Vrp
+  pub file_is : IsVrpFile text listed
+  pub holds : P listed
+
+-- a VRP as it is printed: its prefix with its maximum length, a space, and its AS
+abbrev pub vrp_text : Vrp → List ℕ
+vrp_text vrp = max_len_text vrp.0 ++ 32 ∷ asn_text vrp.1
+
+-- whether a VRP has the requested AS, or no AS is requested
+abbrev pub is_of : Option ℕ → Vrp → Bool
+is_of None vrp = true
+is_of (Some asn) vrp = vrp.1 == asn
+
+-- a line for each VRP of the AS, after a word
+abbrev pub vrp_line : Option ℕ → List ℕ → Vrp → List ℕ
+vrp_line of word vrp = if is_of of vrp then as_line (word ++ vrp_text vrp) else []
+
+abbrev pub vrp_lines : Option ℕ → List ℕ → List Vrp → List ℕ
+vrp_lines of word vrps = flat_map (vrp_line of word) vrps
+
+-- of the lines for the VRPs of the table, all but `unwritten`, at their end, was written, and nothing else
+abbrev pub WritesTable : Option ℕ → Option (List ℕ) → Option (List ℕ) → List ℕ → List Vrp → Type 0
+WritesTable of old new unwritten listed =
+    (table : List Vrp) × IsTableOf listed table × HasWritten old new (vrp_lines of [] table) unwritten
+
+-- a line for each withdrawn VRP, and then for each announced one
+abbrev pub change_lines : List Vrp → List Vrp → List ℕ
+change_lines withdrawn announced =
+    vrp_lines None (codes "withdraw ") withdrawn ++ vrp_lines None (codes "announce ") announced
+
+-- of the lines for the VRPs that only the old table has, and then for those that only the new table has, all but
+-- `unwritten` was written, and nothing else
+pub record WritesBetween (old new : Option (List ℕ)) (unwritten : List ℕ) (old_table new_table : List Vrp)
+    : Type 0 where
+  pub withdrawn : List Vrp
+  pub announced : List Vrp
+  pub withdrawn_are : IsWithout old_table new_table withdrawn
+  pub announced_are : IsWithout new_table old_table announced
+  pub wrote : HasWritten old new (change_lines withdrawn announced) unwritten
+
+-- the same for the tables of two lists
+abbrev pub WritesChanges : Option (List ℕ) → Option (List ℕ) → List ℕ → List Vrp → List Vrp → Type 0
+WritesChanges old new unwritten before after =
+    (old_table : List Vrp) × (new_table : List Vrp) × IsTableOf before old_table × IsTableOf after new_table
+    × WritesBetween old new unwritten old_table new_table

@@ -1,0 +1,69 @@
+//! The answer to the line of a route.
+ghost use Rattle.std.specs.Prelude.{◌≡◌, [], OnOk};
+ghost use Rattle.std.specs.String.{string_bytes};
+ghost use Rattle.origins_lines.specs.Answers.{IsRouteAnswer};
+
+use crate::explanation::push_why;
+use crate::outcome::{asked_asn, outcome_of};
+use crate::route::{Route, read_route};
+use lines_engine::answers::Answers;
+use roa_origin::OriginTable;
+use rpki_base::Asn;
+use rpki_prefix::Prefix;
+use std::alloc::{AllocError, Allocator, Global};
+
+/// Answers lines of routes by a table of VRPs.
+///
+/// The answer is `valid`, `invalid-length`, `invalid-as` or `not-found` ([`Outcome`](crate::Outcome)). For a faulty
+/// line, which includes a blank one, it is `error: ` and the fault.
+#[derive(Drop)]
+pub struct Routes<'a, B: Allocator = Global> {
+    /// The VRPs.
+    pub table: &'a OriginTable<B>,
+    /// Whether the answer lists, after the word, each VRP that covers the route. It gives `match:`, `length:` or `as:`,
+    /// then the prefix, a dash and the maximum length, always, and after another colon the AS. Each VRP is listed once.
+    /// The longest prefix comes first, then the least AS number, then the longest maximum length.
+    pub why: bool,
+}
+
+impl<B: Allocator> Answers for Routes<'_, B> {
+    ghost use Rattle.origins_lines.specs.Answers.{IsOriginAnswer};
+
+    ghost is_answer = { λ routes line text. IsOriginAnswer routes.why routes.table.now line text };
+
+    fn answer<A: Allocator + Copy>(
+        &self,
+        _alloc: A,
+        line: &[u8],
+        text: &mut String<A>,
+    ) -> Result<(), AllocError> {
+        text.clear();
+        match read_route(line) {
+            Ok(route) => {
+                let Route { prefix, origin } = route;
+                write_answer(text, self.table, self.why, prefix, asked_asn(origin))
+            }
+            Err(fault) => write!(text, "error: {fault}"),
+        }
+    }
+}
+
+/// Writes the outcome for the route to a prefix that an AS originates. If `why` is set, also writes its explanation.
+/// The text is empty before the call.
+fn write_answer<A: Allocator, B: Allocator>(
+    text: &mut String<A>,
+    table: &OriginTable<B>,
+    why: bool,
+    route: Prefix,
+    asn: Asn,
+) -> Result<(), AllocError>
+    requires { string_bytes text.old ≡ [] }
+    ensures { OnOk result (IsRouteAnswer why table.now route asn (string_bytes text.new)) }
+{
+    let outcome = outcome_of(table, route, asn);
+    write!(text, "{outcome}")?;
+    if !why {
+        return Ok(());
+    }
+    push_why(text, table, route, asn)
+}

@@ -1,0 +1,60 @@
+//! A sink that records what a check looks for.
+ghost use Rattle.std.specs.Prelude.{◌≡◌, ◌↔◌, [], IfSome, IsTrue, Some};
+
+use crate::check::Seen;
+use lines_engine::device::{DeviceFault, Sink};
+
+/// A sink, with the state of a check of the bytes that it took.
+#[derive(Debug, Drop)]
+pub struct Watched<W> {
+    sink: W,
+    seen: Seen,
+}
+
+impl<W: Sink> Watched<W> {
+    ghost use Rattle.origins_lines.specs.Checks.{HasFound};
+
+    /// Wraps a sink that is at the start of a line.
+    pub fn new(sink: W) -> Watched<W>
+        ensures written { W.written sink ≡ Some [] → ⟦<Watched<W> as Sink>⟧.written result ≡ Some [] }
+        ensures mark { ⟦<Watched<W> as Sink>⟧.mark result ≡ W.mark sink }
+        ensures flushed { ⟦<Watched<W> as Sink>⟧.flushed result ≡ W.flushed sink }
+    {
+        Watched {
+            sink,
+            seen: Seen::nothing(),
+        }
+    }
+
+    /// Returns whether one of the written lines begins with `i` or `e`, as `invalid-as`, `invalid-length` and `error:
+    /// ..` do.
+    #[tactic(auto, using(crate::proofs::CheckLemmas::known_found))]
+    pub fn has_found(&self) -> bool
+        ensures { IfSome (⟦<Watched<W> as Sink>⟧.written self.now) (λ octets. IsTrue result ↔ HasFound octets) }
+    {
+        self.seen.has_found
+    }
+}
+
+impl<W: Sink> Sink for Watched<W> {
+    ghost use Rattle.origins_lines.specs.Checks.{known_seen};
+
+    /// The bytes of the sink, if `seen` is what was seen of them. Else they are unknown.
+    ghost written = { λ watched. known_seen watched.seen (W.written watched.sink) };
+
+    ghost mark = { λ watched. W.mark watched.sink };
+
+    ghost flushed = { λ watched. W.flushed watched.sink };
+
+    #[tactic(auto, using(crate::proofs::CheckLemmas::known_more, crate::proofs::CheckLemmas::known_kept))]
+    fn write(&mut self, piece: &[u8]) -> Result<usize, DeviceFault> {
+        let count = self.sink.write(piece)?;
+        self.seen = self.seen.with_all(&piece[..count]);
+        Ok(count)
+    }
+
+    #[tactic(auto, using(crate::proofs::CheckLemmas::known_kept))]
+    fn flush(&mut self) -> Result<(), DeviceFault> {
+        self.sink.flush()
+    }
+}

@@ -1,0 +1,128 @@
+//! Explains the outcome for a route by the VRPs that cover it.
+ghost use Rattle.std.specs.Prelude.{◌≡◌, ◌↔◌, ◌++◌, ℕ, List, IsTrue, OnOk};
+ghost use Rattle.std.specs.String.{string_bytes};
+ghost use Rattle.roa_origin.specs.Tables.{as_sent};
+ghost use Rattle.origins_lines.specs.Explanations.{IsReason, IsSentAgain, IsNextReasonText, IsExplanationText, reason_and_vrp_text};
+ghost use Rattle.origins_lines.specs.declared.explanation.Reason.{Reason};
+
+use crate::outcome::has_as;
+use roa_origin::{OriginTable, Vrp};
+use rpki_base::Asn;
+use rpki_prefix::Prefix;
+use std::alloc::{AllocError, Allocator};
+use std::fmt;
+
+/// The relation of a VRP that covers a route to the route (RFC 6811, 2).
+#[derive(Clone, Copy, Debug, PartialEq, Eq)]
+pub enum Reason {
+    /// The VRP matches the route.
+    Match,
+    /// The VRP has the AS of the route, and the route's prefix is longer than its maximum length.
+    Length,
+    /// The VRP has another AS, or AS0. The route's length is not considered.
+    As,
+}
+
+impl fmt::Display for Reason {
+    ghost use Rattle.std.specs.Prelude.{Some};
+    ghost use Rattle.origins_lines.specs.Explanations.{reason_text};
+
+    ghost output = { λ reason. Some (reason_text reason) };
+
+    fn fmt<W: fmt::Write>(&self, f: &mut fmt::Formatter<W>) -> fmt::Result {
+        f.write_str(match self {
+            Reason::Match => "match",
+            Reason::Length => "length",
+            Reason::As => "as",
+        })
+    }
+}
+
+/// Returns the relation of a VRP that covers a route to the route.
+fn reason_for(route: Prefix, asn: Asn, vrp: &Vrp) -> Reason
+    ensures { IsReason route asn vrp.now result }
+{
+    if !has_as(vrp, asn) {
+        return Reason::As;
+    }
+    if route.len() <= vrp.0.resolved_max_len() {
+        Reason::Match
+    } else {
+        Reason::Length
+    }
+}
+
+/// Appends to a text each VRP that covers the route to a prefix, once, with its relation to the route.
+pub(crate) fn push_why<A: Allocator, B: Allocator>(
+    text: &mut String<A>,
+    table: &OriginTable<B>,
+    route: Prefix,
+    asn: Asn,
+) -> Result<(), AllocError>
+    ensures { OnOk result ((why : List ℕ) × IsExplanationText route asn table.now why
+        × (string_bytes text.new ≡ string_bytes text.old ++ why)) }
+{
+    route.recall_invariant();
+    let mut last = None;
+    for vrp in table.covering(route) {
+        vrp.0.recall_invariant();
+        vrp.1.recall_invariant();
+        push_next(text, route, asn, &last, &vrp)?;
+        last = Some(vrp);
+    }
+    Ok(())
+}
+
+/// Appends to a text a VRP that covers a route, with its relation to the route. Appends nothing if the VRP is the same,
+/// as it is sent, as the one before it.
+fn push_next<A: Allocator>(
+    text: &mut String<A>,
+    route: Prefix,
+    asn: Asn,
+    last: &Option<Vrp>,
+    vrp: &Vrp,
+) -> Result<(), AllocError>
+    ensures { OnOk result ((more : List ℕ) × IsNextReasonText route asn last.now vrp.now more
+        × (string_bytes text.new ≡ string_bytes text.old ++ more)) }
+{
+    if is_sent_again(last, vrp) {
+        return Ok(());
+    }
+    push_vrp(text, route, asn, vrp)
+}
+
+/// Whether a VRP is the same, as it is sent, as the one before it.
+fn is_sent_again(last: &Option<Vrp>, vrp: &Vrp) -> bool
+    ensures { IsTrue result ↔ IsSentAgain last.now vrp.now }
+{
+    match last {
+        Some(before) => is_same(before, vrp),
+        None => false,
+    }
+}
+
+/// Whether two VRPs are the same, as they are sent.
+fn is_same(one: &Vrp, other: &Vrp) -> bool
+    ensures { IsTrue result ↔ (as_sent one.now ≡ as_sent other.now) }
+{
+    one.1 == other.1
+        && one.0.prefix() == other.0.prefix()
+        && one.0.resolved_max_len() == other.0.resolved_max_len()
+}
+
+/// Appends to a text a VRP that covers a route, with its relation to the route.
+fn push_vrp<A: Allocator>(
+    text: &mut String<A>,
+    route: Prefix,
+    asn: Asn,
+    vrp: &Vrp,
+) -> Result<(), AllocError>
+    ensures { OnOk result ((reason : Reason) × IsReason route asn vrp.now reason
+        × (string_bytes text.new ≡ string_bytes text.old ++ reason_and_vrp_text reason vrp.now)) }
+{
+    let reason = reason_for(route, asn, vrp);
+    let prefix = vrp.0.prefix();
+    let len = vrp.0.resolved_max_len();
+    let holder = vrp.1;
+    write!(text, " {reason}:{prefix}-{len}:{holder}")
+}

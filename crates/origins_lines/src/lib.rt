@@ -1,0 +1,29 @@
+//! The answers and the runs of the program `origins`.
+//!
+//! The crate validates routes by VRPs (RFC 6811, 2), lists the VRPs of a file, and compares the VRPs of two files. It
+//! reads a VRP file whole, and answers routes as it reads them.
+//!
+//! [`Routes`] answers a line. Pass it to the engine of lines to answer all lines of an input.
+#![tactic(auto)]
+
+pub mod answers;
+pub mod check;
+pub mod check_sink;
+pub mod error;
+pub mod explanation;
+pub mod fault;
+pub mod file;
+pub mod laws;
+pub mod lines;
+pub mod outcome;
+pub mod retrying;
+pub mod route;
+pub mod routes;
+pub mod tables;
+pub mod until_end;
+
+pub use answers::Routes;
+pub use explanation::Reason;
+pub use fault::RouteFault;
+pub use outcome::{Outcome, asked_asn, outcome_of};
+pub use route::{Route, read_route};

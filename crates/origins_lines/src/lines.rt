@@ -1,0 +1,151 @@
+//! Writes VRPs, one per line.
+ghost use Rattle.std.specs.Prelude.{◌≡◌, List, ℕ, [], true, false, OnOk, OnErr, IsErrOf};
+ghost use Rattle.lines_engine.specs.Run.{HasWritten};
+ghost use Rattle.origins_lines.specs.Runs.{change_lines, is_of, vrp_line, vrp_lines};
+
+use lines_engine::device::{DeviceFault, Sink};
+use lines_engine::engine::write_all;
+use lines_engine::error::RunError;
+use roa_origin::{Vrp, VrpTable};
+use rpki_base::Asn;
+use std::alloc::Allocator;
+
+/// Writes a line for each VRP of `withdrawn`, and then for each of `announced`. A line has the word `withdraw` or
+/// `announce`, a space, the prefix with its maximum length, a space, and the AS.
+///
+/// # Preconditions
+///
+/// No call of `writer` has failed, and no write has taken nothing.
+///
+/// # Errors
+///
+/// After an error a beginning of the lines was written.
+///
+/// - [`RunError::Write`]: a write failed, or took nothing.
+/// - [`RunError::Memory`]: an allocation failed.
+pub fn write_both<A: Allocator + Copy, W: Sink>(
+    alloc: A,
+    withdrawn: &VrpTable<A>,
+    announced: &VrpTable<A>,
+    writer: &mut W,
+) -> Result<(), RunError>
+    requires clear { W.mark writer.old ≡ false }
+    ensures unmarked { OnOk result (W.mark writer.new ≡ W.mark writer.old) }
+    ensures written { OnOk result (HasWritten (W.written writer.old) (W.written writer.new)
+        (change_lines withdrawn.now announced.now) []) }
+    ensures write { IsErrOf result RunError.Write → W.mark writer.new ≡ true }
+    ensures memory { IsErrOf result RunError.Memory → W.mark writer.new ≡ W.mark writer.old }
+    ensures not_read { IsErrOf result RunError.Read → ⊥ }
+    ensures some_written { OnErr result ((unwritten : List ℕ)
+        × HasWritten (W.written writer.old) (W.written writer.new)
+        (change_lines withdrawn.now announced.now) unwritten) }
+{
+    write_vrps(alloc, None, "withdraw ", withdrawn, writer)?;
+    write_vrps(alloc, None, "announce ", announced, writer)
+}
+
+/// Writes a line for each VRP of `table`, in their order: `word`, the prefix with its maximum length, a space, and the
+/// AS.
+///
+/// - `alloc`: the allocator of the lines.
+/// - `of`: the AS whose VRPs alone are written; None for all.
+///
+/// # Preconditions
+///
+/// No call of `writer` has failed, and no write has taken nothing.
+///
+/// # Errors
+///
+/// After an error a beginning of the lines was written.
+///
+/// - [`RunError::Write`]: a write failed, or took nothing.
+/// - [`RunError::Memory`]: an allocation failed.
+pub fn write_vrps<A: Allocator + Copy, W: Sink>(
+    alloc: A,
+    of: Option<Asn>,
+    word: &str,
+    table: &VrpTable<A>,
+    writer: &mut W,
+) -> Result<(), RunError>
+    requires clear { W.mark writer.old ≡ false }
+
+    // Ok: no call failed, and all lines were written.
+    ensures unmarked { OnOk result (W.mark writer.new ≡ W.mark writer.old) }
+    ensures written { OnOk result (HasWritten (W.written writer.old) (W.written writer.new)
+        (vrp_lines of word.now table.now) []) }
+
+    // Write: a write failed, or took nothing. Memory: an allocation failed. Either way a beginning of the lines was
+    // written.
+    ensures write { IsErrOf result RunError.Write → W.mark writer.new ≡ true }
+    ensures memory { IsErrOf result RunError.Memory → W.mark writer.new ≡ W.mark writer.old }
+    ensures not_read { IsErrOf result RunError.Read → ⊥ }
+    ensures some_written { OnErr result ((unwritten : List ℕ) × HasWritten (W.written writer.old) (W.written writer.new)
+        (vrp_lines of word.now table.now) unwritten) }
+{
+    write_each(alloc, of, word, table.as_slice(), writer)
+}
+
+/// Writes a line for each VRP of a list.
+fn write_each<A: Allocator + Copy, W: Sink>(
+    alloc: A,
+    of: Option<Asn>,
+    word: &str,
+    vrps: &[Vrp],
+    writer: &mut W,
+) -> Result<(), RunError>
+    requires clear { W.mark writer.old ≡ false }
+    ensures unmarked { OnOk result (W.mark writer.new ≡ W.mark writer.old) }
+    ensures written { OnOk result (HasWritten (W.written writer.old) (W.written writer.new)
+        (vrp_lines of word.now vrps.now) []) }
+    ensures write { IsErrOf result RunError.Write → W.mark writer.new ≡ true }
+    ensures memory { IsErrOf result RunError.Memory → W.mark writer.new ≡ W.mark writer.old }
+    ensures not_read { IsErrOf result RunError.Read → ⊥ }
+    ensures some_written { OnErr result ((unwritten : List ℕ)
+        × HasWritten (W.written writer.old) (W.written writer.new) (vrp_lines of word.now vrps.now) unwritten) }
+{
+    let mut rest = vrps;
+    while let Some((vrp, behind)) = rest.split_first() {
+        write_vrp(alloc, &of, word, vrp, writer)?;
+        rest = behind;
+    }
+    Ok(())
+}
+
+/// Makes the whole line of a VRP, if it has one, and then writes it.
+fn write_vrp<A: Allocator + Copy, W: Sink>(
+    alloc: A,
+    of: &Option<Asn>,
+    word: &str,
+    vrp: &Vrp,
+    writer: &mut W,
+) -> Result<(), RunError>
+    requires clear { W.mark writer.old ≡ false }
+    ensures unmarked { OnOk result (W.mark writer.new ≡ W.mark writer.old) }
+    ensures written { OnOk result (HasWritten (W.written writer.old) (W.written writer.new)
+        (vrp_line of.now word.now vrp.now) []) }
+    ensures write { IsErrOf result RunError.Write → W.mark writer.new ≡ true }
+    ensures memory { IsErrOf result RunError.Memory → W.mark writer.new ≡ W.mark writer.old }
+    ensures not_read { IsErrOf result RunError.Read → ⊥ }
+    ensures some_written { OnErr result ((unwritten : List ℕ) × HasWritten (W.written writer.old) (W.written writer.new)
+        (vrp_line of.now word.now vrp.now) unwritten) }
+{
+    if !is_wanted(of, vrp) {
+        return Ok(());
+    }
+    let (prefix, asn) = vrp;
+    let line = format!(in alloc; "{word}{prefix} {asn}\n")?;
+    match write_all(writer, line.as_bytes()) {
+        Ok(()) => Ok(()),
+        Err(DeviceFault) => Err(RunError::Write),
+    }
+}
+
+/// Whether a VRP has the requested AS, or no AS is requested.
+fn is_wanted(of: &Option<Asn>, vrp: &Vrp) -> bool
+    ensures { result ≡ is_of of.now vrp.now }
+{
+    match of {
+        Some(asn) => vrp.1 == *asn,
+        None => true,
+    }
+}

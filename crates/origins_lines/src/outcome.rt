@@ -1,0 +1,70 @@
+//! The outcome for a route: one word.
+ghost use Rattle.std.specs.Prelude.{◌≡◌, ◌↔◌, IsTrue};
+ghost use Rattle.roa_origin.specs.Vrps.{HasAs};
+ghost use Rattle.origins_lines.specs.Outcomes.{IsOutcomeOf, asked_asn};
+
+use roa_origin::{OriginTable, Validity, Vrp};
+use rpki_base::Asn;
+use rpki_prefix::Prefix;
+use std::alloc::Allocator;
+use std::fmt;
+
+/// The validity of a route (RFC 6811, 2). For an invalid route it says whether a VRP that covers it has its AS.
+#[derive(Clone, Copy, Debug, PartialEq, Eq)]
+pub enum Outcome {
+    /// A VRP matches the route.
+    Valid,
+    /// No VRP matches the route, but one that covers it has its AS.
+    InvalidLength,
+    /// Some VRPs cover the route, and none of them has its AS.
+    InvalidAs,
+    /// No VRP covers the route.
+    NotFound,
+}
+
+impl fmt::Display for Outcome {
+    ghost use Rattle.std.specs.Prelude.{Some};
+    ghost use Rattle.origins_lines.specs.Outcomes.{outcome_text};
+
+    ghost output = { λ outcome. Some (outcome_text outcome) };
+
+    fn fmt<W: fmt::Write>(&self, f: &mut fmt::Formatter<W>) -> fmt::Result {
+        f.write_str(match self {
+            Outcome::Valid => "valid",
+            Outcome::InvalidLength => "invalid-length",
+            Outcome::InvalidAs => "invalid-as",
+            Outcome::NotFound => "not-found",
+        })
+    }
+}
+
+/// Returns the AS number to look up for `origin`. It is AS0, which no VRP matches, if the origin is unknown.
+pub fn asked_asn(origin: Option<Asn>) -> Asn
+    ensures { result ≡ asked_asn origin }
+{
+    origin.unwrap_or(Asn::MIN)
+}
+
+/// Returns the outcome by the VRPs of `table` for the route to the prefix `route` with the origin `asn`.
+pub fn outcome_of<B: Allocator>(table: &OriginTable<B>, route: Prefix, asn: Asn) -> Outcome
+    ensures { IsOutcomeOf route asn table.now result }
+{
+    match table.origin(route, asn) {
+        Validity::Valid => Outcome::Valid,
+        Validity::NotFound => Outcome::NotFound,
+        Validity::Invalid => {
+            if table.has_covering_asn(route, asn) {
+                Outcome::InvalidLength
+            } else {
+                Outcome::InvalidAs
+            }
+        }
+    }
+}
+
+/// Whether a VRP has the AS number `asn`, which isn't AS0.
+pub(crate) fn has_as(vrp: &Vrp, asn: Asn) -> bool
+    ensures { IsTrue result ↔ HasAs asn vrp.now }
+{
+    asn != Asn::MIN && vrp.1 == asn
+}

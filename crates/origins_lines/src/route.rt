@@ -1,0 +1,267 @@
+//! The route in a line.
+ghost use Rattle.std.specs.Prelude.{◌≡◌, ◌↔◌, ◌∷◌, [], ◌<◌, IsTrue, MatchBool, MatchOption, MatchResult, length};
+ghost use Rattle.std.specs.List.{after_first, after_last, before_first, position_or_len};
+ghost use Rattle.rpki_text.specs.Cuts.{is_space};
+ghost use Rattle.origins_lines.specs.Words.{is_comma_byte};
+ghost use Rattle.rpki_text.specs.Reading.{Answers};
+ghost use Rattle.origins_lines.specs.Routes.{AreRouteWords, HasDumpFault, HasCommaForSpace, HasFaultBy, HasLineFault, HasRouteFault, HasWordFault, HaveWordsFault, IsAsnOrigin, IsConfedWord, IsDumpRoute, IsFieldAt, IsLineOf, IsNoAsnText, IsNoDump, IsNoFieldAt, IsPathPlace, IsRouteLine, IsRouteBy, IsSetWord, IsWordOrigin, HasNoOrigin, fields_of, origin_part, origin_word, prefix_part, prefix_word};
+
+use crate::fault::RouteFault;
+use rpki_base::Asn;
+use rpki_base::asn::ParseAsnError;
+use rpki_prefix::Prefix;
+use std::str::FromStr;
+
+/// The index of the prefix among the fields of a dump's line.
+const PREFIX_PLACE: usize = 5;
+
+/// A route that a line gives.
+///
+/// Its prefix is checked, and its origin may be unknown. `pigyelund_routes::route::Route` is a struct for C.
+#[derive(Clone, Copy, Debug, PartialEq, Eq)]
+pub struct Route {
+    /// The announced prefix.
+    pub prefix: Prefix,
+    /// The AS that originates the route, or None if its path gives no single AS.
+    pub origin: Option<Asn>,
+}
+
+/// Reads the route of a line, which has one of two forms.
+///
+/// - A prefix, a space and an AS number. White space may precede or follow each.
+/// - A line of `bgpdump -m`, whose fields are cut at each `|`. If the first field is `TABLE_DUMP2`, the sixth is the
+///   prefix and the seventh the path. If it is `TABLE_DUMP2_AP`, the eighth is the path, which follows its identifier.
+///
+/// The last word of a path is the origin. The origin is unknown for three kinds of paths (RFC 6811, 2):
+///
+/// - an empty path;
+/// - a path that ends in a set of AS numbers, such as `{64496,64497}`;
+/// - a path that ends in a segment of a confederation. The last word of such a segment ends in `)` or `]`, as in
+///   `(64512 64513)` and `[64512,64513]`.
+///
+/// # Errors
+///
+/// The first [`RouteFault`] of the line.
+#[tactic(auto, using(crate::proofs::RouteLineLemmas::route_answers))]
+pub fn read_route(line: &[u8]) -> Result<Route, RouteFault>
+    ensures { Answers (IsRouteLine line.now) (HasRouteFault line.now) result }
+{
+    read_route_matched(line)
+}
+
+/// Returns the route of a line, or its fault.
+#[tactic(auto, using(crate::proofs::RouteLineLemmas::text_found))]
+fn read_route_matched(line: &[u8]) -> Result<Route, RouteFault>
+    ensures { MatchResult result (IsRouteLine line.now) (HasRouteFault line.now) }
+{
+    let Ok(text) = str::from_utf8(line) else {
+        return Err(RouteFault::NotUtf8);
+    };
+    read_text(text.trim())
+}
+
+/// Returns the route of a text without white space round it, or its fault.
+fn read_text(text: &str) -> Result<Route, RouteFault>
+    ensures { MatchResult result (IsLineOf text.now) (HasLineFault text.now) }
+{
+    match path_place(text) {
+        Some(place) => read_dump(text, place),
+        None => read_words(text),
+    }
+}
+
+/// Returns the index of the path among the fields of a line, if the line is from a dump.
+fn path_place(line: &str) -> Option<usize>
+    ensures { MatchOption result (IsNoDump line.now) (IsPathPlace line.now) }
+{
+    match field_at(line, 0)? {
+        "TABLE_DUMP2" => Some(6),
+        "TABLE_DUMP2_AP" => Some(7),
+        _ => None,
+    }
+}
+
+/// Returns the field of a line at index `place`, if there is one.
+#[tactic(auto, using(crate::proofs::FieldLemmas::field_first, crate::proofs::FieldLemmas::field_next, crate::proofs::FieldLemmas::field_none))]
+fn field_at(line: &str, place: usize) -> Option<&str>
+    ensures { MatchOption result (IsNoFieldAt place line.now) (λ field. IsFieldAt place line.now field.now) }
+{
+    let mut rest = line;
+    let mut left = place;
+    while left > 0 {
+        let (_, behind) = split_at_bar(rest)?;
+        rest = behind;
+        left -= 1;
+    }
+    match split_at_bar(rest) {
+        Some((field, _)) => Some(field),
+        None => Some(rest),
+    }
+}
+
+/// Returns the text before the first bar and the text after it, if there is a bar.
+#[tactic(auto, using(crate::proofs::FieldLemmas::cut_some, crate::proofs::FieldLemmas::cut_none))]
+fn split_at_bar(text: &str) -> Option<(&str, &str)>
+    ensures { MatchOption result (fields_of text.now ≡ text.now ∷ [])
+        (λ cut. fields_of text.now ≡ cut.0.now ∷ fields_of cut.1.now) }
+{
+    text.split_once('|')
+}
+
+/// Returns the route of a prefix and an AS number with a space between them.
+#[tactic(auto, using(crate::proofs::RouteLineLemmas::words_found))]
+fn read_words(text: &str) -> Result<Route, RouteFault>
+    ensures { MatchResult result (AreRouteWords text.now) (HaveWordsFault text.now) }
+{
+    let (prefix, origin) = words_of(text);
+    match read_pair(prefix, origin) {
+        Ok(route) => Ok(route),
+        Err(fault) => if has_comma_for_space(text) {
+            Err(RouteFault::CommaForSpace)
+        } else {
+            Err(fault)
+        },
+    }
+}
+
+/// Whether a line has no space, and is a route with a space in place of its first comma.
+#[tactic(auto, using(crate::proofs::RouteLineLemmas::comma_route, crate::proofs::RouteLineLemmas::no_comma_route))]
+fn has_comma_for_space(line: &str) -> bool
+    ensures { IsTrue result ↔ HasCommaForSpace line.now }
+{
+    if has_space(line) {
+        return false;
+    }
+    let (prefix, origin) = parts_of(line);
+    read_pair(prefix, origin).is_ok()
+}
+
+/// Whether a text has a space.
+fn has_space(text: &str) -> bool
+    ensures { MatchBool result (position_or_len is_space text.now < length text.now)
+        (position_or_len is_space text.now ≡ length text.now) }
+{
+    text.split_once(' ').is_some()
+}
+
+/// Returns the text before the first comma of a line and the text after it, without white space round them. The second
+/// is empty if there is no comma.
+fn parts_of(line: &str) -> (&str, &str)
+    ensures prefix { result.0.now ≡ prefix_part line.now }
+    ensures origin { result.1.now ≡ origin_part line.now }
+{
+    let (prefix, origin) = cut_at_comma(line);
+    (prefix.trim(), origin.trim())
+}
+
+/// Returns the text before the first comma and the text after it, which is empty if there is no comma.
+fn cut_at_comma(text: &str) -> (&str, &str)
+    ensures before { result.0.now ≡ before_first is_comma_byte text.now }
+    ensures behind { result.1.now ≡ after_first is_comma_byte text.now }
+{
+    match text.split_once(',') {
+        Some((before, behind)) => (before, behind),
+        None => (text, ""),
+    }
+}
+
+/// Returns the route of a prefix and an AS number.
+fn read_pair(prefix: &str, origin: &str) -> Result<Route, RouteFault>
+    ensures { MatchResult result (IsRouteBy (IsAsnOrigin origin.now) prefix.now)
+        (HasFaultBy (IsNoAsnText origin.now) prefix.now) }
+{
+    let prefix = Prefix::from_str(prefix)?;
+    let origin = Asn::from_str(origin)?;
+    Ok(Route {
+        prefix,
+        origin: Some(origin),
+    })
+}
+
+/// Returns the text before the first space of a line and the text after it, without white space round them. The second
+/// is empty if there is no space.
+fn words_of(line: &str) -> (&str, &str)
+    ensures prefix { result.0.now ≡ prefix_word line.now }
+    ensures origin { result.1.now ≡ origin_word line.now }
+{
+    let (prefix, origin) = cut_at_space(line);
+    (prefix.trim(), origin.trim())
+}
+
+/// Returns the text before the first space and the text after it, which is empty if there is no space.
+fn cut_at_space(text: &str) -> (&str, &str)
+    ensures before { result.0.now ≡ before_first is_space text.now }
+    ensures behind { result.1.now ≡ after_first is_space text.now }
+{
+    match text.split_once(' ') {
+        Some((before, behind)) => (before, behind),
+        None => (text, ""),
+    }
+}
+
+/// Returns the route of a dump's line whose path has the index `path_place`.
+fn read_dump(line: &str, path_place: usize) -> Result<Route, RouteFault>
+    ensures { MatchResult result (IsDumpRoute path_place line.now)
+        (HasDumpFault path_place line.now) }
+{
+    let Some(prefix) = field_at(line, PREFIX_PLACE) else {
+        return Err(RouteFault::TooFewFields);
+    };
+    let Some(path) = field_at(line, path_place) else {
+        return Err(RouteFault::TooFewFields);
+    };
+    read_fields(prefix, last_word(path.trim()))
+}
+
+/// Returns the route of a prefix and the last word of a path.
+fn read_fields(prefix: &str, word: &str) -> Result<Route, RouteFault>
+    ensures { MatchResult result (IsRouteBy (IsWordOrigin word.now) prefix.now)
+        (HasFaultBy (HasWordFault word.now) prefix.now) }
+{
+    let prefix = Prefix::from_str(prefix)?;
+    let origin = read_origin(word)?;
+    Ok(Route { prefix, origin })
+}
+
+/// Returns the origin that the last word of a path gives, or `None` if it is unknown.
+fn read_origin(word: &str) -> Result<Option<Asn>, ParseAsnError>
+    ensures { MatchResult result (IsWordOrigin word.now) (λ _. HasWordFault word.now) }
+{
+    if has_no_origin(word) {
+        return Ok(None);
+    }
+    let origin = Asn::from_str(word)?;
+    Ok(Some(origin))
+}
+
+/// Whether the last word of a path gives no origin: it is empty, or ends a set of AS numbers or a segment of a
+/// confederation.
+fn has_no_origin(word: &str) -> bool
+    ensures { IsTrue result ↔ HasNoOrigin word.now }
+{
+    word.is_empty() || is_set(word) || ends_confed(word)
+}
+
+/// Returns the text after the last space, or the whole text if there is no space.
+fn last_word(text: &str) -> &str
+    ensures { result.now ≡ after_last is_space text.now }
+{
+    match text.rsplit_once(' ') {
+        Some((_, word)) => word,
+        None => text,
+    }
+}
+
+/// Whether a word is a set of AS numbers.
+fn is_set(word: &str) -> bool
+    ensures { IsTrue result ↔ IsSetWord word.now }
+{
+    word.starts_with('{') && word.ends_with('}')
+}
+
+/// Whether a word ends a segment of a confederation.
+fn ends_confed(word: &str) -> bool
+    ensures { IsTrue result ↔ IsConfedWord word.now }
+{
+    word.ends_with(')') || word.ends_with(']')
+}

@@ -1,0 +1,276 @@
+//! Lists the VRPs of a file, and compares the VRPs of two files.
+ghost use Rattle.std.specs.Prelude.{◌≡◌, ◌⊎◌, ℕ, List, [], false, true, IfOk, IfSome, OnOk, IsErrOf, length};
+ghost use Rattle.std.specs.Io.KnownBytes.{IsAtEnd};
+ghost use Rattle.lines_engine.specs.declared.error.RunError.TheVariants as RunError;
+ghost use Rattle.origins_lines.specs.Runs.{ByFile, WritesBetween, WritesChanges, WritesTable};
+ghost use Rattle.origins_lines.specs.declared.error.ChangesError.TheVariants as ChangesError;
+ghost use Rattle.origins_lines.specs.declared.error.OriginsError.TheVariants as OriginsError;
+ghost use Rattle.origins_lines.specs.declared.error.ReadVrpsError.TheVariants as ReadVrpsError;
+ghost use Rattle.roa_vrps.specs.Files.{HasFileFault};
+
+use crate::error::{ChangesError, OriginsError, ReadVrpsError};
+use crate::file::read_file;
+use crate::lines::{write_both, write_vrps};
+use lines_engine::device::{Sink, Source};
+use lines_engine::engine::flush_all;
+use lines_engine::error::RunError;
+use roa_origin::{Vrp, VrpTable};
+use roa_vrps::FileFault;
+use rpki_base::Asn;
+use std::alloc::Allocator;
+
+/// Reads a file of VRPs whole, then writes a line for each VRP, sorted and each once.
+///
+/// - `alloc`: the allocator of the table.
+/// - `vrps`: the file of VRPs.
+/// - `of`: the AS whose VRPs alone are written; None for all.
+/// - `writer`: the output. The call flushes it at the end.
+///
+/// Returns how many VRPs the file has. No failed call of a device is repeated.
+///
+/// # Preconditions
+///
+/// No call of `vrps` or `writer` has failed, and no write has taken nothing.
+///
+/// # Errors
+///
+/// - [`OriginsError::Vrps`]: the file could not be read, is wrong, or needs more memory. Nothing was written.
+/// - [`OriginsError::Run`] with [`RunError::Write`]: a write or the flush failed, or a write took nothing. A beginning
+///   of the lines was written.
+/// - [`OriginsError::Run`] with [`RunError::Memory`]: an allocation failed. Nothing was written, or a beginning of the
+///   lines.
+pub fn write_table<A: Allocator + Copy, P: Source, W: Sink>(
+    alloc: A,
+    vrps: &mut P,
+    of: Option<Asn>,
+    writer: &mut W,
+) -> Result<usize, OriginsError>
+    // No call of a device has failed.
+    requires vrps_clear { P.mark vrps.old ≡ false }
+    requires writer_clear { W.mark writer.old ≡ false }
+
+    // Ok: no call failed, the file was read to its end, the table of its VRPs was written, and the writer is flushed.
+    ensures unmarked { OnOk result ((P.mark vrps.new ≡ P.mark vrps.old)
+        × (W.mark writer.new ≡ W.mark writer.old)) }
+    ensures read_whole { OnOk result (IsAtEnd (P.left vrps.new)) }
+    ensures written { IfOk result (λ count. IfSome (P.left vrps.old) (ByFile (λ listed. (count ≡ length listed)
+        × WritesTable of (W.written writer.old) (W.written writer.new) [] listed))) }
+    ensures flushed { OnOk result (W.flushed writer.new ≡ true) }
+
+    // Vrps: the VRPs could not be read, and nothing was written.
+    ensures untouched { (error : ReadVrpsError) → IsErrOf result (OriginsError.Vrps error) →
+        writer.new ≡ writer.old }
+
+    // Read: a read failed. File: the file is invalid, and was read whole. Memory: an allocation failed, and no read
+    // did.
+    ensures read { IsErrOf result (OriginsError.Vrps ReadVrpsError.Read) → P.mark vrps.new ≡ true }
+    ensures wrong { (fault : FileFault) → IsErrOf result (OriginsError.Vrps (ReadVrpsError.File fault)) →
+        IfSome (P.left vrps.old) (λ text. HasFileFault text fault) }
+    ensures wrong_unmarked { (fault : FileFault) → IsErrOf result (OriginsError.Vrps (ReadVrpsError.File fault)) →
+        (P.mark vrps.new ≡ P.mark vrps.old) × IsAtEnd (P.left vrps.new) }
+    ensures vrps_memory { IsErrOf result (OriginsError.Vrps ReadVrpsError.Memory) →
+        P.mark vrps.new ≡ P.mark vrps.old }
+
+    // Run: the run failed after the VRPs were read whole.
+    ensures vrps_read { (error : RunError) → IsErrOf result (OriginsError.Run error) →
+        (P.mark vrps.new ≡ P.mark vrps.old) × IsAtEnd (P.left vrps.new) }
+
+    // Memory: no call failed. Nothing was written, or a beginning of the table.
+    ensures memory_unmarked { IsErrOf result (OriginsError.Run RunError.Memory) →
+        W.mark writer.new ≡ W.mark writer.old }
+    ensures some_if_memory { IsErrOf result (OriginsError.Run RunError.Memory) →
+        IfSome (P.left vrps.old) (ByFile (λ listed.
+        (writer.new ≡ writer.old)
+        ⊎ ((unwritten : List ℕ) × WritesTable of (W.written writer.old) (W.written writer.new) unwritten listed))) }
+
+    // Write: a write or the flush failed, or a write took nothing, and a beginning of the table was written.
+    ensures write { IsErrOf result (OriginsError.Run RunError.Write) → W.mark writer.new ≡ true }
+    ensures some_written { IsErrOf result (OriginsError.Run RunError.Write) →
+        IfSome (P.left vrps.old) (ByFile (λ listed.
+        (unwritten : List ℕ) × WritesTable of (W.written writer.old) (W.written writer.new) unwritten listed)) }
+    ensures not_read { IsErrOf result (OriginsError.Run RunError.Read) → ⊥ }
+{
+    let listed = match read_file(alloc, vrps) {
+        Ok(listed) => listed,
+        Err(error) => return Err(OriginsError::Vrps(error)),
+    };
+    match write_listed(alloc, listed.as_slice(), of, writer) {
+        Ok(()) => Ok(listed.len()),
+        Err(error) => Err(OriginsError::Run(error)),
+    }
+}
+
+/// Writes the table of VRPs.
+fn write_listed<A: Allocator + Copy, W: Sink>(
+    alloc: A,
+    listed: &[Vrp],
+    of: Option<Asn>,
+    writer: &mut W,
+) -> Result<(), RunError>
+    requires clear { W.mark writer.old ≡ false }
+    ensures unmarked { OnOk result (W.mark writer.new ≡ W.mark writer.old) }
+    ensures written { OnOk result (WritesTable of (W.written writer.old) (W.written writer.new) [] listed.now) }
+    ensures flushed { OnOk result (W.flushed writer.new ≡ true) }
+    ensures memory_unmarked { IsErrOf result RunError.Memory → W.mark writer.new ≡ W.mark writer.old }
+    ensures some_if_memory { IsErrOf result RunError.Memory → (writer.new ≡ writer.old)
+        ⊎ ((unwritten : List ℕ) × WritesTable of (W.written writer.old) (W.written writer.new) unwritten listed.now) }
+    ensures write { IsErrOf result RunError.Write → W.mark writer.new ≡ true }
+    ensures some_written { IsErrOf result RunError.Write → (unwritten : List ℕ)
+        × WritesTable of (W.written writer.old) (W.written writer.new) unwritten listed.now }
+    ensures not_read { IsErrOf result RunError.Read → ⊥ }
+{
+    let table = VrpTable::new(alloc, listed)?;
+    write_vrps(alloc, of, "", &table, writer)?;
+    flush_all(writer)
+}
+
+/// Reads two files of VRPs whole, then writes the changes from the old VRPs to the new ones.
+///
+/// It writes a line `withdraw ..` for each VRP that only the old file has. Then it writes a line `announce ..` for each
+/// VRP that only the new file has. Both groups are sorted.
+///
+/// - `alloc`: the allocator of the tables.
+/// - `old`, `new`: the files of VRPs. The old one is read first.
+/// - `writer`: the output. The call flushes it at the end.
+///
+/// Returns how many VRPs each file has. No failed call of a device is repeated.
+///
+/// # Preconditions
+///
+/// No call of `old`, `new` or `writer` has failed, and no write has taken nothing.
+///
+/// # Errors
+///
+/// - [`ChangesError::Old`], [`ChangesError::New`]: this file could not be read, is wrong, or needs more memory. Nothing
+///   was written. The new file is not read if the old one is refused.
+/// - [`ChangesError::Run`] with [`RunError::Write`]: a write or the flush failed, or a write took nothing. A beginning
+///   of the lines was written.
+/// - [`ChangesError::Run`] with [`RunError::Memory`]: an allocation failed. Nothing was written, or a beginning of the
+///   lines.
+pub fn write_changes<A: Allocator + Copy, P: Source, N: Source, W: Sink>(
+    alloc: A,
+    old: &mut P,
+    new: &mut N,
+    writer: &mut W,
+) -> Result<(usize, usize), ChangesError>
+    // No call of a device has failed.
+    requires old_clear { P.mark old.old ≡ false }
+    requires new_clear { N.mark new.old ≡ false }
+    requires writer_clear { W.mark writer.old ≡ false }
+
+    // Ok: no call failed, and both files were read to their ends. The changes from the VRPs of the old file to those of
+    // the new one were written, and the writer is flushed.
+    ensures unmarked { OnOk result ((P.mark old.new ≡ P.mark old.old) × (N.mark new.new ≡ N.mark new.old)
+        × (W.mark writer.new ≡ W.mark writer.old)) }
+    ensures read_whole { OnOk result (IsAtEnd (P.left old.new) × IsAtEnd (N.left new.new)) }
+    ensures written { IfOk result (λ counts. IfSome (P.left old.old) (ByFile (λ before. (counts.0 ≡ length before)
+        × IfSome (N.left new.old) (ByFile (λ after. (counts.1 ≡ length after)
+        × WritesChanges (W.written writer.old) (W.written writer.new) [] before after))))) }
+    ensures flushed { OnOk result (W.flushed writer.new ≡ true) }
+
+    // Old: the old VRPs could not be read. The new file was not read, and nothing was written. Read: a read failed.
+    // File: the file is invalid, and was read whole. Memory: an allocation failed, and no read did.
+    ensures old_untouched { (error : ReadVrpsError) → IsErrOf result (ChangesError.Old error) →
+        (new.new ≡ new.old) × (writer.new ≡ writer.old) }
+    ensures old_read { IsErrOf result (ChangesError.Old ReadVrpsError.Read) → P.mark old.new ≡ true }
+    ensures old_wrong { (fault : FileFault) → IsErrOf result (ChangesError.Old (ReadVrpsError.File fault)) →
+        IfSome (P.left old.old) (λ text. HasFileFault text fault) }
+    ensures old_wrong_unmarked { (fault : FileFault) → IsErrOf result (ChangesError.Old (ReadVrpsError.File fault)) →
+        (P.mark old.new ≡ P.mark old.old) × IsAtEnd (P.left old.new) }
+    ensures old_memory { IsErrOf result (ChangesError.Old ReadVrpsError.Memory) → P.mark old.new ≡ P.mark old.old }
+
+    // New: the new VRPs could not be read. The old file was read whole, and nothing was written. The three errors
+    // mean the same as for the old file.
+    ensures new_untouched { (error : ReadVrpsError) → IsErrOf result (ChangesError.New error) →
+        (P.mark old.new ≡ P.mark old.old) × IsAtEnd (P.left old.new) × (writer.new ≡ writer.old) }
+    ensures new_read { IsErrOf result (ChangesError.New ReadVrpsError.Read) → N.mark new.new ≡ true }
+    ensures new_wrong { (fault : FileFault) → IsErrOf result (ChangesError.New (ReadVrpsError.File fault)) →
+        IfSome (N.left new.old) (λ text. HasFileFault text fault) }
+    ensures new_wrong_unmarked { (fault : FileFault) → IsErrOf result (ChangesError.New (ReadVrpsError.File fault)) →
+        (N.mark new.new ≡ N.mark new.old) × IsAtEnd (N.left new.new) }
+    ensures new_memory { IsErrOf result (ChangesError.New ReadVrpsError.Memory) → N.mark new.new ≡ N.mark new.old }
+
+    // Run: the run failed after the VRPs of both files were read whole.
+    ensures both_read { (error : RunError) → IsErrOf result (ChangesError.Run error) →
+        (P.mark old.new ≡ P.mark old.old) × IsAtEnd (P.left old.new)
+        × (N.mark new.new ≡ N.mark new.old) × IsAtEnd (N.left new.new) }
+
+    // Memory: no call failed. Nothing was written, or a beginning of the changes.
+    ensures memory_unmarked { IsErrOf result (ChangesError.Run RunError.Memory) →
+        W.mark writer.new ≡ W.mark writer.old }
+    ensures some_if_memory { IsErrOf result (ChangesError.Run RunError.Memory) →
+        IfSome (P.left old.old) (ByFile (λ before.
+        IfSome (N.left new.old) (ByFile (λ after. (writer.new ≡ writer.old)
+        ⊎ ((unwritten : List ℕ)
+        × WritesChanges (W.written writer.old) (W.written writer.new) unwritten before after))))) }
+
+    // Write: a write or the flush failed, or a write took nothing, and a beginning of the changes was written.
+    ensures write { IsErrOf result (ChangesError.Run RunError.Write) → W.mark writer.new ≡ true }
+    ensures some_written { IsErrOf result (ChangesError.Run RunError.Write) →
+        IfSome (P.left old.old) (ByFile (λ before.
+        IfSome (N.left new.old) (ByFile (λ after. (unwritten : List ℕ)
+        × WritesChanges (W.written writer.old) (W.written writer.new) unwritten before after)))) }
+    ensures not_read { IsErrOf result (ChangesError.Run RunError.Read) → ⊥ }
+{
+    let before = match read_file(alloc, old) {
+        Ok(listed) => listed,
+        Err(error) => return Err(ChangesError::Old(error)),
+    };
+    let after = match read_file(alloc, new) {
+        Ok(listed) => listed,
+        Err(error) => return Err(ChangesError::New(error)),
+    };
+    match write_listed_changes(alloc, before.as_slice(), after.as_slice(), writer) {
+        Ok(()) => Ok((before.len(), after.len())),
+        Err(error) => Err(ChangesError::Run(error)),
+    }
+}
+
+/// Writes the changes from one list of VRPs to the next.
+fn write_listed_changes<A: Allocator + Copy, W: Sink>(
+    alloc: A,
+    before: &[Vrp],
+    after: &[Vrp],
+    writer: &mut W,
+) -> Result<(), RunError>
+    requires clear { W.mark writer.old ≡ false }
+    ensures unmarked { OnOk result (W.mark writer.new ≡ W.mark writer.old) }
+    ensures written { OnOk result (WritesChanges (W.written writer.old) (W.written writer.new) [] before.now after.now) }
+    ensures flushed { OnOk result (W.flushed writer.new ≡ true) }
+    ensures memory_unmarked { IsErrOf result RunError.Memory → W.mark writer.new ≡ W.mark writer.old }
+    ensures some_if_memory { IsErrOf result RunError.Memory → (writer.new ≡ writer.old) ⊎ ((unwritten : List ℕ)
+        × WritesChanges (W.written writer.old) (W.written writer.new) unwritten before.now after.now) }
+    ensures write { IsErrOf result RunError.Write → W.mark writer.new ≡ true }
+    ensures some_written { IsErrOf result RunError.Write → (unwritten : List ℕ)
+        × WritesChanges (W.written writer.old) (W.written writer.new) unwritten before.now after.now }
+    ensures not_read { IsErrOf result RunError.Read → ⊥ }
+{
+    let old = VrpTable::new(alloc, before)?;
+    let new = VrpTable::new(alloc, after)?;
+    write_table_changes(alloc, &old, &new, writer)
+}
+
+/// Writes the changes from one table to the next.
+#[tactic(auto, using(lines_engine::proofs::RunLemmas::written_kept, crate::proofs::LineLemmas::written_between))]
+fn write_table_changes<A: Allocator + Copy, W: Sink>(
+    alloc: A,
+    old: &VrpTable<A>,
+    new: &VrpTable<A>,
+    writer: &mut W,
+) -> Result<(), RunError>
+    requires clear { W.mark writer.old ≡ false }
+    ensures unmarked { OnOk result (W.mark writer.new ≡ W.mark writer.old) }
+    ensures written { OnOk result (WritesBetween (W.written writer.old) (W.written writer.new) [] old.now new.now) }
+    ensures flushed { OnOk result (W.flushed writer.new ≡ true) }
+    ensures memory_unmarked { IsErrOf result RunError.Memory → W.mark writer.new ≡ W.mark writer.old }
+    ensures some_if_memory { IsErrOf result RunError.Memory → (writer.new ≡ writer.old) ⊎ ((unwritten : List ℕ)
+        × WritesBetween (W.written writer.old) (W.written writer.new) unwritten old.now new.now) }
+    ensures write { IsErrOf result RunError.Write → W.mark writer.new ≡ true }
+    ensures some_written { IsErrOf result RunError.Write → (unwritten : List ℕ)
+        × WritesBetween (W.written writer.old) (W.written writer.new) unwritten old.now new.now }
+    ensures not_read { IsErrOf result RunError.Read → ⊥ }
+{
+    let changes = old.changes_to(alloc, new)?;
+    write_both(alloc, &changes.withdrawn, &changes.announced, writer)?;
+    flush_all(writer)
+}

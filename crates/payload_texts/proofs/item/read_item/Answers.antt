@@ -1,9 +1,0 @@
-use Rattle.payload_texts.proofs.Common.{value_view}
-use Rattle.payload_texts.proofs.ItemLemmas.{texts_fail}
-use Rattle.payload_texts.proofs.item.read_item.Goals as goal
-
-pub returns-in-Err-read_fields : goal.returns-in-Err-read_fields
-returns-in-Err-read_fields g c =
-    texts_fail (value_view c.args.item.now) c.in-Ok.text.now c.in-Ok-text_of.text.now c.in-Ok-text_of-2.text.now
-    c.in-Err-read_fields.fault c.in-Ok.ensures c.in-Ok-text_of.ensures c.in-Ok-text_of-2.ensures
-    c.in-Err-read_fields.ensures

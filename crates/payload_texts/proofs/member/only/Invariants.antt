@@ -1,6 +1,0 @@
--- What was found is the answer of the members before.
-use Rattle.payload_texts.proofs.Common.{take, members_view, IsFound, values_in}
-use Rattle.payload_texts.proofs.member.only.Given as goal
-
-abbrev pub invariant-loop-member : goal.invariant-loop-member
-invariant-loop-member g l = IsFound (values_in l.name (members_view (take l.member-index l.member-items))) l.found

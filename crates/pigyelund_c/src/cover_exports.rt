@@ -1,0 +1,49 @@
+//! The export of shortest covers.
+ghost use Rattle.pigyelund_c.specs.Covers.{IsCover, IsNoCover, cover_error_status};
+ghost use Rattle.pigyelund_routes.specs.Written.{IsAnswered};
+ghost use Rattle.pigyelund_c.specs.declared.cover.CoverError.{CoverError};
+
+use crate::cover::cover;
+use crate::status;
+use pigyelund_routes::write::write_items;
+use rpki_resources::OrMemory;
+use std::alloc::Global;
+
+/// Lists the fewest prefixes that have exactly the addresses of one family in IP address blocks, in ascending order.
+///
+/// Each prefix is its address and then its length, one octet: 5 octets for IPv4 (family 1), 17 for IPv6 (family 2).
+/// `encoding` is that of `pigy_verify`. `len` receives the length in octets, written or required.
+///
+/// Returns the first status that applies:
+///
+/// - `PIGY_BAD_ENCODING`, `PIGY_BAD_FAMILY`.
+/// - `PIGY_BAD_IP` + n: the first error of the IP address blocks.
+/// - `PIGY_INHERITED`: the addresses of a family are inherited, also those of the other family.
+/// - `PIGY_TOO_SMALL`, then `PIGY_OK`.
+///
+/// `PIGY_MEMORY` can come instead of any of them. With an error other than `PIGY_TOO_SMALL` `len` is 0. With any error
+/// `out` is unchanged.
+#[unsafe(no_mangle)]
+pub extern "C" fn pigy_cover(
+    alloc: Global,
+    ip: &[u8],
+    encoding: u32,
+    family: u32,
+    out: &mut [u8],
+    len: &mut usize,
+) -> u32
+    ensures { IsAnswered CoverError (IsCover ip.now encoding family) cover_error_status
+        (IsNoCover ip.now encoding family) out.old out.new len.new result }
+{
+    match cover(alloc, ip, encoding, family) {
+        Ok(octets) => write_items(octets.as_slice(), out, len),
+        Err(OrMemory::Refused(reason)) => {
+            *len = 0;
+            reason.status()
+        }
+        Err(OrMemory::Memory(_)) => {
+            *len = 0;
+            status::MEMORY
+        }
+    }
+}

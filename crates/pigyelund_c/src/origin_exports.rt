@@ -1,0 +1,52 @@
+//! The export of route origin validation.
+ghost use Rattle.pigyelund_routes.specs.Origins.{AreOriginsReturned};
+
+use crate::status;
+use pigyelund_routes::origin::origins;
+use pigyelund_routes::route::{RawVrp, Route};
+use pigyelund_routes::write::write_items;
+use rpki_resources::OrMemory;
+use std::alloc::Global;
+
+/// Validates routes by VRPs (RFC 6811, 2).
+///
+/// Writes one octet for each route: 0 valid, 1 not found, 2 invalid (RFC 8097, 2). VRPs may be in any order, with
+/// duplicates. Each call makes a table of them once. Pass many routes to one call, or use `pigy_table_new`. `len`
+/// receives the length in octets, written or required. `index` receives the index of the first invalid VRP or route,
+/// from 0; else 0.
+///
+/// If the path of a route has no single origin ("NONE" in RFC 6811, 2), pass AS 0. No VRP matches AS 0.
+///
+/// Returns the first status that applies:
+///
+/// - `PIGY_BAD_FAMILY`, `PIGY_BAD_PREFIX`, `PIGY_BAD_MAX_LEN`: the first invalid VRP.
+/// - `PIGY_SECOND` + `PIGY_BAD_FAMILY`, `PIGY_SECOND` + `PIGY_BAD_PREFIX`: the first invalid route.
+/// - `PIGY_TOO_SMALL`, then `PIGY_OK`.
+///
+/// `PIGY_MEMORY` can come instead of any of them. With an error other than `PIGY_TOO_SMALL` `len` is 0. With any error
+/// `out` is unchanged.
+#[unsafe(no_mangle)]
+pub extern "C" fn pigy_origins(
+    alloc: Global,
+    vrps: &[RawVrp],
+    routes: &[Route],
+    out: &mut [u8],
+    len: &mut usize,
+    index: &mut usize,
+) -> u32
+    ensures { AreOriginsReturned vrps.now routes.now out.old out.new len.new index.new result }
+{
+    *index = 0;
+    match origins(alloc, vrps, routes) {
+        Ok(octets) => write_items(octets.as_slice(), out, len),
+        Err(OrMemory::Refused(reason)) => {
+            *len = 0;
+            *index = reason.index();
+            reason.status()
+        }
+        Err(OrMemory::Memory(_)) => {
+            *len = 0;
+            status::MEMORY
+        }
+    }
+}

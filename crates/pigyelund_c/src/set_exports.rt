@@ -1,0 +1,163 @@
+//! The exports on two sets: union, intersection, difference, and tests of both.
+ghost use Rattle.std.specs.Prelude.{◌≡◌, Bool, MatchResult, Result};
+ghost use Rattle.rpki_text.specs.Memory.{IfRefused};
+ghost use Rattle.rpki_text.specs.declared.memory.OrMemory.{OrMemory as Refusing};
+ghost use Rattle.rpki_resources.specs.Triples.{HasEachOf, IsDifferenceOf, IsIntersectionOf, IsUnionOf, Triple};
+ghost use Rattle.pigyelund_c.specs.Pairs.{AreNotRead, AreSame, IsMade, IsTested};
+ghost use Rattle.pigyelund_c.specs.Sets.{IsSetReturned};
+ghost use Rattle.pigyelund_c.specs.PairStatuses.{made_set, made_status, test_status};
+ghost use Rattle.pigyelund_c.specs.declared.pair.ReadPairError.{ReadPairError};
+
+use crate::operations::{Operation, are_same, has_each, made};
+use crate::pair::{status_and_made_set, status_of_test};
+use crate::write::write_set;
+use std::alloc::Global;
+
+/// Computes the union of two sets: what one or the other has.
+///
+/// `encoding` is that of `pigy_verify`, for both sets. `as_len` and `ip_len` receive lengths in octets, written or
+/// required.
+///
+/// Returns the first status that applies:
+///
+/// - `PIGY_BAD_ENCODING`.
+/// - `PIGY_BAD_AS` + n, `PIGY_BAD_IP` + n, `PIGY_INHERITED`: the first set.
+/// - `PIGY_SECOND` + one of these: the second set.
+/// - `PIGY_TOO_SMALL`, then `PIGY_OK`.
+///
+/// `PIGY_MEMORY` can come instead of any of them. With an error other than `PIGY_TOO_SMALL` both lengths are 0. With
+/// any error the buffers are unchanged.
+#[unsafe(no_mangle)]
+pub extern "C" fn pigy_union(
+    alloc: Global,
+    a_as: &[u8],
+    a_ip: &[u8],
+    b_as: &[u8],
+    b_ip: &[u8],
+    encoding: u32,
+    as_out: &mut [u8],
+    ip_out: &mut [u8],
+    as_len: &mut usize,
+    ip_len: &mut usize,
+) -> u32
+    ensures { (outcome : Result Triple (Refusing ReadPairError))
+        × MatchResult outcome
+        (IsMade IsUnionOf a_as.now a_ip.now b_as.now b_ip.now encoding)
+        (IfRefused (AreNotRead a_as.now a_ip.now b_as.now b_ip.now encoding))
+        × IsSetReturned (made_status outcome) (made_set outcome) as_out.old ip_out.old as_out.new
+        ip_out.new as_len.new ip_len.new result }
+{
+    let outcome = made(alloc, Operation::Union, a_as, a_ip, b_as, b_ip, encoding);
+    let (status, set) = status_and_made_set(outcome);
+    write_set(alloc, status, &set, as_out, ip_out, as_len, ip_len)
+}
+
+/// Computes the intersection of two sets: what both have. Parameters and statuses are those of `pigy_union`.
+#[unsafe(no_mangle)]
+pub extern "C" fn pigy_intersection(
+    alloc: Global,
+    a_as: &[u8],
+    a_ip: &[u8],
+    b_as: &[u8],
+    b_ip: &[u8],
+    encoding: u32,
+    as_out: &mut [u8],
+    ip_out: &mut [u8],
+    as_len: &mut usize,
+    ip_len: &mut usize,
+) -> u32
+    ensures { (outcome : Result Triple (Refusing ReadPairError))
+        × MatchResult outcome
+        (IsMade IsIntersectionOf a_as.now a_ip.now b_as.now b_ip.now encoding)
+        (IfRefused (AreNotRead a_as.now a_ip.now b_as.now b_ip.now encoding))
+        × IsSetReturned (made_status outcome) (made_set outcome) as_out.old ip_out.old as_out.new
+        ip_out.new as_len.new ip_len.new result }
+{
+    let outcome = made(
+        alloc,
+        Operation::Intersection,
+        a_as,
+        a_ip,
+        b_as,
+        b_ip,
+        encoding,
+    );
+    let (status, set) = status_and_made_set(outcome);
+    write_set(alloc, status, &set, as_out, ip_out, as_len, ip_len)
+}
+
+/// Computes what the first set has and the second does not. Parameters and statuses are those of `pigy_union`.
+#[unsafe(no_mangle)]
+pub extern "C" fn pigy_difference(
+    alloc: Global,
+    a_as: &[u8],
+    a_ip: &[u8],
+    b_as: &[u8],
+    b_ip: &[u8],
+    encoding: u32,
+    as_out: &mut [u8],
+    ip_out: &mut [u8],
+    as_len: &mut usize,
+    ip_len: &mut usize,
+) -> u32
+    ensures { (outcome : Result Triple (Refusing ReadPairError))
+        × MatchResult outcome
+        (IsMade IsDifferenceOf a_as.now a_ip.now b_as.now b_ip.now encoding)
+        (IfRefused (AreNotRead a_as.now a_ip.now b_as.now b_ip.now encoding))
+        × IsSetReturned (made_status outcome) (made_set outcome) as_out.old ip_out.old as_out.new
+        ip_out.new as_len.new ip_len.new result }
+{
+    let outcome = made(
+        alloc,
+        Operation::Difference,
+        a_as,
+        a_ip,
+        b_as,
+        b_ip,
+        encoding,
+    );
+    let (status, set) = status_and_made_set(outcome);
+    write_set(alloc, status, &set, as_out, ip_out, as_len, ip_len)
+}
+
+/// Says whether the first set has each AS number and each address of the second.
+///
+/// `encoding` is that of `pigy_verify`, for both sets. Returns `PIGY_OK` for yes and `PIGY_NO` for no. Before that come
+/// the statuses of `pigy_union` for the encoding, the first set and the second set. `PIGY_MEMORY` can come instead of
+/// any of them.
+#[unsafe(no_mangle)]
+pub extern "C" fn pigy_contains(
+    alloc: Global,
+    a_as: &[u8],
+    a_ip: &[u8],
+    b_as: &[u8],
+    b_ip: &[u8],
+    encoding: u32,
+) -> u32
+    ensures { (outcome : Result Bool (Refusing ReadPairError))
+        × MatchResult outcome
+        (IsTested HasEachOf a_as.now a_ip.now b_as.now b_ip.now encoding)
+        (IfRefused (AreNotRead a_as.now a_ip.now b_as.now b_ip.now encoding))
+        × (result ≡ test_status outcome) }
+{
+    status_of_test(has_each(alloc, a_as, a_ip, b_as, b_ip, encoding))
+}
+
+/// Says whether both sets are the same. Parameters and statuses are those of `pigy_contains`.
+#[unsafe(no_mangle)]
+pub extern "C" fn pigy_equal(
+    alloc: Global,
+    a_as: &[u8],
+    a_ip: &[u8],
+    b_as: &[u8],
+    b_ip: &[u8],
+    encoding: u32,
+) -> u32
+    ensures { (outcome : Result Bool (Refusing ReadPairError))
+        × MatchResult outcome
+        (IsTested AreSame a_as.now a_ip.now b_as.now b_ip.now encoding)
+        (IfRefused (AreNotRead a_as.now a_ip.now b_as.now b_ip.now encoding))
+        × (result ≡ test_status outcome) }
+{
+    status_of_test(are_same(alloc, a_as, a_ip, b_as, b_ip, encoding))
+}

@@ -1,0 +1,225 @@
+//! The exports on tables of VRPs.
+ghost use Rattle.pigyelund_routes.specs.Tables.{AreCoveringsReturned, AreVrpsReturned, AreTableOriginsReturned, IsChangedTableReturned, IsCountReturned, IsMadeTableReturned};
+
+use crate::status;
+use pigyelund_routes::change::changed_table;
+use pigyelund_routes::route::{Covering, RawVrp, Route};
+use pigyelund_routes::table::{all_vrps, coverings, made_table, table_origins};
+use pigyelund_routes::table_handle::{TableOutput, TableOwner, TableRef};
+use pigyelund_routes::write::write_items;
+use rpki_resources::OrMemory;
+use std::alloc::Global;
+
+/// Makes a table of VRPs.
+///
+/// VRPs may be in any order. Duplicates are kept: a VRP that comes twice is listed and reported twice. `table` receives
+/// the handle, which the caller passes to `pigy_table_free` in the end. `index` receives the index of the first invalid
+/// VRP, from 0; else 0.
+///
+/// Returns `PIGY_BAD_FAMILY`, `PIGY_BAD_PREFIX` or `PIGY_BAD_MAX_LEN` for the first invalid VRP; else `PIGY_OK`.
+/// `PIGY_MEMORY` can come instead. With any error the handle is null.
+#[unsafe(no_mangle)]
+pub extern "C" fn pigy_table_new(
+    alloc: Global,
+    vrps: &[RawVrp],
+    table: &mut TableOutput,
+    index: &mut usize,
+) -> u32
+    ensures { IsMadeTableReturned vrps.now table.new.given table.new.at index.new result }
+{
+    *index = 0;
+    match made_table(alloc, vrps) {
+        Ok(parts) => {
+            *table = TableOutput::of(parts);
+            status::OK
+        }
+        Err(OrMemory::Refused(reason)) => {
+            *table = TableOutput::null();
+            *index = reason.index();
+            reason.status()
+        }
+        Err(OrMemory::Memory(_)) => {
+            *table = TableOutput::null();
+            status::MEMORY
+        }
+    }
+}
+
+/// Validates routes by a table, one octet each, as `pigy_origins` does. It makes no table.
+///
+/// `len` receives the length in octets, written or required. `index` receives the index of the first invalid route,
+/// from 0; else 0.
+///
+/// Returns the first status that applies:
+///
+/// - `PIGY_NO_TABLE`.
+/// - `PIGY_SECOND` + `PIGY_BAD_FAMILY`, `PIGY_SECOND` + `PIGY_BAD_PREFIX`: the first invalid route.
+/// - `PIGY_TOO_SMALL`, then `PIGY_OK`.
+///
+/// `PIGY_MEMORY` can come instead of any of them except `PIGY_NO_TABLE`. With an error other than `PIGY_TOO_SMALL`
+/// `len` is 0. With any error `out` is unchanged.
+#[unsafe(no_mangle)]
+pub extern "C" fn pigy_table_origins(
+    alloc: Global,
+    table: TableRef,
+    routes: &[Route],
+    out: &mut [u8],
+    len: &mut usize,
+    index: &mut usize,
+) -> u32
+    ensures { AreTableOriginsReturned table.at table.vrps routes.now out.old out.new len.new
+        index.new result }
+{
+    *len = 0;
+    *index = 0;
+    let Some(table) = table.table() else {
+        return status::NO_TABLE;
+    };
+    match table_origins(alloc, table, routes) {
+        Ok(octets) => write_items(octets.as_slice(), out, len),
+        Err(OrMemory::Refused(reason)) => {
+            *index = reason.index();
+            reason.status()
+        }
+        Err(OrMemory::Memory(_)) => status::MEMORY,
+    }
+}
+
+/// Makes the next table: `table` without the withdrawn VRPs, and then with the announced ones (RFC 8210, 5.6).
+///
+/// The next table has a handle of its own, and `table` does not change. A withdrawal removes all copies of a VRP. Each
+/// array lists a VRP once, also one that the table lists more than once. A VRP in both arrays has to be in the table,
+/// and is listed once afterwards. `next` receives the handle. `index` receives the index of the VRP at fault, from 0;
+/// else 0.
+///
+/// Returns the first status that applies:
+///
+/// 1. `PIGY_NO_TABLE`.
+/// 2. `PIGY_BAD_FAMILY`, `PIGY_BAD_PREFIX`, `PIGY_BAD_MAX_LEN`: the first invalid VRP in `announced`.
+/// 3. `PIGY_SECOND` + one of these: the first invalid VRP in `withdrawn`.
+/// 4. `PIGY_UNKNOWN_WITHDRAWAL`: the first VRP in `withdrawn` that is not in the table, or is a repetition in
+///    `withdrawn`.
+/// 5. `PIGY_DUPLICATE_ANNOUNCEMENT`: the first VRP in `announced` that is in the table and not withdrawn, or is a
+///    repetition in `announced`.
+/// 6. `PIGY_OK`.
+///
+/// `PIGY_MEMORY` can come instead of any of them except `PIGY_NO_TABLE`. `index` is an index of `withdrawn` with 3 and
+/// 4, and of `announced` with 2 and 5. With any error the handle in `next` is null.
+#[unsafe(no_mangle)]
+pub extern "C" fn pigy_table_changed(
+    alloc: Global,
+    table: TableRef,
+    announced: &[RawVrp],
+    withdrawn: &[RawVrp],
+    next: &mut TableOutput,
+    index: &mut usize,
+) -> u32
+    ensures { IsChangedTableReturned table.at table.vrps announced.now withdrawn.now next.new.given
+        next.new.at index.new result }
+{
+    *index = 0;
+    let Some(table) = table.table() else {
+        *next = TableOutput::null();
+        return status::NO_TABLE;
+    };
+    match changed_table(alloc, table, announced, withdrawn) {
+        Ok(parts) => {
+            *next = TableOutput::of(parts);
+            status::OK
+        }
+        Err(OrMemory::Refused(reason)) => {
+            *next = TableOutput::null();
+            *index = reason.index();
+            reason.status()
+        }
+        Err(OrMemory::Memory(_)) => {
+            *next = TableOutput::null();
+            status::MEMORY
+        }
+    }
+}
+
+/// Lists the VRPs of a table that cover a route, each with the reason why it does not match.
+///
+/// The longest prefix comes first. VRPs with the same prefix come with the least AS number first. VRPs with the same AS
+/// too come with the longest maximum length first. `len` receives the length, written or required, in VRPs.
+///
+/// Returns the first status that applies:
+///
+/// - `PIGY_NO_TABLE`.
+/// - `PIGY_SECOND` + `PIGY_BAD_FAMILY`, `PIGY_SECOND` + `PIGY_BAD_PREFIX`: the route is invalid.
+/// - `PIGY_TOO_SMALL`, then `PIGY_OK`.
+///
+/// `PIGY_MEMORY` can come instead of any of them except `PIGY_NO_TABLE`. With an error other than `PIGY_TOO_SMALL`
+/// `len` is 0. With any error `out` is unchanged.
+#[unsafe(no_mangle)]
+pub extern "C" fn pigy_table_covering(
+    alloc: Global,
+    table: TableRef,
+    route: &Route,
+    out: &mut [Covering],
+    len: &mut usize,
+) -> u32
+    ensures { AreCoveringsReturned table.at table.vrps route.now out.old out.new len.new result }
+{
+    *len = 0;
+    let Some(table) = table.table() else {
+        return status::NO_TABLE;
+    };
+    match coverings(alloc, table, route) {
+        Ok(list) => write_items(list.as_slice(), out, len),
+        Err(OrMemory::Refused(reason)) => reason.route_status(),
+        Err(OrMemory::Memory(_)) => status::MEMORY,
+    }
+}
+
+/// Counts the VRPs of a table.
+///
+/// Returns `PIGY_NO_TABLE` if the handle is null, or else `PIGY_OK`. `len` receives the number of VRPs; 0 with an
+/// error.
+#[unsafe(no_mangle)]
+pub extern "C" fn pigy_table_len(table: TableRef, len: &mut usize) -> u32
+    ensures { IsCountReturned table.at table.vrps len.new result }
+{
+    *len = 0;
+    let Some(table) = table.table() else {
+        return status::NO_TABLE;
+    };
+    *len = table.len();
+    status::OK
+}
+
+/// Lists all VRPs of a table.
+///
+/// IPv4 comes before IPv6. Then the order is by address, and then by prefix length, the shorter first. VRPs with the
+/// same prefix come with the greatest AS number first. VRPs with the same AS too come with the shortest maximum length
+/// first. `len` receives the length, written or required, in VRPs.
+///
+/// Returns `PIGY_NO_TABLE`, `PIGY_TOO_SMALL` or `PIGY_OK`: the first that applies. `PIGY_MEMORY` can come instead of
+/// the last two. With `PIGY_NO_TABLE` and `PIGY_MEMORY` `len` is 0. With any error `out` is unchanged.
+#[unsafe(no_mangle)]
+pub extern "C" fn pigy_table_vrps(
+    alloc: Global,
+    table: TableRef,
+    out: &mut [RawVrp],
+    len: &mut usize,
+) -> u32
+    ensures { AreVrpsReturned table.at table.vrps out.old out.new len.new result }
+{
+    *len = 0;
+    let Some(table) = table.table() else {
+        return status::NO_TABLE;
+    };
+    match all_vrps(alloc, table) {
+        Ok(list) => write_items(list.as_slice(), out, len),
+        Err(_) => status::MEMORY,
+    }
+}
+
+/// Frees a table. A null handle is accepted, and then the call does nothing.
+#[unsafe(no_mangle)]
+pub extern "C" fn pigy_table_free(alloc: Global, table: TableOwner) {
+    if let Some(parts) = table.into_parts(alloc) {
+        let _table = parts.into_box();
+    }
+}

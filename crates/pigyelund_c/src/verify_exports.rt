@@ -1,0 +1,129 @@
+//! The exports on certificates: the version, and verification by an issuer or along a path from an anchor.
+ghost use Rattle.std.specs.Prelude.{◌≡◌, length, MatchResult, Result};
+ghost use Rattle.rpki_text.specs.Memory.{IfRefused};
+ghost use Rattle.rpki_text.specs.declared.memory.OrMemory.{OrMemory as Refusing};
+ghost use Rattle.rpki_resources.specs.Triples.{Triple};
+ghost use Rattle.pigyelund_c.specs.Paths.{IsNoPathOutcome, IsPathOutcome, outcome_alone, verified_count};
+ghost use Rattle.pigyelund_c.specs.Sets.{IsSetReturned};
+ghost use Rattle.pigyelund_c.specs.Statuses.{status_of, returned_set};
+ghost use Rattle.pigyelund_c.specs.Verified.{IsOutcome, IsNoOutcome};
+ghost use Rattle.pigyelund_c.specs.declared.path.PathError.{PathError};
+ghost use Rattle.pigyelund_c.specs.declared.refusal.Refusal.{Refusal};
+
+use crate::certificate::Certificate;
+use crate::outcome::write_outcome;
+use crate::path::{counted, path_answered};
+use crate::verification::answered;
+use std::alloc::Global;
+
+/// Returns the version of the calls.
+///
+/// It grows if a call is added. A released call never changes its meaning.
+#[unsafe(no_mangle)]
+pub extern "C" fn pigy_version() -> u32
+    ensures { result ≡ 4 }
+{
+    4
+}
+
+/// Verifies the resources of a certificate against those of its issuer.
+///
+/// The outputs are what the issuer's set leaves of the claims, for AS numbers, IPv4 and IPv6 each. They are nothing for
+/// an absent extension or an absent family, all of the issuer's for "inherit", and otherwise what both have. The octets
+/// of an absent extension are not read.
+///
+/// - `present`: 1 for AS identifiers, 2 for IP address blocks, 3 for both, 0 for neither.
+/// - `encoding`: 0 accepts blocks in any order that the syntax allows, 1 accepts canonical DER only. It holds for the
+///   issuer's octets too.
+/// - `mode`: 0 refuses an overclaim (RFC 6487, 7.2), 1 reduces the claim to what the issuer has of it (RFC 8360, 4).
+/// - `as_len`, `ip_len`: receive the lengths in octets, written or required.
+///
+/// Returns the first status that applies:
+///
+/// 1. `PIGY_BAD_ENCODING`, `PIGY_BAD_PRESENT`, `PIGY_BAD_MODE`.
+/// 2. `PIGY_BAD_AS` + n, `PIGY_BAD_IP` + n, `PIGY_INHERITED`: the issuer's set.
+/// 3. `PIGY_ABSENT`.
+/// 4. `PIGY_SECOND` + `PIGY_BAD_AS` + n, `PIGY_SECOND` + `PIGY_BAD_IP` + n: the certificate's extensions.
+/// 5. `PIGY_OVERCLAIM_AS`, `PIGY_OVERCLAIM_V4`, `PIGY_OVERCLAIM_V6`, with mode 0 only. The outputs are exactly the
+///    overclaimed resources of that kind, as a set. If these do not fit, the status is `PIGY_TOO_SMALL`.
+/// 6. `PIGY_TOO_SMALL`, then `PIGY_OK`.
+///
+/// `PIGY_MEMORY` can come instead of any of them. With 1 to 4 and with `PIGY_MEMORY` both lengths are 0 and the buffers
+/// are unchanged. With `PIGY_TOO_SMALL` the buffers are unchanged.
+#[unsafe(no_mangle)]
+pub extern "C" fn pigy_verify(
+    alloc: Global,
+    issuer_as: &[u8],
+    issuer_ip: &[u8],
+    present: u32,
+    cert_as: &[u8],
+    cert_ip: &[u8],
+    encoding: u32,
+    mode: u32,
+    as_out: &mut [u8],
+    ip_out: &mut [u8],
+    as_len: &mut usize,
+    ip_len: &mut usize,
+) -> u32
+    ensures { (outcome : Result Triple (Refusing Refusal))
+        × MatchResult outcome
+        (IsOutcome issuer_as.now issuer_ip.now present cert_as.now cert_ip.now encoding mode)
+        (IfRefused (IsNoOutcome issuer_as.now issuer_ip.now present cert_as.now cert_ip.now
+        encoding mode))
+        × IsSetReturned (status_of outcome) (returned_set outcome) as_out.old ip_out.old as_out.new
+        ip_out.new as_len.new ip_len.new result }
+{
+    let outcome = answered(
+        alloc, issuer_as, issuer_ip, present, cert_as, cert_ip, encoding, mode,
+    );
+    write_outcome(alloc, outcome, as_out, ip_out, as_len, ip_len)
+}
+
+/// Verifies the resources of certificates on a path, from an anchor down.
+///
+/// The anchor's set verifies the first certificate. Each other certificate is verified by what the ones before it
+/// leave. The outputs are what all certificates leave. If there are no certificates, they are the anchor's set.
+///
+/// The octets of all extensions are in `run`. `encoding` is that of `pigy_verify`, and holds for the anchor's octets
+/// too. `as_len` and `ip_len` receive lengths in octets, written or required. `verified` receives the number of
+/// verified certificates.
+///
+/// Returns the first status that applies:
+///
+/// 1. `PIGY_BAD_ENCODING`; `verified` is 0.
+/// 2. `PIGY_BAD_AS` + n, `PIGY_BAD_IP` + n, `PIGY_INHERITED`: the anchor's set. `verified` is 0.
+/// 3. For each certificate in turn: `PIGY_OUTSIDE`, `PIGY_BAD_PRESENT`, `PIGY_BAD_MODE`, and then 3 to 5 of
+/// `pigy_verify`. `verified` is the index of this certificate, from 0. 4. `PIGY_TOO_SMALL`, then `PIGY_OK`.
+///
+/// With `PIGY_OVERCLAIM_AS`, `PIGY_OVERCLAIM_V4` and `PIGY_OVERCLAIM_V6` the outputs are the overclaimed resources.
+/// `PIGY_MEMORY` can come instead of any other status, and `verified` is then unspecified. With any status except these
+/// three, `PIGY_OK` and `PIGY_TOO_SMALL` both lengths are 0 and the buffers are unchanged. With `PIGY_TOO_SMALL` the
+/// buffers are unchanged.
+#[unsafe(no_mangle)]
+pub extern "C" fn pigy_verify_path(
+    alloc: Global,
+    anchor_as: &[u8],
+    anchor_ip: &[u8],
+    run: &[u8],
+    certificates: &[Certificate],
+    encoding: u32,
+    as_out: &mut [u8],
+    ip_out: &mut [u8],
+    as_len: &mut usize,
+    ip_len: &mut usize,
+    verified: &mut usize,
+) -> u32
+    ensures { (outcome : Result Triple (Refusing PathError))
+        × MatchResult outcome
+        (IsPathOutcome anchor_as.now anchor_ip.now run.now certificates.now encoding)
+        (IfRefused
+        (IsNoPathOutcome anchor_as.now anchor_ip.now run.now certificates.now encoding))
+        × (verified.new ≡ verified_count (length certificates.now) outcome)
+        × IsSetReturned (status_of (outcome_alone outcome)) (returned_set (outcome_alone outcome)) as_out.old
+        ip_out.old as_out.new ip_out.new as_len.new ip_len.new result }
+{
+    let outcome = path_answered(alloc, anchor_as, anchor_ip, run, encoding, certificates);
+    let (count, outcome) = counted(certificates, outcome);
+    *verified = count;
+    write_outcome(alloc, outcome, as_out, ip_out, as_len, ip_len)
+}

@@ -1,0 +1,4 @@
+pub mod Common
+pub mod InterleavedLemmas
+pub mod ValidityArrayLemmas
+pub mod VrpArrayLemmas

@@ -1,0 +1,77 @@
+-- The validity of routes that a caller passes, by VRPs that it passes (RFC 6811, 2).
+use Rattle.std.specs.Prelude.{◌≡◌, ◌⊎◌, ℕ, ◌+◌, ◌<◌, List, [], ◌∷◌, length, slice_index_or, take}
+use Rattle.rpki_prefix.specs.Values.{FamilyPrefix}
+use Rattle.roa_origin.specs.Vrps.{Vrp}
+use Rattle.roa_origin.specs.Validities.{IsValidity}
+use Rattle.roa_origin.specs.declared.validation.Validity.{Validity}
+use Rattle.roa_origin.specs.declared.validation.Validity.TheVariants.{Valid, Invalid, NotFound}
+use Rattle.pigyelund_routes.specs.Routes.{IsNoVrp, IsNoRoute, IsVrp, IsRoute, route_error_status}
+use Rattle.pigyelund_routes.specs.Written.{AreWritten}
+use Rattle.pigyelund_routes.specs.declared.origin.ElementError.{ElementError}
+use Rattle.pigyelund_routes.specs.declared.origin.ValidationError.{ValidationError}
+use Rattle.pigyelund_routes.specs.declared.origin.ValidationError.TheVariants.{Vrp as NoVrp, Route as NoRoute}
+use Rattle.pigyelund_routes.specs.declared.route.RawVrp.{RawVrp as Handed}
+use Rattle.pigyelund_routes.specs.declared.route.Route.{Route}
+use Rattle.pigyelund_routes.specs.declared.route.RouteError.{RouteError}
+
+-- ---- arrays
+
+-- There are as many ys as xs, and R holds for each x and the y with its index.
+abbrev pub AreEach : {X Y : Type 0} → (X → Y → Type 0) → List X → List Y → Type 0
+AreEach R [] ys = ys ≡ []
+AreEach {X} {Y} R (x ∷ xs) ys = (y : Y) × R x y × ((rest : List Y) × (ys ≡ y ∷ rest) × AreEach R xs rest)
+
+-- R holds for each x before an index, and the x at the index is invalid for the given reason.
+abbrev pub IsFirstElementError : {X Y : Type 0} → (X → Y → Type 0) → (X → RouteError → Type 0) → List X → ElementError
+    → Type 0
+IsFirstElementError {X} {Y} R N xs first =
+    (x : X) × (first.at < length xs) × (slice_index_or xs first.at x ≡ x) × ((ys : List Y) × AreEach R (take first.at xs) ys × N x first.reason)
+
+-- ---- validities
+
+-- The validities as numbers (RFC 8097, 2).
+abbrev pub validity_number : Validity → ℕ
+validity_number Valid = 0
+validity_number NotFound = 1
+validity_number Invalid = 2
+
+-- The octet is the validity of a route by VRPs.
+pub record IsOrigin (vrps : List Vrp) (r : Route) (octet : ℕ) : Type 0 where
+  pub prefix : FamilyPrefix
+  pub is_route : IsRoute r prefix
+  pub validity : Validity
+  pub is_validity : IsValidity prefix r.asn vrps validity
+  pub number : octet ≡ validity_number validity
+
+-- The octets are the validities of all routes, by all VRPs.
+abbrev pub AreOrigins : List Handed → List Route → List ℕ → Type 0
+AreOrigins handed routes octets = (vrps : List Vrp) × AreEach IsVrp handed vrps × AreEach (IsOrigin vrps) routes octets
+
+-- A VRP is invalid; if all are valid, a route is invalid.
+abbrev pub HasValidationError : List Handed → List Route → ValidationError → Type 0
+HasValidationError handed routes (NoVrp first) = IsFirstElementError IsVrp IsNoVrp handed first
+HasValidationError handed routes (NoRoute first) =
+    (vrps : List Vrp) × AreEach IsVrp handed vrps × IsFirstElementError (IsOrigin vrps) IsNoRoute routes first
+
+-- ---- reported
+
+abbrev pub validation_error_status : ValidationError → ℕ
+validation_error_status (NoVrp first) = route_error_status first.reason
+validation_error_status (NoRoute first) = 4096 + route_error_status first.reason
+
+abbrev pub validation_error_index : ValidationError → ℕ
+validation_error_index (NoVrp first) = first.at
+validation_error_index (NoRoute first) = first.at
+
+-- Octets for which P holds are returned. Otherwise the status and the index belong to a reason for which N holds, or
+-- the status is 2, and nothing is written.
+abbrev pub IsAnsweredAt : (R : Type 0) → (List ℕ → Type 0) → (R → ℕ) → (R → ℕ) → (R → Type 0) → List ℕ → List ℕ → ℕ → ℕ
+    → ℕ → Type 0
+IsAnsweredAt R P status index_of N before after len index result =
+    ((octets : List ℕ) × P octets × AreWritten octets before after len result × (index ≡ 0))
+    ⊎ (((reason : R) × N reason × (result ≡ status reason) × (index ≡ index_of reason) × (after ≡ before) × (len ≡ 0))
+    ⊎ ((result ≡ 2) × (after ≡ before) × (len ≡ 0) × (index ≡ 0)))
+
+-- The validities of routes by VRPs are returned.
+abbrev pub AreOriginsReturned : List Handed → List Route → List ℕ → List ℕ → ℕ → ℕ → ℕ → Type 0
+AreOriginsReturned handed routes = IsAnsweredAt ValidationError (AreOrigins handed routes) validation_error_status validation_error_index (HasValidationError handed routes)

@@ -1,0 +1,21 @@
+-- Elements of arrays that are written into a caller's buffer.
+use Rattle.std.specs.Prelude.{◌≡◌, ◌⊎◌, ◌<◌, ℕ, List, ◌++◌, length, drop}
+
+-- The elements are at the front of a buffer, and the rest of it is unchanged.
+abbrev pub IsPut : {X : Type 0} → List X → List X → List X → Type 0
+IsPut items before after = after ≡ items ++ drop (length items) before
+
+-- Octets or other elements are written whole, or the buffer is unchanged and the status is 1. The length is theirs.
+abbrev pub AreWritten : {X : Type 0} → List X → List X → List X → ℕ → ℕ → Type 0
+AreWritten items before after len result =
+    (len ≡ length items)
+    × (((result ≡ 1) × (after ≡ before) × (length before < len)) ⊎ ((result ≡ 0) × IsPut items before after))
+
+-- An answer for which P holds is returned. Otherwise the status is that of a reason for which N holds, or 2, and
+-- nothing is written.
+abbrev pub IsAnswered : {X : Type 0} → (R : Type 0) → (List X → Type 0) → (R → ℕ) → (R → Type 0) → List X → List X → ℕ
+    → ℕ → Type 0
+IsAnswered {X} R P status N before after len result =
+    ((items : List X) × P items × AreWritten items before after len result)
+    ⊎ (((reason : R) × N reason × (result ≡ status reason) × (after ≡ before) × (len ≡ 0))
+    ⊎ ((result ≡ 2) × (after ≡ before) × (len ≡ 0)))

@@ -1,0 +1,110 @@
+//! A table after changes of its VRPs (RFC 8210, 5.6).
+ghost use Rattle.std.specs.Prelude.{◌≡◌, MatchResult};
+ghost use Rattle.rpki_text.specs.Memory.{IfRefused};
+ghost use Rattle.pigyelund_routes.specs.Tables.{IsChangedTable, HasChangeTableError, fault_index, fault_status, change_table_error_index, change_table_error_status};
+
+use crate::origin::{ElementError, vrps_of};
+use crate::route::RawVrp;
+use crate::status;
+use box_pointer::BoxPointer;
+use roa_origin::{ChangeFault, OriginTable};
+use rpki_text::memory::OrMemory;
+use std::alloc::{AllocError, Global};
+
+/// Reason why there is no table after changes.
+#[derive(Clone, Copy)]
+pub enum ChangeTableError {
+    /// An announced VRP is invalid.
+    Announced(ElementError),
+    /// A withdrawn VRP is invalid.
+    Withdrawn(ElementError),
+    /// A change is impossible for the table.
+    Fault(ChangeFault),
+}
+
+/// Returns the status of a change that is impossible.
+fn fault_status(fault: ChangeFault) -> u32
+    ensures { result ≡ fault_status fault }
+{
+    match fault {
+        ChangeFault::UnknownWithdrawal(_) => status::UNKNOWN_WITHDRAWAL,
+        ChangeFault::DuplicateAnnouncement(_) => status::DUPLICATE_ANNOUNCEMENT,
+    }
+}
+
+/// Returns the index of a change that is impossible.
+fn fault_index(fault: ChangeFault) -> usize
+    ensures { result ≡ fault_index fault }
+{
+    match fault {
+        ChangeFault::UnknownWithdrawal(at) => at,
+        ChangeFault::DuplicateAnnouncement(at) => at,
+    }
+}
+
+impl ChangeTableError {
+    /// Returns the status of this reason.
+    pub fn status(self) -> u32
+        ensures { result ≡ change_table_error_status self }
+    {
+        match self {
+            ChangeTableError::Announced(first) => first.reason.status(),
+            ChangeTableError::Withdrawn(first) => status::SECOND + first.reason.status(),
+            ChangeTableError::Fault(fault) => fault_status(fault),
+        }
+    }
+
+    /// Returns the index of the VRP at fault, in its array.
+    pub fn index(self) -> usize
+        ensures { result ≡ change_table_error_index self }
+    {
+        match self {
+            ChangeTableError::Announced(first) => first.at,
+            ChangeTableError::Withdrawn(first) => first.at,
+            ChangeTableError::Fault(fault) => fault_index(fault),
+        }
+    }
+}
+
+/// Returns the boxed table without the withdrawn VRPs and with the announced ones.
+///
+/// # Errors
+///
+/// - `Refused`: the first invalid VRP in `announced`; or else in `withdrawn`; or else the first impossible change.
+/// - `Memory`: memory for the VRPs, the table or its box runs out.
+pub fn changed_table(
+    alloc: Global,
+    table: &OriginTable<Global>,
+    announced: &[RawVrp],
+    withdrawn: &[RawVrp],
+) -> Result<BoxPointer<OriginTable<Global>, Global>, OrMemory<ChangeTableError>>
+    ensures { MatchResult result
+        (λ parts. IsChangedTable table.now announced.now withdrawn.now parts.value)
+        (IfRefused (HasChangeTableError table.now announced.now withdrawn.now)) }
+{
+    let announced = match vrps_of(alloc, announced) {
+        Ok(read) => read,
+        Err(OrMemory::Refused(first)) => return Err(OrMemory::Refused(ChangeTableError::Announced(
+            first,
+        ))),
+        Err(OrMemory::Memory(error)) => return Err(OrMemory::Memory(error)),
+    };
+    let withdrawn = match vrps_of(alloc, withdrawn) {
+        Ok(read) => read,
+        Err(OrMemory::Refused(first)) => return Err(OrMemory::Refused(ChangeTableError::Withdrawn(
+            first,
+        ))),
+        Err(OrMemory::Memory(error)) => return Err(OrMemory::Memory(error)),
+    };
+    let next = match table.with_changes(alloc, announced.as_slice(), withdrawn.as_slice()) {
+        Ok(next) => next,
+        Err(OrMemory::Refused(fault)) => return Err(OrMemory::Refused(ChangeTableError::Fault(
+            fault,
+        ))),
+        Err(OrMemory::Memory(error)) => return Err(OrMemory::Memory(error)),
+    };
+    match Box::new(alloc, next) {
+        Ok(boxed) => Ok(BoxPointer::of(boxed)),
+        Err(_) => Err(OrMemory::Memory(AllocError)),
+    }
+}

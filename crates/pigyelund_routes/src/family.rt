@@ -1,0 +1,18 @@
+//! The number of a family.
+ghost use Rattle.std.specs.Prelude.{◌≡◌, ◌≢◌, MatchOption};
+ghost use Rattle.rpki_der.specs.declared.family.AddressFamily.{AddressFamily as Family};
+ghost use Rattle.pigyelund_routes.specs.Families.{family_number};
+
+use rpki_der::family::AddressFamily;
+
+/// Returns the family with this number in IP address blocks (RFC 3779, 2.2.3.3), or `None` if no family has it.
+pub fn family_of(number: u32) -> Option<AddressFamily>
+    ensures { MatchOption result ((family : Family) → number ≢ family_number family)
+        (λ family. number ≡ family_number family) }
+{
+    match number {
+        1 => Some(AddressFamily::Ipv4),
+        2 => Some(AddressFamily::Ipv6),
+        _ => None,
+    }
+}

@@ -1,0 +1,23 @@
+//! VRPs, routes and tables as callers in C pass and receive them (RFC 6811, 2; RFC 8210, 5.6).
+//!
+//! The exports of `pigyelund_c` on route origins are made of these. They report the results, as
+//! `pigyelund_c::table_exports` does:
+//!
+//! ```rust
+//! match made_table(alloc, vrps) {
+//!     Ok(parts) => {
+//!         *table = TableOutput::of(parts);
+//!         status::OK
+//!     }
+//! ```
+#![tactic(auto)]
+
+pub mod change;
+pub mod family;
+mod interleaved;
+pub mod origin;
+pub mod route;
+pub mod status;
+pub mod table;
+pub mod table_handle;
+pub mod write;

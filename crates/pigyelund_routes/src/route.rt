@@ -1,0 +1,220 @@
+//! VRPs and routes as a caller passes them (RFC 6811, 2).
+ghost use Rattle.std.specs.Prelude.{◌≡◌, slice_range, MatchResult};
+ghost use Rattle.std.specs.Int.{from_be_bytes, w32};
+ghost use Rattle.pigyelund_routes.specs.Routes.{IsNoVrp, IsNoRoute, IsVrp, IsRoute, HasNoPrefix, HasPrefix, address_in, route_error_status};
+ghost use Rattle.pigyelund_routes.specs.ReturnedVrps.{IsCovering, IsMismatch, address_family, address_octets, handed_of, route_status};
+
+use crate::family::family_of;
+use crate::status;
+use roa_origin::Vrp;
+use rpki_base::{Asn, IpAddr, Ipv4Addr, Ipv6Addr};
+use rpki_der::family::AddressFamily;
+use rpki_prefix::{MaxLenPrefix, Prefix};
+
+/// Reason why octets and numbers are no VRP, or no route.
+#[derive(Clone, Copy)]
+pub enum RouteError {
+    /// The number of the family is unknown.
+    NoFamily,
+    /// The length is above the family's, or bits of the address after it are set.
+    NoPrefix,
+    /// The maximum length is below the prefix's length, or above the family's.
+    NoMaxLen,
+}
+
+impl RouteError {
+    /// Returns the status of this reason.
+    pub fn status(self) -> u32
+        ensures { result ≡ route_error_status self }
+    {
+        match self {
+            RouteError::NoFamily => status::BAD_FAMILY,
+            RouteError::NoPrefix => status::BAD_PREFIX,
+            RouteError::NoMaxLen => status::BAD_MAX_LEN,
+        }
+    }
+
+    /// Returns the status of this reason for a route.
+    pub fn route_status(self) -> u32
+        ensures { result ≡ route_status self }
+    {
+        status::SECOND + self.status()
+    }
+}
+
+/// A VRP: a prefix with a maximum length, and the AS that may originate it.
+///
+/// This is a struct for C, with numbers that are not checked yet.
+#[repr(C)]
+#[derive(Clone, Copy)]
+pub struct RawVrp {
+    /// The octets of the prefix's address, the highest first. An IPv4 address is the first four.
+    pub address: [u8; 16],
+    /// The AS number.
+    pub asn: u32,
+    /// The number of the family: 1 for IPv4, 2 for IPv6.
+    pub family: u8,
+    /// The length of the prefix, in bits.
+    pub len: u8,
+    /// The maximum length, in bits.
+    pub max_len: u8,
+}
+
+/// A route: the prefix that it leads to, and the AS that originates it.
+///
+/// This is a struct for C, with numbers that are not checked yet. `origins_lines::Route` is a route in a line of text.
+#[repr(C)]
+#[derive(Clone, Copy)]
+pub struct Route {
+    /// The octets of the prefix's address, the highest first. An IPv4 address is the first four.
+    pub address: [u8; 16],
+    /// The AS number.
+    pub asn: u32,
+    /// The number of the family: 1 for IPv4, 2 for IPv6.
+    pub family: u8,
+    /// The length of the prefix, in bits.
+    pub len: u8,
+}
+
+/// A VRP that covers a route, and the reason why it does not match the route.
+///
+/// This is a struct for C. `roa_origin::Covering` is an iterator over such VRPs.
+#[repr(C)]
+#[derive(Clone, Copy)]
+pub struct Covering {
+    /// The octets of the prefix's address, the highest first. An IPv4 address is the first four, and the others are 0.
+    pub address: [u8; 16],
+    /// The AS number.
+    pub asn: u32,
+    /// The number of the family: 1 for IPv4, 2 for IPv6.
+    pub family: u8,
+    /// The length of the prefix, in bits.
+    pub len: u8,
+    /// The maximum length, in bits.
+    pub max_len: u8,
+    /// 0 if the VRP matches the route; 1 if its AS is not the route's or is AS 0, 2 if the route is too long, 3 for
+    /// both.
+    pub mismatch: u8,
+}
+
+/// Returns the number that the first four octets write.
+fn first_four(octets: [u8; 16]) -> u32
+    ensures { result ≡ from_be_bytes w32 (slice_range octets 0 4) }
+{
+    u32::from_be_bytes([octets[0], octets[1], octets[2], octets[3]])
+}
+
+/// Returns the address of a family with these octets.
+fn address_of(family: AddressFamily, octets: [u8; 16]) -> IpAddr
+    ensures { result ≡ address_in family octets }
+{
+    match family {
+        AddressFamily::Ipv4 => IpAddr::V4(Ipv4Addr::from_bits(first_four(octets))),
+        AddressFamily::Ipv6 => IpAddr::V6(Ipv6Addr::from_bits(u128::from_be_bytes(octets))),
+    }
+}
+
+/// Returns the prefix with these numbers and octets, or the reason why they are no prefix.
+fn prefix_of(family: u8, address: [u8; 16], len: u8) -> Result<Prefix, RouteError>
+    ensures { MatchResult result (HasPrefix family address len) (HasNoPrefix family address len) }
+{
+    let Some(family) = family_of(u32::from(family)) else {
+        return Err(RouteError::NoFamily);
+    };
+    match Prefix::new(address_of(family, address), len) {
+        Ok(prefix) => Ok(prefix),
+        Err(_) => Err(RouteError::NoPrefix),
+    }
+}
+
+/// Returns the octets of an address, the highest first.
+fn octets_of(addr: IpAddr) -> [u8; 16]
+    ensures { result ≡ address_octets addr }
+{
+    match addr {
+        IpAddr::V4(addr) => {
+            let [a, b, c, d] = addr.octets();
+            [a, b, c, d, 0, 0, 0, 0, 0, 0, 0, 0, 0, 0, 0, 0]
+        }
+        IpAddr::V6(addr) => addr.to_bits().to_be_bytes(),
+    }
+}
+
+/// Returns the number of an address's family.
+fn family_number(addr: IpAddr) -> u8
+    ensures { result ≡ address_family addr }
+{
+    match addr {
+        IpAddr::V4(_) => 1,
+        IpAddr::V6(_) => 2,
+    }
+}
+
+/// Returns the reason why a VRP that covers a route does not match it, or 0 if it does.
+fn mismatch(route: Prefix, asn: Asn, vrp: &Vrp) -> u8
+    ensures { IsMismatch route asn vrp.now result }
+{
+    let is_allowed = route.len() <= vrp.0.resolved_max_len();
+    let has_as = asn != Asn::MIN && vrp.1 == asn;
+    if is_allowed {
+        if has_as { 0 } else { 1 }
+    } else if has_as {
+        2
+    } else {
+        3
+    }
+}
+
+impl RawVrp {
+    /// Returns the VRP in the form for C. `max_len` is the length of the prefix if the VRP has no maximum length.
+    pub fn of(vrp: &Vrp) -> RawVrp
+        ensures { result ≡ handed_of vrp.now }
+    {
+        let (prefix, asn) = *vrp;
+        RawVrp {
+            address: octets_of(prefix.addr()),
+            asn: asn.into_u32(),
+            family: family_number(prefix.addr()),
+            len: prefix.prefix_len(),
+            max_len: prefix.resolved_max_len(),
+        }
+    }
+
+    /// Returns the checked VRP, or the first reason why it is invalid: family, prefix, maximum length.
+    pub fn read(&self) -> Result<Vrp, RouteError>
+        ensures { MatchResult result (IsVrp self.now) (IsNoVrp self.now) }
+    {
+        let prefix = prefix_of(self.family, self.address, self.len)?;
+        match MaxLenPrefix::new(prefix, Some(self.max_len)) {
+            Ok(prefix) => Ok((prefix, Asn::from_u32(self.asn))),
+            Err(_) => Err(RouteError::NoMaxLen),
+        }
+    }
+}
+
+impl Route {
+    /// Returns the prefix that the route leads to, or the reason why it is invalid.
+    pub fn prefix(&self) -> Result<Prefix, RouteError>
+        ensures { MatchResult result (IsRoute self.now) (IsNoRoute self.now) }
+    {
+        prefix_of(self.family, self.address, self.len)
+    }
+}
+
+impl Covering {
+    /// Returns the form for C of a VRP that covers the route to `route` from `asn`, with the mismatch.
+    pub fn of(route: Prefix, asn: Asn, vrp: &Vrp) -> Covering
+        ensures { IsCovering route asn vrp.now result }
+    {
+        let raw = RawVrp::of(vrp);
+        let address = raw.address;
+        Covering {
+            address,
+            asn: raw.asn,
+            family: raw.family,
+            len: raw.len,
+            max_len: raw.max_len,
+            mismatch: mismatch(route, asn, vrp),
+        }
+    }
+}

@@ -1,0 +1,32 @@
+//! Writing of octets, or other elements of an array, into a caller's buffer.
+ghost use Rattle.std.specs.Prelude.{◌≡◌, ◌≤◌, ◌++◌, length, drop};
+ghost use Rattle.pigyelund_routes.specs.Written.{AreWritten};
+
+use crate::status;
+
+/// Writes elements at the front of a buffer. The rest of the buffer is unchanged.
+///
+/// # Preconditions
+///
+/// The buffer is at least as long as `items`.
+pub fn put<T: Copy>(items: &[T], out: &mut [T])
+    requires { length items.now ≤ length out.old }
+    ensures { out.new ≡ items.now ++ drop (length items.now) out.old }
+{
+    out[..items.len()].copy_from_slice(items);
+}
+
+/// Writes octets, or other elements, if the buffer is large enough, and returns the status.
+///
+/// `len` receives their number. If `out` is too short, the status is `TOO_SMALL` and `out` is unchanged. Otherwise
+/// the status is `OK`.
+pub fn write_items<T: Copy>(items: &[T], out: &mut [T], len: &mut usize) -> u32
+    ensures { AreWritten items.now out.old out.new len.new result }
+{
+    *len = items.len();
+    if out.len() < items.len() {
+        return status::TOO_SMALL;
+    }
+    put(items, out);
+    status::OK
+}

@@ -1,0 +1,74 @@
+//! Writes the result of a call as an answer. Each function replaces the content of the answer.
+ghost use Rattle.std.specs.Prelude.{◌≡◌, ℕ, List, Some, OnOk};
+ghost use Rattle.std.specs.String.{string_bytes};
+ghost use Rattle.rpki_ipres.specs.SetText.{set_text};
+ghost use Rattle.respath_lines.specs.Shown.{ShowsResult, error_line};
+
+use rpki_base::memory::OrMemory;
+use rpki_ip::family::AddressFamily;
+use rpki_ipres::blocks::IpBlocks;
+use std::alloc::{AllocError, Allocator};
+use std::fmt;
+
+/// Writes a text.
+pub(crate) fn write_text<A: Allocator>(answer: &mut String<A>, text: &str) -> Result<(), AllocError>
+    ensures { OnOk result (string_bytes answer.new ≡ text.now) }
+{
+    answer.clear();
+    answer.push_str(text)
+}
+
+/// Prints a value.
+pub(crate) fn print<T: fmt::Display, A: Allocator>(
+    answer: &mut String<A>,
+    value: &T,
+) -> Result<(), AllocError>
+    // Whatever text the value prints.
+    ensures { (value_text : List ℕ) → T.output value.now ≡ Some value_text
+        → OnOk result (string_bytes answer.new ≡ value_text) }
+{
+    answer.clear();
+    write!(answer, "{value}")
+}
+
+/// Prints a set of addresses of a family.
+pub(crate) fn print_set<A: Allocator>(
+    answer: &mut String<A>,
+    family: AddressFamily,
+    set: &IpBlocks<A>,
+) -> Result<(), AllocError>
+    ensures { OnOk result (string_bytes answer.new ≡ set_text family set.now) }
+{
+    print(answer, &set.display_with_family(family))
+}
+
+/// Prints a fault, after `error: `.
+pub(crate) fn write_fault<E: fmt::Display, A: Allocator>(
+    answer: &mut String<A>,
+    fault: &E,
+) -> Result<(), AllocError>
+    // Whatever text the fault prints.
+    ensures { (fault_text : List ℕ) → E.output fault.now ≡ Some fault_text
+        → OnOk result (string_bytes answer.new ≡ error_line fault_text) }
+{
+    answer.clear();
+    write!(answer, "error: {fault}")
+}
+
+/// Prints the value, or the fault after `error: `. Returns `AllocError` if memory ran out in the call or
+/// for the text.
+pub(crate) fn show<T: fmt::Display + Drop, E: fmt::Display + Drop, A: Allocator>(
+    answer: &mut String<A>,
+    found: Result<T, OrMemory<E>>,
+) -> Result<(), AllocError>
+    // Whatever text each value and each fault prints, the answer shows it.
+    ensures { (value_text : T → List ℕ) → ((value : T) → T.output value ≡ Some (value_text value))
+        → (fault_text : E → List ℕ) → ((fault : E) → E.output fault ≡ Some (fault_text fault))
+        → OnOk result (ShowsResult value_text fault_text found (string_bytes answer.new)) }
+{
+    match found {
+        Ok(value) => print(answer, &value),
+        Err(OrMemory::Refused(fault)) => write_fault(answer, &fault),
+        Err(OrMemory::Memory(error)) => Err(error),
+    }
+}

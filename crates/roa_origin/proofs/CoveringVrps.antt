@@ -1,0 +1,89 @@
+-- The VRPs that cover a route, among the first of a table.
+use Rattle.roa_origin.proofs.Common.{List, [], ap, arith, false, get_or, length, refl, reverse, suc, true, zero, ℕ, ◌+◌, ◌-◌, ◌<◌, ◌↔◌, ◌∙◌, ◌∷◌, ◌≡◌, ◌≤◌, ◌⊎◌, and_parts, eq-eqb, eqb-true, le-leb, leb-true, append-nil, reverse-append, reverse-reverse, take_all, All-filter, filter_more, filter_passes, IsNonDecreasingBy-filter, filter, IsNonDecreasingBy, covers_round, round_covers, FamilyPrefix, IsFamilyPrefix, AreThose, IsWalk, covering_before, covers_route, AreLater, IsInOrder, IsLink, NoneCovers, CoversRoute, Vrp, prefix_len, vrp_place, Link}
+use Rattle.roa_origin.proofs.NestedRoutes.{covers_between, same_width}
+use Rattle.roa_origin.proofs.OrderNumbers.{covers_len, covers_place}
+use Rattle.roa_origin.proofs.LinkWalks.{later_covers_none, no_link, nowhere, passes_none, prefix_of}
+
+-- the test tells whether the VRP covers the route
+covers_if_true : (route : FamilyPrefix) (x : Vrp) → (covers_route route x ≡ true) ↔ CoversRoute route x
+covers_if_true route x = (
+  (λ e. covers_round x.0.prefix route (grind (arith, and_parts, eqb-true, leb-true))),
+  λ c. grind (arith, eq-eqb, le-leb, round_covers, same_width),
+)
+
+-- what the test picks out of a list are those that cover the route
+pub are_those : (route : FamilyPrefix) (xs : List Vrp)
+    → AreThose (CoversRoute route) xs (filter (covers_route route) xs)
+are_those route [] = refl
+are_those route (x ∷ xs) = grind (arith, covers_if_true route x, are_those route xs)
+
+module _ (route : FamilyPrefix) (xs : List Vrp) where
+  -- one VRP more is the first of them, or none
+  covers_step : (k : ℕ) (d : Vrp) → k < length xs → CoversRoute route (get_or xs k d)
+      → covering_before route xs (k + 1) ≡ get_or xs k d ∷ covering_before route xs k
+  covers_step k d small covers =
+      rw (filter_more (covers_route route) xs k d small, (covers_if_true route (get_or xs k d)).1 covers, reverse-append) refl
+
+  free_step : (k : ℕ) (d : Vrp) → k < length xs → ¬ CoversRoute route (get_or xs k d)
+      → covering_before route xs (k + 1) ≡ covering_before route xs k
+  free_step k d small free =
+      let fails : covers_route route (get_or xs k d) ≡ false = grind (arith, covers_if_true) in
+      rw (filter_more (covers_route route) xs k d small, fails, append-nil) refl
+
+  -- places at which none covers the route give none
+  pub none_between : (n to from : ℕ) → to ≡ from + n → to ≤ length xs → NoneCovers xs route from to
+      → covering_before route xs to ≡ covering_before route xs from
+  none_between zero to from far high none = ap (covering_before route xs) (let e : to ≡ from = omega arith in e)
+  none_between (suc n) to from far high none =
+      let on : to ≡ from + n + 1 = omega (arith, far) in
+      rw on (grind (arith, free_step (from + n) nowhere, none (from + n) nowhere, none_between n (from + n) from))
+
+  -- what comes later than the route doesn't cover it: those before it are all that do
+  pub all_before : (n : ℕ) → IsInOrder xs → IsFamilyPrefix route → n ≤ length xs → AreLater xs n route
+      → reverse (covering_before route xs n) ≡ filter (covers_route route) xs
+  all_before n order is high later =
+      let none = later_covers_none route xs n order is later in
+      let all = none_between (length xs - n) (length xs) n (omega arith) (omega arith) none in
+      rw (← all, take_all (length xs) xs (omega arith), reverse-reverse)
+
+-- in order, those that cover a route go from the shortest prefix to the longest
+pub by_length : (route : FamilyPrefix) (xs : List Vrp) → IsFamilyPrefix route → IsInOrder xs
+    → IsNonDecreasingBy prefix_len (filter (covers_route route) xs)
+by_length route xs is order i j d before inside =
+    let are = All-filter (covers_route route) (λ x. IsFamilyPrefix x.0.prefix) xs (prefix_of xs order) in
+    let passes = filter_passes (covers_route route) xs in
+    let places = IsNonDecreasingBy-filter vrp_place (covers_route route) xs order.ordered i j d before inside in
+    grind (arith, passes i d, passes j d, are i d, are j d, covers_between, covers_len, covers_place, covers_if_true)
+
+-- the walk's next step: the nearest VRP that covers the route; what is left is what its link leaves
+module _ {xs : List Vrp} {links : List Link} {n : ℕ} {route : FamilyPrefix} (walk : IsWalk xs links n route)
+    {at left : ℕ} {l : Link} (some : 0 < at) (back : at ≤ n) (is : l ≡ get_or links (at - 1) no_link)
+    (goes : ((left ≡ at - 1) × (l.first < at - 1)) ⊎ ((left ≡ l.back) × (at - 1 ≤ l.first))) where
+  link : (d : Vrp) → IsLink xs (at - 1) (get_or xs (at - 1) d) l
+  link d = rw is (walk.table.linked (at - 1) d no_link (omega (arith, some, back, walk.within, walk.table.as_many)))
+
+  before : left ≤ at - 1
+  before = grind (arith, link nowhere)
+
+  pub walk_on : IsWalk xs links left route
+  walk_on = grind (arith, before, some)
+
+  between : NoneCovers xs route left (at - 1)
+  between k d from small there =
+      let order = walk.table.in_order in
+      let passed = passes_none xs n route order walk.up_to walk.within walk.is_prefix (at - 1) l (omega arith) link in
+      grind (arith, passed k d)
+
+  pub gives : (d : Vrp) → CoversRoute route (get_or xs (at - 1) d) → NoneCovers xs route at n
+      → covering_before route xs n ≡ get_or xs (at - 1) d ∷ covering_before route xs left
+  gives d covers none =
+      let there : at - 1 < length xs = omega (arith, some, back, walk.within) in
+      let passed = none_between route xs (at - 1 - left) _ left (omega (arith, before)) (omega arith) between in
+      none_between route xs (n - at) n at (omega arith) walk.within none
+      ∙ ap (covering_before route xs) (let on : at ≡ at - 1 + 1 = omega arith in on)
+      ∙ rw (covers_step route xs (at - 1) d there covers, passed)
+
+-- and where there is none, nothing is left
+pub nothing_left : {xs : List Vrp} {links : List Link} {n : ℕ} {route : FamilyPrefix} → IsWalk xs links n route
+    → NoneCovers xs route 0 n → covering_before route xs n ≡ []
+nothing_left {xs} {links} {n} {route} walk none = none_between route xs n n 0 (omega arith) walk.within none

@@ -1,0 +1,136 @@
+//! A lookup of a route in a table, step by step.
+ghost use Rattle.std.specs.Prelude.{◌≡◌, ◌≤◌, ◌↔◌, IsTrue, length, reverse};
+ghost use Rattle.std.specs.List.{filter};
+ghost use Rattle.rpki_prefix.specs.Values.{IsFamilyPrefix};
+ghost use Rattle.roa_origin.specs.Coverings.{covers_route};
+ghost use Rattle.roa_origin.specs.Links.{AreLater, AreUpTo, IsInOrder, IsTable};
+ghost use Rattle.roa_origin.specs.Starts.{AreStarts};
+ghost use Rattle.roa_origin.specs.Validities.{HasCoveringAsn, IsValidity};
+
+use crate::covering::Covering;
+use crate::links::Link;
+use crate::packed_vrp::PackedVrp;
+use crate::table::{count_between, has_covering_asn_in, validity_in};
+use crate::validation::Validity;
+use std::fmt;
+use std::marker::Model;
+
+/// A lookup of a route in a table.
+///
+/// Each step reads another element of the table. With many routes, take a step for several of them before the next step
+/// for the first one. Then the reads for one route don't wait for those for another. The value in contracts is the
+/// table's VRPs, the route's prefix and its AS.
+#[derive(Drop)]
+pub struct Lookup<'a> {
+    vrps: &'a [PackedVrp],
+    links: &'a [Link],
+    from: usize,
+    to: usize,
+    route: PackedVrp,
+}
+
+impl<'a> Model for Lookup<'a> {
+    ghost use Rattle.roa_origin.specs.Lookups.{IsLookupBetween, RouteLookup};
+
+    ghost Value = { RouteLookup };
+
+    ghost view = { λ s. record {
+      vrps = s.vrps.now;
+      route = s.route.0.prefix;
+      asn = s.route.1;
+    } };
+
+    ghost invariant = { λ s. IsLookupBetween s.vrps.now s.links.now s.from s.to s.route.0.prefix };
+}
+
+impl<'a> Lookup<'a> {
+    /// Starts a lookup: the starts give the two indices between which it searches.
+    #[tactic(auto, using(crate::proofs::FirstBits::between_starts))]
+    pub(crate) fn of(
+        vrps: &'a [PackedVrp],
+        links: &'a [Link],
+        starts: &[u32],
+        bits: u8,
+        route: PackedVrp,
+    ) -> Lookup<'a>
+        requires table { IsTable vrps.now links.now }
+        requires is_prefix { IsFamilyPrefix route.0.prefix }
+        requires starts { AreStarts bits vrps.now starts.now }
+        ensures vrps { result.vrps ≡ vrps.now }
+        ensures route { result.route ≡ route.0.prefix }
+        ensures asn { result.asn ≡ route.1 }
+    {
+        let number = route.first_bits(bits);
+        let from = starts[number] as usize;
+        let to = starts[number + 1] as usize;
+        Lookup {
+            vrps,
+            links,
+            from,
+            to,
+            route,
+        }
+    }
+
+    /// Takes the next step: the VRP in the middle halves the range that is left. The result of the lookup stays the
+    /// same.
+    pub fn advance(&mut self)
+        ensures { self.new ≡ self.old }
+    {
+        if self.from == self.to {
+            return;
+        }
+        let middle = self.from + (self.to - self.from) / 2;
+        if self.vrps[middle].comes_by(&self.route) {
+            self.from = middle + 1;
+        } else {
+            self.to = middle;
+        }
+    }
+
+    /// Returns how many VRPs come no later than the route's prefix in the table's order.
+    pub(crate) fn count(&self) -> usize
+        ensures within { result ≤ length self.now.vrps }
+        ensures up_to { AreUpTo self.now.vrps result self.now.route }
+        ensures later { AreLater self.now.vrps result self.now.route }
+    {
+        count_between(self.vrps, self.from, self.to, &self.route)
+    }
+
+    /// Returns the validity of the route by the VRPs of the table.
+    pub fn validity(&self) -> Validity
+        ensures { IsValidity self.now.route self.now.asn self.now.vrps result }
+    {
+        validity_in(self.vrps, self.links, self.count(), &self.route)
+    }
+
+    /// Returns whether a VRP of the table that covers the route has its AS, and that AS is not AS0.
+    pub fn has_covering_asn(&self) -> bool
+        ensures { IsTrue result ↔ HasCoveringAsn self.now.route self.now.asn self.now.vrps }
+    {
+        has_covering_asn_in(self.vrps, self.links, self.count(), &self.route)
+    }
+
+    /// Returns the VRPs of the table that cover the route, the last first.
+    #[tactic(auto, using(crate::proofs::CoveringVrps::all_before))]
+    pub(crate) fn covering(self) -> Covering<'a>
+        ensures covering { reverse result
+            ≡ filter (covers_route self.entry.route) self.entry.vrps }
+        ensures in_order { IsInOrder self.entry.vrps }
+        ensures is_prefix { IsFamilyPrefix self.entry.route }
+    {
+        let at = self.count();
+        Covering::from(self.vrps, self.links, at, self.route)
+    }
+}
+
+/// Shows the route. It doesn't show the table's VRPs.
+impl fmt::Debug for Lookup<'_> {
+    fn fmt<W: fmt::Write>(&self, f: &mut fmt::Formatter<W>) -> fmt::Result {
+        let (prefix, asn) = self.route.vrp();
+        f.debug_struct("Lookup")
+            .field("route", &prefix.prefix())
+            .field("asn", &asn)
+            .finish_non_exhaustive()
+    }
+}

@@ -1,0 +1,310 @@
+//! VRPs as a table stores them: in 32 octets each.
+ghost use Rattle.std.specs.Prelude.{◌+◌, ◌-◌, ◌*◌, ◌^◌, ◌<◌, ◌≡◌, ◌↔◌, ◌≤◌, IsTrue, nat_le, nat_lt};
+ghost use Rattle.std.specs.Ordering.{nat_cmp};
+ghost use Rattle.rpki_prefix.specs.Values.{IsFamilyPrefix, is_v6, width};
+ghost use Rattle.roa_origin.specs.Vrps.{CoversRoute, HasAs, IsLawfulVrp, Matches, longest, prefix_len};
+ghost use Rattle.roa_origin.specs.Places.{vrp_place, rank, sent_place, sent_rank, table_place, max_len_flag};
+ghost use Rattle.roa_origin.specs.Starts.{first_bits};
+
+use crate::vrp::Vrp;
+use rpki_base::Asn;
+use rpki_base::addr::{IpAddr, Ipv4Addr, Ipv6Addr};
+use rpki_prefix::{MaxLenPrefix, Prefix};
+use std::cmp::Ordering;
+use std::marker::Model;
+
+/// The fields of a VRP, without the padding of their types. Its value in contracts is the VRP.
+#[derive(Clone, Copy)]
+pub(crate) struct PackedVrp {
+    bits: u128,
+    asn: Asn,
+    len: u8,
+    max_len: Option<u8>,
+    is_v6: bool,
+}
+
+impl Model for PackedVrp {
+    ghost use Rattle.std.specs.Prelude.{◌^◌, ◌<◌};
+    ghost use Rattle.rpki_prefix.specs.MaxLen.{IsMaxLenOf};
+    ghost use Rattle.rpki_prefix.specs.Values.{IsFamilyPrefix};
+    ghost use Rattle.roa_origin.specs.PackedVrps.{address_bits, is_of_v6, vrp_of};
+    ghost use Rattle.roa_origin.specs.Vrps.{Vrp};
+
+    ghost Value = { Vrp };
+
+    ghost view = { λ e. vrp_of e.is_v6 e.bits e.len e.max_len e.asn };
+
+    ghost invariant = { λ e. IsFamilyPrefix (vrp_of e.is_v6 e.bits e.len e.max_len e.asn).0.prefix
+        × IsMaxLenOf (vrp_of e.is_v6 e.bits e.len e.max_len e.asn).0.prefix e.max_len
+        × (e.asn < 2 ^ 32) };
+
+    ghost inverse = { λ p. record {
+      bits = address_bits p;
+      asn = p.1;
+      len = p.0.prefix.len;
+      max_len = p.0.max_len;
+      is_v6 = is_of_v6 p;
+    } };
+}
+
+impl PackedVrp {
+    /// Returns the packed form of a VRP.
+    pub(crate) fn new(vrp: Vrp) -> PackedVrp
+        ensures value { result ≡ vrp }
+        ensures vrp { IsLawfulVrp vrp }
+    {
+        let (prefix, asn) = vrp;
+        asn.recall_invariant();
+        let len = prefix.prefix().len();
+        let max_len = prefix.max_len();
+        match prefix.addr() {
+            IpAddr::V4(addr) => PackedVrp {
+                bits: u128::from(addr.to_bits()),
+                asn,
+                len,
+                max_len,
+                is_v6: false,
+            },
+            IpAddr::V6(addr) => PackedVrp {
+                bits: addr.to_bits(),
+                asn,
+                len,
+                max_len,
+                is_v6: true,
+            },
+        }
+    }
+
+    /// Returns the packed form of a route: a VRP of its prefix and AS without a maximum length. A lookup makes it once.
+    pub(crate) fn of_route(route: Prefix, asn: Asn) -> PackedVrp
+        ensures route { result.0.prefix ≡ route }
+        ensures asn { result.1 ≡ asn }
+        ensures prefix { IsFamilyPrefix route }
+    {
+        route.recall_invariant();
+        PackedVrp::new((MaxLenPrefix::from(route), asn))
+    }
+
+    /// Returns the VRP.
+    pub(crate) fn vrp(&self) -> Vrp
+        ensures { result ≡ self.now }
+    {
+        match MaxLenPrefix::new(self.prefix(), self.max_len) {
+            Ok(prefix) => (prefix, self.asn),
+            Err(_) => unreachable!(),
+        }
+    }
+
+    /// Returns the VRP's prefix.
+    pub(crate) fn prefix(&self) -> Prefix
+        ensures { result ≡ self.now.0.prefix }
+    {
+        let addr = if self.is_v6 {
+            IpAddr::V6(Ipv6Addr::from_bits(self.bits))
+        } else {
+            IpAddr::V4(Ipv4Addr::from_bits(self.bits as u32))
+        };
+        match Prefix::new(addr, self.len) {
+            Ok(prefix) => prefix,
+            Err(_) => unreachable!(),
+        }
+    }
+
+    /// Returns the length of the longest route that the VRP allows: its maximum length, or its prefix length if it has
+    /// none.
+    fn longest(&self) -> u8
+        ensures { result ≡ longest self.now }
+    {
+        self.max_len.unwrap_or(self.len)
+    }
+
+    /// Returns 1 if the VRP has a maximum length, and 0 otherwise.
+    fn max_len_flag(&self) -> u64
+        ensures value { result ≡ max_len_flag self.now.0.max_len }
+        ensures few { result ≤ 1 }
+    {
+        match self.max_len {
+            Some(_) => 1,
+            None => 0,
+        }
+    }
+
+    /// Returns the sort key of VRPs of one prefix as they are sent: descending by AS number, then ascending by longest
+    /// route.
+    fn sent_rank(&self) -> u64
+        ensures value { result ≡ sent_rank self.now }
+        ensures small { result < 2 ^ 42 }
+    {
+        let below_greatest = u64::from(u32::MAX - self.asn.into_u32());
+        below_greatest * 512 + u64::from(self.longest()) * 2
+    }
+
+    /// Returns the sort key of VRPs of one prefix. If all else is equal, a VRP without a maximum length comes first.
+    fn rank(&self) -> u64
+        ensures { result ≡ rank self.now }
+    {
+        self.sent_rank() + self.max_len_flag()
+    }
+
+    /// Compares the ranks of two VRPs as they are sent.
+    fn cmp_sent_rank(&self, other: &PackedVrp) -> Ordering
+        ensures { result ≡ nat_cmp (sent_rank self.now) (sent_rank other.now) }
+    {
+        self.sent_rank().cmp(&other.sent_rank())
+    }
+
+    /// Compares the ranks of two VRPs.
+    fn cmp_rank(&self, other: &PackedVrp) -> Ordering
+        ensures { result ≡ nat_cmp (rank self.now) (rank other.now) }
+    {
+        self.rank().cmp(&other.rank())
+    }
+
+    /// Compares the prefixes of two VRPs in a table's order.
+    #[tactic(auto, using(crate::proofs::OrderNumbers::fields_cmp))]
+    fn cmp_prefix(&self, other: &PackedVrp) -> Ordering
+        ensures order { result ≡ nat_cmp (vrp_place self.now) (vrp_place other.now) }
+        ensures vrps { IsLawfulVrp self.now × IsLawfulVrp other.now }
+    {
+        let by_family = self.is_v6.cmp(&other.is_v6);
+        by_family
+            .then(self.bits.cmp(&other.bits))
+            .then(self.len.cmp(&other.len))
+    }
+
+    /// Compares two VRPs in a table's order.
+    pub(crate) fn cmp_place(&self, other: &PackedVrp) -> Ordering
+        ensures { result ≡ nat_cmp (table_place self.now) (table_place other.now) }
+    {
+        match self.cmp_prefix(other) {
+            Ordering::Equal => self.cmp_rank(other),
+            by_prefix => by_prefix,
+        }
+    }
+
+    /// Returns whether the VRP comes no later than `other` in a table's order.
+    pub(crate) fn is_up_to(&self, other: &PackedVrp) -> bool
+        ensures { result ≡ nat_le (table_place self.now) (table_place other.now) }
+    {
+        self.cmp_place(other).is_le()
+    }
+
+    /// Compares two VRPs as they are sent, in a table's order.
+    pub(crate) fn cmp_sent(&self, other: &PackedVrp) -> Ordering
+        ensures order { result ≡ nat_cmp (sent_place self.now) (sent_place other.now) }
+        ensures vrps { IsLawfulVrp self.now × IsLawfulVrp other.now }
+    {
+        match self.cmp_prefix(other) {
+            Ordering::Equal => self.cmp_sent_rank(other),
+            by_prefix => by_prefix,
+        }
+    }
+
+    /// Returns whether the VRP, as it is sent, comes before `other` in a table's order.
+    pub(crate) fn is_sent_before(&self, other: &PackedVrp) -> bool
+        ensures { result ≡ nat_lt (sent_place self.now) (sent_place other.now) }
+    {
+        self.cmp_sent(other).is_lt()
+    }
+
+    /// Returns whether the two VRPs are sent alike.
+    pub(crate) fn is_sent_as(&self, other: &PackedVrp) -> bool
+        ensures same { IsTrue result ↔ (sent_place self.now ≡ sent_place other.now) }
+        ensures vrps { IsLawfulVrp self.now × IsLawfulVrp other.now }
+    {
+        self.cmp_sent(other).is_eq()
+    }
+
+    /// Returns whether the VRP's prefix comes no later than the prefix of `other` in a table's order.
+    pub(crate) fn comes_by(&self, other: &PackedVrp) -> bool
+        ensures { IsTrue result ↔ (vrp_place self.now ≤ vrp_place other.now) }
+    {
+        if self.is_v6 != other.is_v6 {
+            return other.is_v6;
+        }
+        self.bits < other.bits || (self.bits == other.bits && self.len <= other.len)
+    }
+
+    /// Returns whether both VRPs have the same prefix.
+    pub(crate) fn has_prefix_of(&self, other: &PackedVrp) -> bool
+        ensures { IsTrue result ↔ (self.now.0.prefix ≡ other.now.0.prefix) }
+    {
+        self.cmp_prefix(other).is_eq()
+    }
+
+    /// Returns the number that the first `count` bits of the prefix's address write, plus 2^`count` for IPv6.
+    #[tactic(auto, using(crate::proofs::FirstBits::few_numbers, crate::proofs::FirstBits::first_part))]
+    pub(crate) fn first_bits(&self, count: u8) -> usize
+        requires some { 1 ≤ count }
+        requires few { count ≤ 20 }
+        ensures value { result ≡ first_bits count self.now.0.prefix }
+        ensures below { result < 2 * 2 ^ count }
+    {
+        if self.is_v6 {
+            (1 << count) + (self.bits >> (128 - count)) as usize
+        } else {
+            (self.bits >> (32 - count)) as usize
+        }
+    }
+
+    /// Returns how many of 128 bits the prefix fixes. An IPv4 address is in the last 32 bits.
+    fn fixed_bits(&self) -> u8
+        ensures { result + (width self.now.0.prefix.addr - prefix_len self.now) ≡ 128 }
+    {
+        if self.is_v6 { self.len } else { self.len + 96 }
+    }
+
+    /// Returns the number of addresses of the prefix, minus one.
+    fn addresses_after(&self) -> u128
+        ensures { result + 1 ≡ 2 ^ (width self.now.0.prefix.addr - prefix_len self.now) }
+    {
+        let fixed = self.fixed_bits();
+        if fixed == 128 { 0 } else { u128::MAX >> fixed }
+    }
+
+    /// Returns whether both are of the same address family.
+    fn has_family_of(&self, other: &PackedVrp) -> bool
+        ensures { IsTrue result ↔ (is_v6 self.now.0.prefix.addr ≡ is_v6 other.now.0.prefix.addr) }
+    {
+        self.is_v6 == other.is_v6
+    }
+
+    /// Returns whether the VRP covers the route (RFC 6811, 2).
+    #[tactic(auto, using(crate::proofs::NestedRoutes::starts_by, crate::proofs::OrderNumbers::covers_len))]
+    pub(crate) fn covers(&self, route: &PackedVrp) -> bool
+        ensures { IsTrue result ↔ CoversRoute route.now.0.prefix self.now }
+    {
+        if !self.has_family_of(route) {
+            return false;
+        }
+        if route.len < self.len {
+            return false;
+        }
+        if route.bits < self.bits {
+            return false;
+        }
+        route.bits - self.bits <= self.addresses_after()
+    }
+
+    /// Returns whether the VRP's AS number is not below the route's.
+    pub(crate) fn has_asn_from(&self, route: &PackedVrp) -> bool
+        ensures { result ≡ nat_le route.now.1 self.now.1 }
+    {
+        route.asn.into_u32() <= self.asn.into_u32()
+    }
+
+    /// Returns whether the VRP's AS is the route's, and is not AS0.
+    pub(crate) fn has_as_of(&self, route: &PackedVrp) -> bool
+        ensures { IsTrue result ↔ HasAs route.now.1 self.now }
+    {
+        route.asn != Asn::MIN && self.asn == route.asn
+    }
+
+    /// Returns whether the VRP matches a route that it covers (RFC 6811, 2; RFC 9582, 4.3.2).
+    pub(crate) fn allows(&self, route: &PackedVrp) -> bool
+        requires { CoversRoute route.now.0.prefix self.now }
+        ensures { IsTrue result ↔ Matches route.now.0.prefix route.now.1 self.now }
+    {
+        self.has_as_of(route) && route.len <= self.longest()
+    }
+}

@@ -1,0 +1,44 @@
+-- The columns that a line names.
+use Rattle.roa_vrps.proofs.Common.{List, [], arith, suc, ℕ, ◌+◌, ◌-◌, ◌<◌, ◌≡◌, after_first, IsColumn, IsHeader, Names, field, is_comma, Columns}
+use borrow.Author.Tests.{ltb-true, ltb-false}
+use Rattle.roa_vrps.specs.declared.columns.Column.{Column}
+use Rattle.roa_vrps.proofs.FieldLemmas.{field_empty}
+
+-- an empty text is no column's name
+no_name : (column : Column) → ¬ Names column []
+no_name column e = grind (arith)
+
+-- so many fields of the line aren't the column's name, and the others are those of the rest
+pub record AreLooked (column : Column) (line rest : List ℕ) (commas : ℕ) : Type 0 where
+  pub same : (n : ℕ) → field (commas + n) line ≡ field n rest
+  pub none : (m : ℕ) → m < commas → ¬ Names column (field m line)
+
+pub looked_none : (column : Column) (line : List ℕ) → AreLooked column line line 0
+looked_none column line = grind (arith)
+
+-- one field more, which isn't the column's name
+pub looked_more : (column : Column) (line rest : List ℕ) (commas : ℕ) → AreLooked column line rest commas
+    → ¬ Names column (field 0 rest) → AreLooked column line (after_first is_comma rest) (commas + 1)
+looked_more column line rest commas had other = record {
+  same = λ n. grind (arith, had.same (suc n));
+  none = λ m less named. grind (arith, had.same 0, had.none m);
+}
+
+-- one field more, which is
+pub looked_found : (column : Column) (line rest : List ℕ) (commas : ℕ) → AreLooked column line rest commas
+    → Names column (field 0 rest) → IsColumn column line commas
+looked_found column line rest commas had named = grind (arith, had.same 0)
+
+-- nothing is left
+pub looked_all : (column : Column) (line rest : List ℕ) (commas : ℕ) → AreLooked column line rest commas → rest ≡ []
+    → (n : ℕ) → ¬ Names column (field n line)
+looked_all column line rest commas had end n named =
+    grind (arith, no_name, field_empty, had.none n, had.same (n - commas))
+
+-- a line has one column of a name
+pub column_one : (column : Column) (line : List ℕ) (m n : ℕ) → IsColumn column line m → IsColumn column line n → m ≡ n
+column_one column line m n h k = grind (arith, ltb-false, ltb-true)
+
+-- so it names one list of columns
+pub header_one : (line : List ℕ) (a b : Columns) → IsHeader line a → IsHeader line b → a ≡ b
+header_one line a b h k = grind (arith, column_one)

@@ -1,0 +1,30 @@
+-- What the proofs of this crate use of std, of the crates below and of its own definitions, passed on by one name.
+pub use Rattle.std.proofs.Common.{Err, IfOk, IsTrue, List, MatchResult, None, Ok, Option, Result, Some, Vec, [], ap, append-nil, append_assoc, arith, false, if◌then◌else◌, inl, inr, length, not, refl, suc, sym, take, true, zero, ℕ, ◌++◌, ◌+◌, ◌-◌, ◌<◌, ◌^◌, ◌∙◌, ◌∷◌, ◌≡◌, ◌≢◌, ◌≤◌, ◌↔◌, ◌⊎◌}
+pub use Rattle.std.proofs.lemmas.Bool.{eqb-false, eqb-true}
+pub use Rattle.std.proofs.lemmas.List.{length-append, nil_from_length, take_more}
+pub use Rattle.std.specs.Option.{option_and_then}
+pub use Rattle.std.specs.List.{after_first, before_first}
+pub use Rattle.std.specs.Str.{IsUtf8, bytes_eq, trim}
+pub use denote.Shadow.{shadow}
+pub use denote.Text.{Utf8}
+pub use Rattle.json.proofs.Grammar.{Takes, items_end, items_fail, items_more, left, left-parse_map, left_none, left_some, members_end, members_fail, members_more, members_no_key, read_key-shorter, skip_value-shorter, value-begin_array, value-begin_object, value_is}
+pub use Rattle.json.specs.Json.{Items, Json, Members, Parse, after_end_array, array, document, item, items, member, members, no_items, no_members, object, parse_map, read_key, value}
+pub use Rattle.json.specs.Reads.{token_of}
+pub use Rattle.json.specs.Token.{Token}
+pub use Rattle.json.specs.Value.{members_view, value_view}
+pub use Rattle.rpki_prefix.specs.MaxLen.{HasMaxLenError, IsMaxLenOf, MaxLenValue}
+pub use Rattle.rpki_text.specs.Reading.{Answers, AnswersOrMemory}
+pub use Rattle.roa_vrps.specs.Columns.{IsColumn, IsHeader, Names, usual}
+pub use Rattle.roa_vrps.specs.Fields.{after_commas, field, is_comma, unquoted}
+pub use Rattle.roa_vrps.specs.Items.{AreItems, HasItemFault, HasTexts, HaveWrongItem, IsItem}
+pub use Rattle.roa_vrps.specs.JsonFiles.{HasJsonFault, IsJsonFile, IsRoasResult, roas}
+pub use Rattle.roa_vrps.specs.Members.{AreWrong, HasMemberFault, HasText, IsFound, values_in}
+pub use Rattle.roa_vrps.specs.Rows.{AreVrpTexts, HasRowFault, HaveFault, IsBody, IsRow}
+pub use Rattle.roa_vrps.specs.declared.columns.Columns.{Columns}
+pub use Rattle.roa_vrps.specs.declared.fault.FileFault.{FileFault}
+pub use Rattle.roa_vrps.specs.declared.fault.FileFault.TheVariants.{Item, Line, NoVrp, Roas}
+pub use Rattle.roa_vrps.specs.declared.fault.ItemFault.{ItemFault}
+pub use Rattle.roa_vrps.specs.declared.fault.MemberFault.TheVariants.{Kind, Missing, Repeated}
+pub use Rattle.roa_vrps.specs.declared.fault.VrpFault.{VrpFault}
+pub use Rattle.roa_vrps.specs.declared.row.Row.{Row}
+pub use Rattle.roa_vrps.specs.declared.row.Row.TheVariants.{Header, Vrp}

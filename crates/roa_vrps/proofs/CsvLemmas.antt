@@ -1,0 +1,90 @@
+-- The lines of a file, read one after another; a file writes one list of VRPs, or has one fault.
+use Rattle.roa_vrps.proofs.Common.{List, [], append-nil, append_assoc, arith, inl, inr, refl, sym, ℕ, ◌++◌, ◌+◌, ◌∙◌, ◌∷◌, ◌≡◌, ◌≢◌, usual, HasRowFault, IsRow, Columns, FileFault, Line, MaxLenValue, NoVrp, Vrp, VrpFault, Row}
+use Rattle.rpki_text.specs.Lines.{lines_of}
+use Rattle.roa_vrps.specs.Csv.{AreRows, HaveFirstFault, HasCsvFault, IsCsvFile, columns_after, vrps_of}
+use Rattle.roa_vrps.specs.Asking.{BeginVrps, HasCsvVrp}
+use Rattle.roa_vrps.proofs.ItemLemmas.{Vrps}
+use Rattle.roa_vrps.proofs.RowLemmas.{row_apart, row_fault_one, row_one}
+
+-- What the rest of a text writes behind the VRPs before it, the text writes; what is wrong there first is so in the
+-- text.
+pub record IsReadSo (text rest : List ℕ) (number : ℕ) (columns : Columns) (vrps : Vrps) : Type 0 where
+  pub values : (more : Vrps) → AreRows columns (lines_of rest) more
+      → AreRows usual (lines_of text) (vrps ++ more)
+  pub faults : (fault : FileFault) → HaveFirstFault (number + 1) columns (lines_of rest) fault
+      → HaveFirstFault 1 usual (lines_of text) fault
+  pub begins : BeginVrps columns (lines_of rest) → HasCsvVrp text
+
+-- nothing is read yet
+pub read_none : (text : List ℕ) → IsReadSo text text 0 usual []
+read_none text = record { values = λ more rows. rows; faults = λ fault wrong. wrong; begins = λ later. later }
+
+module _ (text rest after line : List ℕ) (number : ℕ) (columns : Columns) (vrps : Vrps)
+    (had : IsReadSo text rest number columns vrps) (first : lines_of rest ≡ line ∷ lines_of after) where
+  -- one line more
+  pub read_more : (row : Row) → IsRow columns line row
+      → IsReadSo text after (number + 1) (columns_after columns row) (vrps ++ vrps_of row)
+  read_more row is = record {
+    values = λ more rows.
+        rw append_assoc (had.values (vrps_of row ++ more) (rw first (row, is, more, refl, rows)));
+    faults = λ fault wrong. had.faults fault (rw first (inr (row, is, wrong)));
+    begins = λ later. had.begins (rw first (row, is, inr later));
+  }
+
+  -- which writes no VRP
+  pub read_over : (row : Row) → vrps_of row ≡ [] → IsRow columns line row
+      → IsReadSo text after (number + 1) (columns_after columns row) vrps
+  read_over row none is = grind (arith, read_more)
+
+  -- it writes one, for which memory is requested
+  pub read_wanting : (vrp : MaxLenValue × ℕ) → IsRow columns line (Vrp vrp) → HasCsvVrp text
+  read_wanting vrp is = had.begins (rw first (Vrp vrp, is, inl (λ none. cc none)))
+
+  -- the next line is wrong
+  pub read_wrong : (wrong : VrpFault) → HasRowFault columns line wrong → HasCsvFault text (Line (number + 1) wrong)
+  read_wrong wrong has = had.faults (Line (number + 1) wrong) (rw first (inl (wrong, has, refl)))
+
+-- nothing is left
+module _ (text rest : List ℕ) (number : ℕ) (columns : Columns) (vrps : Vrps)
+    (had : IsReadSo text rest number columns vrps) (end : rest ≡ []) where
+  read_all : AreRows usual (lines_of text) vrps
+  read_all = rw append-nil at (had.values [] (rw end refl))
+
+  pub read_some : vrps ≢ [] → IsCsvFile text vrps
+  read_some some = (read_all, some)
+
+  pub read_no_vrp : vrps ≡ [] → HasCsvFault text NoVrp
+  read_no_vrp none = rw none at read_all
+
+-- lines write one list of VRPs
+rows_one : (columns : Columns) (lines : List (List ℕ)) (a b : Vrps) → AreRows columns lines a
+    → AreRows columns lines b → a ≡ b
+rows_one columns [] a b h k = h ∙ sym k
+rows_one columns (line ∷ lines) a b h k = grind (arith, row_one, rows_one (columns_after columns h.0) lines)
+
+-- lines that write VRPs have no fault
+rows_apart : (number : ℕ) (columns : Columns) (lines : List (List ℕ)) (a : Vrps) (fault : FileFault)
+    → AreRows columns lines a → HaveFirstFault number columns lines fault → ⊥
+rows_apart number columns [] a fault h wrong = wrong
+rows_apart number columns (line ∷ lines) a fault (row, is, more, a_is, rows) (inl (wrong, has, _)) =
+    row_apart columns line row wrong is has
+rows_apart number columns (line ∷ lines) a fault (row, is, more, a_is, rows) (inr (other, iz, later)) =
+    let same = row_one columns line row other is iz in
+    rows_apart (number + 1) (columns_after columns row) lines more fault rows (rw same later)
+
+-- lines have one first fault
+first_one : (number : ℕ) (columns : Columns) (lines : List (List ℕ)) (d e : FileFault)
+    → HaveFirstFault number columns lines d → HaveFirstFault number columns lines e → d ≡ e
+first_one number columns [] d e h k = absurd h
+first_one number columns (line ∷ lines) d e h k =
+    grind (arith, row_apart, row_fault_one, row_one, λ (next : Columns). first_one (number + 1) next lines)
+
+-- so a file writes one list, and then has no fault, or has one
+pub csv_one : (text : List ℕ) (a b : Vrps) → IsCsvFile text a → IsCsvFile text b → a ≡ b
+csv_one text a b h k = rows_one usual (lines_of text) a b h.0 k.0
+
+pub csv_apart : (text : List ℕ) (a : Vrps) (fault : FileFault) → IsCsvFile text a → HasCsvFault text fault → ⊥
+csv_apart text a fault h k = grind (arith, rows_apart, rows_one)
+
+pub csv_fault_one : (text : List ℕ) (d e : FileFault) → HasCsvFault text d → HasCsvFault text e → d ≡ e
+csv_fault_one text d e h k = grind (arith, first_one, rows_apart)

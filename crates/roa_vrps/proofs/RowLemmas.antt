@@ -1,0 +1,115 @@
+-- A line writes one thing alone, or has one fault.
+use Rattle.roa_vrps.proofs.Common.{List, MatchResult, Result, Some, [], ap, arith, inl, inr, sym, ℕ, ◌-◌, ◌^◌, ◌∙◌, ◌≡◌, ◌≢◌, ◌⊎◌, IsUtf8, trim, HasMaxLenError, IsMaxLenOf, MaxLenValue, Answers, IsHeader, field, AreVrpTexts, HasRowFault, HaveFault, IsBody, IsRow, Columns, VrpFault, Row, Vrp}
+use Rattle.roa_vrps.specs.Rows.{FitsColumns, HasCountFault, HaveColumnsFault}
+use Rattle.rpki_text.proofs.ReadingLemmas.{Answers-from_found}
+use Rattle.rpki_base.proofs.AsnLemmas.{IsAsnText-one}
+use Rattle.rpki_text.proofs.NumberTexts.{IsNumberText-one}
+use Rattle.rpki_prefix.specs.Values.{FamilyPrefix}
+use Rattle.rpki_prefix.specs.declared.error.MaxLenError.{MaxLenError}
+use Rattle.rpki_prefix.proofs.PrefixTextLemmas.{IsPrefixText-one, IsPrefixText-no_fault, HasPrefixTextFault-one, number_apart, same_number_fault}
+use Rattle.roa_vrps.specs.declared.fault.VrpFault.TheVariants.{NotUtf8, TooManyFields, TooFewFields, Asn, Prefix, MaxLenFormat, MaxLen}
+use Rattle.roa_vrps.proofs.ColumnLemmas.{header_one}
+
+-- a number is a maximum length of a prefix, or has one error
+max_apart : (p : FamilyPrefix) (n : ℕ) (f : MaxLenError) → IsMaxLenOf p (Some n) → HasMaxLenError p (Some n) f → ⊥
+max_apart p n f h above = grind (arith)
+
+max_error_one : (p : FamilyPrefix) (n : ℕ) (f g : MaxLenError) → HasMaxLenError p (Some n) f
+    → HasMaxLenError p (Some n) g → f ≡ g
+max_error_one p n f g h k = grind (arith)
+
+module _ (a p m : List ℕ) where
+  -- three texts write one VRP
+  pub vrp_one : (x y : MaxLenValue × ℕ) → AreVrpTexts a p m x.0 x.1 → AreVrpTexts a p m y.0 y.1 → x ≡ y
+  vrp_one x y h k =
+      let prefix = IsPrefixText-one p x.0.prefix y.0.prefix h.prefix_is k.prefix_is in
+      let len = IsNumberText-one (2 ^ 8 - 1) m h.len k.len h.len_is k.len_is in
+      grind (arith, prefix, len, IsAsnText-one a x.1 y.1 h.asn_is k.asn_is)
+
+  -- and then have no fault
+  pub fields_apart : (x : MaxLenValue) (j : ℕ) (f : VrpFault) → AreVrpTexts a p m x j → HaveFault a p m f → ⊥
+  fields_apart x j (MaxLenFormat f) h (_, _, wrong) = number_apart m h.len f h.len_is wrong
+  fields_apart x j (MaxLen f) h (_, (q, n, prefix, number, wrong)) =
+      let same = IsPrefixText-one p x.prefix q h.prefix_is prefix in
+      let len = IsNumberText-one (2 ^ 8 - 1) m h.len n h.len_is number in
+      max_apart q n f (rw (same, len) at h.within) wrong
+  fields_apart x j f h wrong = search (arith, IsPrefixText-no_fault)
+
+  -- three texts have one fault
+  pub have_one : (d e : VrpFault) → HaveFault a p m d → HaveFault a p m e → d ≡ e
+  have_one NotUtf8 e h k = absurd h
+  have_one (TooManyFields found named) e h k = absurd h
+  have_one (TooFewFields found named) e h k = absurd h
+  have_one d NotUtf8 h k = absurd k
+  have_one d (TooManyFields found named) h k = absurd k
+  have_one d (TooFewFields found named) h k = absurd k
+  have_one (Asn f) e h k = search (arith)
+  have_one (Prefix f) e h k = search (arith, HasPrefixTextFault-one, IsPrefixText-no_fault)
+  have_one (MaxLenFormat f) (MaxLenFormat g) (_, _, wrong) (_, _, other) =
+      ap MaxLenFormat (same_number_fault m f g wrong other)
+  have_one (MaxLenFormat f) (MaxLen g) (_, _, wrong) (_, (q, n, _, is, _)) = absurd (number_apart m n f is wrong)
+  have_one (MaxLenFormat f) e h k = search (arith, IsPrefixText-no_fault)
+  have_one (MaxLen f) (MaxLenFormat g) (_, (q, n, _, is, _)) (_, _, wrong) = absurd (number_apart m n g is wrong)
+  have_one (MaxLen f) (MaxLen g) (_, (q, n, prefix, number, wrong)) (_, (r, k, prefixed, numbered, other)) =
+      let same = IsPrefixText-one p q r prefix prefixed in
+      let len = IsNumberText-one (2 ^ 8 - 1) m n k number numbered in
+      ap MaxLen (max_error_one r k f g (rw (same, len) at wrong) other)
+  have_one (MaxLen f) e h k = search (arith, IsPrefixText-no_fault)
+
+-- a line that is to write a VRP
+pub body_of : (line : List ℕ) → IsUtf8 line → trim line ≢ [] → ((next : Columns) → ¬ IsHeader line next) → IsBody line
+body_of line utf8 some_text no_header = record { utf8 = utf8; some_text = some_text; no_header = no_header }
+
+module _ (columns : Columns) (line : List ℕ) where
+  -- the number of the fields has the fault, or their texts have
+  abbrev Fails : VrpFault → Type 0
+  Fails f = HasCountFault columns line f ⊎ (FitsColumns columns line × HaveColumnsFault columns line f)
+
+  -- the line isn't UTF-8, or its fields have the fault
+  faults : (f : VrpFault) → HasRowFault columns line f → ((¬ IsUtf8 line) × (f ≡ NotUtf8)) ⊎ (IsBody line × Fails f)
+  faults f h = grind (arith)
+
+  -- the fault of the fields is the line's
+  pub count_fault : (f : VrpFault) → IsBody line → HasCountFault columns line f → HasRowFault columns line f
+  count_fault f body h = grind (arith)
+
+  pub row_fault : (f : VrpFault) → IsBody line → FitsColumns columns line → HaveColumnsFault columns line f
+      → HasRowFault columns line f
+  row_fault f body fits h = grind (arith)
+
+  -- the number of the fields has one fault, and none where it fits
+  count_apart : (f : VrpFault) → FitsColumns columns line → HasCountFault columns line f → ⊥
+  count_apart f fits wrong = grind (arith)
+
+  count_one : (d e : VrpFault) → HasCountFault columns line d → HasCountFault columns line e → d ≡ e
+  count_one d e h k = grind (arith)
+
+  fails_one : (d e : VrpFault) → Fails d → Fails e → d ≡ e
+  fails_one d e h k = grind (arith, count_apart, count_one, have_one)
+
+  pub row_one : (x y : Row) → IsRow columns line x → IsRow columns line y → x ≡ y
+  row_one (Vrp p) (Vrp q) (_, _, h) (_, _, k) = ap Vrp (vrp_one _ _ _ p q h k)
+  row_one x y h k = grind (arith, header_one)
+
+  body_apart : (x : Row) (f : VrpFault) → IsRow columns line x → IsBody line → Fails f → ⊥
+  body_apart (Vrp p) f (_, fits, h) body wrong =
+      grind (arith, count_apart f fits, fields_apart _ _ _ p.0 p.1 f h)
+  body_apart x f h body wrong = grind (arith)
+
+  pub row_apart : (x : Row) (f : VrpFault) → IsRow columns line x → HasRowFault columns line f → ⊥
+  row_apart x f h wrong = grind (arith, faults f wrong, body_apart x f h)
+
+  one_of : (d e : VrpFault) → ((¬ IsUtf8 line) × (d ≡ NotUtf8)) ⊎ (IsBody line × Fails d)
+      → ((¬ IsUtf8 line) × (e ≡ NotUtf8)) ⊎ (IsBody line × Fails e) → d ≡ e
+  one_of d e (inl (_, is)) (inl (_, iz)) = is ∙ sym iz
+  one_of d e (inl (not_utf8, _)) (inr (body, _)) = absurd (not_utf8 body.utf8)
+  one_of d e (inr (body, _)) (inl (not_utf8, _)) = absurd (not_utf8 body.utf8)
+  one_of d e (inr (_, h)) (inr (_, k)) = fails_one d e h k
+
+  pub row_fault_one : (d e : VrpFault) → HasRowFault columns line d → HasRowFault columns line e → d ≡ e
+  row_fault_one d e h k = one_of d e (faults d h) (faults e k)
+
+  -- so what is found decides the answer
+  pub row_answers : (r : Result Row VrpFault) → MatchResult r (IsRow columns line) (HasRowFault columns line)
+      → Answers (IsRow columns line) (HasRowFault columns line) r
+  row_answers r found = Answers-from_found r found row_one row_apart row_fault_one

@@ -1,0 +1,24 @@
+-- The files for which a reader may run out of memory: those with something to keep.
+use Rattle.std.specs.Prelude.{◌≢◌, ◌⊎◌, ℕ, List, [], ◌∷◌}
+use Rattle.std.specs.Str.{IsUtf8}
+use Rattle.rpki_text.specs.Lines.{lines_of}
+use Rattle.roa_vrps.specs.Columns.{usual}
+use Rattle.roa_vrps.specs.Csv.{columns_after, vrps_of}
+use Rattle.roa_vrps.specs.Files.{IsCsvText, IsObjectText}
+use Rattle.roa_vrps.specs.Rows.{IsRow}
+use Rattle.roa_vrps.specs.declared.columns.Columns.{Columns}
+use Rattle.roa_vrps.specs.declared.row.Row.{Row}
+
+-- one of these lines is a VRP, and no line before it is wrong
+abbrev pub BeginVrps : Columns → List (List ℕ) → Type 0
+BeginVrps columns [] = ⊥
+BeginVrps columns (line ∷ lines) =
+    (row : Row) × IsRow columns line row × ((vrps_of row ≢ []) ⊎ BeginVrps (columns_after columns row) lines)
+
+-- a CSV file has a VRP before its first wrong line
+abbrev pub HasCsvVrp : List ℕ → Type 0
+HasCsvVrp text = BeginVrps usual (lines_of text)
+
+-- the file is UTF-8 that opens an object, or CSV with a VRP before the first wrong line
+abbrev pub MayWantMemory : List ℕ → Type 0
+MayWantMemory text = (IsObjectText text × IsUtf8 text) ⊎ (IsCsvText text × HasCsvVrp text)

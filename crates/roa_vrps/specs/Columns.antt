@@ -1,0 +1,29 @@
+-- The columns of a file: which field of a line is the AS number, which the prefix and which the maximum length.
+use Rattle.std.specs.Prelude.{◌≡◌, ◌⊎◌, ℕ, ◌<◌, List, codes, false, true}
+use Rattle.roa_vrps.specs.Fields.{field, field_count}
+use Rattle.roa_vrps.specs.declared.columns.Column.{Column}
+use Rattle.roa_vrps.specs.declared.columns.Column.TheVariants.{Asn, Prefix, MaxLen}
+use Rattle.roa_vrps.specs.declared.columns.Columns.{Columns}
+
+-- the text is a name of the column
+abbrev pub Names : Column → List ℕ → Type 0
+Names Asn text = text ≡ codes "ASN"
+Names Prefix text = (text ≡ codes "IP Prefix") ⊎ (text ≡ codes "Prefix")
+Names MaxLen text = (text ≡ codes "Max Length") ⊎ (text ≡ codes "Max prefix length")
+
+-- n is the index of the first field of a line that is a name of the column
+pub record IsColumn (column : Column) (line : List ℕ) (n : ℕ) : Type 0 where
+  pub named : Names column (field n line)
+  pub first : (m : ℕ) → m < n → ¬ Names column (field m line)
+
+-- the line names each of the columns, and each of its fields is a column
+pub record IsHeader (line : List ℕ) (columns : Columns) : Type 0 where
+  pub asn : IsColumn Asn line columns.asn
+  pub prefix : IsColumn Prefix line columns.prefix
+  pub max_len : IsColumn MaxLen line columns.max_len
+  pub count : columns.count ≡ field_count line
+  pub is_named : columns.is_named ≡ true
+
+-- the columns until a line names them
+abbrev pub usual : Columns
+usual = record { asn = 0; prefix = 1; max_len = 2; count = 3; is_named = false }

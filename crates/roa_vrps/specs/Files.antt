@@ -1,0 +1,33 @@
+-- The VRPs of a file in either form, and its faults.
+use Rattle.std.specs.Prelude.{◌≡◌, ◌⊎◌, ℕ, List, ◌∷◌}
+use Rattle.std.specs.Str.{IsTrimAsciiStart}
+use Rattle.rpki_prefix.specs.MaxLen.{MaxLenValue}
+use Rattle.roa_vrps.specs.Csv.{IsCsvFile, HasCsvFault}
+use Rattle.roa_vrps.specs.JsonFiles.{IsJsonFile, HasJsonFault}
+use Rattle.roa_vrps.specs.declared.fault.FileFault.{FileFault}
+use Rattle.roa_vrps.specs.declared.fault.FileFault.TheVariants.{JsonArray}
+
+-- the first octet that is not white space is `{`, which opens an object (RFC 8259, 4)
+abbrev pub IsObjectText : List ℕ → Type 0
+IsObjectText text = (rest : List ℕ) × IsTrimAsciiStart text (123 ∷ rest)
+
+-- the first octet that is not white space is `[`, which opens an array (RFC 8259, 5)
+abbrev pub IsArrayText : List ℕ → Type 0
+IsArrayText text = (rest : List ℕ) × IsTrimAsciiStart text (91 ∷ rest)
+
+-- the text opens neither an object nor an array
+pub record IsCsvText (text : List ℕ) : Type 0 where
+  pub no_object : ¬ IsObjectText text
+  pub no_array : ¬ IsArrayText text
+
+-- The text has these VRPs, at least one: as JSON if it opens an object, as CSV if it opens neither an object nor an
+-- array.
+abbrev pub IsVrpFile : List ℕ → List (MaxLenValue × ℕ) → Type 0
+IsVrpFile text vrps = (IsObjectText text × IsJsonFile text vrps) ⊎ (IsCsvText text × IsCsvFile text vrps)
+
+-- this is the fault of the text
+abbrev pub HasFileFault : List ℕ → FileFault → Type 0
+HasFileFault text fault =
+    (IsObjectText text × HasJsonFault text fault)
+    ⊎ ((¬ IsObjectText text) × IsArrayText text × (fault ≡ JsonArray))
+    ⊎ (IsCsvText text × HasCsvFault text fault)

@@ -1,0 +1,97 @@
+-- The content of a line of a CSV file: blank, names of columns, or a VRP.
+use Rattle.std.specs.Prelude.{◌≡◌, ◌≢◌, ℕ, ◌<◌, ◌-◌, ◌^◌, List, [], Some, true}
+use Rattle.std.specs.Str.{IsUtf8, trim}
+use Rattle.rpki_text.specs.Numbers.{IsNumberText, HasNumberFault}
+use Rattle.rpki_base.specs.AsnText.{IsAsnText}
+use Rattle.rpki_prefix.specs.MaxLen.{MaxLenValue, IsMaxLenOf, HasMaxLenError}
+use Rattle.rpki_prefix.specs.PrefixText.{IsPrefixText, HasPrefixTextFault}
+use Rattle.rpki_prefix.specs.Values.{FamilyPrefix}
+use Rattle.roa_vrps.specs.Columns.{IsHeader}
+use Rattle.roa_vrps.specs.Fields.{field, field_count}
+use Rattle.roa_vrps.specs.declared.columns.Columns.{Columns}
+use Rattle.roa_vrps.specs.declared.fault.VrpFault.{VrpFault}
+use Rattle.roa_vrps.specs.declared.fault.VrpFault.TheVariants.{NotUtf8, TooManyFields, TooFewFields, Asn, Prefix, MaxLenFormat, MaxLen}
+use Rattle.roa_vrps.specs.declared.row.Row.{Row}
+use Rattle.roa_vrps.specs.declared.row.Row.TheVariants.{Blank, Header, Vrp}
+
+-- three texts give an AS number, a prefix and a maximum length of the prefix
+pub record AreVrpTexts (asn_text prefix_text max_text : List ℕ) (prefix : MaxLenValue) (asn : ℕ) : Type 0 where
+  pub asn_is : IsAsnText asn_text asn
+  pub prefix_is : IsPrefixText prefix_text prefix.prefix
+  pub len : ℕ
+  pub max_len : prefix.max_len ≡ Some len
+  pub len_is : IsNumberText (2 ^ 8 - 1) max_text len
+  pub within : IsMaxLenOf prefix.prefix (Some len)
+
+-- the text is an AS number; a prefix
+abbrev pub WritesAsn : List ℕ → Type 0
+WritesAsn text = (n : ℕ) × IsAsnText text n
+
+abbrev pub WritesPrefix : List ℕ → Type 0
+WritesPrefix text = (p : FamilyPrefix) × IsPrefixText text p
+
+-- this is the first fault of three texts
+abbrev pub HaveFault : List ℕ → List ℕ → List ℕ → VrpFault → Type 0
+HaveFault asn_text prefix_text max_text NotUtf8 = ⊥
+HaveFault asn_text prefix_text max_text (TooManyFields found named) = ⊥
+HaveFault asn_text prefix_text max_text (TooFewFields found named) = ⊥
+HaveFault asn_text prefix_text max_text (Asn f) = (n : ℕ) → ¬ IsAsnText asn_text n
+HaveFault asn_text prefix_text max_text (Prefix f) = WritesAsn asn_text × HasPrefixTextFault prefix_text f
+HaveFault asn_text prefix_text max_text (MaxLenFormat f) = WritesAsn asn_text × WritesPrefix prefix_text × HasNumberFault (2 ^ 8 - 1) max_text f
+HaveFault asn_text prefix_text max_text (MaxLen f) =
+    WritesAsn asn_text × ((p : FamilyPrefix) × (len : ℕ) × IsPrefixText prefix_text p × IsNumberText (2 ^ 8 - 1) max_text len × HasMaxLenError p (Some len) f)
+
+-- the line must be a VRP: it is not blank, and doesn't name the columns
+pub record IsBody (line : List ℕ) : Type 0 where
+  pub utf8 : IsUtf8 line
+  pub some_text : trim line ≢ []
+  pub no_header : (next : Columns) → ¬ IsHeader line next
+
+-- a line has more fields than the line that names the columns
+abbrev pub IsTooLong : Columns → List ℕ → Type 0
+IsTooLong columns line = (columns.is_named ≡ true) × (columns.count < field_count line)
+
+-- a line has a field in each of the three columns
+pub record HasColumns (columns : Columns) (line : List ℕ) : Type 0 where
+  pub asn : columns.asn < field_count line
+  pub prefix : columns.prefix < field_count line
+  pub max_len : columns.max_len < field_count line
+
+-- a line has as many fields as its columns allow and need
+abbrev pub FitsColumns : Columns → List ℕ → Type 0
+FitsColumns columns line = (¬ IsTooLong columns line) × HasColumns columns line
+
+-- this is the fault of the number of its fields: how many it has, and how many columns there are
+abbrev pub HasCountFault : Columns → List ℕ → VrpFault → Type 0
+HasCountFault columns line NotUtf8 = ⊥
+HasCountFault columns line (TooManyFields found named) = IsTooLong columns line × (found ≡ field_count line) × (named ≡ columns.count)
+HasCountFault columns line (TooFewFields found named) =
+    (¬ IsTooLong columns line) × (¬ HasColumns columns line) × (found ≡ field_count line) × (named ≡ columns.count)
+HasCountFault columns line (Asn f) = ⊥
+HasCountFault columns line (Prefix f) = ⊥
+HasCountFault columns line (MaxLenFormat f) = ⊥
+HasCountFault columns line (MaxLen f) = ⊥
+
+-- the texts in the three columns of a line give this VRP
+abbrev pub AreColumns : Columns → List ℕ → MaxLenValue × ℕ → Type 0
+AreColumns columns line vrp = AreVrpTexts (field columns.asn line) (field columns.prefix line) (field columns.max_len line) vrp.0 vrp.1
+
+-- this is the first fault of these texts
+abbrev pub HaveColumnsFault : Columns → List ℕ → VrpFault → Type 0
+HaveColumnsFault columns line fault = HaveFault (field columns.asn line) (field columns.prefix line) (field columns.max_len line) fault
+
+-- the content of a line
+abbrev pub IsRow : Columns → List ℕ → Row → Type 0
+IsRow columns line Blank = IsUtf8 line × (trim line ≡ [])
+IsRow columns line (Header next) = IsUtf8 line × (trim line ≢ []) × IsHeader line next
+IsRow columns line (Vrp vrp) = IsBody line × FitsColumns columns line × AreColumns columns line vrp
+
+-- this is the fault of a line
+abbrev pub HasRowFault : Columns → List ℕ → VrpFault → Type 0
+HasRowFault columns line NotUtf8 = ¬ IsUtf8 line
+HasRowFault columns line (TooManyFields found named) = IsBody line × HasCountFault columns line (TooManyFields found named)
+HasRowFault columns line (TooFewFields found named) = IsBody line × HasCountFault columns line (TooFewFields found named)
+HasRowFault columns line (Asn f) = IsBody line × FitsColumns columns line × HaveColumnsFault columns line (Asn f)
+HasRowFault columns line (Prefix f) = IsBody line × FitsColumns columns line × HaveColumnsFault columns line (Prefix f)
+HasRowFault columns line (MaxLenFormat f) = IsBody line × FitsColumns columns line × HaveColumnsFault columns line (MaxLenFormat f)
+HasRowFault columns line (MaxLen f) = IsBody line × FitsColumns columns line × HaveColumnsFault columns line (MaxLen f)

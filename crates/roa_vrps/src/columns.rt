@@ -1,0 +1,92 @@
+//! The columns of a CSV file.
+ghost use Rattle.std.specs.Prelude.{◌↔◌, ℕ, IsTrue, MatchOption};
+ghost use Rattle.roa_vrps.specs.Columns.{IsColumn, IsHeader, Names};
+ghost use Rattle.roa_vrps.specs.Fields.{field};
+
+use crate::field::{cut_at_comma, field_count, value_of};
+
+/// A column that a VRP needs.
+#[derive(Clone, Copy, Debug, PartialEq, Eq)]
+pub enum Column {
+    /// The AS number. The column's name is `ASN`.
+    Asn,
+    /// The prefix. The column's name is `IP Prefix` or `Prefix`.
+    Prefix,
+    /// The maximum length. The column's name is `Max Length` or `Max prefix length`.
+    MaxLen,
+}
+
+impl Column {
+    /// Whether `text` is a name of the column.
+    fn is_named(self, text: &str) -> bool
+        ensures { IsTrue result ↔ Names self text.now }
+    {
+        match self {
+            Column::Asn => text == "ASN",
+            Column::Prefix => text == "IP Prefix" || text == "Prefix",
+            Column::MaxLen => text == "Max Length" || text == "Max prefix length",
+        }
+    }
+
+    /// Returns the index of the first field of `line` that is a name of the column.
+    #[tactic(auto, using(crate::proofs::ColumnLemmas::looked_none, crate::proofs::ColumnLemmas::looked_more, crate::proofs::ColumnLemmas::looked_found))]
+    fn place(self, line: &str) -> Option<usize>
+        ensures { MatchOption result ((n : ℕ) → ¬ Names self (field n line.now))
+            (IsColumn self line.now) }
+    {
+        let mut rest = line;
+        let mut commas = 0;
+        while !rest.is_empty() {
+            let (part, behind) = cut_at_comma(rest);
+            if self.is_named(value_of(part)) {
+                return Some(commas);
+            }
+            rest = behind;
+            commas += 1;
+        }
+        None
+    }
+}
+
+/// The index of each column in a line, and the number of columns. An index counts the commas before the field.
+#[derive(Clone, Copy, Debug, PartialEq, Eq)]
+pub struct Columns {
+    /// The index of the AS number.
+    pub asn: usize,
+    /// The index of the prefix.
+    pub prefix: usize,
+    /// The index of the maximum length.
+    pub max_len: usize,
+    /// The number of columns.
+    pub count: usize,
+    /// Whether a line has named the columns. A later line that is a VRP then has at most `count` fields.
+    pub is_named: bool,
+}
+
+impl Columns {
+    /// The columns of a file until one of its lines names them.
+    pub const USUAL: Columns = Columns {
+        asn: 0,
+        prefix: 1,
+        max_len: 2,
+        count: 3,
+        is_named: false,
+    };
+
+    /// Returns the columns that `line` names, if it names all three.
+    pub(crate) fn named_by(line: &str) -> Option<Columns>
+        ensures { MatchOption result ((columns : Columns) → ¬ IsHeader line.now columns)
+            (IsHeader line.now) }
+    {
+        let asn = Column::Asn.place(line)?;
+        let prefix = Column::Prefix.place(line)?;
+        let max_len = Column::MaxLen.place(line)?;
+        Some(Columns {
+            asn,
+            prefix,
+            max_len,
+            count: field_count(line),
+            is_named: true,
+        })
+    }
+}

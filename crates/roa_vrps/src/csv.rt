@@ -1,0 +1,43 @@
+//! CSV files of VRPs.
+ghost use Rattle.std.specs.Prelude.{MatchResult};
+ghost use Rattle.rpki_text.specs.Memory.{MatchOrMemory};
+ghost use Rattle.roa_vrps.specs.Asking.{HasCsvVrp};
+ghost use Rattle.roa_vrps.specs.Csv.{IsCsvFile, HasCsvFault};
+
+use crate::columns::Columns;
+use crate::fault::FileFault;
+use crate::row::{Row, read_row};
+use crate::vrp::Vrp;
+use rpki_base::memory::OrMemory;
+use rpki_text::line::cut_at_line_end;
+use std::alloc::Allocator;
+
+/// Returns the VRPs of the lines, in their order, or the first fault. Memory is requested only for VRPs.
+#[tactic(auto, using(crate::proofs::CsvLemmas::read_none, crate::proofs::CsvLemmas::read_more, crate::proofs::CsvLemmas::read_no_vrp, crate::proofs::CsvLemmas::read_wrong, crate::proofs::CsvLemmas::read_wanting))]
+pub(crate) fn read_csv<A: Allocator>(
+    alloc: A,
+    text: &[u8],
+) -> Result<Vec<Vrp, A>, OrMemory<FileFault>>
+    ensures { MatchResult result (λ vrps. IsCsvFile text.now vrps.items)
+        (λ error. MatchOrMemory error (HasCsvFault text.now) (HasCsvVrp text.now)) }
+{
+    let mut vrps = Vec::new(alloc);
+    let mut columns = Columns::USUAL;
+    let mut number = 0;
+    let mut rest = text;
+    while !rest.is_empty() {
+        let (line, after) = cut_at_line_end(rest);
+        number += 1;
+        match read_row(columns, line) {
+            Ok(Row::Vrp(vrp)) => vrps.push(vrp)?,
+            Ok(Row::Header(next)) => columns = next,
+            Ok(Row::Blank) => {}
+            Err(fault) => return Err(OrMemory::Refused(FileFault::Line(number, fault))),
+        }
+        rest = after;
+    }
+    if vrps.as_slice().is_empty() {
+        return Err(OrMemory::Refused(FileFault::NoVrp));
+    }
+    Ok(vrps)
+}

@@ -1,0 +1,122 @@
+//! Faults of VRP files.
+ghost use Rattle.std.specs.Prelude.{◌≡◌};
+
+use crate::member::Member;
+use rpki_base::asn::ParseAsnError;
+use rpki_base::number::ParseIntError;
+use rpki_prefix::{MaxLenError, ParsePrefixError};
+use thiserror::Error;
+
+/// A fault of a VRP. A call returns the first fault in this order. Only lines have the first three.
+#[derive(Clone, Copy, Debug, PartialEq, Eq, Error)]
+pub enum VrpFault {
+    /// The line isn't UTF-8.
+    #[error("not UTF-8")]
+    NotUtf8,
+    /// The line has more fields than the line that names the columns: the number of fields of each.
+    #[error("too many fields: {0}, but the header names {1}")]
+    TooManyFields(usize, usize),
+    /// The line lacks a field in one of the three columns: its number of fields, and the number of columns.
+    #[error("too few fields: {0} of {1}")]
+    TooFewFields(usize, usize),
+    /// The text of the AS number is not an AS number.
+    #[error("{0}")]
+    Asn(ParseAsnError),
+    /// The text of the prefix is not a prefix.
+    #[error("invalid prefix: {0}")]
+    Prefix(ParsePrefixError),
+    /// The text of the maximum length is not a number of 8 bits.
+    #[error("invalid max length: {0}")]
+    MaxLenFormat(ParseIntError),
+    /// The number is not a maximum length of the prefix.
+    #[error("{0}")]
+    MaxLen(MaxLenError),
+}
+
+impl From<ParseAsnError> for VrpFault {
+    ghost use Rattle.roa_vrps.specs.declared.fault.VrpFault.TheVariants.{Asn};
+
+    ghost from_gives = { λ fault error. error ≡ Asn fault };
+
+    fn from(fault: ParseAsnError) -> VrpFault {
+        VrpFault::Asn(fault)
+    }
+}
+
+impl From<ParsePrefixError> for VrpFault {
+    ghost use Rattle.roa_vrps.specs.declared.fault.VrpFault.TheVariants.{Prefix};
+
+    ghost from_gives = { λ fault error. error ≡ Prefix fault };
+
+    fn from(fault: ParsePrefixError) -> VrpFault {
+        VrpFault::Prefix(fault)
+    }
+}
+
+impl From<ParseIntError> for VrpFault {
+    ghost use Rattle.roa_vrps.specs.declared.fault.VrpFault.TheVariants.{MaxLenFormat};
+
+    ghost from_gives = { λ fault error. error ≡ MaxLenFormat fault };
+
+    fn from(fault: ParseIntError) -> VrpFault {
+        VrpFault::MaxLenFormat(fault)
+    }
+}
+
+impl From<MaxLenError> for VrpFault {
+    ghost use Rattle.roa_vrps.specs.declared.fault.VrpFault.TheVariants.{MaxLen};
+
+    ghost from_gives = { λ fault error. error ≡ MaxLen fault };
+
+    fn from(fault: MaxLenError) -> VrpFault {
+        VrpFault::MaxLen(fault)
+    }
+}
+
+/// A fault of a member that an object must have exactly once.
+#[derive(Clone, Copy, Debug, PartialEq, Eq, Error)]
+pub enum MemberFault {
+    /// The object has no member of this name.
+    #[error("missing")]
+    Missing,
+    /// The object has more than one member of this name.
+    #[error("repeated")]
+    Repeated,
+    /// The value of the member has the wrong kind.
+    #[error("wrong kind of value")]
+    Kind,
+}
+
+/// A fault of an item of a list. A call returns the first fault in this order, and of members the first.
+#[derive(Clone, Copy, Debug, PartialEq, Eq, Error)]
+pub enum ItemFault {
+    /// A fault of one of its members. An item that is not an object has no members.
+    #[error("{0}: {1}")]
+    Member(Member, MemberFault),
+    /// A fault of the VRP that its members give.
+    #[error("{0}")]
+    Vrp(VrpFault),
+}
+
+/// A fault of a file.
+#[derive(Clone, Copy, Debug, PartialEq, Eq, Error)]
+pub enum FileFault {
+    /// The first wrong line: its number, counted from 1, and its first fault.
+    #[error("line {0}: {1}")]
+    Line(usize, VrpFault),
+    /// The text opens a JSON array.
+    #[error("a JSON array, where an object with the member roas is expected")]
+    JsonArray,
+    /// The text opens an object, but it is not a JSON object or nests deeper than 128.
+    #[error("not a JSON object")]
+    NotObject,
+    /// A fault of the object's member `roas`, which must be an array.
+    #[error("roas: {0}")]
+    Roas(MemberFault),
+    /// The first wrong item of `roas`: its number, counted from 1, and its first fault.
+    #[error("item {0}: {1}")]
+    Item(usize, ItemFault),
+    /// The file has no other fault, and it has no VRP.
+    #[error("no VRP")]
+    NoVrp,
+}

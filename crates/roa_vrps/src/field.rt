@@ -1,0 +1,59 @@
+//! Cuts a line into fields.
+ghost use Rattle.std.specs.Prelude.{◌≡◌, ◌<◌, length};
+ghost use Rattle.std.specs.List.{before_first, after_first};
+ghost use Rattle.std.specs.Str.{trim};
+ghost use Rattle.roa_vrps.specs.Fields.{field, field_count, is_comma, unquoted};
+
+/// Returns the text before the first comma, and the text after it, which is empty if there is no comma.
+pub(crate) fn cut_at_comma(text: &str) -> (&str, &str)
+    ensures before { result.0.now ≡ before_first is_comma text.now }
+    ensures behind { result.1.now ≡ after_first is_comma text.now }
+    ensures shorter { 0 < length text.now → length result.1.now < length text.now }
+{
+    match text.split_once(',') {
+        Some((before, behind)) => (before, behind),
+        None => (text, ""),
+    }
+}
+
+/// Returns `text` without the quotes round it, if there are any.
+fn without_quotes(text: &str) -> &str
+    ensures { result.now ≡ unquoted text.now }
+{
+    if text.len() > 1 && text.starts_with('"') && text.ends_with('"') {
+        &text[1..text.len() - 1]
+    } else {
+        text
+    }
+}
+
+/// Returns the value of a field: `part` without white space round it, and then without quotes.
+pub(crate) fn value_of(part: &str) -> &str
+    ensures { result.now ≡ unquoted (trim part.now) }
+{
+    without_quotes(part.trim())
+}
+
+/// Returns the value of the field at index `commas`. It is empty if the line has fewer commas.
+#[tactic(auto, using(crate::proofs::FieldLemmas::after_commas_next))]
+pub(crate) fn field_at(line: &str, commas: usize) -> &str
+    ensures { result.now ≡ field commas line.now }
+{
+    let mut rest = line;
+    let mut left = commas;
+    while left > 0 {
+        let (_, behind) = cut_at_comma(rest);
+        rest = behind;
+        left -= 1;
+    }
+    let (part, _) = cut_at_comma(rest);
+    value_of(part)
+}
+
+/// Returns the number of fields of a line: its number of commas, plus 1.
+#[tactic(auto, using(crate::proofs::FieldLemmas::few_commas))]
+pub(crate) fn field_count(line: &str) -> usize
+    ensures { result ≡ field_count line.now }
+{
+    line.as_bytes().iter().filter(|byte| **byte == b',').count() + 1
+}

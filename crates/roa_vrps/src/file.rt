@@ -1,0 +1,80 @@
+//! VRP files in either form, JSON or CSV.
+ghost use Rattle.std.specs.Prelude.{◌↔◌, IfErr, IsTrue, MatchResult};
+ghost use Rattle.rpki_text.specs.Memory.{IsMemory, MatchOrMemory};
+ghost use Rattle.rpki_text.specs.Reading.{AnswersOrMemory};
+ghost use Rattle.roa_vrps.specs.Asking.{MayWantMemory};
+ghost use Rattle.roa_vrps.specs.Files.{IsArrayText, IsObjectText, IsVrpFile, HasFileFault};
+
+use crate::csv::read_csv;
+use crate::fault::FileFault;
+use crate::json_file::read_json;
+use crate::vrp::Vrp;
+use rpki_base::memory::OrMemory;
+use std::alloc::Allocator;
+
+/// Reads the VRPs of a file, in the order of the file. A VRP that the file repeats is repeated in the list.
+///
+/// - `alloc`: the allocator of the list.
+/// - `text`: the whole file.
+///
+/// A file whose first octet that is not white space is `{` is JSON (RFC 8259). Its VRPs are the items of the member
+/// `roas`, an array. An item is an object with the members `asn` (a number or a text), `prefix` (a text) and
+/// `maxLength` (a number), each exactly once. Other members are ignored. The text nests at most 128 deep.
+///
+/// Any other file is CSV. A line is blank, or names the columns, or is a VRP: an AS number, a prefix and a maxLength.
+/// These are the first three fields of a line. If an earlier line names the columns, they are the fields in the columns
+/// that the last such line names. A line then has no more fields than that line.
+///
+/// # Errors
+///
+/// - [`FileFault::Line`]: the first line that is wrong, by its number, from 1, and its first fault.
+/// - [`FileFault::Item`]: the first item of `roas` that is wrong, by its number, from 1, and its first fault.
+/// - [`FileFault::JsonArray`]: the text opens an array.
+/// - [`FileFault::NotObject`]: the text opens an object, and is not valid JSON or nests deeper than 128.
+/// - [`FileFault::Roas`]: the object has no member `roas`, or several, or one that is not an array.
+/// - [`FileFault::NoVrp`]: the file has no VRP.
+/// - [`OrMemory::Memory`]: an allocation failed.
+pub fn read_vrps<A: Allocator + Copy>(
+    alloc: A,
+    text: &[u8],
+) -> Result<Vec<Vrp, A>, OrMemory<FileFault>>
+    ensures answers { AnswersOrMemory (λ vrps. vrps.items) (IsVrpFile text.now)
+        (HasFileFault text.now) result }
+
+    // An allocation failed. None is requested before the first VRP of a CSV file, nor for a text that opens an object
+    // and isn't UTF-8.
+    ensures memory { IfErr result (λ error. IsMemory error → MayWantMemory text.now) }
+{
+    read_vrps_matched(alloc, text)
+}
+
+/// Returns the VRPs of a file, or its fault.
+fn read_vrps_matched<A: Allocator + Copy>(
+    alloc: A,
+    text: &[u8],
+) -> Result<Vec<Vrp, A>, OrMemory<FileFault>>
+    ensures { MatchResult result (λ vrps. IsVrpFile text.now vrps.items)
+        (λ error. MatchOrMemory error (HasFileFault text.now) (MayWantMemory text.now)) }
+{
+    if opens_object(text) {
+        read_json(alloc, text)
+    } else if opens_array(text) {
+        Err(OrMemory::Refused(FileFault::JsonArray))
+    } else {
+        read_csv(alloc, text)
+    }
+}
+
+/// Whether the first octet that is not white space opens an object.
+fn opens_object(text: &[u8]) -> bool
+    ensures { IsTrue result ↔ IsObjectText text.now }
+{
+    text.trim_ascii_start().starts_with(b"{")
+}
+
+/// Whether the first octet that is not white space opens an array.
+fn opens_array(text: &[u8]) -> bool
+    ensures { IsTrue result ↔ IsArrayText text.now }
+{
+    text.trim_ascii_start().starts_with(b"[")
+}

@@ -1,0 +1,151 @@
+//! The JSON array of VRPs.
+ghost use Rattle.std.specs.Prelude.{◌≡◌, ◌<◌, ◌↔◌, List, [], ◌∷◌, ◌++◌, IfOk, IsTrue, MatchResult, OnOk, Some, None, Err, length};
+ghost use Rattle.json.specs.Json.{Json, Items, Members, array, value, items, member, members, no_members};
+ghost use Rattle.roa_vrps.specs.declared.fault.FileFault.TheVariants.{Roas};
+ghost use Rattle.roa_vrps.specs.declared.fault.MemberFault.TheVariants.{Missing};
+ghost use Rattle.json.specs.Reads.{skip_items, skip_members};
+ghost use Rattle.roa_vrps.specs.JsonFiles.{IsRoasResult, roas};
+ghost use Rattle.roa_vrps.specs.Members.{values_in};
+
+use crate::fault::{FileFault, MemberFault};
+use crate::item::read_item;
+use crate::vrp::Vrp;
+use json::{Error, Invalid, Reader, Token, Value};
+use std::alloc::Allocator;
+
+/// The VRPs of the member `roas`, or its fault.
+pub(crate) type Roas<A> = Result<Vec<Vrp, A>, FileFault>;
+
+/// Reads the members of an object up to its end, and returns the VRPs of `roas` or its fault.
+pub(crate) fn read_members<A: Allocator + Copy>(
+    alloc: A,
+    reader: &mut Reader<'_>,
+    depth: usize,
+) -> Result<Roas<A>, Error>
+    requires { 0 < depth }
+    ensures outcome { IfOk result (λ outcome. (ms : Members) × IsRoasResult (values_in roas ms) outcome
+        × (members (value depth) (length reader.old) reader.old ≡ Some (ms, reader.new))) }
+    ensures invalid { result ≡ Err Error.Invalid
+        → members (value depth) (length reader.old) reader.old ≡ None }
+{
+    let mut outcome = Err(FileFault::Roas(MemberFault::Missing));
+    while let Some(key) = reader.next_key()? {
+        outcome = read_member(alloc, reader, depth, key, outcome)?;
+    }
+    Ok(outcome)
+}
+
+/// Reads the value of the member `key`, and returns the VRPs of `roas` or its fault, from the result before it.
+fn read_member<A: Allocator + Copy>(
+    alloc: A,
+    reader: &mut Reader<'_>,
+    depth: usize,
+    key: &str,
+    outcome: Roas<A>,
+) -> Result<Roas<A>, Error>
+    requires { 0 < depth }
+    ensures reads { (values : List Json) → IsRoasResult values outcome
+        → IfOk result (λ outcome. (j : Json) × (value depth reader.old ≡ Some (j, reader.new))
+        × IsRoasResult (values ++ values_in roas (member key.now j no_members)) outcome) }
+    ensures invalid { result ≡ Err Error.Invalid → value depth reader.old ≡ None }
+    ensures shorter { OnOk result (length reader.new < length reader.old) }
+{
+    if key != "roas" {
+        reader.skip_value(depth)?;
+        Ok(outcome)
+    } else if is_missing(&outcome) {
+        read_list(alloc, reader, depth)
+    } else {
+        reader.skip_value(depth)?;
+        Ok(Err(FileFault::Roas(MemberFault::Repeated)))
+    }
+}
+
+/// Whether no member `roas` was read yet.
+fn is_missing<A: Allocator>(outcome: &Roas<A>) -> bool
+    ensures { IsTrue result ↔ (outcome.now ≡ Err (Roas Missing)) }
+{
+    matches!(outcome, Err(FileFault::Roas(MemberFault::Missing)))
+}
+
+/// Reads a value of `roas`.
+#[tactic(auto, using(crate::proofs::RoasLemmas::array_fails, crate::proofs::RoasLemmas::object_fails))]
+fn read_list<A: Allocator + Copy>(
+    alloc: A,
+    reader: &mut Reader<'_>,
+    depth: usize,
+) -> Result<Roas<A>, Error>
+    requires { 0 < depth }
+    ensures outcome { IfOk result
+        (λ outcome. (j : Json) × IsRoasResult (j ∷ []) outcome × (value depth reader.old ≡ Some (j, reader.new))) }
+    ensures invalid { result ≡ Err Error.Invalid → value depth reader.old ≡ None }
+    ensures shorter { OnOk result (length reader.new < length reader.old) }
+{
+    let token = reader.next().ok_or(Error::Invalid)?;
+    match token {
+        Token::BeginArray => read_items(alloc, reader, depth - 1),
+        Token::BeginObject => {
+            skip_members(reader, depth - 1)?;
+            Ok(Err(FileFault::Roas(MemberFault::Kind)))
+        }
+        Token::String(_) | Token::Number(_) | Token::Bool(_) | Token::Null => {
+            Ok(Err(FileFault::Roas(MemberFault::Kind)))
+        }
+        Token::EndObject | Token::EndArray | Token::Key(_) | Token::Bad => Err(Error::Invalid),
+    }
+}
+
+/// Reads the items of an array up to its end, and returns their VRPs or the first fault.
+fn read_items<A: Allocator + Copy>(
+    alloc: A,
+    reader: &mut Reader<'_>,
+    depth: usize,
+) -> Result<Roas<A>, Error>
+    ensures outcome { IfOk result (λ outcome. (js : Items) × IsRoasResult (array js ∷ []) outcome
+        × (items (value depth) (length reader.old) reader.old ≡ Some (js, reader.new))) }
+    ensures invalid { result ≡ Err Error.Invalid
+        → items (value depth) (length reader.old) reader.old ≡ None }
+    ensures shorter { OnOk result (length reader.new < length reader.old) }
+{
+    let mut vrps = Vec::new(alloc);
+    while !reader.take_end_array() {
+        let item = Value::read(alloc, reader, depth)?;
+        match read_item(&item) {
+            Ok(vrp) => if vrps.push(vrp).is_err() {
+                return Err(Error::OutOfMemory);
+            },
+            Err(fault) => {
+                let place = vrps.len() + 1;
+                skip_items(reader, depth)?;
+                return Ok(Err(FileFault::Item(place, fault)));
+            }
+        }
+    }
+    Ok(Ok(vrps))
+}
+
+/// Skips items up to the end of their array.
+#[tactic(auto, using(crate::proofs::GrammarLemmas::steps))]
+fn skip_items(reader: &mut Reader<'_>, depth: usize) -> Result<(), Invalid>
+    ensures read { MatchResult result (λ _. skip_items depth reader.old ≡ Some reader.new)
+        (λ _. skip_items depth reader.old ≡ None) }
+    ensures shorter { OnOk result (length reader.new < length reader.old) }
+{
+    while !reader.take_end_array() {
+        reader.skip_value(depth)?;
+    }
+    Ok(())
+}
+
+/// Skips members up to the end of their object.
+#[tactic(auto, using(crate::proofs::GrammarLemmas::steps))]
+fn skip_members(reader: &mut Reader<'_>, depth: usize) -> Result<(), Invalid>
+    ensures read { MatchResult result (λ _. skip_members depth reader.old ≡ Some reader.new)
+        (λ _. skip_members depth reader.old ≡ None) }
+    ensures shorter { OnOk result (length reader.new < length reader.old) }
+{
+    while let Some(_) = reader.next_key()? {
+        reader.skip_value(depth)?;
+    }
+    Ok(())
+}

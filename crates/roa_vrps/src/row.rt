@@ -1,0 +1,109 @@
+//! A line of a CSV file.
+ghost use Rattle.rpki_text.specs.Reading.{Answers};
+ghost use Rattle.roa_vrps.specs.Rows.{AreColumns, AreVrpTexts, FitsColumns, HasCountFault, HasRowFault, HaveColumnsFault, HaveFault, IsRow};
+ghost use Rattle.std.specs.Prelude.{◌≡◌, ◌↔◌, [], IsTrue, MatchResult};
+ghost use Rattle.std.specs.Str.{trim};
+
+use crate::columns::Columns;
+use crate::fault::VrpFault;
+use crate::field::{field_at, field_count};
+use crate::vrp::Vrp;
+use rpki_base::Asn;
+use rpki_base::number::parse_u8;
+use rpki_prefix::{MaxLenPrefix, Prefix};
+use std::str::FromStr;
+
+/// The content of a line.
+#[derive(Clone, Copy, Debug, PartialEq, Eq)]
+pub enum Row {
+    /// Only white space.
+    Blank,
+    /// The names of the columns, for the lines after it.
+    Header(Columns),
+    /// A prefix with its maximum length, and the AS that may originate it.
+    Vrp(Vrp),
+}
+
+/// Reads a line.
+///
+/// - `columns`: the columns of its fields.
+/// - `line`: the line. White space and quotes round a field are not part of it. Each comma ends a field, even one
+///   between quotes.
+///
+/// A line that is a VRP has a field in each of the three columns, and no more fields than the line that names the
+/// columns. Fields in other columns are ignored.
+///
+/// # Errors
+///
+/// The first [`VrpFault`] of the line.
+pub fn read_row(columns: Columns, line: &[u8]) -> Result<Row, VrpFault>
+    ensures { Answers (IsRow columns line.now) (HasRowFault columns line.now) result }
+{
+    read_row_matched(columns, line)
+}
+
+/// Returns the content of a line, or its fault.
+#[tactic(auto, using(crate::proofs::RowLemmas::row_fault, crate::proofs::RowLemmas::count_fault, crate::proofs::RowLemmas::body_of))]
+fn read_row_matched(columns: Columns, line: &[u8]) -> Result<Row, VrpFault>
+    ensures { MatchResult result (IsRow columns line.now) (HasRowFault columns line.now) }
+{
+    let Ok(text) = str::from_utf8(line) else {
+        return Err(VrpFault::NotUtf8);
+    };
+    if is_blank(text) {
+        return Ok(Row::Blank);
+    }
+    if let Some(next) = Columns::named_by(text) {
+        return Ok(Row::Header(next));
+    }
+    check_count(columns, text)?;
+    match read_columns(columns, text) {
+        Ok(vrp) => Ok(Row::Vrp(vrp)),
+        Err(fault) => Err(fault),
+    }
+}
+
+/// Checks the number of fields of a line that must be a VRP.
+fn check_count(columns: Columns, line: &str) -> Result<(), VrpFault>
+    ensures { MatchResult result (λ _. FitsColumns columns line.now) (HasCountFault columns line.now) }
+{
+    let count = field_count(line);
+    if columns.is_named && columns.count < count {
+        return Err(VrpFault::TooManyFields(count, columns.count));
+    }
+    if columns.asn < count && columns.prefix < count && columns.max_len < count {
+        Ok(())
+    } else {
+        Err(VrpFault::TooFewFields(count, columns.count))
+    }
+}
+
+/// Returns the VRP in the three columns of a line, or the first fault of their texts.
+fn read_columns(columns: Columns, line: &str) -> Result<Vrp, VrpFault>
+    ensures { MatchResult result (AreColumns columns line.now)
+        (HaveColumnsFault columns line.now) }
+{
+    let asn = field_at(line, columns.asn);
+    let prefix = field_at(line, columns.prefix);
+    let max_len = field_at(line, columns.max_len);
+    read_fields(asn, prefix, max_len)
+}
+
+/// Whether a line is only white space.
+fn is_blank(line: &str) -> bool
+    ensures { IsTrue result ↔ (trim line.now ≡ []) }
+{
+    line.trim().is_empty()
+}
+
+/// Returns the VRP that three texts give, or the first fault.
+pub(crate) fn read_fields(asn: &str, prefix: &str, max_len: &str) -> Result<Vrp, VrpFault>
+    ensures { MatchResult result (λ x. AreVrpTexts asn.now prefix.now max_len.now x.0 x.1)
+        (HaveFault asn.now prefix.now max_len.now) }
+{
+    let asn = Asn::from_str(asn)?;
+    let prefix = Prefix::from_str(prefix)?;
+    let len = parse_u8(max_len)?;
+    let prefix = MaxLenPrefix::new(prefix, Some(len))?;
+    Ok((prefix, asn))
+}

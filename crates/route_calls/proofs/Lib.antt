@@ -1,4 +1,0 @@
-pub mod BesideLemmas
-pub mod Common
-pub mod OriginLemmas
-pub mod TableLemmas

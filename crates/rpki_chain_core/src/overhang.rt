@@ -1,0 +1,174 @@
+//! The overhang of a chain over another: its first block that doesn't lie in the other chain.
+ghost use Rattle.std.specs.Prelude.{◌≡◌, ◌+◌, ◌-◌, ◌≤◌, [], length, IfSome, MatchOption};
+ghost use Rattle.rpki_chain_core.specs.Sets.{IsInside, IsChain};
+ghost use Rattle.rpki_chain_core.specs.Fit.{IsFitIn};
+ghost use Rattle.rpki_chain_core.specs.Overhang.{IsOverhang};
+
+use crate::reads::{Reads, read_at};
+use rpki_block::block::Block;
+
+/// The position of a chain's next block relative to the next block of another chain.
+pub enum Fit {
+    /// The other's block ends before this block, so the other's next block is examined.
+    Skip,
+    /// The block lies in the other's block.
+    Inside,
+    /// Some of the block lies in no block of the other chain.
+    Beyond,
+}
+
+/// The first block of a chain that doesn't lie in another, and the current block of the other.
+#[derive(Drop)]
+pub struct Overhang<I> {
+    pub own_at: usize,
+    pub min: I,
+    pub max: I,
+    pub other_at: usize,
+    pub other: Option<(I, I)>,
+}
+
+/// Compares the block from `min` to `max` with the other chain's block from `low` to `high`.
+fn fit_in<T: Block>(min: T::Item, max: T::Item, low: T::Item, high: T::Item) -> Fit
+    ensures { IsFitIn T.number (min, max) (low, high) result }
+{
+    if high < min {
+        return Fit::Skip;
+    }
+    if min < low {
+        return Fit::Beyond;
+    }
+    if high < max {
+        return Fit::Beyond;
+    }
+    Fit::Inside
+}
+
+/// Returns the first block of `own` that doesn't lie in `other`, or None if each block does. Each iteration finishes
+/// one block.
+pub fn first_overhang<T: Block, X: Reads<T>, Y: Reads<T>>(
+    own: &mut X,
+    other: &mut Y,
+) -> Option<Overhang<T::Item>>
+    ensures value { MatchOption result (IsInside T.bounds (X.blocks own.old) (Y.blocks other.old))
+        (IsOverhang T.bounds T.number T.first T.last (X.blocks own.old) (Y.blocks other.old)) }
+    ensures own_kept { X.blocks own.new ≡ X.blocks own.old }
+    ensures other_kept { Y.blocks other.new ≡ Y.blocks other.old }
+    ensures own_reads { X.count own.new ≤ X.count own.old + length (X.blocks own.old) }
+    ensures other_reads { Y.count other.new ≤ Y.count other.old + length (Y.blocks other.old) }
+    // The blocks after the current ones weren't read.
+    ensures own_left { IfSome result (λ o. X.count own.new
+        + (length (X.blocks own.old) - (o.own_at + 1)) ≤
+        X.count own.old + length (X.blocks own.old)) }
+    ensures other_left { IfSome result (λ o. Y.count other.new
+        + (length (Y.blocks other.old) - (o.other_at + 1)) ≤
+        Y.count other.old + length (Y.blocks other.old)) }
+{
+    let mut own_at = 0;
+    let mut other_at = 0;
+    let Some(mut own_block) = read_at(own, 0) else {
+        return None;
+    };
+    let Some(mut other_block) = read_at(other, 0) else {
+        return Some(Overhang {
+            own_at,
+            min: own_block.0,
+            max: own_block.1,
+            other_at,
+            other: None,
+        });
+    };
+    // The blocks before `own_block` lie in the other chain. The blocks before `other_block` end before `own_block`
+    // begins. An iteration passes one of the two blocks, so the loop ends. A block that lies in no single block of the
+    // other chain ends the loop at once, since chains have gaps between their blocks.
+    loop {
+        match fit_in::<T>(own_block.0, own_block.1, other_block.0, other_block.1) {
+            Fit::Skip => {
+                other_at += 1;
+                let Some(next) = read_at(other, other_at) else {
+                    return Some(Overhang {
+                        own_at,
+                        min: own_block.0,
+                        max: own_block.1,
+                        other_at,
+                        other: None,
+                    });
+                };
+                other_block = next;
+            }
+            Fit::Inside => {
+                own_at += 1;
+                let Some(next) = read_at(own, own_at) else {
+                    return None;
+                };
+                own_block = next;
+            }
+            Fit::Beyond => {
+                return Some(Overhang {
+                    own_at,
+                    min: own_block.0,
+                    max: own_block.1,
+                    other_at,
+                    other: Some(other_block),
+                });
+            }
+        }
+    }
+}
+
+/// Does the same for two lists. It counts nothing, and reads each block at most once.
+pub fn overhang_of<T: Block>(own: &[T], other: &[T]) -> Option<Overhang<T::Item>>
+    requires own_chain { IsChain T.bounds T.form own.now }
+    requires other_chain { IsChain T.bounds T.form other.now }
+    ensures { MatchOption result (IsInside T.bounds own.now other.now)
+        (IsOverhang T.bounds T.number T.first T.last own.now other.now) }
+{
+    let mut others = other.iter();
+    let Some(first) = others.next() else {
+        return first_of(own);
+    };
+    let mut held = first.bounds();
+    // The blocks that were passed lie in the other chain. The other's blocks before `held` end before the current
+    // block. So the first of the other's blocks that doesn't end before the current block must contain it, since chains
+    // have gaps between their blocks.
+    for (own_at, block) in own.iter().enumerate() {
+        let (min, max) = block.bounds();
+        while held.1 < min {
+            let Some(next) = others.next() else {
+                return Some(Overhang {
+                    own_at,
+                    min,
+                    max,
+                    other_at: other.len(),
+                    other: None,
+                });
+            };
+            held = next.bounds();
+        }
+        if min < held.0 || held.1 < max {
+            return Some(Overhang {
+                own_at,
+                min,
+                max,
+                other_at: other.len() - others.as_slice().len() - 1,
+                other: Some(held),
+            });
+        }
+    }
+    None
+}
+
+/// Returns the overhang of a chain over the empty chain: its first block.
+fn first_of<T: Block>(own: &[T]) -> Option<Overhang<T::Item>>
+    requires { IsChain T.bounds T.form own.now }
+    ensures { MatchOption result (IsInside T.bounds own.now [])
+        (IsOverhang T.bounds T.number T.first T.last own.now []) }
+{
+    let (min, max) = own.first()?.bounds();
+    Some(Overhang {
+        own_at: 0,
+        min,
+        max,
+        other_at: 0,
+        other: None,
+    })
+}

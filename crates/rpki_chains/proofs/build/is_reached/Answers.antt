@@ -1,7 +1,0 @@
--- An item is reached where it is not above the next one.
-use Rattle.rpki_chains.proofs.Imports.{arith, nat_tests}
-use Rattle.rpki_chains.proofs.build.is_reached.Goals as goal
-
-pub returns-in-Some : goal.returns-in-Some
-returns-in-Some g c =
-    grind (arith, nat_tests, g.met.T.Block.in_order, g.met.T.Item.Ord.matches_partial_cmp, c.in-Some.ensures)

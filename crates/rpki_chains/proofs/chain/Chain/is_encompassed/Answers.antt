@@ -1,8 +1,0 @@
--- No block leaves the other chain exactly where each lies in it.
-use Rattle.rpki_chains.proofs.FitTurns.{none_leaves}
-use Rattle.rpki_chains.proofs.chain.Chain.is_encompassed.Goals as goal
-
-pub returns : goal.returns
-returns g c =
-    none_leaves g.T.Block.bounds g.T.Block.form g.T.Block.number g.T.Block.first g.T.Block.last _ _ _ _
-    c.is_none.ensures c.overhang.ensures

@@ -1,7 +1,0 @@
--- Blocks with other bounds at one place decide it.
-use Rattle.rpki_chains.proofs.Imports.{arith, nat_tests}
-use Rattle.rpki_chains.proofs.Sorts.{map_at}
-use Rattle.rpki_chains.proofs.chain.are_same_blocks.Goals as goal
-
-pub returns-then-not-is_equivalent : goal.returns-then-not-is_equivalent
-returns-then-not-is_equivalent g c = grind (arith, map_at, nat_tests)

@@ -1,5 +1,0 @@
--- Owned chains are equal as their views are.
-use Rattle.rpki_chains.proofs.owned.OwnedChainPartialEq.eq.Goals as goal
-
-pub returns-clause-covers : goal.returns-clause-covers
-returns-clause-covers g c = rw (c.as_chain.ensures, c.as_chain-2.ensures) at c.eq.ensures.covers

@@ -1,38 +1,46 @@
-/* Pigyelund for C: proved operations on RPKI resource sets (RFC 3779) and route origin validation (RFC 6811).
+/* Pigyelund is a formally verified library for RPKI resource sets (RFC 3779) and route origin validation (RFC 6811).
+ * This header declares its calls for C and C++:
  *
- * - Certificates. pigy_verify, pigy_verify_set and pigy_verify_path compute what an issuer, or the trust anchor of a
- *   path, verifies of a certificate's resources.
+ * - Certificates. pigy_verify and pigy_verify_set compare the resources that a certificate claims with those of its
+ *   issuer. pigy_verify_path does this along a path from a trust anchor. No call checks signatures or dates.
  * - Resource sets. pigy_union, pigy_intersection, pigy_difference, pigy_contains and pigy_equal operate on two sets.
  *   pigy_cover lists the fewest prefixes of a set. pigy_answer converts text to DER and DER to text, as the program
  *   respath does.
  * - Route origins. pigy_origins validates routes by VRPs (validated ROA payloads). The calls pigy_table_... keep a
  *   table of VRPs, as a router's cache does.
  *
- * Example: does a certificate stay within its issuer's resources?
+ * Example: does a certificate claim more than its issuer has?
  *
  *   // IP address blocks: 10.0.0.0/8; the same and 12.0.0.0/8
  *   static const uint8_t ten[] = {0x30, 12, 0x30, 10, 4, 2, 0, 1, 0x30, 4, 3, 2, 0, 10};
  *   static const uint8_t both[] = {0x30, 16, 0x30, 14, 4, 2, 0, 1, 0x30, 8, 3, 2, 0, 10, 3, 2, 0, 12};
  *   uint8_t as[4096], ip[4096];
- *   pigy_set issuer = {NULL, 0, ten, sizeof ten}, cert = {NULL, 0, both, sizeof both};
- *   pigy_buffers out = {as, sizeof as, 0, ip, sizeof ip, 0};
+ *   pigy_set issuer = {.ip = ten, .ip_len = sizeof ten}, cert = {.ip = both, .ip_len = sizeof both};
+ *   pigy_buffers out = {.as = as, .as_capacity = sizeof as, .ip = ip, .ip_capacity = sizeof ip};
  *   uint32_t status = pigy_verify_set(issuer, cert, PIGY_STRICT, PIGY_REFUSE, &out);
  *   puts(pigy_status_text(status)); // overclaimed IPv4 resources
+ *   // ip has the DER of 12.0.0.0/8, in out.ip_len octets
  *
- * docs/FOREIGN.md has the installation, complete programs, and all statuses in one table.
+ * docs/FOREIGN.md has the installation, complete programs, a table of all calls, and a table of all statuses.
  *
- * SETS. A set of resources is the values of two certificate extensions: AS identifiers (RFC 3779, 3.2.3) and IP address
- * blocks (2.2.3). Length 0 means that the set has no resources of that kind. A set that a call writes is canonical DER.
- * Therefore two sets that were written are equal if and only if their octets are.
+ * SHORT FORMS. pigy_verify_set, pigy_combine and pigy_compare are at the end of this file. They take structs instead of
+ * 9 to 17 parameters. Pointers in these structs may be NULL.
  *
- * CERTIFICATES. A certificate is the same two values, and a number that says which of the extensions it has. An absent
- * extension claims nothing. An extension that is present and has length 0 is invalid.
+ * SETS. A resource set is a pair of octet strings: the values of the certificate extensions AS identifiers (RFC 3779,
+ * 3.2.3) and IP address blocks (2.2.3). A value of length 0 means that the set has no AS numbers, or no addresses. This
+ * holds for inputs and outputs. A set that a call writes is canonical DER. Two such sets are equal if and only if their
+ * octets are equal.
  *
- * BUFFERS. The caller owns all inputs and all output buffers. For each output it passes a pointer, the capacity, and a
- * pointer for the length. Lengths and capacities are in octets, unless the call says otherwise.
+ * CERTIFICATES. A certificate is the same two values, and a bit mask of the extensions that it has (PIGY_HAS_AS,
+ * PIGY_HAS_IP). An absent extension claims nothing. A value of length 0 is invalid if its extension is present.
+ * Overclaimed resources are those that a certificate claims and its issuer does not have.
  *
- * - If all outputs fit, each is written at the front of its buffer, and its length is stored. The rest of the buffer is
- *   unchanged.
+ * BUFFERS. The caller owns all inputs and all output buffers. For each output the caller passes a buffer, its capacity,
+ * and a pointer to a size_t. The call stores the length there. Lengths and capacities are in octets, unless the call
+ * says otherwise.
+ *
+ * - If all outputs fit, the call writes each output at the front of its buffer, and stores its length. The rest of the
+ *   buffer is unchanged.
  * - If an output does not fit, the call returns PIGY_TOO_SMALL. Then no buffer is changed, and the lengths are the
  *   required ones. A second call with these capacities does not return PIGY_TOO_SMALL.
  * - Pass capacity 0 to ask for the lengths alone.
@@ -40,17 +48,18 @@
  * MEMORY. Except for tables, the library keeps nothing between calls and hands out no memory. Each call frees all that
  * it takes from malloc before it returns. PIGY_MEMORY means that malloc failed. It says nothing about the arguments.
  *
- * TABLES. pigy_table_new and pigy_table_changed hand out a table of VRPs. The caller owns it until pigy_table_free. A
- * table never changes. The handle is NULL if the call returns an error. The calls return PIGY_NO_TABLE for a NULL
- * handle, and pigy_table_free does nothing. The obligations for any other handle are below.
+ * TABLES. pigy_table_new and pigy_table_changed return the handle of a table of VRPs. The caller owns the table until
+ * pigy_table_free. A table never changes. If the call returns an error, the handle is NULL. For a NULL handle the calls
+ * return PIGY_NO_TABLE, and pigy_table_free does nothing. The obligations for any other handle are below.
  *
- * CHECKS. Each call checks its arguments in the order that its comment lists, and reports the first error. A call that
- * allocates can return PIGY_MEMORY instead of any other status. PIGY_TOO_SMALL comes after all checks.
+ * CHECKS. Each call checks its arguments in the order that its comment lists, and returns the first error.
+ * PIGY_TOO_SMALL comes after all checks. Each call that returns a status, except pigy_table_len, can return PIGY_MEMORY
+ * instead of any other status except PIGY_NO_TABLE. The comments of the calls do not repeat this.
  *
  * OBLIGATIONS of the caller, which nothing checks:
  *
- * - No pointer is NULL, even at length 0. Exceptions: a table's handle, and the members of pigy_set and pigy_buffers
- *   that the inline functions at the end of this file take.
+ * - No pointer is NULL, even at length 0. There are two exceptions: the handle of a table, and the members of pigy_set
+ *   and pigy_buffers.
  * - Each pointer points to an array of the length that is passed with it, aligned as C requires for its type. This also
  *   holds for the size_t that receives a length, an index or a count, and for the pointer that receives a handle.
  * - A handle that is not NULL came from pigy_table_new or pigy_table_changed, and was not passed to pigy_table_free. It
@@ -58,17 +67,19 @@
  *   it points to.
  * - Outputs overlap neither inputs nor other outputs. Until the call returns, nothing else writes to inputs or outputs,
  *   and nothing else reads outputs.
- * - malloc, realloc and free belong to one allocator. It aligns a block to each power of two up to 16 that divides the
- *   size of the block, as the C library's allocator does.
+ * - malloc, realloc and free belong to one allocator. If 2, 4, 8 or 16 divides the size of a block, that number also
+ *   divides its address. The C library's allocator does this.
  * - The stack has 128 KiB left. The calls of foreign/c/test.c use less than 8 KiB of it. This is measured on x86-64,
  *   and is not proved.
  * - No call is made in a signal handler, or in the forked child of a process with threads.
  *
- * THREADS. The calls share no state. Any number of them may run at the same time if each meets the obligations: inputs
- * may be shared, outputs may not. This is tested with eight threads, and is not proved. Any number of threads may use
- * one table, and may make the next one from it at the same time. A thread that hands a handle to another thread orders
- * this by a lock, by the start or join of a thread, or by a seq_cst atomic. The last call with a handle is ordered
- * before pigy_table_free in the same way.
+ * THREADS. The calls share no state. Any number of them may run at the same time if each meets the obligations. Inputs
+ * may be shared between calls, and outputs may not. This is tested with eight threads, and is not proved.
+ *
+ * - Any number of threads may use one table, and may make the next table from it at the same time.
+ * - If a thread passes a handle to another thread, order this by a lock, by the start or join of a thread, or by a
+ *   seq_cst atomic.
+ * - Order the last call with a handle before pigy_table_free in the same way.
  */
 #ifndef PIGYELUND_H
 #define PIGYELUND_H
@@ -84,33 +95,46 @@ extern "C" {
 #define PIGY_MEMORY 2u        /* Out of memory: malloc failed. No buffer is changed. */
 #define PIGY_INHERITED 3u     /* A set says "inherit" where it has to list its resources. */
 #define PIGY_BAD_MODE 4u      /* The mode is neither PIGY_REFUSE nor PIGY_TRIM. */
-#define PIGY_OVERCLAIM_AS 5u  /* Overclaimed AS numbers. The outputs are those that the issuer does not have. */
-#define PIGY_OVERCLAIM_V4 6u  /* The same for IPv4 addresses. */
-#define PIGY_OVERCLAIM_V6 7u  /* The same for IPv6 addresses. */
+#define PIGY_OVERCLAIM_AS 5u  /* Overclaimed AS numbers. The outputs are exactly these, as a set. */
+#define PIGY_OVERCLAIM_V4 6u  /* Overclaimed IPv4 addresses. The outputs are exactly these, as a set. */
+#define PIGY_OVERCLAIM_V6 7u  /* Overclaimed IPv6 addresses. The outputs are exactly these, as a set. */
 #define PIGY_NO 8u            /* For pigy_contains and pigy_equal: no. */
 #define PIGY_BAD_ENCODING 9u  /* The encoding is neither PIGY_LENIENT nor PIGY_STRICT. */
 #define PIGY_ABSENT 10u       /* The certificate has neither extension. */
-#define PIGY_OUTSIDE 11u      /* Octets of a certificate on a path lie outside of the run of octets. */
-#define PIGY_BAD_PRESENT 12u  /* The number of the extensions that are present is above PIGY_HAS_BOTH. */
+#define PIGY_OUTSIDE 11u      /* The range of a certificate's extension does not lie in `run` (pigy_verify_path). */
+#define PIGY_BAD_PRESENT 12u  /* The bit mask of the extensions is above PIGY_HAS_BOTH. */
 #define PIGY_BAD_FAMILY 13u   /* The family is neither PIGY_IPV4 nor PIGY_IPV6. */
-#define PIGY_BAD_PREFIX 14u   /* The length is above the family's, or bits of the address after it are set. */
+#define PIGY_BAD_PREFIX 14u   /* The length is above the family's, or bits of the address after the prefix are set. */
 #define PIGY_BAD_MAX_LEN 15u  /* The maximum length is below the prefix's length, or above the family's. */
 #define PIGY_NO_TABLE 16u     /* The handle is NULL. */
 #define PIGY_UNKNOWN_WITHDRAWAL 17u     /* A withdrawn VRP is not in the table, or is listed twice (RFC 8210, 12: 6). */
 #define PIGY_DUPLICATE_ANNOUNCEMENT 18u /* An announced VRP is in the table, or is listed twice (RFC 8210, 12: 7). */
 #define PIGY_BAD_AS 0x100u    /* The AS identifiers are invalid. The number of the first error is added. */
 #define PIGY_BAD_IP 0x200u    /* The IP address blocks are invalid. The number of the first error is added. */
-#define PIGY_SECOND 0x1000u   /* Added to a status if the error is in the second of two arguments.
-                                 With PIGY_BAD_AS or PIGY_BAD_IP this is the certificate (not the issuer), or the second
-                                 set.
-                                 With PIGY_INHERITED this is the second set.
-                                 With PIGY_BAD_FAMILY or PIGY_BAD_PREFIX this is a route (not a VRP), or a withdrawn
-                                 VRP.
-                                 With PIGY_BAD_MAX_LEN this is a withdrawn VRP (not an announced one). */
-#define PIGY_FAULT(s) ((s) & 0xffu) /* The number of the first error in a PIGY_BAD_AS or PIGY_BAD_IP: 1 truncated, 2
-                                       tag, 3 length, 4 integer, 5 bit string, 6 NULL, 7 trailing data, 8 prefix, 9
-                                       family, 10 reversed range, 11 no blocks, 12 family twice, 13 no family,
-                                       14 not canonical. */
+/* PIGY_SECOND is added to a status if the error is in the second of two arguments:
+ *
+ * - PIGY_BAD_AS, PIGY_BAD_IP: in the certificate (not in the issuer's set), or in the second set.
+ * - PIGY_INHERITED: in the second set.
+ * - PIGY_BAD_FAMILY, PIGY_BAD_PREFIX: in a route (not in a VRP), or in a withdrawn VRP.
+ * - PIGY_BAD_MAX_LEN: in a withdrawn VRP (not in an announced one). */
+#define PIGY_SECOND 0x1000u
+/* The number n of the first error, from a status PIGY_BAD_AS + n or PIGY_BAD_IP + n, also with PIGY_SECOND:
+ *
+ * - 1: The value is truncated.
+ * - 2: Another tag is expected.
+ * - 3: A length is invalid, for example that of BER.
+ * - 4: An INTEGER is not an AS number in the fewest octets.
+ * - 5: A BIT STRING is invalid.
+ * - 6: A NULL has content.
+ * - 7: Octets follow the value.
+ * - 8: A prefix is longer than its family allows.
+ * - 9: An address family is unknown.
+ * - 10: The first bound of a range is above the second.
+ * - 11: A list has no blocks.
+ * - 12: An address family appears twice.
+ * - 13: There is no address family.
+ * - 14: The encoding is not canonical. Only PIGY_STRICT returns this. */
+#define PIGY_FAULT(s) ((s) & 0xffu)
 
 /* Encodings. PIGY_LENIENT accepts any DER that the syntax allows: blocks in any order, also overlapping ones.
  * PIGY_STRICT accepts canonical DER only (RFC 3779, 2.2.3.6 and 3.2.3.4). */
@@ -118,11 +142,11 @@ extern "C" {
 #define PIGY_STRICT 1u
 
 /* Modes, for a certificate that claims more than its issuer has. PIGY_REFUSE refuses the certificate (RFC 6487, 7.2).
- * PIGY_TRIM reduces the claim to what the issuer has of it (RFC 8360, 4). */
+ * PIGY_TRIM reduces the claim to the resources that the issuer has (RFC 8360, 4). */
 #define PIGY_REFUSE 0u
 #define PIGY_TRIM 1u
 
-/* The extensions that a certificate has: one of these numbers, or 0 if it has neither. */
+/* The extensions that a certificate has, as a bit mask: one of these numbers, or 0 if it has neither. */
 #define PIGY_HAS_AS 1u
 #define PIGY_HAS_IP 2u
 #define PIGY_HAS_BOTH 3u
@@ -131,43 +155,57 @@ extern "C" {
 #define PIGY_IPV4 1u
 #define PIGY_IPV6 2u
 
-/* Validity of a route (RFC 6811, 2), with the numbers of RFC 8097, 2. Valid: a VRP matches the route. Not found: no VRP
- * covers it. Invalid: at least one VRP covers it, and none matches it. */
+/* Validity of a route (RFC 6811, 2), with the numbers of RFC 8097, 2:
+ *
+ * - PIGY_VALID: At least one VRP matches the route.
+ * - PIGY_NOT_FOUND: No VRP covers the route.
+ * - PIGY_INVALID: At least one VRP covers the route, and none matches it. */
 #define PIGY_VALID 0u
 #define PIGY_NOT_FOUND 1u
 #define PIGY_INVALID 2u
 
-/* Why a VRP that covers a route does not match it: one of these, their sum, or 0 if it matches. PIGY_OTHER_AS: its AS
- * is not the route's, or is AS 0. PIGY_TOO_LONG: the route's prefix is longer than the VRP allows. */
+/* Why a VRP that covers a route does not match it: one of these, their sum, or 0 if it matches.
+ *
+ * - PIGY_OTHER_AS: The AS of the VRP is not the route's, or is AS 0.
+ * - PIGY_TOO_LONG: The route's prefix is longer than the maximum length of the VRP. */
 #define PIGY_OTHER_AS 1u
 #define PIGY_TOO_LONG 2u
 
-/* The version of the calls of this header. It grows if a call is added. */
+/* The version of the calls of this header. It grows if a call is added. A released call never changes its meaning. */
 #define PIGY_VERSION 4u
-/** Returns the version of the linked library's calls, which may be greater than PIGY_VERSION. */
+/**
+ * Returns the version of the calls in the linked library. The library has all calls of this header if the version is at
+ * least PIGY_VERSION.
+ */
 uint32_t pigy_version(void);
 
 /**
  * Verifies the resources of a certificate against those of its issuer.
  *
- * The outputs are what the issuer's set leaves of the claims, for AS numbers, IPv4 and IPv6 each. They are nothing for
- * an absent extension or an absent family, all of the issuer's for "inherit", and otherwise what both have.
+ * pigy_verify_set is a shorter form.
  *
- * @param issuer_as      Issuer's AS identifiers. Not NULL.
- * @param issuer_as_len  Length in octets; 0 if the set has none.
- * @param issuer_ip      Issuer's IP address blocks. Not NULL.
- * @param issuer_ip_len  Length in octets; 0 if the set has none.
+ * The outputs are the verified resources of the certificate, as a set. For AS numbers, IPv4 and IPv6 each, the result
+ * depends on the claim of the certificate:
+ *
+ * - The extension or the address family is absent: no resources.
+ * - The claim is "inherit": all resources of the issuer.
+ * - The claim is a list: the resources that both the list and the issuer have.
+ *
+ * @param issuer_as      Issuer's AS identifiers: DER. Not NULL.
+ * @param issuer_as_len  Length in octets; 0 if the issuer has no AS numbers.
+ * @param issuer_ip      Issuer's IP address blocks: DER. Not NULL.
+ * @param issuer_ip_len  Length in octets; 0 if the issuer has no addresses.
  * @param present        Extensions of the certificate: PIGY_HAS_AS, PIGY_HAS_IP, PIGY_HAS_BOTH or 0.
- * @param cert_as        Certificate's AS identifiers. Not read if absent. Not NULL.
- * @param cert_as_len    Length in octets.
- * @param cert_ip        Certificate's IP address blocks. Not read if absent. Not NULL.
- * @param cert_ip_len    Length in octets.
- * @param encoding       PIGY_LENIENT or PIGY_STRICT. It holds for the issuer's octets too.
+ * @param cert_as        Certificate's AS identifiers: DER. Not read if the extension is absent. Not NULL.
+ * @param cert_as_len    Length in octets; 0 is invalid if the extension is present.
+ * @param cert_ip        Certificate's IP address blocks: DER. Not read if the extension is absent. Not NULL.
+ * @param cert_ip_len    Length in octets; 0 is invalid if the extension is present.
+ * @param encoding       PIGY_LENIENT or PIGY_STRICT, for the certificate and for the issuer.
  * @param mode           PIGY_REFUSE or PIGY_TRIM.
- * @param as_out         Buffer for AS identifiers. Owned by the caller. Not NULL.
- * @param as_capacity    Capacity of this buffer, in octets.
- * @param ip_out         Buffer for IP address blocks. Owned by the caller. Not NULL.
- * @param ip_capacity    Capacity of this buffer, in octets.
+ * @param as_out         Buffer for the result's AS identifiers. Owned by the caller. Not NULL.
+ * @param as_capacity    Capacity of `as_out` in octets; may be 0.
+ * @param ip_out         Buffer for the result's IP address blocks. Owned by the caller. Not NULL.
+ * @param ip_capacity    Capacity of `ip_out` in octets; may be 0.
  * @param as_len         Receives the length of the AS identifiers in octets, written or required. Not NULL.
  * @param ip_len         Receives the length of the IP address blocks in octets, written or required. Not NULL.
  *
@@ -188,11 +226,14 @@ uint32_t pigy_verify(const uint8_t *issuer_as, size_t issuer_as_len, const uint8
                      uint8_t *as_out, size_t as_capacity, uint8_t *ip_out, size_t ip_capacity, size_t *as_len,
                      size_t *ip_len);
 
-/* A certificate of a path.
+/* A certificate of a path, as pigy_verify_path takes it. Its extensions are ranges of `run`, a parameter of that call.
  *
- * Its AS identifiers are the as_len octets from index as_start of a run of octets. Its IP address blocks are the ip_len
- * octets from ip_start. Both ranges lie in the run, also that of an absent extension: 0 and 0 do. Its extensions
- * (`present`) and its mode are numbers as for pigy_verify. */
+ * - as_start, as_len: Index of the first octet of the AS identifiers in `run`, from 0, and their length in octets.
+ * - ip_start, ip_len: The same for the IP address blocks.
+ * - present: Extensions of the certificate: PIGY_HAS_AS, PIGY_HAS_IP, PIGY_HAS_BOTH or 0.
+ * - mode: PIGY_REFUSE or PIGY_TRIM.
+ *
+ * Both ranges lie in `run`, also the range of an absent extension. Use start 0 and length 0 for an absent extension. */
 typedef struct {
   size_t as_start, as_len, ip_start, ip_len;
   uint32_t present, mode;
@@ -201,36 +242,39 @@ typedef struct {
 /**
  * Verifies the resources of certificates on a path, from a trust anchor down.
  *
- * The anchor's set verifies the first certificate. Each other certificate is verified by what the ones before it leave.
- * The outputs are what all certificates leave. If there are no certificates, they are the anchor's set.
+ * The anchor's set verifies the first certificate. The result verifies the next certificate, and so on. The outputs are
+ * the verified resources of the last certificate, as a set. If there are no certificates, they are the anchor's set.
  *
- * @param anchor_as      Anchor's AS identifiers. Not NULL.
- * @param anchor_as_len  Length in octets; 0 if the set has none.
- * @param anchor_ip      Anchor's IP address blocks. Not NULL.
- * @param anchor_ip_len  Length in octets; 0 if the set has none.
- * @param run            Octets of all extensions of the certificates. Not NULL.
+ * @param anchor_as      Trust anchor's AS identifiers: DER. Not NULL.
+ * @param anchor_as_len  Length in octets; 0 if the anchor has no AS numbers.
+ * @param anchor_ip      Trust anchor's IP address blocks: DER. Not NULL.
+ * @param anchor_ip_len  Length in octets; 0 if the anchor has no addresses.
+ * @param run            Octets of the extensions of all certificates: DER. Not NULL.
  * @param run_len        Length in octets.
  * @param certificates   The certificates, the anchor's child first. Not NULL.
  * @param count          Number of certificates.
- * @param encoding       PIGY_LENIENT or PIGY_STRICT. It holds for the anchor's octets too.
- * @param as_out         Buffer for AS identifiers. Owned by the caller. Not NULL.
- * @param as_capacity    Capacity of this buffer, in octets.
- * @param ip_out         Buffer for IP address blocks. Owned by the caller. Not NULL.
- * @param ip_capacity    Capacity of this buffer, in octets.
+ * @param encoding       PIGY_LENIENT or PIGY_STRICT, for all certificates and for the anchor.
+ * @param as_out         Buffer for the result's AS identifiers. Owned by the caller. Not NULL.
+ * @param as_capacity    Capacity of `as_out` in octets; may be 0.
+ * @param ip_out         Buffer for the result's IP address blocks. Owned by the caller. Not NULL.
+ * @param ip_capacity    Capacity of `ip_out` in octets; may be 0.
  * @param as_len         Receives the length of the AS identifiers in octets, written or required. Not NULL.
  * @param ip_len         Receives the length of the IP address blocks in octets, written or required. Not NULL.
  * @param verified       Receives the number of verified certificates. Not NULL.
  *
  * @return the first of these that applies:
- *   1. PIGY_BAD_ENCODING; *verified is 0.
+ *   1. PIGY_BAD_ENCODING. *verified is 0.
  *   2. PIGY_BAD_AS + n, PIGY_BAD_IP + n, PIGY_INHERITED: the anchor's set. *verified is 0.
- *   3. For each certificate in turn: PIGY_OUTSIDE, PIGY_BAD_PRESENT, PIGY_BAD_MODE, and then 3 to 5 of pigy_verify.
- *      *verified is the index of this certificate, counted from 0.
+ *   3. For each certificate in turn, the first of these. *verified is the index of this certificate, from 0.
+ *      - PIGY_OUTSIDE, PIGY_BAD_PRESENT, PIGY_BAD_MODE.
+ *      - PIGY_ABSENT.
+ *      - PIGY_SECOND + PIGY_BAD_AS + n, PIGY_SECOND + PIGY_BAD_IP + n: the certificate's extensions.
+ *      - PIGY_OVERCLAIM_AS, PIGY_OVERCLAIM_V4, PIGY_OVERCLAIM_V6, with PIGY_REFUSE only. The outputs are exactly the
+ *        overclaimed resources of that kind, as a set. If these do not fit, the status is PIGY_TOO_SMALL.
  *   4. PIGY_TOO_SMALL, then PIGY_OK.
  *
- * With PIGY_OVERCLAIM_AS, PIGY_OVERCLAIM_V4 and PIGY_OVERCLAIM_V6 the outputs are the overclaimed resources. With any
- * other status except PIGY_OK and PIGY_TOO_SMALL both lengths are 0 and the buffers are unchanged. With PIGY_MEMORY
- * *verified is unspecified.
+ * With any status except PIGY_OK, PIGY_TOO_SMALL and the three of overclaimed resources, both lengths are 0 and the
+ * buffers are unchanged. With PIGY_MEMORY *verified is unspecified.
  */
 uint32_t pigy_verify_path(const uint8_t *anchor_as, size_t anchor_as_len, const uint8_t *anchor_ip,
                           size_t anchor_ip_len, const uint8_t *run, size_t run_len,
@@ -241,35 +285,47 @@ uint32_t pigy_verify_path(const uint8_t *anchor_as, size_t anchor_as_len, const 
 /**
  * Lists the fewest prefixes that have exactly the addresses of one family in IP address blocks, in ascending order.
  *
- * Each prefix is its address and then its length, one octet: 5 octets for PIGY_IPV4, 17 for PIGY_IPV6.
+ * Each prefix is its address and then its length in bits, one octet: 5 octets for PIGY_IPV4, 17 for PIGY_IPV6.
  *
- * @param ip        IP address blocks. Not NULL.
- * @param ip_len    Length in octets, which may be 0.
+ * @param ip        IP address blocks: DER. Not NULL.
+ * @param ip_len    Length in octets; may be 0.
  * @param encoding  PIGY_LENIENT or PIGY_STRICT.
  * @param family    PIGY_IPV4 or PIGY_IPV6.
  * @param out       Buffer for the prefixes. Owned by the caller. Not NULL.
- * @param capacity  Capacity of the buffer, in octets.
+ * @param capacity  Capacity of `out` in octets; may be 0.
  * @param len       Receives the length in octets, written or required. Not NULL.
  *
- * @return the first of these that applies: PIGY_BAD_ENCODING; PIGY_BAD_FAMILY; PIGY_BAD_IP + n; PIGY_INHERITED, for
- *   either family; PIGY_TOO_SMALL; PIGY_OK. With an error other than PIGY_TOO_SMALL *len is 0 and the buffer is
- *   unchanged.
+ * @return the first of these that applies:
+ *   1. PIGY_BAD_ENCODING.
+ *   2. PIGY_BAD_FAMILY.
+ *   3. PIGY_BAD_IP + n.
+ *   4. PIGY_INHERITED: one of the two families has "inherit", also if it is not the requested one.
+ *   5. PIGY_TOO_SMALL, then PIGY_OK.
+ *
+ * With 1 to 4 and with PIGY_MEMORY *len is 0 and the buffer is unchanged.
  */
 uint32_t pigy_cover(const uint8_t *ip, size_t ip_len, uint32_t encoding, uint32_t family, uint8_t *out, size_t capacity,
                     size_t *len);
 
-/* A VRP: a prefix (family, address, len), its maximum length max_len (maxLength), and the AS that may originate it.
+/* A VRP (validated ROA payload): a prefix, its maximum length, and the AS that may originate it.
  *
- * The family is PIGY_IPV4 or PIGY_IPV6. Lengths are in bits. The octets of the address come with the highest first. An
- * IPv4 address is the first four, and the others are not read. */
+ * - address: Address of the prefix, in network byte order. An IPv4 address is in the first 4 octets, and the other 12
+ *   are not read.
+ * - asn: AS number, in host byte order.
+ * - family: PIGY_IPV4 or PIGY_IPV6.
+ * - len: Length of the prefix in bits. The bits of the address after it are 0.
+ * - max_len: Maximum length (maxLength) in bits: from len to 32 for IPv4, and to 128 for IPv6. */
 typedef struct {
   uint8_t address[16];
   uint32_t asn;
   uint8_t family, len, max_len;
 } pigy_vrp;
 
-/* A route: the prefix that it leads to, as for a VRP, and the AS that originates it. Use AS 0 if its path ends in an
- * AS_SET: no VRP matches AS 0 (RFC 6811, 2). */
+/* A route: a prefix, and the AS that originates it.
+ *
+ * - address, family, len: The prefix, as in a VRP.
+ * - asn: AS number, in host byte order. Use AS 0 if the path of the route ends in an AS_SET: no VRP matches AS 0
+ *   (RFC 6811, 2). */
 typedef struct {
   uint8_t address[16];
   uint32_t asn;
@@ -285,8 +341,8 @@ typedef struct {
  * @param vrp_count    Number of VRPs.
  * @param routes       Routes. Not NULL.
  * @param route_count  Number of routes.
- * @param out          Buffer for the octets. Owned by the caller. Not NULL.
- * @param capacity     Capacity of the buffer, in octets.
+ * @param out          Buffer for one octet a route, in the order of the routes. Owned by the caller. Not NULL.
+ * @param capacity     Capacity of `out` in octets; may be 0.
  * @param len          Receives the length in octets, written or required. Not NULL.
  * @param index        Receives the index of the first invalid VRP or route, from 0; else 0. Not NULL.
  *
@@ -303,8 +359,10 @@ uint32_t pigy_origins(const pigy_vrp *vrps, size_t vrp_count, const pigy_route *
 /* A table of VRPs. The caller owns it until pigy_table_free. */
 typedef struct pigy_table pigy_table;
 
-/* A VRP of a table that covers a route. Its mismatch says why it does not match the route: PIGY_OTHER_AS,
- * PIGY_TOO_LONG, their sum, or 0. An IPv4 address is the first four octets, and the others are 0. */
+/* A VRP of a table that covers a route.
+ *
+ * - address, asn, family, len, max_len: The VRP. The last 12 octets of an IPv4 address are 0.
+ * - mismatch: Why the VRP does not match the route: PIGY_OTHER_AS, PIGY_TOO_LONG, their sum, or 0 if it matches. */
 typedef struct {
   uint8_t address[16];
   uint32_t asn;
@@ -319,24 +377,29 @@ typedef struct {
  * @param table  Receives the handle. Its old value is not read. Not NULL.
  * @param index  Receives the index of the first invalid VRP, from 0; else 0. Not NULL.
  *
- * @return PIGY_BAD_FAMILY, PIGY_BAD_PREFIX or PIGY_BAD_MAX_LEN for the first invalid VRP; else PIGY_OK. With an error,
- *   also PIGY_MEMORY, *table is NULL.
+ * @return the first of these that applies:
+ *   1. PIGY_BAD_FAMILY, PIGY_BAD_PREFIX, PIGY_BAD_MAX_LEN: the first invalid VRP.
+ *   2. PIGY_OK.
+ *
+ * With 1 and with PIGY_MEMORY *table is NULL.
  */
 uint32_t pigy_table_new(const pigy_vrp *vrps, size_t count, pigy_table **table, size_t *index);
 
 /**
  * Makes the next table: `table` without the withdrawn VRPs, and then with the announced ones (RFC 8210, 5.6).
  *
- * The next table has a handle of its own, and `table` does not change. A withdrawal removes all copies of a VRP. Each
- * array lists a VRP once, also one that the table lists more than once. A VRP in both arrays has to be in the table,
- * and is listed once afterwards. If an array has no VRPs, pass a pointer to any VRP and length 0.
+ * - The next table has a handle of its own, and `table` does not change.
+ * - A withdrawal removes all copies of a VRP.
+ * - Each array may list a VRP only once, even if the table lists it more than once.
+ * - A VRP in both arrays has to be in the table. The next table lists it once.
+ * - If an array has no VRPs, pass a pointer to any VRP and length 0.
  *
  * @param table            The table, which is only read. The status is PIGY_NO_TABLE if it is NULL.
  * @param announced        Announced VRPs. Not NULL.
  * @param announced_count  Number of announced VRPs.
  * @param withdrawn        Withdrawn VRPs. Not NULL.
  * @param withdrawn_count  Number of withdrawn VRPs.
- * @param next             Receives the handle. Its old value is not read. Not NULL.
+ * @param next             Receives the handle of the next table. Its old value is not read. Not NULL.
  * @param index            Receives the index of the VRP at fault, from 0; else 0. Not NULL.
  *
  * @return the first of these that applies:
@@ -349,7 +412,7 @@ uint32_t pigy_table_new(const pigy_vrp *vrps, size_t count, pigy_table **table, 
  *      repetition in `announced`.
  *   6. PIGY_OK.
  *
- * *index is an index of `withdrawn` with 3 and 4, and of `announced` with 2 and 5. With an error, also PIGY_MEMORY,
+ * *index is an index of `withdrawn` with 3 and 4, and of `announced` with 2 and 5. With 1 to 5 and with PIGY_MEMORY
  * *next is NULL.
  */
 uint32_t pigy_table_changed(const pigy_table *table, const pigy_vrp *announced, size_t announced_count,
@@ -361,14 +424,17 @@ uint32_t pigy_table_changed(const pigy_table *table, const pigy_vrp *announced, 
  * @param table     The table, which is only read. The status is PIGY_NO_TABLE if it is NULL.
  * @param routes    Routes. Not NULL.
  * @param count     Number of routes.
- * @param out       Buffer for the octets, one for each route. Owned by the caller. Not NULL.
- * @param capacity  Capacity of the buffer, in octets.
+ * @param out       Buffer for one octet a route, in the order of the routes. Owned by the caller. Not NULL.
+ * @param capacity  Capacity of `out` in octets; may be 0.
  * @param len       Receives the length in octets, written or required. Not NULL.
  * @param index     Receives the index of the first invalid route, from 0; else 0. Not NULL.
  *
- * @return the first of these that applies: PIGY_NO_TABLE; PIGY_SECOND + PIGY_BAD_FAMILY or PIGY_SECOND +
- *   PIGY_BAD_PREFIX for the first invalid route; PIGY_TOO_SMALL; PIGY_OK. With an error other than PIGY_TOO_SMALL *len
- *   is 0 and the buffer is unchanged.
+ * @return the first of these that applies:
+ *   1. PIGY_NO_TABLE.
+ *   2. PIGY_SECOND + PIGY_BAD_FAMILY, PIGY_SECOND + PIGY_BAD_PREFIX: the first invalid route.
+ *   3. PIGY_TOO_SMALL, then PIGY_OK.
+ *
+ * With 1, 2 and PIGY_MEMORY *len is 0 and the buffer is unchanged.
  */
 uint32_t pigy_table_origins(const pigy_table *table, const pigy_route *routes, size_t count, uint8_t *out,
                             size_t capacity, size_t *len, size_t *index);
@@ -376,17 +442,21 @@ uint32_t pigy_table_origins(const pigy_table *table, const pigy_route *routes, s
 /**
  * Lists the VRPs of a table that cover a route, each with the reason why it does not match.
  *
- * The longest prefix comes first. VRPs with the same prefix come with the least AS number first. Those with the same AS
- * come with the longest maximum length first.
+ * The longest prefix comes first. If two VRPs have the same prefix, the lesser AS number comes first. If they also have
+ * the same AS, the longer maximum length comes first.
  *
  * @param table     The table, which is only read. The status is PIGY_NO_TABLE if it is NULL.
  * @param route     One route. Not NULL.
  * @param out       Buffer for the VRPs. Owned by the caller. Not NULL.
- * @param capacity  Capacity of the buffer, in VRPs.
- * @param len       Receives the length, written or required, in VRPs. Not NULL.
+ * @param capacity  Capacity of `out` in VRPs, not in octets; may be 0.
+ * @param len       Receives the number of VRPs, written or required. Not NULL.
  *
- * @return the first of these that applies: PIGY_NO_TABLE; PIGY_SECOND + PIGY_BAD_FAMILY; PIGY_SECOND + PIGY_BAD_PREFIX;
- *   PIGY_TOO_SMALL; PIGY_OK. With an error other than PIGY_TOO_SMALL *len is 0 and the buffer is unchanged.
+ * @return the first of these that applies:
+ *   1. PIGY_NO_TABLE.
+ *   2. PIGY_SECOND + PIGY_BAD_FAMILY, PIGY_SECOND + PIGY_BAD_PREFIX: the route is invalid.
+ *   3. PIGY_TOO_SMALL, then PIGY_OK.
+ *
+ * With 1, 2 and PIGY_MEMORY *len is 0 and the buffer is unchanged.
  */
 uint32_t pigy_table_covering(const pigy_table *table, const pigy_route *route, pigy_covering *out, size_t capacity,
                              size_t *len);
@@ -397,64 +467,71 @@ uint32_t pigy_table_covering(const pigy_table *table, const pigy_route *route, p
  * @param table  The table, which is only read. The status is PIGY_NO_TABLE if it is NULL.
  * @param len    Receives the number of VRPs; 0 with an error. Not NULL.
  *
- * @return PIGY_NO_TABLE, or else PIGY_OK.
+ * @return PIGY_NO_TABLE if the handle is NULL, or else PIGY_OK.
  */
 uint32_t pigy_table_len(const pigy_table *table, size_t *len);
 
 /**
  * Lists all VRPs of a table.
  *
- * IPv4 comes before IPv6. Then the order is by address, and then by prefix length, the shorter first. VRPs with the
- * same prefix come with the greatest AS number first. Those with the same AS come with the shortest maximum length
- * first.
+ * IPv4 comes before IPv6. Then the order is by address, and then by prefix length, the shorter first. If two VRPs have
+ * the same prefix, the greater AS number comes first. If they also have the same AS, the shorter maximum length comes
+ * first. pigy_table_covering has another order.
  *
  * @param table     The table, which is only read. The status is PIGY_NO_TABLE if it is NULL.
  * @param out       Buffer for the VRPs. Owned by the caller. Not NULL.
- * @param capacity  Capacity of the buffer, in VRPs.
- * @param len       Receives the length, written or required, in VRPs. Not NULL.
+ * @param capacity  Capacity of `out` in VRPs, not in octets; may be 0.
+ * @param len       Receives the number of VRPs, written or required. Not NULL.
  *
- * @return the first of these that applies: PIGY_NO_TABLE; PIGY_TOO_SMALL; PIGY_OK. With PIGY_NO_TABLE and PIGY_MEMORY
- *   *len is 0 and the buffer is unchanged.
+ * @return the first of these that applies:
+ *   1. PIGY_NO_TABLE.
+ *   2. PIGY_TOO_SMALL, then PIGY_OK.
+ *
+ * With 1 and with PIGY_MEMORY *len is 0 and the buffer is unchanged.
  */
 uint32_t pigy_table_vrps(const pigy_table *table, pigy_vrp *out, size_t capacity, size_t *len);
 
 /**
- * Frees a table.
+ * Frees a table. The handle is invalid afterwards.
  *
- * @param table  A handle that no other call uses any more; or NULL, and then the call does nothing.
+ * @param table  The table. All other calls with this handle have returned. If it is NULL, the call does nothing.
  */
 void pigy_table_free(pigy_table *table);
 
 /**
- * Answers a line as the program respath does (README.md). Both texts are UTF-8, without the end of a line.
+ * Returns the answer of the program respath to one line. README.md lists its commands.
  *
- * @param line      The line. Not NULL.
+ * Both texts are UTF-8, without the end of a line.
+ *
+ * @param line      The line, for example "der v4 10.0.0.0/8". Not NULL.
  * @param line_len  Length in octets.
  * @param out       Buffer for the answer, which has no final NUL. Owned by the caller. Not NULL.
- * @param capacity  Capacity of the buffer, in octets.
+ * @param capacity  Capacity of `out` in octets; may be 0.
  * @param len       Receives the length in octets, written or required. Not NULL.
  *
- * @return PIGY_TOO_SMALL, PIGY_MEMORY or PIGY_OK. The answer itself says what is wrong with a line. With PIGY_MEMORY
- *   *len is 0, and the buffer is unchanged.
+ * @return PIGY_TOO_SMALL, PIGY_MEMORY or PIGY_OK. No status is about the line: the answer says what is wrong with it.
+ *   With PIGY_MEMORY *len is 0 and the buffer is unchanged.
  */
 uint32_t pigy_answer(const uint8_t *line, size_t line_len, uint8_t *out, size_t capacity, size_t *len);
 
 /**
- * Computes the union of two sets: what one or the other has.
+ * Computes the union of two sets: the resources that the first or the second set has.
  *
- * @param a_as         First set's AS identifiers. Not NULL.
- * @param a_as_len     Length in octets; 0 if the set has none.
- * @param a_ip         First set's IP address blocks. Not NULL.
- * @param a_ip_len     Length in octets; 0 if the set has none.
- * @param b_as         Second set's AS identifiers. Not NULL.
- * @param b_as_len     Length in octets; 0 if the set has none.
- * @param b_ip         Second set's IP address blocks. Not NULL.
- * @param b_ip_len     Length in octets; 0 if the set has none.
+ * pigy_combine is a shorter form.
+ *
+ * @param a_as         First set's AS identifiers: DER. Not NULL.
+ * @param a_as_len     Length in octets; 0 if the set has no AS numbers.
+ * @param a_ip         First set's IP address blocks: DER. Not NULL.
+ * @param a_ip_len     Length in octets; 0 if the set has no addresses.
+ * @param b_as         Second set's AS identifiers: DER. Not NULL.
+ * @param b_as_len     Length in octets; 0 if the set has no AS numbers.
+ * @param b_ip         Second set's IP address blocks: DER. Not NULL.
+ * @param b_ip_len     Length in octets; 0 if the set has no addresses.
  * @param encoding     PIGY_LENIENT or PIGY_STRICT, for both sets.
- * @param as_out       Buffer for AS identifiers. Owned by the caller. Not NULL.
- * @param as_capacity  Capacity of this buffer, in octets.
- * @param ip_out       Buffer for IP address blocks. Owned by the caller. Not NULL.
- * @param ip_capacity  Capacity of this buffer, in octets.
+ * @param as_out       Buffer for the result's AS identifiers. Owned by the caller. Not NULL.
+ * @param as_capacity  Capacity of `as_out` in octets; may be 0.
+ * @param ip_out       Buffer for the result's IP address blocks. Owned by the caller. Not NULL.
+ * @param ip_capacity  Capacity of `ip_out` in octets; may be 0.
  * @param as_len       Receives the length of the AS identifiers in octets, written or required. Not NULL.
  * @param ip_len       Receives the length of the IP address blocks in octets, written or required. Not NULL.
  *
@@ -464,50 +541,135 @@ uint32_t pigy_answer(const uint8_t *line, size_t line_len, uint8_t *out, size_t 
  *   3. PIGY_SECOND + one of these: the second set.
  *   4. PIGY_TOO_SMALL, then PIGY_OK.
  *
- * With 1 to 3 and PIGY_MEMORY both lengths are 0 and the buffers are unchanged.
+ * With 1 to 3 and with PIGY_MEMORY both lengths are 0 and the buffers are unchanged.
  */
 uint32_t pigy_union(const uint8_t *a_as, size_t a_as_len, const uint8_t *a_ip, size_t a_ip_len, const uint8_t *b_as,
                     size_t b_as_len, const uint8_t *b_ip, size_t b_ip_len, uint32_t encoding,
                     uint8_t *as_out, size_t as_capacity, uint8_t *ip_out, size_t ip_capacity, size_t *as_len,
                     size_t *ip_len);
-/** Computes the intersection of two sets: what both have. Parameters and statuses are those of pigy_union. */
+
+/**
+ * Computes the intersection of two sets: the resources that both sets have.
+ *
+ * pigy_combine is a shorter form.
+ *
+ * @param a_as         First set's AS identifiers: DER. Not NULL.
+ * @param a_as_len     Length in octets; 0 if the set has no AS numbers.
+ * @param a_ip         First set's IP address blocks: DER. Not NULL.
+ * @param a_ip_len     Length in octets; 0 if the set has no addresses.
+ * @param b_as         Second set's AS identifiers: DER. Not NULL.
+ * @param b_as_len     Length in octets; 0 if the set has no AS numbers.
+ * @param b_ip         Second set's IP address blocks: DER. Not NULL.
+ * @param b_ip_len     Length in octets; 0 if the set has no addresses.
+ * @param encoding     PIGY_LENIENT or PIGY_STRICT, for both sets.
+ * @param as_out       Buffer for the result's AS identifiers. Owned by the caller. Not NULL.
+ * @param as_capacity  Capacity of `as_out` in octets; may be 0.
+ * @param ip_out       Buffer for the result's IP address blocks. Owned by the caller. Not NULL.
+ * @param ip_capacity  Capacity of `ip_out` in octets; may be 0.
+ * @param as_len       Receives the length of the AS identifiers in octets, written or required. Not NULL.
+ * @param ip_len       Receives the length of the IP address blocks in octets, written or required. Not NULL.
+ *
+ * @return the first of these that applies:
+ *   1. PIGY_BAD_ENCODING.
+ *   2. PIGY_BAD_AS + n, PIGY_BAD_IP + n, PIGY_INHERITED: the first set.
+ *   3. PIGY_SECOND + one of these: the second set.
+ *   4. PIGY_TOO_SMALL, then PIGY_OK.
+ *
+ * With 1 to 3 and with PIGY_MEMORY both lengths are 0 and the buffers are unchanged.
+ */
 uint32_t pigy_intersection(const uint8_t *a_as, size_t a_as_len, const uint8_t *a_ip, size_t a_ip_len,
                            const uint8_t *b_as, size_t b_as_len, const uint8_t *b_ip, size_t b_ip_len,
                            uint32_t encoding, uint8_t *as_out, size_t as_capacity, uint8_t *ip_out, size_t ip_capacity,
                            size_t *as_len, size_t *ip_len);
-/** Computes what the first set has and the second does not. Parameters and statuses are those of pigy_union. */
+
+/**
+ * Computes the difference of two sets: the resources that the first set has and the second does not.
+ *
+ * pigy_combine is a shorter form.
+ *
+ * @param a_as         First set's AS identifiers: DER. Not NULL.
+ * @param a_as_len     Length in octets; 0 if the set has no AS numbers.
+ * @param a_ip         First set's IP address blocks: DER. Not NULL.
+ * @param a_ip_len     Length in octets; 0 if the set has no addresses.
+ * @param b_as         Second set's AS identifiers: DER. Not NULL.
+ * @param b_as_len     Length in octets; 0 if the set has no AS numbers.
+ * @param b_ip         Second set's IP address blocks: DER. Not NULL.
+ * @param b_ip_len     Length in octets; 0 if the set has no addresses.
+ * @param encoding     PIGY_LENIENT or PIGY_STRICT, for both sets.
+ * @param as_out       Buffer for the result's AS identifiers. Owned by the caller. Not NULL.
+ * @param as_capacity  Capacity of `as_out` in octets; may be 0.
+ * @param ip_out       Buffer for the result's IP address blocks. Owned by the caller. Not NULL.
+ * @param ip_capacity  Capacity of `ip_out` in octets; may be 0.
+ * @param as_len       Receives the length of the AS identifiers in octets, written or required. Not NULL.
+ * @param ip_len       Receives the length of the IP address blocks in octets, written or required. Not NULL.
+ *
+ * @return the first of these that applies:
+ *   1. PIGY_BAD_ENCODING.
+ *   2. PIGY_BAD_AS + n, PIGY_BAD_IP + n, PIGY_INHERITED: the first set.
+ *   3. PIGY_SECOND + one of these: the second set.
+ *   4. PIGY_TOO_SMALL, then PIGY_OK.
+ *
+ * With 1 to 3 and with PIGY_MEMORY both lengths are 0 and the buffers are unchanged.
+ */
 uint32_t pigy_difference(const uint8_t *a_as, size_t a_as_len, const uint8_t *a_ip, size_t a_ip_len,
                          const uint8_t *b_as, size_t b_as_len, const uint8_t *b_ip, size_t b_ip_len, uint32_t encoding,
                          uint8_t *as_out, size_t as_capacity, uint8_t *ip_out, size_t ip_capacity, size_t *as_len,
                          size_t *ip_len);
 
 /**
- * Says whether the first set has each AS number and each address of the second.
+ * Returns whether the first set has each AS number and each address of the second.
  *
- * @param a_as      First set's AS identifiers. Not NULL.
- * @param a_as_len  Length in octets; 0 if the set has none.
- * @param a_ip      First set's IP address blocks. Not NULL.
- * @param a_ip_len  Length in octets; 0 if the set has none.
- * @param b_as      Second set's AS identifiers. Not NULL.
- * @param b_as_len  Length in octets; 0 if the set has none.
- * @param b_ip      Second set's IP address blocks. Not NULL.
- * @param b_ip_len  Length in octets; 0 if the set has none.
+ * pigy_compare is a shorter form.
+ *
+ * @param a_as      First set's AS identifiers: DER. Not NULL.
+ * @param a_as_len  Length in octets; 0 if the set has no AS numbers.
+ * @param a_ip      First set's IP address blocks: DER. Not NULL.
+ * @param a_ip_len  Length in octets; 0 if the set has no addresses.
+ * @param b_as      Second set's AS identifiers: DER. Not NULL.
+ * @param b_as_len  Length in octets; 0 if the set has no AS numbers.
+ * @param b_ip      Second set's IP address blocks: DER. Not NULL.
+ * @param b_ip_len  Length in octets; 0 if the set has no addresses.
  * @param encoding  PIGY_LENIENT or PIGY_STRICT, for both sets.
  *
- * @return 1 to 3 of pigy_union; or else PIGY_OK for yes and PIGY_NO for no.
+ * @return the first of these that applies:
+ *   1. PIGY_BAD_ENCODING.
+ *   2. PIGY_BAD_AS + n, PIGY_BAD_IP + n, PIGY_INHERITED: the first set.
+ *   3. PIGY_SECOND + one of these: the second set.
+ *   4. PIGY_OK for yes, PIGY_NO for no.
  */
 uint32_t pigy_contains(const uint8_t *a_as, size_t a_as_len, const uint8_t *a_ip, size_t a_ip_len, const uint8_t *b_as,
                        size_t b_as_len, const uint8_t *b_ip, size_t b_ip_len, uint32_t encoding);
-/** Says whether both sets are the same. Parameters and statuses are those of pigy_contains. */
+
+/**
+ * Returns whether both sets have the same AS numbers and the same addresses.
+ *
+ * pigy_compare is a shorter form.
+ *
+ * @param a_as      First set's AS identifiers: DER. Not NULL.
+ * @param a_as_len  Length in octets; 0 if the set has no AS numbers.
+ * @param a_ip      First set's IP address blocks: DER. Not NULL.
+ * @param a_ip_len  Length in octets; 0 if the set has no addresses.
+ * @param b_as      Second set's AS identifiers: DER. Not NULL.
+ * @param b_as_len  Length in octets; 0 if the set has no AS numbers.
+ * @param b_ip      Second set's IP address blocks: DER. Not NULL.
+ * @param b_ip_len  Length in octets; 0 if the set has no addresses.
+ * @param encoding  PIGY_LENIENT or PIGY_STRICT, for both sets.
+ *
+ * @return the first of these that applies:
+ *   1. PIGY_BAD_ENCODING.
+ *   2. PIGY_BAD_AS + n, PIGY_BAD_IP + n, PIGY_INHERITED: the first set.
+ *   3. PIGY_SECOND + one of these: the second set.
+ *   4. PIGY_OK for yes, PIGY_NO for no.
+ */
 uint32_t pigy_equal(const uint8_t *a_as, size_t a_as_len, const uint8_t *a_ip, size_t a_ip_len, const uint8_t *b_as,
                     size_t b_as_len, const uint8_t *b_ip, size_t b_ip_len, uint32_t encoding);
 
 /* ---- The rest of this file is inline C, and is not proved. ---- */
 
 /**
- * Returns the English text of a status. The text is never NULL, and lives as long as the program.
+ * Returns the English text of a status. The text is never NULL, and is valid as long as the program runs.
  *
- * @param status  Any number. The text of a number that is no status is "unknown status".
+ * @param status  Any number. For a number that is not a status the text is "unknown status".
  */
 static inline const char *pigy_status_text(uint32_t status) {
 #define PIGY_TEXTS(of)                                                                                                 \
@@ -550,12 +712,14 @@ static inline const char *pigy_status_text(uint32_t status) {
   return "unknown status";
 }
 
-/* Shorter forms of the calls on sets.
+/* A resource set, or the extensions of a certificate, as an input of the short forms below.
  *
- * A pigy_set is an input. The caller owns the octets. A NULL pointer means no octets, and its length is ignored.
- *
- * A pigy_buffers is two output buffers, their capacities, and the lengths that a call stores. The caller owns the
- * buffers. A NULL pointer means capacity 0, and as_capacity or ip_capacity is ignored. */
+ * - as: AS identifiers: DER. Owned by the caller. May be NULL: then a set has no AS numbers, and in a certificate the
+ *   extension is absent.
+ * - as_len: Length in octets. Ignored if `as` is NULL.
+ * - ip: IP address blocks: DER. Owned by the caller. May be NULL: then a set has no addresses, and in a certificate the
+ *   extension is absent.
+ * - ip_len: Length in octets. Ignored if `ip` is NULL. */
 typedef struct {
   const uint8_t *as;
   size_t as_len;
@@ -563,6 +727,12 @@ typedef struct {
   size_t ip_len;
 } pigy_set;
 
+/* The output buffers of the short forms below.
+ *
+ * - as: Buffer for AS identifiers. Owned by the caller. May be NULL: its capacity is 0 then.
+ * - as_capacity: Capacity of this buffer, in octets. Ignored if `as` is NULL.
+ * - as_len: The call stores the length here, written or required.
+ * - ip, ip_capacity, ip_len: The same for IP address blocks. */
 typedef struct {
   uint8_t *as;
   size_t as_capacity, as_len;
@@ -570,24 +740,25 @@ typedef struct {
   size_t ip_capacity, ip_len;
 } pigy_buffers;
 
-/* Returns the pointer, or one to an octet if it is NULL; pigy_len_or_zero returns the length, or 0 if the pointer is
- * NULL. */
+/* Returns the pointer, or a pointer to one octet if it is NULL. */
 static inline const uint8_t *pigy_non_null(const uint8_t *octets) {
   static const uint8_t nothing = 0;
   return octets ? octets : &nothing;
 }
 
+/* Returns the length, or 0 if the pointer is NULL. */
 static inline size_t pigy_len_or_zero(const uint8_t *octets, size_t len) { return octets ? len : 0; }
 
 /**
- * Calls pigy_verify for a certificate that has each extension whose pointer is not NULL. The statuses are those of
- * pigy_verify.
+ * Verifies the resources of a certificate against those of its issuer: a short form of pigy_verify.
  *
  * @param issuer    The issuer's set. Members may be NULL.
  * @param cert      The certificate's extensions. A NULL member is an absent extension.
- * @param encoding  PIGY_LENIENT or PIGY_STRICT, as for pigy_verify.
- * @param mode      PIGY_REFUSE or PIGY_TRIM, as for pigy_verify.
+ * @param encoding  PIGY_LENIENT or PIGY_STRICT, for the certificate and for the issuer.
+ * @param mode      PIGY_REFUSE or PIGY_TRIM.
  * @param out       Buffers, and the lengths that the call stores. Not NULL. Buffers in it may be NULL.
+ *
+ * @return a status of pigy_verify.
  */
 static inline uint32_t pigy_verify_set(pigy_set issuer, pigy_set cert, uint32_t encoding, uint32_t mode,
                                        pigy_buffers *out) {
@@ -601,22 +772,24 @@ static inline uint32_t pigy_verify_set(pigy_set issuer, pigy_set cert, uint32_t 
                      pigy_len_or_zero(out->ip, out->ip_capacity), &out->as_len, &out->ip_len);
 }
 
-/* A pigy_operation is pigy_union, pigy_intersection or pigy_difference. A pigy_comparison is pigy_contains or
- * pigy_equal. */
+/* The type of pigy_union, pigy_intersection and pigy_difference, for pigy_combine. */
 typedef uint32_t pigy_operation(const uint8_t *, size_t, const uint8_t *, size_t, const uint8_t *, size_t,
                                 const uint8_t *, size_t, uint32_t,
                                 uint8_t *, size_t, uint8_t *, size_t, size_t *, size_t *);
+/* The type of pigy_contains and pigy_equal, for pigy_compare. */
 typedef uint32_t pigy_comparison(const uint8_t *, size_t, const uint8_t *, size_t, const uint8_t *, size_t,
                                  const uint8_t *, size_t, uint32_t);
 
 /**
- * Calls an operation on two sets. The statuses are those of pigy_union.
+ * Computes the union, the intersection or the difference of two sets: a short form of these calls.
  *
  * @param call      pigy_union, pigy_intersection or pigy_difference. Not NULL.
  * @param a         First set. Members may be NULL.
  * @param b         Second set. Members may be NULL.
- * @param encoding  PIGY_LENIENT or PIGY_STRICT.
+ * @param encoding  PIGY_LENIENT or PIGY_STRICT, for both sets.
  * @param out       Buffers, and the lengths that the call stores. Not NULL. Buffers in it may be NULL.
+ *
+ * @return a status of pigy_union.
  */
 static inline uint32_t pigy_combine(pigy_operation *call, pigy_set a, pigy_set b, uint32_t encoding,
                                     pigy_buffers *out) {
@@ -629,12 +802,14 @@ static inline uint32_t pigy_combine(pigy_operation *call, pigy_set a, pigy_set b
 }
 
 /**
- * Calls a comparison of two sets. The statuses are those of pigy_contains.
+ * Compares two sets: a short form of pigy_contains and pigy_equal.
  *
  * @param call      pigy_contains or pigy_equal. Not NULL.
  * @param a         First set. Members may be NULL.
  * @param b         Second set. Members may be NULL.
- * @param encoding  PIGY_LENIENT or PIGY_STRICT.
+ * @param encoding  PIGY_LENIENT or PIGY_STRICT, for both sets.
+ *
+ * @return a status of pigy_contains.
  */
 static inline uint32_t pigy_compare(pigy_comparison *call, pigy_set a, pigy_set b, uint32_t encoding) {
   return call(pigy_non_null(a.as), pigy_len_or_zero(a.as, a.as_len), pigy_non_null(a.ip),

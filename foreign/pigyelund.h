@@ -27,9 +27,9 @@
  * 9 to 17 parameters. Pointers in these structs may be NULL.
  *
  * SETS. A resource set is a pair of octet strings: the values of the certificate extensions AS identifiers (RFC 3779,
- * 3.2.3) and IP address blocks (2.2.3). A value of length 0 means that the set has no AS numbers, or no addresses. This
- * holds for inputs and outputs. A set that a call writes is canonical DER. Two such sets are equal if and only if their
- * octets are equal.
+ * 3.2.3) and IP address blocks (2.2.3). The value is the DER inside the extension's OCTET STRING. A value of length 0
+ * means that the set has no AS numbers, or no addresses. This holds for inputs and outputs. A set that a call writes is
+ * canonical DER. Two such sets are equal if and only if their octets are equal.
  *
  * CERTIFICATES. A certificate is the same two values, and a bit mask of the extensions that it has (PIGY_HAS_AS,
  * PIGY_HAS_IP). An absent extension claims nothing. A value of length 0 is invalid if its extension is present.

@@ -1,9 +1,17 @@
-/* test FOLDER stack: asks each row on a stack of its own. It fails if the calls use more of it than pigyelund.h states.
+/* Tests the C library by golden tests. Each line of rows.txt is a row: a call, its arguments and the expected outputs.
  *
- * test FOLDER, which has rows.txt and texts.txt: asks each row, with buffers of each length from 0 to what is required
- * and one more, and looks that nothing is written but what is expected; with each of its requests for memory refused in
- * turn; then all rows on eight threads at once. Inputs and buffers are blocks of their own, so that valgrind sees an
- * octet too far. It is linked with --wrap=malloc,--wrap=realloc, which leads each request of the library here. */
+ * test FOLDER: FOLDER has rows.txt and texts.txt. The program makes the call of each row:
+ *
+ * - with buffers of each capacity from 0 to the required one, and of one more. Rows with long outputs have fewer
+ *   capacities. It checks the status and the outputs, and that nothing else is written.
+ * - with each allocation of the call refused in turn. The call has to return PIGY_MEMORY.
+ * - on eight threads at the same time.
+ *
+ * test FOLDER stack: makes the call of each row on a thread with a marked stack. It fails if the calls use more of the
+ * stack than pigyelund.h states.
+ *
+ * Each input and each buffer is an allocation of its own, so that valgrind reports an access after its end. The program
+ * is linked with --wrap=malloc,--wrap=realloc: each allocation of the library calls a function of this file. */
 #include "../pigyelund.h"
 #include <pthread.h>
 #include <stdatomic.h>
@@ -11,7 +19,7 @@
 #include <stdlib.h>
 #include <string.h>
 
-/* each name of the header has its number */
+/* Each name of the header has the number of numbers.txt. */
 #define NUMBER(name, value) _Static_assert(PIGY_##name == value##u, #name);
 #include "../numbers.txt"
 _Static_assert(PIGY_FAULT(PIGY_BAD_AS + 1u) == 1u && PIGY_FAULT(PIGY_SECOND + PIGY_BAD_IP + 14u) == 14u, "PIGY_FAULT");
@@ -27,7 +35,8 @@ typedef struct {
 
 typedef enum { VERIFY, PATH, MAKE, TEST, COVER, ANSWER, ORIGINS, COVERING, VRPS, CHANGED } kind;
 
-/* one row: a call, its numbers, what goes in, and what is expected */
+/* One row: the call, its numbers (encoding, extensions or family, mode), its inputs, and the expected outputs. In
+ * verified is the expected number of verified certificates, or the expected index of an error. */
 typedef struct {
   unsigned row;
   kind call;
@@ -43,7 +52,7 @@ typedef struct {
 
 static atomic_uint calls, faults;
 
-/* a block of this length; of one octet where it is 0, since no pointer may be null */
+/* Returns a marked block of this length, or of one octet if the length is 0, since no pointer may be NULL. */
 static uint8_t *block(size_t length) {
   uint8_t *made = malloc(length ? length : 1);
   if (!made) exit(2);
@@ -102,7 +111,7 @@ static uint32_t read_asn(const uint8_t *octets) {
   return (uint32_t)octets[0] << 24 | (uint32_t)octets[1] << 16 | (uint32_t)octets[2] << 8 | octets[3];
 }
 
-/* VRPs of 23 octets each */
+/* Reads VRPs of 23 octets each: address, AS, family, length, maximum length. */
 static pigy_vrp *read_vrps(const run *in, size_t *count) {
   pigy_vrp *found = (pigy_vrp *)(void *)block(in->length / 23 * sizeof *found);
   *count = in->length / 23;
@@ -117,7 +126,7 @@ static pigy_vrp *read_vrps(const run *in, size_t *count) {
   return found;
 }
 
-/* and routes of 22 */
+/* Reads routes of 22 octets each: address, AS, family, length. */
 static pigy_route *read_routes(const run *in, size_t *count) {
   pigy_route *found = (pigy_route *)(void *)block(in->length / 22 * sizeof *found);
   *count = in->length / 22;
@@ -154,7 +163,7 @@ static void name_call(question *q, const char *call) {
 
 /* ---- calls */
 
-/* the call itself, with buffers of such capacities; one with one output has one buffer */
+/* Makes the call of a row, with buffers of these capacities. A call with one output uses the first buffer alone. */
 static uint32_t call_of(const question *q, uint8_t *as, size_t as_capacity, uint8_t *ip, size_t ip_capacity,
                         size_t *as_len, size_t *ip_len, size_t *verified) {
   const run *in = q->in;
@@ -182,7 +191,7 @@ static uint32_t call_of(const question *q, uint8_t *as, size_t as_capacity, uint
   }
 }
 
-/* one call with buffers of such capacities */
+/* Makes the call of a row with buffers of these capacities, and checks everything that it returns. */
 static void ask(const question *q, size_t as_capacity, size_t ip_capacity) {
   uint8_t *as = block(as_capacity), *ip = block(ip_capacity);
   size_t as_len = ANY, ip_len = ANY, verified = ANY;
@@ -209,7 +218,7 @@ static int is_of_table(const question *q) {
   return q->call == ORIGINS || q->call == COVERING || q->call == VRPS || q->call == CHANGED;
 }
 
-/* the octets of VRPs as rows.txt has them, and what comes after each */
+/* Writes a VRP in the form of rows.txt: address, AS, and then count octets of the rest. Returns the end. */
 static uint8_t *put_vrp(uint8_t *to, const uint8_t *address, uint32_t asn, const uint8_t *rest, size_t count) {
   memcpy(to, address, 16);
   for (int i = 0; i < 4; i++) to[16 + i] = (uint8_t)(asn >> (24 - 8 * i));
@@ -217,7 +226,7 @@ static uint8_t *put_vrp(uint8_t *to, const uint8_t *address, uint32_t asn, const
   return to + 20 + count;
 }
 
-/* what a call is made on, and what it returns besides its status */
+/* The arguments of a call, and its outputs besides the status. */
 typedef struct {
   const question *row;
   const pigy_table *table;
@@ -237,7 +246,7 @@ static uint32_t of_vrps(attempt *a) {
 
 _Static_assert(sizeof(pigy_covering) == sizeof(pigy_vrp), "a VRP that covers is one with one octet more");
 
-/* a call whose buffer has space for so many VRPs; rows.txt has so many octets of each */
+/* Makes a call with a buffer for count VRPs, and checks its outputs. rows.txt has so many octets of each VRP. */
 static void ask_with_capacity(uint32_t (*call)(attempt *), const question *q, const pigy_table *table, size_t count,
                               size_t octets) {
   size_t wanted = q->expected[0].length / octets, length = count * sizeof(pigy_covering);
@@ -256,7 +265,8 @@ static void ask_with_capacity(uint32_t (*call)(attempt *), const question *q, co
   calls++;
 }
 
-/* all VRPs, with a buffer of each length up to the required one, of a long list with none and one of that length */
+/* Lists all VRPs with buffers of each capacity up to the required one, and of one more. For a long list the capacities
+ * are 0, the required one and one more. */
 static void ask_vrps(const question *q, const pigy_table *table) {
   size_t wanted = q->expected[0].length / 23, len = ANY;
   expect(pigy_table_len(table, &len) == PIGY_OK && len == wanted, q->row, "another number of VRPs");
@@ -264,13 +274,13 @@ static void ask_vrps(const question *q, const pigy_table *table) {
     ask_with_capacity(of_vrps, q, table, n, 23);
 }
 
-/* what covers the first route, likewise */
+/* Lists the VRPs that cover the first route, with buffers of each capacity up to the required one, and of one more. */
 static void ask_covering(const question *q, const pigy_table *table) {
   size_t wanted = q->expected[0].length / 24;
   for (size_t capacity = 0; capacity <= wanted + 1; capacity++) ask_with_capacity(of_covering, q, table, capacity, 24);
 }
 
-/* all routes, and then each alone */
+/* Validates all routes in one call, and then each route in a call of its own. */
 static void ask_origins(const question *q, const pigy_table *table) {
   size_t len = ANY, index = ANY, wanted = q->expected[0].length;
   uint8_t *out = block(wanted + 1);
@@ -292,7 +302,7 @@ static void ask_origins(const question *q, const pigy_table *table) {
   free(out);
 }
 
-/* a table of the VRPs, unless one is none */
+/* Makes a table of the VRPs of a row, and tests it. If a VRP is invalid, there has to be no table. */
 static void ask_table(const question *q) {
   pigy_table *table = 0, *next = 0;
   size_t index = ANY;
@@ -322,7 +332,7 @@ static void ask_table(const question *q) {
   pigy_table_free(table);
 }
 
-/* of null, each call but the first says that there is no table, and writes nothing */
+/* Passes a NULL handle. pigy_table_free does nothing. Each other call returns PIGY_NO_TABLE and no output. */
 static void ask_null(void) {
   uint8_t octet = MARK;
   pigy_vrp vrp = {0};
@@ -345,7 +355,8 @@ static void ask_null(void) {
   expect(!index && !next, 0, "a table after null");
 }
 
-/* with buffers of each length */
+/* Makes the call of a row with buffers of each capacity. If the outputs are long, only every eighth row has each
+ * capacity. The other rows have two capacities: 0, and one more than required. */
 static void ask_capacities(const question *q) {
   const run *expected = q->expected;
   ask(q, expected[0].length + 1, expected[1].length + 1);
@@ -356,7 +367,7 @@ static void ask_capacities(const question *q) {
   }
 }
 
-/* ---- the functions of the header, with null where there are no octets, and any length beside it */
+/* ---- the inline functions of the header. If there are no octets, the pointer is NULL, and the length is ANY. */
 
 static pigy_set set_of(const run *in) {
   pigy_set set = {0, ANY, 0, ANY};
@@ -365,7 +376,7 @@ static pigy_set set_of(const run *in) {
   return set;
 }
 
-/* the certificate has an extension where its pointer isn't null */
+/* Returns the extensions of the certificate of a row. The pointer of an absent extension is NULL. */
 static pigy_set certificate_of(const question *q) {
   pigy_set set = {0, ANY, 0, ANY};
   if (q->numbers[1] & PIGY_HAS_AS) set.as = q->in[2].octets, set.as_len = q->in[2].length;
@@ -381,7 +392,7 @@ static uint32_t call_in_short(const question *q, pigy_buffers *out) {
   return pigy_verify_set(a, certificate_of(q), q->numbers[0], q->numbers[2], out);
 }
 
-/* with buffers of the expected lengths, null where these are 0; then with no buffers */
+/* Calls the short form with buffers of the expected lengths, NULL for length 0. Then calls it without buffers. */
 static void ask_in_short(const question *q) {
   const run *expected = q->expected;
   pigy_buffers out = {0, ANY, 0, 0, ANY, 0}, none = {0, ANY, 0, 0, ANY, 0};
@@ -403,8 +414,8 @@ static void ask_in_short(const question *q) {
 
 /* ---- memory refused */
 
-static int counts, was_refused; /* whether requests are counted; whether one was refused */
-static size_t granted;          /* how many there will be before each is refused */
+static int counts, was_refused; /* whether allocations are counted; whether one was refused */
+static size_t granted;          /* how many allocations succeed before the next ones are refused */
 
 void *__real_malloc(size_t length);
 void *__wrap_malloc(size_t length);
@@ -438,8 +449,9 @@ static uint32_t of_origins(attempt *a) {
   return pigy_table_origins(a->table, a->row->routes, a->row->route_count, a->out, a->capacity, &a->length, &a->index);
 }
 
-/* a call with each of its requests refused in turn: it reports that it is out of memory, and nothing else; of how many
- * certificates were verified nothing is said then */
+/* Repeats a call with the first n allocations granted and the others refused, for n from 0 until none is refused. If an
+ * allocation is refused, the call has to return PIGY_MEMORY and no output. The number of verified certificates is
+ * unspecified then, and is not checked. */
 static void ask_refused(uint32_t (*call)(attempt *), const question *q, const pigy_table *table, size_t capacity) {
   int is_refused_now = 1;
   for (size_t n = 0; is_refused_now; n++) {
@@ -482,7 +494,7 @@ static void ask_row_refused(const question *q) {
   pigy_table_free(table);
 }
 
-/* ---- many routes: each is a VRP, half of them of its AS */
+/* ---- many routes: each has the prefix of a VRP, and half of the routes have its AS */
 
 static void ask_many(void) {
   pigy_vrp *vrps = (pigy_vrp *)(void *)block(MANY * sizeof *vrps);
@@ -567,7 +579,7 @@ static questions read_rows(const char *folder) {
   return found;
 }
 
-/* each row once with buffers of the expected lengths, from one row on and round to it */
+/* Makes the call of each row once, with buffers of the expected lengths. Begins at the row first, and wraps around. */
 static void *ask_round(void *of) {
   const questions *q = (const questions *)of;
   for (unsigned i = 0; i < q->count; i++) {
@@ -579,7 +591,7 @@ static void *ask_round(void *of) {
   return 0;
 }
 
-/* on threads at once, which share what goes in; each begins at another row */
+/* Runs ask_round on all threads at the same time. They share the inputs, and each begins at another row. */
 static void ask_on_threads(questions rows) {
   pthread_t threads[THREADS];
   questions of[THREADS];
@@ -593,10 +605,11 @@ static void ask_on_threads(questions rows) {
 
 /* ---- the stack */
 
-/* the stack that the header states, what it says of these calls, and the stack of the thread, which is much larger */
+/* STACK is the stack that the header requires. USED is what these calls use of it at most, by the header. The stack of
+ * the thread is much larger. */
 enum { STACK = 128 << 10, USED = 8 << 10, STACK_OF_THREAD = 8 << 20, ALIGNED = 4096 };
 
-/* the rows, and where the frame of the first call is */
+/* The rows, and an address in the frame of the first function on the thread. */
 typedef struct {
   questions rows;
   const uint8_t *frame;
@@ -612,8 +625,8 @@ static void *ask_on_stack(void *of) {
   return 0;
 }
 
-/* Asks each row on a stack that is marked before. The octets from the first frame down to the deepest one that has
- * changed are what the calls used. */
+/* Makes all calls on a stack that is marked before. The calls used the octets from the first frame down to the deepest
+ * octet that has changed. */
 static void ask_stack(questions rows) {
   on_stack one = {rows, 0};
   pthread_attr_t how;
@@ -634,7 +647,7 @@ static void ask_stack(questions rows) {
   free(made);
 }
 
-/* each line of texts.txt is a status and its text */
+/* Checks the texts of statuses. Each line of texts.txt is a status and its text. */
 static void ask_texts(const char *folder) {
   static char line[LENGTH];
   FILE *file = open_file(folder, "texts.txt");

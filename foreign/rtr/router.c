@@ -29,11 +29,21 @@ typedef struct {
   size_t count, capacity;
 } list;
 
-/* The state of a router. The table belongs to session and serial if has_session is set. The flag has_version is set
- * after the first PDU of this version. A query is open while is_asked is set. Its response lists all VRPs if is_full is
- * set. The response has begun if is_answered is set: then answering is the session of the Cache Response, and the lists
- * hold its VRPs. If has_notice is set, the cache notified the serial notice while the query was open. The number of
- * printed tables is in tables. */
+/* The state of a router.
+ *
+ * - to_cache: The connection.
+ * - has_version: Whether a PDU of this version has arrived on the connection.
+ * - has_session: Whether the table belongs to session and serial.
+ * - is_asked: Whether a query is open.
+ * - is_answered: Whether the response to the query has begun. Then answering is the session of the Cache Response, and
+ *   the lists hold the VRPs of the response.
+ * - is_full: Whether the response lists all VRPs, and not changes.
+ * - has_notice: Whether the cache sent a Serial Notify while the query was open. Then notice is its serial.
+ * - session, serial: Those of the table.
+ * - tables: The number of printed tables.
+ * - table: The current table, or NULL.
+ * - announced, withdrawn: The VRPs of the response.
+ * - pdu, length: The PDU that is being read, and the number of its octets that have been read. */
 typedef struct {
   int to_cache, has_version, has_session, is_asked, is_answered, is_full, has_notice;
   uint16_t session, answering;
@@ -41,11 +51,11 @@ typedef struct {
   unsigned tables;
   pigy_table *table;
   list announced, withdrawn;
-  const uint8_t *pdu; /* the PDU that is being read, and how much of it has been read */
+  const uint8_t *pdu;
   uint32_t length;
 } router;
 
-static time_t deadline; /* the time at which the program stops */
+static time_t deadline; /* The program stops at this time. */
 
 static uint32_t u32(const uint8_t *at) {
   return (uint32_t)at[0] << 24 | (uint32_t)at[1] << 16 | (uint32_t)at[2] << 8 | at[3];
@@ -64,7 +74,7 @@ static int is_readable(int from) {
   return left > 0 && poll(&one, 1, (int)left * 1000) == 1;
 }
 
-/* Reads exactly count octets. Returns 0 if the connection ends or the deadline passes before. */
+/* Reads exactly count octets. Returns 0 if the connection ends or the deadline passes first. */
 static int read_all(int from, uint8_t *to, size_t count) {
   while (count) {
     ssize_t got = is_readable(from) ? read(from, to, count) : 0;
@@ -120,8 +130,8 @@ static int refuse_session(router *r) {
   return refuse(r, CORRUPT);
 }
 
-/* Appends a VRP. The capacity doubles, to at most 8,388,608 elements, since the next one is above MOST. Returns 0 if
- * the array is full, or memory runs out. */
+/* Appends a VRP. The capacity doubles from 1,024 up to 8,388,608 elements. It does not double again, since the next
+ * capacity is above MOST. Returns 0 if the array is full, or memory runs out. */
 static int add(list *to, const pigy_vrp *vrp) {
   if (to->count == to->capacity) {
     size_t capacity = to->capacity ? 2 * to->capacity : 1024;
@@ -177,8 +187,9 @@ static void print_table(const router *r) {
   free(all);
 }
 
-/* Makes the next table from the VRPs that were read. A full response changes an empty table, so that a VRP that comes
- * twice is a duplicate. Returns 0 if the session is over: a VRP is refused, or memory ran out. */
+/* Makes the next table from the VRPs of the response. A full response changes an empty table, because pigy_table_new
+ * accepts duplicates and pigy_table_changed does not. Returns 0 if the session is over: a VRP is refused, or memory ran
+ * out. */
 static int change(router *r, pigy_table **next) {
   pigy_table *empty = 0;
   size_t index = 0;
@@ -295,7 +306,7 @@ int main(int count, char **words) {
   memset(&r, 0, sizeof r);
   wanted = (unsigned)atoi(words[2]);
   deadline = time(0) + atoi(words[3]);
-  /* Each array gets memory for at least one VRP, since no pointer to VRPs may be null. */
+  /* Each array gets memory for at least one VRP, since no pointer to VRPs may be NULL. */
   if (!add(&r.announced, &(pigy_vrp){{0}, 0, 0, 0, 0}) || !add(&r.withdrawn, r.announced.all)) return 2;
   while (r.tables < wanted && time(0) < deadline) {
     meet(&r, (uint16_t)atoi(words[1]), wanted);

@@ -74,10 +74,11 @@
  * - No call is made in a signal handler, or in the forked child of a process with threads.
  *
  * THREADS. The calls share no state. Any number of them may run at the same time if each meets the obligations. Inputs
- * may be shared between calls, and outputs may not. This is tested with eight threads, and is not proved.
+ * may be shared between calls, and outputs may not. A test runs the calls on eight threads. There is no proof that they
+ * may run at the same time.
  *
  * - Any number of threads may use one table, and may make the next table from it at the same time.
- * - If a thread passes a handle to another thread, order this by a lock, by the start or join of a thread, or by a
+ * - If a thread passes a handle to another thread, order the two by a lock, by the start or join of a thread, or by a
  *   seq_cst atomic.
  * - Order the last call with a handle before pigy_table_free in the same way.
  */

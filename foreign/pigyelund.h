@@ -63,8 +63,8 @@
  * - Each pointer points to an array of the length that is passed with it, aligned as C requires for its type. This also
  *   holds for the size_t that receives a length, an index or a count, and for the pointer that receives a handle.
  * - A handle that is not NULL came from pigy_table_new or pigy_table_changed, and was not passed to pigy_table_free. It
- *   is passed to pigy_table_free only after all other calls with this handle have returned. Nobody reads or writes what
- *   it points to.
+ *   is passed to pigy_table_free only after all other calls with this handle have returned. The caller does not read or
+ *   write the memory at the handle.
  * - Outputs overlap neither inputs nor other outputs. Until the call returns, nothing else writes to inputs or outputs,
  *   and nothing else reads outputs.
  * - malloc, realloc and free belong to one allocator. If 2, 4, 8 or 16 divides the size of a block, that number also

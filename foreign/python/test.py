@@ -294,7 +294,7 @@ ISSUER = Resources(ip=bytes.fromhex("300c300a0402000130040302000a"))
 def too_great(library: Pigyelund) -> Iterator[Callable[[], object]]:
     """Calls with a number that is too great for its parameter."""
     extensions, octets = Extensions(ip=ISSUER.ip), tuple(ISSUER)
-    for number in (2**32, 2**32 + 1, 2**64, -1):
+    for number in (2**32, 2**32 + 1, 2**64, -1, Index(2**32 + 1), Index(-1)):
         yield lambda: Vrp.of(TEN, number)
         yield lambda: Route.of(TEN, number)
         yield lambda: library.verify(ISSUER, extensions, mode=number)
@@ -315,8 +315,18 @@ def too_great(library: Pigyelund) -> Iterator[Callable[[], object]]:
         yield lambda: Route(raw.address_of(TEN), 1, number, 8)
 
 
+class Index:
+    """An integer that is no `int`, as those of numpy are."""
+
+    def __init__(self, number: int) -> None:
+        self.number = number
+
+    def __index__(self) -> int:
+        return self.number
+
+
 def no_bits_are_dropped(library: Pigyelund, _: Path) -> Iterator[str]:
-    """A number that is too great for its parameter is an error."""
+    """A number that does not fit its parameter raises `OverflowError`, also one that is no `int`."""
     for at, call in enumerate(too_great(library)):
         try:
             yield f"number {at} that is too great answers {call()}"

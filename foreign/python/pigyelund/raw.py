@@ -14,6 +14,7 @@ import ctypes
 import os
 from enum import Enum, IntEnum, IntFlag
 from ipaddress import IPv4Network, IPv6Network, ip_network
+from operator import index
 from pathlib import Path
 from typing import NamedTuple
 
@@ -142,6 +143,11 @@ class Comparison(Enum):
     EQUAL = "pigy_equal"
 
 
+def fits(value: object, limit: int) -> bool:
+    """Returns whether a value is no integer, or is one from 0 to below `limit`. Numpy's integers are integers too."""
+    return not hasattr(value, "__index__") or 0 <= index(value) < limit
+
+
 class Struct(ctypes.Structure):
     """A C struct of integers and arrays of integers.
 
@@ -160,7 +166,7 @@ class Struct(ctypes.Structure):
         cls._octet_count_ = sum(ctypes.sizeof(kind) for _, kind in cls._fields_)
 
     def __setattr__(self, name: str, value: object) -> None:
-        if name in self._limits_ and isinstance(value, int) and not 0 <= value < self._limits_[name]:
+        if name in self._limits_ and not fits(value, self._limits_[name]):
             raise OverflowError(f"{name}: {value}")
         super().__setattr__(name, value)
 
@@ -481,7 +487,7 @@ class Library:
         """
         call = getattr(self._library, name)
         for kind, argument in zip(call.argtypes, arguments, strict=True):
-            if isinstance(argument, int) and not 0 <= argument < 1 << 8 * ctypes.sizeof(kind):
+            if not fits(argument, 1 << 8 * ctypes.sizeof(kind)):
                 raise OverflowError(f"{name}: {argument}")
         return call(*arguments)
 

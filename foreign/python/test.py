@@ -1,6 +1,10 @@
 #!/usr/bin/env python3
-"""Asks each row of rows.txt through ctypes, each number and text by its name, and what goes beyond a number's end:
-test.py LIBRARY FOLDER, which has rows.txt, numbers.txt and texts.txt. Status 1 where an answer differs."""
+"""Tests the package with a library: test.py LIBRARY FOLDER.
+
+FOLDER has three files. `rows.txt` has golden tests (rows): a call, its arguments and the stored result. `numbers.txt`
+has the number of each name, and `texts.txt` the text of each status. The functions in `OTHERS` test what no row tests.
+The status is 1 if a result differs.
+"""
 
 import pickle
 import re
@@ -45,12 +49,12 @@ AMPLE = 8192
 
 
 def octets(word: str) -> bytes:
-    """The octets of a word of a row."""
+    """Returns the octets of a word of a row."""
     return b"" if word == "-" else bytes.fromhex(word)
 
 
 class Row:
-    """A row: a call, its numbers, what goes in, and what is expected."""
+    """A row: a call, its numbers, its other arguments, and the expected result."""
 
     def __init__(self, text: str) -> None:
         self.call, numbers, *words = text.split()
@@ -65,7 +69,7 @@ class Row:
         self.number = None if words[7] == "-" else int(words[7])
 
     def is_result(self, call: Callable[[Lengths], CallResult]) -> bool:
-        """Whether a call answers so with ample buffers, with exact ones, and with none."""
+        """Returns whether a raw call has the expected result with ample buffers, with exact ones, and without any."""
         expected, has_one_buffer = self.expected, self.call in ("cover", "origins", "answer")
         lengths = len(expected.asn), len(expected.ip)
         ample: Pair = expected.asn.ljust(AMPLE, b"\0"), b"" if has_one_buffer else expected.ip.ljust(AMPLE, b"\0")
@@ -77,7 +81,7 @@ class Row:
         )
 
     def is_answer(self, call: Callable[[], Resources | bool]) -> bool:
-        """Whether a safe call answers so: with this set, with whether the status is 0, or by `PigyelundError`."""
+        """Returns whether a call of `Pigyelund` has the expected result: a set, a truth value, or an exception."""
         try:
             found = call()
         except PigyelundError as reason:
@@ -89,14 +93,14 @@ class Row:
 
 
 def extensions_of(present: int, octets: Pair) -> Extensions:
-    """The extensions that are there."""
+    """Returns the extensions that the number `present` names."""
     return Extensions(
         octets[0] if present & Present.HAS_AS else None, octets[1] if present & Present.HAS_IP else None
     )
 
 
 def is_verified(library: Pigyelund, row: Row) -> bool:
-    """Whether the row of a certificate is answered as it says."""
+    """Returns whether the row of a certificate has its expected result."""
     encoding, present, mode = row.numbers
     first, second = row.first, row.second
     if not row.is_result(lambda capacities: library.raw.verify(first, present, second, encoding, mode, capacities)):
@@ -108,7 +112,7 @@ def is_verified(library: Pigyelund, row: Row) -> bool:
 
 
 def certificate_at(run: bytes, position: raw.Certificate) -> Certificate | None:
-    """The certificate at a position of a run, None where it lies outside or has numbers that are none."""
+    """Returns the certificate at a position of the array, or None if it is outside or has an unknown number."""
     ends = position.as_start + position.as_len, position.ip_start + position.ip_len
     if max(ends) > len(run) or position.present > Present.HAS_BOTH or position.mode > Mode.TRIM:
         return None
@@ -117,7 +121,7 @@ def certificate_at(run: bytes, position: raw.Certificate) -> Certificate | None:
 
 
 def is_verified_path(library: Pigyelund, row: Row) -> bool:
-    """Whether the row of a path is answered as it says."""
+    """Returns whether the row of a path has its expected result."""
     (encoding,), run = row.numbers, row.second.asn
     first, certificates = row.first, row.certificates
     if not row.is_result(lambda lengths: library.raw.verify_path(first, run, certificates, encoding, lengths)):
@@ -130,7 +134,7 @@ def is_verified_path(library: Pigyelund, row: Row) -> bool:
 
 
 def is_cover(library: Pigyelund, row: Row) -> bool:
-    """Whether the row of a cover is answered as it says."""
+    """Returns whether the row of a cover has its expected result."""
     (encoding, family), ip = row.numbers, row.first.asn
     if not row.is_result(lambda capacities: library.raw.cover(ip, encoding, family, capacities[0])):
         return False
@@ -145,13 +149,13 @@ def is_cover(library: Pigyelund, row: Row) -> bool:
 
 
 def parts(octets: bytes, length: int) -> list[tuple[bytes, int, bytes]]:
-    """Octets in parts of a length, each an address, an AS number, and others."""
+    """Splits octets into parts of one length. A part is an address, an AS number, and the other octets."""
     found = [octets[at : at + length] for at in range(0, len(octets), length)]
     return [(part[:16], int.from_bytes(part[16:20], "big"), part[20:]) for part in found]
 
 
 def are_origins(library: Pigyelund, row: Row) -> bool:
-    """Whether the row of routes is answered as it says."""
+    """Returns whether the row of routes has its expected result, by a call and by a table."""
 
     def items_of(of: type[Vrp] | type[Route], octets: bytes, length: int) -> list[Vrp] | list[Route]:
         octet = of._fields_[0][1]
@@ -176,29 +180,29 @@ def are_origins(library: Pigyelund, row: Row) -> bool:
 
 
 def buffer_of(items: list[Vrp] | list[Route]) -> bytes:
-    """VRPs or routes side by side, as C lays them out."""
+    """Returns VRPs or routes as C structs side by side."""
     return b"".join(map(bytes, items))
 
 
 def vrp_octets(vrp: object, rest: bytes) -> bytes:
-    """The octets of a VRP, as rows.txt has them."""
+    """Returns the octets of a VRP, as rows.txt has them."""
     return bytes(vrp.address) + vrp.asn.to_bytes(4, "big") + rest
 
 
 def vrps_of(octets: bytes) -> list[Vrp]:
-    """The VRPs of a run."""
+    """Returns the VRPs of octets, as rows.txt has them."""
     octet = Vrp._fields_[0][1]
     return [Vrp(octet(*address), asn, *others) for address, asn, others in parts(octets, 23)]
 
 
 def all_of(table: Table) -> Resources:
-    """The VRPs of a table."""
+    """Returns the VRPs of a table, as rows.txt has them."""
     found = [vrp_octets(it, bytes([it.family, it.len, it.max_len])) for it in table]
     return Resources(b"".join(found) if len(found) == len(table) else b"another length")
 
 
 def is_of_table(library: Pigyelund, row: Row) -> bool:
-    """Whether the row of a table is answered as it says, by lists and by buffers."""
+    """Returns whether the row of a table has its expected result, with lists and with buffers."""
     vrps = vrps_of(row.first.asn)
 
     def list_covering(given: object) -> Resources:
@@ -233,7 +237,7 @@ def is_of_table(library: Pigyelund, row: Row) -> bool:
 
 
 def is_line(library: Pigyelund, row: Row) -> bool:
-    """Whether the row of a line is answered as it says."""
+    """Returns whether the row of a line has its expected result."""
     line = row.first.asn
     if not row.is_result(lambda capacities: library.raw.answer(line, capacities[0])):
         return False
@@ -245,7 +249,7 @@ def is_line(library: Pigyelund, row: Row) -> bool:
 
 
 def is_of_sets(library: Pigyelund, row: Row) -> bool:
-    """Whether the row of a call on two sets is answered as it says."""
+    """Returns whether the row of a call on two sets has its expected result."""
     (encoding,), first, second = row.numbers, row.first, row.second
     name = f"pigy_{row.call}"
     if name in {it.value for it in Comparison}:
@@ -262,11 +266,11 @@ ASKED = {"verify": is_verified, "path": is_verified_path, "cover": is_cover, "or
 ASKED |= {call: is_of_table for call in ("covering", "vrps", "changed")}
 
 
-# ---- what no row says: each test tells what is wrong
+# ---- tests without rows: each yields a text for each fault
 
 
 def names_and_numbers(library: Pigyelund, folder: Path) -> Iterator[str]:
-    """Each name has its number of numbers.txt."""
+    """Each name has its number in numbers.txt, and the library has the version that the package needs."""
     table = re.findall(r"^NUMBER\((\w+), (\d+)\)$", (folder / "numbers.txt").read_text(), re.MULTILINE)
     stored = {name: int(number) for name, number in table}
     named = {it.name: it.value for it in chain(Status, Encoding, Mode, Present, Validity, Mismatch)}
@@ -280,7 +284,7 @@ def names_and_numbers(library: Pigyelund, folder: Path) -> Iterator[str]:
 
 
 def texts(_: Pigyelund, folder: Path) -> Iterator[str]:
-    """Each status has its text of texts.txt."""
+    """Each status has its text in texts.txt."""
     for line in (folder / "texts.txt").read_text().splitlines():
         status, text = line.split(" ", 1)
         if status_text(int(status)) != text:
@@ -292,7 +296,7 @@ ISSUER = Resources(ip=bytes.fromhex("300c300a0402000130040302000a"))
 
 
 def too_great(library: Pigyelund) -> Iterator[Callable[[], object]]:
-    """Calls with a number that is too great for its parameter."""
+    """Yields calls with a number that does not fit its parameter."""
     extensions, octets = Extensions(ip=ISSUER.ip), tuple(ISSUER)
     for number in (2**32, 2**32 + 1, 2**64, -1, Index(2**32 + 1), Index(-1)):
         yield lambda: Vrp.of(TEN, number)
@@ -335,7 +339,7 @@ def no_bits_are_dropped(library: Pigyelund, _: Path) -> Iterator[str]:
 
 
 def defaults(library: Pigyelund, _: Path) -> Iterator[str]:
-    """What stands for what isn't given: a VRP's length, the encoding, the mode."""
+    """The defaults are the VRP's own length, and `Mode.REFUSE`. Iterators are accepted."""
     long = IPv4Network("10.0.0.0/9")
     asked = [Route.of(TEN, 1), Route.of(long, 1)]
     if library.origins([Vrp.of(TEN, 1)], asked) != [Validity.VALID, Validity.INVALID]:
@@ -357,7 +361,7 @@ def defaults(library: Pigyelund, _: Path) -> Iterator[str]:
 
 
 def lenient(library: Pigyelund, _: Path) -> Iterator[str]:
-    """Octets that aren't canonical are read where no encoding is given."""
+    """The default of each encoding is `Encoding.LENIENT`: DER that is not canonical is accepted."""
     twice = Resources(ip=bytes.fromhex("3011300f0402000130090302000a0303000a00"))
     certificate = Extensions(ip=twice.ip)
     for call, answer in (
@@ -377,13 +381,13 @@ def lenient(library: Pigyelund, _: Path) -> Iterator[str]:
 
 
 def is_kept(reason: PigyelundError) -> bool:
-    """Whether a reason is the same behind pickle."""
+    """Returns whether an exception is the same after pickling and unpickling."""
     other = pickle.loads(pickle.dumps(reason))
     return (type(other), other.__dict__, str(other)) == (type(reason), reason.__dict__, str(reason))
 
 
 def reasons(library: Pigyelund, _: Path) -> Iterator[str]:
-    """Each kind of reason, its text, and that it pickles."""
+    """Each class of exception is raised with its text, and can be pickled."""
     claim = Extensions(ip=bytes.fromhex("3010300e0402000130080302000a0302000c"))
     path = [Certificate(Extensions(ip=ISSUER.ip)), Certificate(claim)]
     inherits = Resources(asn=bytes.fromhex("3004a0020500"))
@@ -419,7 +423,7 @@ def reasons(library: Pigyelund, _: Path) -> Iterator[str]:
 
 
 def tables(library: Pigyelund, _: Path) -> Iterator[str]:
-    """What a table is beside rows: closed once for all, refused, of arrays and buffers, and empty."""
+    """A closed table raises `ValueError`. A table is made of lists, iterators, arrays and buffers, and may be empty."""
     vrps = [Vrp.of(TEN, 1, 9), Vrp.of(IPv6Network("2001:db8::/32"), 2)]
     table = library.table(vrps)
     if [it.prefix for it in table] != [TEN, IPv6Network("2001:db8::/32")] or len(table) != 2:
@@ -454,7 +458,7 @@ def tables(library: Pigyelund, _: Path) -> Iterator[str]:
 
 
 def items() -> list[raw.Struct]:
-    """VRPs and routes of which each two differ in one field or in their kind, and how they cover."""
+    """Returns structs that differ from one another in a field or in their type."""
     six = IPv6Network("2001:db8::/32")
     found: list[raw.Struct] = [Vrp.of(TEN, 1, 9), Vrp.of(TEN, 2, 9), Vrp.of(TEN, 1), Vrp.of(six, 1, 48)]
     found += [Vrp.of(IPv4Network("10.0.0.0/9"), 1, 9), Vrp.of(IPv4Network("11.0.0.0/8"), 1, 9)]
@@ -465,7 +469,7 @@ def items() -> list[raw.Struct]:
 
 
 def equal_fields(_: Pigyelund, __: Path) -> Iterator[str]:
-    """Items are equal, and so are their hashes and texts, exactly where kind and fields are."""
+    """Structs are equal if and only if their types and fields are; so are their hashes and texts."""
     for at, item in enumerate(items()):
         for other_at, other in enumerate(items()):
             is_same = (item == other, not item != other, len({item, other}) == 1, repr(item) == repr(other))
@@ -479,7 +483,7 @@ def equal_fields(_: Pigyelund, __: Path) -> Iterator[str]:
 
 
 def item_texts(_: Pigyelund, __: Path) -> Iterator[str]:
-    """Of a VRP and of a route Python prints what makes it again; of what has no prefix its fields."""
+    """The text of a VRP or route is an expression that makes it again. Without a valid prefix it has the fields."""
     six = IPv6Network("2001:db8::/32")
     found = [Vrp.of(TEN, 1, 9), Vrp.of(TEN, 1), Vrp.of(six, 2**32 - 1, 48)]
     for item in (*found, Route.of(TEN, 1), Route.of(six, 0)):
@@ -497,7 +501,7 @@ def item_texts(_: Pigyelund, __: Path) -> Iterator[str]:
 
 
 def changes_by_sets(library: Pigyelund, _: Path) -> Iterator[str]:
-    """What one list has and another one hasn't makes of the table of the one that of the other."""
+    """The differences of two sets of VRPs, as changes, make the second table from the first."""
     old = [Vrp.of(TEN, asn, 8 + asn % 3) for asn in range(1, 9)]
     new = [Vrp.of(TEN, asn, 8 + asn % 2) for asn in range(3, 12)]
     with library.table(old) as table, table.changed(set(new) - set(old), set(old) - set(new)) as following:
@@ -507,7 +511,7 @@ def changes_by_sets(library: Pigyelund, _: Path) -> Iterator[str]:
 
 
 def copies(library: Pigyelund, _: Path) -> Iterator[str]:
-    """A VRP that is handed over twice is listed twice; a withdrawal takes both, and names it once."""
+    """A VRP that is passed twice is listed twice. A withdrawal names it once, and removes both."""
     twice, other = Vrp.of(TEN, 1), Vrp.of(TEN, 2)
     with library.table([twice, other, twice]) as table:
         if len(table) != 3 or list(table).count(twice) != 2 or len(table.covering(Route.of(TEN, 1))) != 3:
@@ -533,7 +537,7 @@ OTHERS += (equal_fields, item_texts, changes_by_sets, copies, *OF_TABLES)
 
 
 def main() -> int:
-    """Asks each row, and the other tests."""
+    """Makes the test of each row, and the tests in `OTHERS`."""
     library, folder = Pigyelund(sys.argv[1]), Path(sys.argv[2])
     rows = (folder / "rows.txt").read_text().splitlines()
     faults = []

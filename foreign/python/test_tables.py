@@ -1,6 +1,8 @@
-"""What the package promises of tables beside their answers: what a table is made of, that each is freed once and not
-while a thread asks it, that none is copied, and what is said without a library. Each test yields what is wrong; test.py
-runs them."""
+"""Tests of tables that need no golden test. `test.py` runs them, and each yields a text for each fault.
+
+They test which arrays make a table, and that a table cannot be copied. They test that each table is freed once, and not
+while a thread uses it. They also test the message that appears without a library.
+"""
 
 import copy
 import ctypes
@@ -19,17 +21,17 @@ NO_COPY = "a Table can't be copied or pickled; table.changed() makes another one
 
 
 class OtherVrp(Vrp):
-    """Another kind with the fields of a VRP."""
+    """A subclass with the fields of a VRP."""
 
 
 class LongerVrp(Vrp):
-    """A kind with another field behind those of a VRP."""
+    """A subclass with another field after those of a VRP."""
 
     _fields_ = [("more", ctypes.c_uint32)]
 
 
 def arrays(library: Pigyelund, _: Path) -> Iterator[str]:
-    """Arrays and buffers of VRPs make the same table; those of another kind are a `TypeError`."""
+    """Arrays and buffers of VRPs make the same table. Other types raise `TypeError`."""
     vrps = [Vrp.of(TEN, asn) for asn in range(3)]
     of_kind = (Vrp * 3)(*vrps)
     octets = bytes(of_kind)
@@ -65,7 +67,7 @@ def arrays(library: Pigyelund, _: Path) -> Iterator[str]:
 
 
 class Counted(raw.Library):
-    """The calls of a library, with a list of the tables that are made and not freed."""
+    """The calls of a library, with a list of the tables that are not freed yet."""
 
     def __init__(self, library: Pigyelund) -> None:
         super().__init__(library.raw._library._name)
@@ -87,7 +89,7 @@ class Counted(raw.Library):
 
 
 def drop_by_name(table: Table) -> None:
-    """Drops a table that nobody closes."""
+    """Drops a table without closing it."""
     del table
 
 
@@ -97,7 +99,7 @@ def drop_in_a_cycle(table: Table) -> None:
 
 
 def drop_after_a_refusal(table: Table) -> None:
-    """Closes a table while an error of its call is kept."""
+    """Closes a table while an exception of its call is kept."""
     try:
         table.changed([Vrp.of(TEN, 1)])
     except ChangeError as reason:
@@ -108,7 +110,7 @@ def drop_after_a_refusal(table: Table) -> None:
 
 
 def drop_after_an_error(table: Table) -> None:
-    """Closes a table while an error from within its call is kept."""
+    """Closes a table while an exception from inside its call is kept."""
     try:
         table.covering(None)  # type: ignore[arg-type]
     except TypeError as reason:
@@ -119,14 +121,14 @@ def drop_after_an_error(table: Table) -> None:
 
 
 def drop_a_following(table: Table) -> None:
-    """Closes a table and the one that is made from it."""
+    """Closes a table and the next table that was made from it."""
     with table, table.changed([Vrp.of(TEN, 2)]) as following:
         if len(table._library.held) != 2 or len(following) != 2:
             table._library.faults.append(f"{table._library.held} of two tables")
 
 
 def drop_by_another_start(table: Table) -> None:
-    """Makes another table in the place of one."""
+    """Calls `__init__` of a table again."""
     table.__init__(table._library, [])  # type: ignore[misc]
 
 
@@ -135,7 +137,7 @@ DROPS += (drop_a_following, drop_by_another_start)
 
 
 def frees(library: Pigyelund, _: Path) -> Iterator[str]:
-    """Each table is freed, once, however it is dropped, and its memory is used again."""
+    """Each table is freed once, in each way of dropping it, and its memory is used again."""
     counted = Counted(library)
     for drop in DROPS:
         for _ in range(20):
@@ -168,7 +170,7 @@ def resident() -> int:
 
 
 def no_copies(library: Pigyelund, _: Path) -> Iterator[str]:
-    """A table is neither copied nor pickled."""
+    """A table cannot be copied or pickled."""
     with library.table([Vrp.of(TEN, 1)]) as table:
         calls = [copy.copy, copy.deepcopy, *(lambda it, by=by: pickle.dumps(it, by) for by in range(6))]
         calls += [lambda it: it.__reduce__(), lambda it: copy.copy([it])[0].__copy__(), lambda it: copy.deepcopy([it])]
@@ -183,7 +185,7 @@ def no_copies(library: Pigyelund, _: Path) -> Iterator[str]:
 
 
 class Paused(Counted):
-    """The calls of a library; each call on a table waits inside, until it is let go."""
+    """The calls of a library. Each call on a table waits inside until `goes_on` is set."""
 
     def __init__(self, library: Pigyelund) -> None:
         super().__init__(library)
@@ -191,7 +193,7 @@ class Paused(Counted):
 
 
 def pausing(name: str) -> Callable[..., object]:
-    """Returns the call of that name, which waits inside."""
+    """Returns the call of this name, which waits inside."""
 
     def call(self: Paused, *words: object) -> object:
         self.entered.set()
@@ -217,7 +219,7 @@ ON_TABLES: list[Callable[[Table], object]] = [
 
 
 def closed_while_asked(library: Pigyelund, _: Path) -> Iterator[str]:
-    """A table that is closed while another thread asks it is freed when the call has returned, and not before."""
+    """A table that is closed during a call of another thread is freed when the call has returned, and not before."""
     for at, ask in enumerate(ON_TABLES):
         paused = Paused(library)
         table, found = Table(paused, [Vrp.of(TEN, 1)]), list[object]()
@@ -239,7 +241,7 @@ def closed_while_asked(library: Pigyelund, _: Path) -> Iterator[str]:
 
 
 def closed_at_any_time(library: Pigyelund, _: Path) -> Iterator[str]:
-    """Threads ask a table until it is closed: each answer is right."""
+    """Threads use a table until it is closed. Each result is right."""
     vrps = [Vrp.of(TEN, asn) for asn in range(1, 200)]
     routes, wrong = [ROUTE] * 50, list[object]()
 

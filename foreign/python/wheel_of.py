@@ -1,5 +1,8 @@
-"""Makes the wheel that pip installs, of the package's folder: the sources, and the shared library where it lies among
-them. It needs nothing but Python, so that pip has nothing to fetch."""
+"""The build backend of the package: makes the wheel that pip installs (PEP 517).
+
+The wheel has the sources in the folder `pigyelund`. If `libpigyelund.so` is in this folder, the wheel has it too, and
+is for this platform only. The backend needs nothing except Python, so pip downloads nothing.
+"""
 
 import base64
 import hashlib
@@ -11,13 +14,13 @@ from pathlib import Path
 HERE = Path(__file__).parent
 LICENSE = HERE.parent.parent / "LICENSE"
 TEXT = (HERE / "pyproject.toml").read_text()
-# A table `project` of texts alone: Python 3.10 reads no TOML.
+# Each value that is needed is a text in one line. Python 3.10 has no module for TOML.
 PROJECT = dict(re.findall(r'^([\w-]+) = "(.*)"$', TEXT, re.MULTILINE))
 INFO = f"{PROJECT['name']}-{PROJECT['version']}.dist-info"
 
 
 def metadata() -> str:
-    """What pip shows of the package."""
+    """Returns the file METADATA of the wheel, which `pip show` prints."""
     return (
         "Metadata-Version: 2.1\n"
         f"Name: {PROJECT['name']}\n"
@@ -31,7 +34,7 @@ def metadata() -> str:
 def build_wheel(
     wheel_directory: str, config_settings: object = None, metadata_directory: str | None = None
 ) -> str:
-    """Writes the wheel into a folder, and tells its name (PEP 517)."""
+    """Writes the wheel into a folder and returns its file name. The other arguments of PEP 517 are ignored."""
     files = sorted(path for path in (HERE / "pigyelund").iterdir() if path.suffix in (".py", ".typed", ".so"))
     has_library = any(path.suffix == ".so" for path in files)
     tag = f"py3-none-{re.sub(r'[^a-z0-9]', '_', sysconfig.get_platform()) if has_library else 'any'}"

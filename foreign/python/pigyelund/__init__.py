@@ -2,21 +2,32 @@
 
 The package is for programs that check the resources of certificates (RFC 3779), operate on sets of resources, or
 validate route origins (RFC 6811). It calls the proved shared library through ctypes. The package itself is tested, not
-proved. `docs/FOREIGN.md` is the guide.
+proved. `docs/FOREIGN.md` is the guide: installation, programs, arguments, errors, threads.
 
-    >>> from pigyelund import Family, Pigyelund, Resources
+Route origins: `Pigyelund.origins` validates routes against VRPs (validated ROA payloads), and `Pigyelund.table` keeps
+the VRPs in a `Table` for many calls.
+
+    >>> from ipaddress import ip_network
+    >>> from pigyelund import Pigyelund, Route, Vrp
     >>> library = Pigyelund()
+    >>> vrps = [Vrp.of(ip_network("10.0.0.0/8"), asn=64496, max_len=16)]
+    >>> library.origins(vrps, [Route.of(ip_network("10.0.0.0/16"), asn=64496)])
+    [<Validity.VALID: 0>]
+
+Resource sets: the calls take and return the DER of two certificate extensions.
+
+    >>> from pigyelund import Family, Resources
     >>> ten = Resources(ip=bytes.fromhex(library.answer("der v4 10.0.0.0/8")))
     >>> both = Resources(ip=bytes.fromhex(library.answer("der v4 10.0.0.0/8, 12.0.0.0/8")))
     >>> library.cover(library.difference(both, ten).ip, Family.V4)
     [IPv4Network('12.0.0.0/8')]
 
-A set of resources is the DER of two certificate extensions: AS identifiers (RFC 3779, 3.2.3) and IP address blocks
-(RFC 3779, 2.2.3). The value of an extension is empty if the set lists nothing there. The calls return canonical DER.
-Two sets that calls returned are equal if and only if their octets are equal.
+The extensions are AS identifiers (RFC 3779, 3.2.3) and IP address blocks (RFC 3779, 2.2.3). Their DER is the content of
+the OCTET STRING `extnValue` (RFC 5280, 4.1). In a set the value of an extension is `b""` if the set lists nothing
+there. The calls return canonical DER. Two sets that calls returned are equal if and only if their octets are equal.
 
-A `Vrp` is a VRP (validated ROA payload). A call that fails raises a subclass of `PigyelundError`. `pigyelund.raw` has
-the same calls with the statuses and buffers of `pigyelund.h`.
+A call that fails raises a subclass of `PigyelundError`. `pigyelund.raw` has the same calls with the statuses and
+buffers of `pigyelund.h`.
 """
 
 import os
@@ -75,7 +86,7 @@ __all__ = [
 
 
 class Encoding(IntEnum):
-    """The encodings that a call accepts. The choice applies to all octets that the call reads, the issuer's too.
+    """The encodings that a call accepts. The choice applies to all DER that the call reads, the issuer's too.
 
     Attributes:
         LENIENT: Any DER that the grammar allows. Blocks may come in any order.
@@ -87,7 +98,7 @@ class Encoding(IntEnum):
 
 
 class Mode(IntEnum):
-    """The policy for overclaimed resources: those that are claimed and the issuer does not have.
+    """The policy for overclaimed resources: those that a certificate claims and its issuer does not have.
 
     Attributes:
         REFUSE: The certificate is refused (RFC 6487, 7.2).
@@ -102,7 +113,7 @@ class Extensions(NamedTuple):
     """The two resource extensions of a certificate, as DER.
 
     None means that the certificate does not have the extension. It then claims nothing there. An extension that is
-    present but empty is invalid. A certificate has at least one of them (RFC 6487, 4.8.10 and 4.8.11).
+    present but empty (`b""`) is invalid. A certificate has at least one of them (RFC 6487, 4.8.10 and 4.8.11).
 
     Attributes:
         asn: The AS identifiers (RFC 3779, 3.2.3), or None.
@@ -113,12 +124,12 @@ class Extensions(NamedTuple):
     ip: bytes | None = None
 
     def present(self) -> int:
-        """Returns the number that says which extensions are present: a `raw.Present`, or 0 for neither."""
+        """Returns which extensions are present, as `raw.Library.verify` takes it: a `raw.Present`, or 0 for neither."""
         found = Present.HAS_AS if self.asn is not None else 0
         return found + Present.HAS_IP if self.ip is not None else found
 
     def octets(self) -> Resources:
-        """Returns the octets of both extensions. An absent extension has no octets."""
+        """Returns the DER of both extensions as a set, with `b""` for an absent extension."""
         return Resources(self.asn or b"", self.ip or b"")
 
 
@@ -135,10 +146,10 @@ class Certificate(NamedTuple):
 
 
 def concatenate(certificates: Iterable[Certificate]) -> tuple[bytes, list[raw.Certificate]]:
-    """Writes the octets of all certificates into one array.
+    """Writes the DER of all certificates into one array.
 
     Returns:
-        The array, and the position of each certificate's octets in it.
+        The array, and for each certificate the positions of its extensions in the array.
     """
     run, positions = bytearray(), []
     for extensions, mode in certificates:
@@ -150,21 +161,27 @@ def concatenate(certificates: Iterable[Certificate]) -> tuple[bytes, list[raw.Ce
 
 
 class Pigyelund:
-    """The calls of the shared library.
+    """The calls of the shared library. Make one object and use it everywhere, from any thread.
 
-    Without a path, the library is `libpigyelund.so` in the folder that PIGYELUND_LIB names. If this variable is not set
-    or is empty, it is that file in the package's folder. If the package has no such file, the system's loader searches
-    for it.
+    Without a path, the first case that applies says which library is loaded:
 
-    Every call except `version` may raise `OutOfMemoryError`, which says nothing about the input. A number in place of a
-    member of an enum raises `BadNumberError` if no member has it, and `OverflowError` if it does not fit 32 bits.
+    1. The variable PIGYELUND_LIB is set and not empty: `libpigyelund.so` in the folder that it names.
+    2. The folder of the package has `libpigyelund.so`: that file.
+    3. Otherwise: `libpigyelund.so` where the system's loader searches.
+
+    Each call except `version` may raise these, besides the exceptions that it lists:
+
+    - `OutOfMemoryError`, which says nothing about the input
+    - `BadNumberError` for a number in place of an `Encoding`, `Mode` or `Family` that is no member
+    - `OverflowError` for such a number that does not fit 32 bits
+    - `ctypes.ArgumentError` or `TypeError` for DER that is no `bytes`
 
     Args:
-        path: The file of the shared library, or None.
+        path: The file of the shared library. None means the library that the list above names.
 
     Raises:
         ImportError: The file is missing, is not the library, or has an earlier version of the calls. The text names the
-            file and says how to build it.
+            file and says how to build it. No other file is tried.
     """
 
     def __init__(self, path: str | os.PathLike[str] | None = None) -> None:
@@ -183,21 +200,22 @@ class Pigyelund:
     ) -> Resources:
         """Computes the resources of a certificate from its issuer's set (RFC 3779, 2.3 and 3.3).
 
-        The result has nothing of an extension or of a family that the certificate does not have. It has all that the
-        issuer has where the certificate inherits. Otherwise it has what the certificate lists and the issuer has.
-
         Args:
-            issuer: The issuer's set.
+            issuer: The issuer's set. It lists its resources, so it has no `inherit`.
             certificate: The extensions of the certificate.
             encoding: The encodings that are accepted.
             mode: The policy for overclaimed resources.
 
         Returns:
-            The resources of the certificate.
+            The resources of the certificate. For AS numbers, for IPv4 and for IPv6 these are:
+
+            - none, if the certificate does not have the extension, or the extension does not have the family
+            - all that the issuer has, if the certificate has `inherit`
+            - otherwise those that the certificate lists and the issuer has
 
         Raises:
-            DerError: An extension of the issuer or of the certificate is invalid.
-            InheritedError: The issuer's set inherits, and does not list its resources.
+            DerError: An extension of the issuer, or else of the certificate, is invalid.
+            InheritedError: The issuer's set has `inherit`.
             NoExtensionError: The certificate has neither extension.
             OverclaimedError: The certificate overclaims, and `mode` is `Mode.REFUSE`. The attribute `excess` has the
                 overclaimed resources.
@@ -218,16 +236,16 @@ class Pigyelund:
 
         Args:
             anchor: The trust anchor's set.
-            certificates: The certificates, the one under the anchor first.
+            certificates: The certificates, the one under the anchor first. Each has its own `mode`.
             encoding: The encodings that are accepted.
 
         Returns:
-            The resources of the last certificate, or the anchor's set if the path is empty.
+            The resources of the last certificate, as `verify` returns them. For an empty path this is the anchor's set
+            as canonical DER.
 
         Raises:
             PigyelundError: The anchor's set is refused, or a certificate is not verified. The subclasses are those that
-                `verify` raises. The attribute `verified` is the number of verified certificates. It has no meaning with
-                `OutOfMemoryError`.
+                `verify` raises. The attribute `verified` is the number of verified certificates.
         """
         run, positions = concatenate(certificates)
         return with_buffers(lambda capacities: self.raw.verify_path(anchor, run, positions, encoding, capacities))
@@ -247,7 +265,7 @@ class Pigyelund:
 
         Raises:
             DerError: `ip` is invalid.
-            InheritedError: `ip` inherits the addresses of either family.
+            InheritedError: `ip` has `inherit` for a family, also if this is not `family`.
         """
         octets = with_buffers(lambda capacities: self.raw.cover(ip, encoding, family, capacities[0])).asn
         if family == Family.V4:
@@ -257,7 +275,8 @@ class Pigyelund:
     def origins(self, vrps: Iterable[Vrp], routes: Iterable[Route]) -> list[Validity]:
         """Validates routes against VRPs (RFC 6811, 2).
 
-        Each call builds a table of the VRPs. Pass many routes at once, or keep a `table`.
+        Each call builds a table of the VRPs. Pass many routes at once, or keep a `Table`. For millions of routes see
+        `Table.origin_octets`.
 
         Args:
             vrps: The VRPs, in any order.
@@ -267,8 +286,9 @@ class Pigyelund:
             The validity of each route, in the order of `routes`.
 
         Raises:
-            OriginError: A VRP is malformed, or else a route. The attribute `index` is the index of the first one.
-            TypeError: An item is of another type.
+            OriginError: A VRP is malformed, or else a route. The attribute `index` is the index, from 0, of the first
+                one in its list.
+            TypeError: An item of `vrps` is no `Vrp`, or an item of `routes` is no `Route`.
         """
         asked = list(routes)
         result = self.raw.origins(list(vrps), asked, len(asked))
@@ -277,29 +297,35 @@ class Pigyelund:
         return [Validity(octet) for octet in result.contents[0]]
 
     def table(self, vrps: object) -> Table:
-        """Builds a table of VRPs, which lives until it is closed.
+        """Builds a table of VRPs. Use it in a `with`, or call `close`.
 
         Args:
-            vrps: The VRPs, in any order and in one of the forms that `Table` names. Duplicates are kept.
+            vrps: The VRPs, in any order: an iterable of `Vrp`, or a buffer of C structs as the class `Table` describes
+                it. The table copies them. Duplicates are kept.
 
         Returns:
             The table.
 
         Raises:
-            OriginError: A VRP is malformed. The attribute `index` is the index of the first one.
-            TypeError: `vrps`, or an item of it, is of another type.
-            ValueError: The octets of a buffer end within a VRP.
+            OriginError: A VRP is malformed. The attribute `index` is the index, from 0, of the first one.
+            TypeError: `vrps` is neither an iterable nor a buffer, or an item of it is no `Vrp`.
+            ValueError: The length of the buffer is no multiple of 24 octets.
         """
         return Table(self.raw, vrps)
 
     def answer(self, line: str) -> str:
         """Returns the answer of the program `respath` to a line. Errors in the line are part of the answer.
 
+        `der v4 LIST` converts text to DER in hexadecimal, and `read v4 HEX` converts DER to text. The README has all
+        commands.
+
         Args:
-            line: The line, without its line end. The answer has no line end either.
+            line: The line, without its line end.
+
+        Returns:
+            The answer, without a line end.
 
         Raises:
-            OutOfMemoryError: Out of memory.
             UnicodeEncodeError: The line has a surrogate, which UTF-8 cannot encode.
         """
         octets = line.encode("utf-8")
@@ -320,8 +346,8 @@ class Pigyelund:
             The set that the operation makes.
 
         Raises:
-            DerError: An extension of `a`, or else of `b`, is invalid.
-            InheritedError: A set inherits, and does not list its resources.
+            DerError: An extension of `a` or of `b` is invalid.
+            InheritedError: `a` or `b` has `inherit`, and does not list its resources.
         """
         return with_buffers(lambda capacities: self.raw.combine(operation, a, b, encoding, capacities))
 
@@ -329,7 +355,7 @@ class Pigyelund:
         """Returns the union of `a` and `b`.
 
         Raises:
-            PigyelundError: A set is not valid, as in `combine`.
+            DerError, InheritedError: As in `combine`.
         """
         return self.combine(Operation.UNION, a, b, encoding)
 
@@ -337,7 +363,7 @@ class Pigyelund:
         """Returns the intersection of `a` and `b`.
 
         Raises:
-            PigyelundError: A set is not valid, as in `combine`.
+            DerError, InheritedError: As in `combine`.
         """
         return self.combine(Operation.INTERSECTION, a, b, encoding)
 
@@ -345,7 +371,7 @@ class Pigyelund:
         """Returns the difference of `a` and `b`: the resources of `a` that `b` does not have.
 
         Raises:
-            PigyelundError: A set is not valid, as in `combine`.
+            DerError, InheritedError: As in `combine`.
         """
         return self.combine(Operation.DIFFERENCE, a, b, encoding)
 
@@ -364,7 +390,7 @@ class Pigyelund:
             Whether the predicate holds.
 
         Raises:
-            PigyelundError: A set is not valid, as in `combine`.
+            DerError, InheritedError: As in `combine`.
         """
         status = self.raw.compare(comparison, a, b, encoding)
         if status not in (Status.OK, Status.NO):
@@ -375,7 +401,7 @@ class Pigyelund:
         """Returns whether `a` has each AS number and each address of `b`.
 
         Raises:
-            PigyelundError: A set is not valid, as in `combine`.
+            DerError, InheritedError: As in `combine`.
         """
         return self.compare(Comparison.CONTAINS, a, b, encoding)
 
@@ -383,7 +409,7 @@ class Pigyelund:
         """Returns whether `a` and `b` are the same set.
 
         Raises:
-            PigyelundError: A set is not valid, as in `combine`.
+            DerError, InheritedError: As in `combine`.
         """
         return self.compare(Comparison.EQUAL, a, b, encoding)
 
@@ -392,7 +418,7 @@ def with_buffers(call: Callable[[Lengths], CallResult]) -> Resources:
     """Makes a call with buffers of 256 octets, and again with larger ones if these are too small.
 
     Args:
-        call: The call. It takes the lengths of both buffers.
+        call: The call. It takes the capacities of both buffers in octets.
 
     Returns:
         The octets of both outputs.

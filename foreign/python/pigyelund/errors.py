@@ -1,4 +1,4 @@
-"""The exceptions of the package: one class for each kind of error, with the status of `pigyelund.h` and its text."""
+"""The exceptions of the package: one class for each kind of error. Each has a status of `pigyelund.h` and its text."""
 
 from typing import NamedTuple
 
@@ -8,7 +8,7 @@ from .raw import Status
 class Resources(NamedTuple):
     """A set of resources, as the DER of both extensions.
 
-    A value is empty if the set lists nothing there.
+    A value is `b""` if the set lists nothing there.
 
     Attributes:
         asn: The AS identifiers (RFC 3779, 3.2.3).
@@ -63,10 +63,10 @@ FAULTS = (
 
 
 def status_text(status: int) -> str:
-    """Returns the English text of a status, which is that of `pigy_status_text` in `pigyelund.h`.
+    """Returns the English text of a status, the same as `pigy_status_text` in `pigyelund.h`.
 
     Args:
-        status: A status of a call. An unknown one has the text `unknown status`.
+        status: A status of a call. The text of an unknown status is `unknown status`.
     """
     fault, kind = status & 0xFF, status & ~0xFF
     octets = {Status.BAD_AS: "AS identifiers", Status.BAD_IP: "IP address blocks"}.get(kind & ~Status.SECOND)
@@ -79,12 +79,14 @@ def status_text(status: int) -> str:
 class PigyelundError(Exception):
     """The reason why a call returns no result. Catch the subclasses to distinguish the reasons.
 
-    `status` is the status of `pigyelund.h`, as in `Status`. `excess` has the overclaimed resources of the kind that the
-    status names; otherwise it has no resources.
-
-    `verified` is the number of verified certificates of a path, and None for other calls. The error is about the next
-    certificate, unless the anchor's set is refused. `index` is the index, from 0, of the VRP or route that is refused.
-    Calls without VRPs and routes leave it None, and so does an error of memory.
+    Attributes:
+        status: The status of `pigyelund.h`: a member of `Status`, or a sum as that class describes it.
+        excess: In an `OverclaimedError` the overclaimed resources. In any other error a set without resources.
+        verified: For `Pigyelund.verify_path` the number of verified certificates. This is also the index, from 0, of
+            the refused certificate. It is 0 if the anchor's set is refused. It has no meaning in an
+            `OutOfMemoryError`. For any other call it is None.
+        index: For calls with VRPs or routes the index, from 0, of the refused one. For any other call, and in an
+            `OutOfMemoryError`, it is None.
     """
 
     def __init__(
@@ -108,7 +110,7 @@ class OutOfMemoryError(PigyelundError, MemoryError):
 
 
 class InheritedError(PigyelundError):
-    """The issuer's set, the trust anchor's set or one of two sets inherits resources, and does not list them."""
+    """The issuer's set, the trust anchor's set or one of two sets has `inherit`, and does not list its resources."""
 
 
 class OverclaimedError(PigyelundError):
@@ -131,22 +133,26 @@ class DerError(PigyelundError):
 class OriginError(PigyelundError):
     """A VRP or a route is malformed: its family, its prefix, or its maximum length is invalid.
 
-    The attribute `index` is the index, from 0, of the first one. `ChangeError` is a subclass: catch it first.
+    The attribute `index` is the index, from 0, of the first one. `ChangeError` is a subclass of this class. Catch
+    `ChangeError` first.
     """
 
 
 class ChangeError(OriginError):
     """A change does not apply to the table (RFC 8210, 12, codes 6 and 7).
 
-    A withdrawn VRP is not in the table, or an announced VRP is in it and is not withdrawn, or a VRP is listed twice.
-    The attribute `index` is the index, from 0, of the first one.
+    The attribute `status` says which rule the change breaks. The attribute `index` is the index, from 0, of the first
+    VRP that breaks it:
+
+    - `Status.UNKNOWN_WITHDRAWAL`: a VRP in `withdrawn` is not in the table, or is listed twice.
+    - `Status.DUPLICATE_ANNOUNCEMENT`: a VRP in `announced` is in the table and is not withdrawn, or is listed twice.
     """
 
 
 class BadNumberError(PigyelundError):
-    """An option has an unknown number: an encoding, a mode, a family, or which extensions are present.
+    """A number in place of an `Encoding`, a `Mode` or a `Family` is unknown.
 
-    The class is also that of `Status.OUTSIDE`: an extension of a certificate lies outside the array.
+    This is also the class for `Status.BAD_PRESENT` and `Status.OUTSIDE`, which only the calls of `raw` return.
     """
 
 
@@ -168,7 +174,7 @@ ERROR_CLASSES: dict[int, type[PigyelundError]] = {
 def error_for_status(
     status: int, excess: Resources = Resources(), verified: int | None = None, index: int | None = None
 ) -> PigyelundError:
-    """Returns the exception for the status of a call that failed. An `OutOfMemoryError` has no `index`."""
+    """Returns the exception for the status of a call that failed. The `index` of an `OutOfMemoryError` is None."""
     kind = ERROR_CLASSES.get(status & ~Status.SECOND, PigyelundError)
     if status & ~Status.SECOND & 0xF00 in (Status.BAD_AS, Status.BAD_IP):
         kind = DerError

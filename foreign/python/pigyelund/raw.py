@@ -1,11 +1,14 @@
 """The calls of `pigyelund.h`, through ctypes.
 
-This module is for callers that need the statuses and the buffers of C. Each method of `Library` is one call of the
-shared library. It takes the numbers of the header, and the lengths of the output buffers.
+This module is for callers that need the statuses and the buffers of C. `pigyelund.Pigyelund` is the interface for all
+others. Each method of `Library` is one call of the shared library. It takes the numbers of the header, and the
+capacities of the output buffers. It returns the status, also that of an error.
 
-With `Status.OK` the buffers begin with the output. With an OVERCLAIM status they begin with the overclaimed resources.
-With any other status they are not written. The lengths are those of the output; with `Status.TOO_SMALL` they are those
-that are needed, and with other errors 0.
+    status                                     buffers                                lengths
+    OK                                         the output, at the beginning           those of the output
+    OVERCLAIM_AS, OVERCLAIM_V4, OVERCLAIM_V6   the overclaimed resources, as a set    those of this set
+    TOO_SMALL                                  not written                            the required capacities
+    any other                                  not written                            0
 
 The module checks only that each integer fits its parameter; otherwise it raises `OverflowError`.
 """
@@ -31,9 +34,9 @@ class Status(IntEnum):
 
     Attributes:
         OK: Success. From a comparison: yes.
-        TOO_SMALL: A buffer is too small. Nothing is written, and the lengths are those that are needed.
-        MEMORY: Out of memory: `malloc` refused. Nothing is written, and the status says nothing about the input.
-        INHERITED: A set inherits resources, and does not list them.
+        TOO_SMALL: A buffer is too small. Nothing is written, and the lengths are the required capacities.
+        MEMORY: Out of memory: `malloc` failed. Nothing is written, and the status says nothing about the input.
+        INHERITED: A set has `inherit` in place of a list of resources.
         BAD_MODE: The mode is unknown.
         OVERCLAIM_AS: The certificate claims AS numbers that the issuer does not have. The outputs are these AS numbers.
         OVERCLAIM_V4: The same for IPv4 addresses.
@@ -41,7 +44,7 @@ class Status(IntEnum):
         NO: From a comparison: no.
         BAD_ENCODING: The encoding is unknown.
         ABSENT: The certificate has neither extension (RFC 6487, 4.8.10 and 4.8.11).
-        OUTSIDE: A certificate of a path has an extension that is not within the array.
+        OUTSIDE: A certificate of a path has an extension that is not within the array of all octets.
         BAD_PRESENT: The number that says which extensions are present is greater than `Present.HAS_BOTH`.
         BAD_FAMILY: The family is unknown.
         BAD_PREFIX: A prefix length is above the family's, or address bits after it are set.
@@ -52,7 +55,8 @@ class Status(IntEnum):
             12, code 7).
         BAD_AS: The AS identifiers are invalid. The number of the first error is added: 1 to 14, as in `docs/ERRORS.md`.
         BAD_IP: The IP address blocks are invalid. The number of the first error is added, as to BAD_AS.
-        SECOND: Added to another status if this is about the certificate, the second set, a route, or a withdrawn VRP.
+        SECOND: Added to another status if the error is in the certificate, the second set, a route, or a withdrawn
+            VRP.
     """
 
     OK = 0
@@ -81,6 +85,8 @@ class Status(IntEnum):
 
 class Mismatch(IntFlag):
     """The reasons why a VRP that covers a route does not match it. The value is 0 for a match.
+
+    Test for a reason with `in`: `Mismatch.TOO_LONG in it.mismatch`.
 
     Attributes:
         OTHER_AS: The AS of the VRP is not the route's, or the route's AS is AS 0.
@@ -151,9 +157,9 @@ def fits(value: object, limit: int) -> bool:
 class Struct(ctypes.Structure):
     """A C struct of integers and arrays of integers.
 
-    ctypes drops the high bits of an integer that does not fit its field. This class raises `OverflowError` instead. Two
-    structs are equal if and only if their types and all their fields are equal. Padding is ignored. Do not set a field
-    of a struct that is in a set or is the key of a dict.
+    ctypes drops the high bits of an integer that does not fit its field. This class raises `OverflowError` instead,
+    also for the integers of numpy. Two structs are equal if and only if their types and all their fields are equal.
+    Padding is ignored. Do not set a field of a struct that is in a set or is the key of a dict.
     """
 
     _limits_: dict[str, int]  # for each integer field the least value that does not fit
@@ -189,11 +195,18 @@ class Struct(ctypes.Structure):
 
 
 class Certificate(Struct):
-    """A certificate of a path, as `pigy_certificate`: the positions of its extensions in an array, and two numbers.
+    """A certificate of a path, as `pigy_certificate`: where its extensions are in one array, and two numbers.
 
     The array has the octets of all certificates. Both ranges must lie within it. For an absent extension use index 0
-    and length 0. The fields `as_start` and `ip_start` are indices from 0. The fields `as_len` and `ip_len` are lengths
-    in octets. The field `present` is a `Present` or 0, and `mode` is a `Mode`.
+    and length 0.
+
+    Attributes:
+        as_start: The index in the array, from 0, of the first octet of the AS identifiers.
+        as_len: The length of the AS identifiers in octets.
+        ip_start: The index in the array, from 0, of the first octet of the IP address blocks.
+        ip_len: The length of the IP address blocks in octets.
+        present: A `Present`, or 0 if the certificate has neither extension.
+        mode: A `pigyelund.Mode`.
     """
 
     _fields_ = [
@@ -207,12 +220,20 @@ class Certificate(Struct):
 
 
 class Vrp(Struct):
-    """A VRP (validated ROA payload, RFC 6811, 2), as `pigy_vrp`.
+    """A VRP (validated ROA payload, RFC 6811, 2), as `pigy_vrp`. `Vrp.of` makes one.
 
-    The field `address` has 16 octets in network byte order. An IPv4 address is the first four; calls ignore the others.
-    The field `asn` is the AS that may originate the prefix. The field `family` is a `Family`. The prefix length `len`
-    is 0 to 32 bits, or 0 to 128 for IPv6. The maximum length `max_len` (maxLength, RFC 9582, 4.3.2) is `len` to 32 or
-    128. A call that reads the VRP checks these ranges.
+        >>> from ipaddress import ip_network
+        >>> Vrp.of(ip_network("10.0.0.0/8"), asn=64496, max_len=16)
+        Vrp.of(prefix=IPv4Network('10.0.0.0/8'), asn=64496, max_len=16)
+
+    A VRP can be compared and hashed, so it can be in a set. A call that reads the VRP checks the ranges below.
+
+    Attributes:
+        address: 16 octets in network byte order. An IPv4 address is the first four; calls ignore the others.
+        asn: The AS that may originate the prefix.
+        family: A `Family`.
+        len: The prefix length in bits: 0 to 32 for IPv4, 0 to 128 for IPv6.
+        max_len: The maximum length (maxLength, RFC 9582, 4.3.2) in bits: `len` to 32 or 128.
     """
 
     _fields_ = [
@@ -228,12 +249,15 @@ class Vrp(Struct):
         """Returns the VRP of a prefix.
 
         Args:
-            prefix: The prefix.
-            asn: The AS that may originate it.
-            max_len: The maximum length in bits; None is the prefix length.
+            prefix: The prefix, an object of `ipaddress`. For text use `ip_network(text)`.
+            asn: The AS that may originate the prefix.
+            max_len: The maximum length in bits. None means the prefix length.
 
         Raises:
-            OverflowError: `asn` is not from 0 to 4294967295, or `max_len` is not from 0 to 255.
+            OverflowError: `asn` is not from 0 to 4294967295, or `max_len` is not from 0 to 255. Calls that read the VRP
+                check the other limits of `max_len`.
+            AttributeError: `prefix` is no network, for example a `str`.
+            TypeError: `asn` or `max_len` is no integer.
         """
         length = prefix.prefixlen if max_len is None else max_len
         return cls(address_of(prefix), asn, family_of(prefix), prefix.prefixlen, length)
@@ -255,7 +279,7 @@ class Vrp(Struct):
 class Covering(Struct):
     """A VRP that covers a route, and why it does not match the route, as `pigy_covering`.
 
-    The octets after an IPv4 address are 0. The field `mismatch` is a `Mismatch`.
+    The field `mismatch` is a `Mismatch`. The other fields are those of `Vrp`. The octets after an IPv4 address are 0.
     """
 
     _fields_ = [*Vrp._fields_, ("mismatch", ctypes.c_uint8)]
@@ -263,9 +287,14 @@ class Covering(Struct):
 
 
 class Route(Struct):
-    """A route: a prefix and the AS that originates it (RFC 6811, 2), as `pigy_route`.
+    """A route: a prefix and the AS that originates it (RFC 6811, 2), as `pigy_route`. `Route.of` makes one.
 
-    The field `asn` is 0 if the path ends in an AS_SET: then no VRP matches. The other fields are those of `Vrp`.
+        >>> from ipaddress import ip_network
+        >>> Route.of(ip_network("10.0.0.0/16"), asn=64496)
+        Route.of(prefix=IPv4Network('10.0.0.0/16'), asn=64496)
+
+    The field `asn` is 0 if the path ends in an AS_SET: then no VRP matches. The fields `address`, `family` and `len`
+    are those of `Vrp`.
     """
 
     _fields_ = Vrp._fields_[:-1]
@@ -275,11 +304,13 @@ class Route(Struct):
         """Returns the route to a prefix.
 
         Args:
-            prefix: The prefix.
+            prefix: The prefix, an object of `ipaddress`. For text use `ip_network(text)`.
             asn: The AS that originates the route, or 0 if the path ends in an AS_SET.
 
         Raises:
             OverflowError: `asn` is not from 0 to 4294967295.
+            AttributeError: `prefix` is no network, for example a `str`.
+            TypeError: `asn` is no integer.
         """
         return cls(address_of(prefix), asn, family_of(prefix), prefix.prefixlen)
 
@@ -324,9 +355,12 @@ Lengths = tuple[int, int]
 class CallResult(NamedTuple):
     """The result of a call.
 
-    `lengths` are those that the call reports, in octets. `contents` is the content of both buffers. `number` is the
-    number of verified certificates of a path, or the index, from 0, of a refused VRP or route. Other calls leave it
-    None.
+    Attributes:
+        status: A `Status`, or a sum as `Status` describes it.
+        lengths: The two lengths that the call reports, in octets. A call with one buffer has 0 as the second.
+        contents: The whole contents of both buffers. A call with one buffer has `b""` as the second.
+        number: The number of verified certificates of a path, or the index, from 0, of a refused VRP or route. It is
+            None for other calls.
     """
 
     status: int
@@ -338,8 +372,10 @@ class CallResult(NamedTuple):
 class TableResult(NamedTuple):
     """The result of a call that makes a table.
 
-    `table` is the handle, or None if the status is not `Status.OK`. `index` is the index, from 0, of the VRP that is
-    refused, or 0 if none is.
+    Attributes:
+        status: A `Status`, or a sum as `Status` describes it.
+        table: The handle, or None if the status is not `Status.OK`. Pass it to `Library.table_free` once.
+        index: The index, from 0, of the refused VRP, or 0 if no VRP is refused.
     """
 
     status: int
@@ -355,11 +391,12 @@ def array_of(kind: type[Struct], given: object) -> tuple[ctypes.Array[Struct], i
         given: An iterable of structs, or an object with the buffer protocol that has the C structs side by side.
 
     Returns:
-        The array, and the number of structs. The array has at least one element, also if this number is 0.
+        The array, and the number of structs. If this number is 0, the array has one element, so its pointer is not
+        null.
 
     Raises:
-        TypeError: The elements are of another type.
-        ValueError: The octets end within a struct.
+        TypeError: `given` is neither, or its elements are of another type.
+        ValueError: The number of octets is no multiple of the size of a struct.
     """
     try:
         view = memoryview(given)  # type: ignore[arg-type]
@@ -383,16 +420,16 @@ def has_layout_of(element: type[ctypes.Structure], kind: type[Struct]) -> bool:
 
 
 def arguments_of(*sets: Pair) -> list[object]:
-    """Returns the arguments of C for some sets: the octets of each extension, and their length."""
+    """Returns the arguments in C for some sets: the octets of each extension, and their number."""
     return [argument for part in sets for octets in part for argument in (octets, len(octets))]
 
 
 def find_library() -> str:
-    """Returns the file of the shared library.
+    """Returns the file of the shared library. The first case that applies decides:
 
-    The file is in the folder that PIGYELUND_LIB names. If this variable is not set or is empty, it is that in the
-    folder of this package. If the package has no such file, the result is the name alone, for which the system's
-    loader searches.
+    1. The variable PIGYELUND_LIB is set and not empty: `libpigyelund.so` in the folder that it names.
+    2. The folder of this package has `libpigyelund.so`: that file.
+    3. Otherwise: the name alone. The system's loader searches for it.
     """
     folder = os.environ.get("PIGYELUND_LIB")
     if folder:
@@ -431,12 +468,13 @@ def load_library(file: str) -> ctypes.CDLL:
 class Library:
     """The calls of the shared library.
 
-    In the calls below `capacities` are the lengths of both output buffers in octets, and `capacity` is that of the only
-    one.
+    A call makes its output buffers itself. The arguments `capacities` are the capacities of both buffers in octets. The
+    argument `capacity` is that of the only one. A set is a pair of `bytes`: AS identifiers and IP address blocks.
+
     Every call except `table_free` raises `OverflowError` if an integer does not fit its C parameter.
 
     Args:
-        path: The file of the library, or None for the one that `find_library` returns.
+        path: The file of the library. None means the file that `find_library` returns.
 
     Raises:
         ImportError: The library cannot be loaded, as in `load_library`.
@@ -499,7 +537,7 @@ class Library:
         Args:
             name: The name of the C function.
             arguments: The arguments before the buffers.
-            capacities: The lengths of the buffers.
+            capacities: The capacities of the buffers in octets.
             number: The last output, or None.
         """
         asn, ip = (ctypes.create_string_buffer(max(capacity, 1)) for capacity in capacities)
@@ -519,7 +557,7 @@ class Library:
         Args:
             name: The name of the C function.
             arguments: The arguments before the buffer.
-            capacity: The length of the buffer.
+            capacity: The capacity of the buffer in octets.
             number: The last output, or None.
         """
         contents, length = ctypes.create_string_buffer(max(capacity, 1)), ctypes.c_size_t()
@@ -543,7 +581,7 @@ class Library:
             certificate: The certificate's extensions.
             encoding: An `Encoding`.
             mode: A `Mode`.
-            capacities: The lengths of the buffers.
+            capacities: The capacities of the buffers in octets.
         """
         arguments = [*arguments_of(issuer), present, *arguments_of(certificate), encoding, mode]
         return self._call_with_buffers("pigy_verify", arguments, capacities)
@@ -558,7 +596,7 @@ class Library:
             run: The octets of all extensions.
             certificates: The certificates in order.
             encoding: An `Encoding`.
-            capacities: The lengths of the buffers.
+            capacities: The capacities of the buffers in octets.
 
         Returns:
             The result. Its `number` is that of the verified certificates.
@@ -577,7 +615,7 @@ class Library:
             ip: The IP address blocks of the set.
             encoding: An `Encoding`.
             family: A `Family`.
-            capacity: The length of the buffer.
+            capacity: The capacity of the buffer in octets.
         """
         return self._call_with_buffer("pigy_cover", [ip, len(ip), encoding, family], capacity)
 
@@ -587,7 +625,7 @@ class Library:
         Args:
             vrps: The VRPs, in any order.
             routes: The routes.
-            capacity: The length of the buffer.
+            capacity: The capacity of the buffer in octets.
 
         Returns:
             The result. Its `number` is the index of the refused VRP or route.
@@ -639,7 +677,7 @@ class Library:
             table: The handle, or None for null.
             routes: An array of routes.
             count: Their number.
-            capacity: The length of the buffer.
+            capacity: The capacity of the buffer in octets.
 
         Returns:
             The result. Its `number` is the index of the refused route.
@@ -652,7 +690,7 @@ class Library:
         Args:
             table: The handle, or None for null.
             route: The route.
-            capacity: The length of the buffer in VRPs.
+            capacity: The capacity of the buffer in VRPs.
 
         Returns:
             The status, the content of the buffer, and the length in VRPs that the call reports.
@@ -672,7 +710,7 @@ class Library:
 
         Args:
             table: The handle, or None for null.
-            capacity: The length of the buffer in VRPs.
+            capacity: The capacity of the buffer in VRPs.
 
         Returns:
             The status, the content of the buffer, and the length in VRPs that the call reports.
@@ -694,7 +732,7 @@ class Library:
 
         Args:
             line: The line in UTF-8.
-            capacity: The length of the buffer.
+            capacity: The capacity of the buffer in octets.
         """
         return self._call_with_buffer("pigy_answer", [line, len(line)], capacity)
 
@@ -706,7 +744,7 @@ class Library:
             a: The first set.
             b: The second set.
             encoding: An `Encoding`.
-            capacities: The lengths of the buffers.
+            capacities: The capacities of the buffers in octets.
         """
         return self._call_with_buffers(operation.value, [*arguments_of(a, b), encoding], capacities)
 

@@ -31,7 +31,7 @@ class Covering(NamedTuple):
         prefix: The VRP's prefix.
         max_len: The maximum length (maxLength) in bits.
         asn: The AS that may originate the prefix.
-        mismatch: The reasons, or `Mismatch(0)` for a match.
+        mismatch: Why the VRP does not match the route. `Mismatch(0)` is a match.
     """
 
     prefix: IPv4Network | IPv6Network
@@ -59,16 +59,28 @@ class _Owner:
 class Table:
     """A table of VRPs (validated ROA payloads) for route origin validation (RFC 6811, 2).
 
-    A table can be queried any number of times. It never changes: `changed` makes the next table from withdrawn and
-    announced VRPs (RFC 8210, 5.6). Any number of threads may query it at once.
+    `Pigyelund.table` makes a table. A table can be queried any number of times. It never changes: `changed` makes the
+    next table from withdrawn and announced VRPs (RFC 8210, 5.6).
 
-    `close`, the end of a `with`, or the end of the object frees its memory. A call that another thread began before
-    keeps the memory until the call returns. Other calls on a closed table raise `ValueError`. A table cannot be copied
-    or pickled.
+        >>> from ipaddress import ip_network
+        >>> from pigyelund import Pigyelund, Route, Vrp
+        >>> with Pigyelund().table([Vrp.of(ip_network("10.0.0.0/8"), asn=64496)]) as table:
+        ...     table.origin(Route.of(ip_network("10.0.0.0/8"), asn=64496))
+        <Validity.VALID: 0>
 
-    VRPs and routes are iterables of `Vrp` and `Route`. They may also be an object with the buffer protocol
-    (`bytes`, a `memoryview`, an `array`) that has the C structs side by side. Each struct has 24 octets: the fields in
-    their order, with integers in the byte order of the processor.
+    Memory. `close`, the end of a `with`, or the end of the object frees the table. If another thread is in a call on
+    the table, the memory is freed when that call returns. Calls on a closed table raise `ValueError`. A table cannot be
+    copied or pickled.
+
+    Threads. Any number of threads may query a table at once. ctypes releases Python's global lock during a call.
+
+    Arguments. VRPs and routes are iterables of `Vrp` and `Route`. They may also be one object with the buffer protocol
+    that has C structs side by side: `bytes`, a `memoryview`, an `array`, a numpy array. Each struct has 24 octets. The
+    module `struct` makes one by these formats, from the address in network byte order, the AS, the family and the
+    lengths:
+
+        struct.pack("16sIBBBx", address, asn, family, len, max_len)    a VRP
+        struct.pack("16sIBBxx", address, asn, family, len)             a route
 
     Calls that return validities, VRPs or a table may raise `OutOfMemoryError`, which says nothing about the input.
     """
@@ -109,8 +121,8 @@ class Table:
     def close(self) -> None:
         """Closes the table. A second call does nothing.
 
-        The memory of the table is freed at once. If other threads began calls on the table before, it is freed when
-        these calls have returned.
+        The memory of the table is freed at once. If other threads are in calls on the table, it is freed when these
+        calls have returned.
         """
         self._owner = None
 
@@ -138,15 +150,16 @@ class Table:
             withdrawn: VRPs to remove, with all their copies. Each must be listed once, and must be in the table.
 
         Returns:
-            The new table.
+            The new table. Close it too.
 
         Raises:
-            OriginError: A VRP of `announced`, or else of `withdrawn`, is malformed.
-            ChangeError: A VRP of `withdrawn`, or else of `announced`, breaks the rule above. This is a subclass of
-                `OriginError`. The attribute `index` counts in `withdrawn` if the status is UNKNOWN_WITHDRAWAL or has
-                SECOND, else in `announced`.
-            TypeError: An item is of another type.
-            ValueError: The table is closed, or the octets of a buffer end within a VRP.
+            OriginError: A VRP of `announced`, or else of `withdrawn`, is malformed. The attribute `index` counts in
+                `withdrawn` if the status has `Status.SECOND`, else in `announced`.
+            ChangeError: A VRP of `withdrawn`, or else of `announced`, is not as its argument requires. The attribute
+                `index` counts in `withdrawn` if the status is `Status.UNKNOWN_WITHDRAWAL`, else in `announced`. This
+                class is a subclass of `OriginError`.
+            TypeError: An argument is neither an iterable nor a buffer, or an item of it is no `Vrp`.
+            ValueError: The table is closed, or the length of a buffer is no multiple of 24 octets.
         """
         arrays = (*raw.array_of(Vrp, announced), *raw.array_of(Vrp, withdrawn))
         result = self._with_handle(lambda handle: self._library.table_changed(handle, *arrays))
@@ -156,31 +169,31 @@ class Table:
         """Validates routes (RFC 6811, 2).
 
         Args:
-            routes: The routes, in one of the forms that the class names.
+            routes: The routes: an iterable of `Route`, or a buffer of C structs.
 
         Returns:
             The validity of each route, in the order of `routes`.
 
         Raises:
-            OriginError: A route is malformed. The attribute `index` is the index of the first one.
-            TypeError: An item is of another type.
-            ValueError: The table is closed, or the octets of a buffer end within a route.
+            OriginError: A route is malformed. The attribute `index` is the index, from 0, of the first one.
+            TypeError: `routes` is neither an iterable nor a buffer, or an item of it is no `Route`.
+            ValueError: The table is closed, or the length of the buffer is no multiple of 24 octets.
         """
         return [_VALIDITIES[octet] for octet in self.origin_octets(routes)]
 
     def origin_octets(self, routes: object) -> bytes:
-        """Validates routes like `origins`, but returns one octet for each route.
+        """Validates routes like `origins`, but returns one octet for each route. Use it for millions of routes.
 
         Args:
-            routes: The routes, in one of the forms that the class names.
+            routes: The routes: a buffer of C structs, or an iterable of `Route`.
 
         Returns:
-            The numbers of `Validity`, one octet each.
+            The numbers of `Validity`, one octet each: 0 for VALID, 1 for NOT_FOUND, 2 for INVALID.
 
         Raises:
-            OriginError: A route is malformed, as in `origins`.
-            TypeError: An item is of another type.
-            ValueError: The table is closed, or the octets of a buffer end within a route.
+            OriginError: A route is malformed. The attribute `index` is the index, from 0, of the first one.
+            TypeError: `routes` is neither an iterable nor a buffer, or an item of it is no `Route`.
+            ValueError: The table is closed, or the length of the buffer is no multiple of 24 octets.
         """
         asked, count = raw.array_of(Route, routes)
         result = self._with_handle(lambda handle: self._library.table_origins(handle, asked, count, count))
@@ -199,13 +212,13 @@ class Table:
 
         Raises:
             OriginError: The route is malformed.
-            TypeError: `route` is of another type.
+            TypeError: `route` is no `Route`.
             ValueError: The table is closed.
         """
         return self.origins([route])[0]
 
     def covering(self, route: Route) -> list[Covering]:
-        """Returns the VRPs that cover a route. They explain its validity.
+        """Returns the VRPs that cover a route. They explain its validity: it is VALID if one of them is a match.
 
         Args:
             route: The route.
@@ -216,7 +229,8 @@ class Table:
 
         Raises:
             OriginError: The route is malformed.
-            TypeError: `route` is of another type; for some types this is a `ctypes.ArgumentError`.
+            TypeError: `route` is no object of ctypes.
+            ctypes.ArgumentError: `route` is another object of ctypes, for example a `Vrp`.
             ValueError: The table is closed.
         """
         status, contents, length = self._with_handle(lambda handle: self._library.table_covering(handle, route, 8))

@@ -1,5 +1,9 @@
-//! Finds the static library, in the folder that `PIGYELUND_LIB` names. If the variable is not set or empty, the library
-//! is the first one in the folders `USUAL`.
+//! Finds the static library `libpigyelund.a` and has it linked.
+//!
+//! - If `PIGYELUND_LIB` is set and not empty, the library is in the folder that it names.
+//! - Otherwise the library is in the first folder of `USUAL` that has it.
+//!
+//! The build fails with the reason if the library is not there, or if the variable is no absolute path.
 use std::env::var;
 use std::path::Path;
 

@@ -1,8 +1,9 @@
-//! Verifies the octets of a certificate's IP address blocks by those of its issuer, and prints what is left.
+//! Verifies a certificate's IP address blocks against those of its issuer in both modes. For each mode it prints the
+//! result in DER, or the reason and the overclaimed resources in DER.
 use pigyelund::{verify, Encoding, Extensions, Octets, Overclaim, ResourceError};
 
 fn main() {
-    // the issuer has 10.0.0.0/8; the certificate claims 10.0.0.0/8 and 12.0.0.0/8
+    // The issuer has 10.0.0.0/8. The certificate claims 10.0.0.0/8 and 12.0.0.0/8.
     let issuer = [0x30, 0x0c, 0x30, 0x0a, 4, 2, 0, 1, 0x30, 4, 3, 2, 0, 10];
     let claim = [
         0x30, 0x10, 0x30, 0x0e, 4, 2, 0, 1, 0x30, 8, 3, 2, 0, 10, 3, 2, 0, 12,

@@ -2,17 +2,35 @@
 //!
 //! The crate is for programs that check the resources of certificates (RFC 3779), operate on sets of resources, or
 //! validate route origins (RFC 6811). It is a safe wrapper around the proved static library. The wrapper itself is
-//! tested, not proved. `docs/FOREIGN.md` is the guide.
+//! tested, not proved. `docs/FOREIGN.md` is the guide: installation, programs, arguments, errors, threads.
 //!
-//! - [`verify`] computes the resources of a certificate. [`verify_path`] computes those of the last one of a path.
+//! - [`verify`] computes the resources of a certificate. [`verify_path`] computes those of the last certificate of a
+//!   path.
 //! - [`union`], [`intersection`], [`difference`], [`contains`] and [`equal`] operate on two sets.
 //! - [`cover`] returns the shortest list of prefixes of a set.
-//! - [`origins`] and [`Table`] validate routes against VRPs. A [`Vrp`] is a VRP (validated ROA payload).
+//! - [`origins`] and [`Table`] validate routes against VRPs (validated ROA payloads, [`Vrp`]).
 //! - [`answer`] returns the answer of the program `respath` to a line.
 //!
-//! A set of resources is the DER of two certificate extensions: AS identifiers (RFC 3779, 3.2.3) and IP address blocks
-//! (RFC 3779, 2.2.3). The value of an extension is empty if the set lists nothing there. The calls return canonical
-//! DER. Two sets that calls returned are equal if and only if their octets are equal.
+//! # Sets and extensions
+//!
+//! The calls take and return the DER of two certificate extensions: AS identifiers (RFC 3779, 3.2.3) and IP address
+//! blocks (RFC 3779, 2.2.3). This DER is the content of the OCTET STRING `extnValue` (RFC 5280, 4.1).
+//!
+//! | type | is | if nothing is listed |
+//! |---|---|---|
+//! | [`Octets`] | a set that you pass, as borrowed DER | `&[]` |
+//! | [`Resources`] | a set that a call returns, as owned canonical DER | an empty `Vec` |
+//! | [`Extensions`] | the extensions of a certificate, as borrowed DER | `None` for an absent extension |
+//!
+//! [`Resources::octets`] makes an argument of a result. Two sets that calls returned are equal if and only if their
+//! octets are equal.
+//!
+//! # Errors
+//!
+//! Each error has a [`Reason`]. [`ResourceError`] also has the overclaimed resources, [`PathError`] the number of
+//! verified certificates, and [`OriginError`] the index of the refused VRP or route.
+//!
+//! # Other interfaces
 //!
 //! [`raw`] has the same calls with the statuses and numbers of `pigyelund.h`.
 //!
@@ -21,8 +39,8 @@
 //! ```
 //! use pigyelund::{cover, difference, Encoding, Family, Octets};
 //!
-//! fn main() -> Result<(), pigyelund::Refused> {
-//!     // 10.0.0.0/8 and 12.0.0.0/8; 10.0.0.0/8
+//! fn main() -> Result<(), pigyelund::ResourceError> {
+//!     // IP address blocks: 10.0.0.0/8 and 12.0.0.0/8, then 10.0.0.0/8 alone
 //!     let all = [0x30, 0x10, 0x30, 0x0e, 4, 2, 0, 1, 0x30, 8, 3, 2, 0, 10, 3, 2, 0, 12];
 //!     let ten = [0x30, 0x0c, 0x30, 0x0a, 4, 2, 0, 1, 0x30, 4, 3, 2, 0, 10];
 //!     let [all, ten] = [&all[..], &ten[..]].map(|ip| Octets { asn: &[], ip });
@@ -54,7 +72,7 @@ use raw::{HAS_AS, HAS_IP, NO, OK, TOO_SMALL};
 /// The two resource extensions of a certificate, as DER.
 ///
 /// `None` means that the certificate does not have the extension. It then claims nothing there. An extension that is
-/// present but empty is invalid. A certificate has at least one of them (RFC 6487, 4.8.10 and 4.8.11).
+/// present but empty, `Some(&[])`, is invalid. A certificate has at least one extension (RFC 6487, 4.8.10 and 4.8.11).
 #[derive(Clone, Copy, Debug, Default, PartialEq, Eq)]
 pub struct Extensions<'a> {
     /// The value of the extension of AS identifiers (RFC 3779, 3.2.3).
@@ -69,7 +87,7 @@ impl<'a> Extensions<'a> {
         HAS_AS * u32::from(self.asn.is_some()) + HAS_IP * u32::from(self.ip.is_some())
     }
 
-    /// Returns the octets of both extensions. An absent extension has no octets.
+    /// Returns the DER of both extensions as a set. The value of an absent extension is empty.
     fn octets(&self) -> Octets<'a> {
         Octets {
             asn: self.asn.unwrap_or_default(),
@@ -83,7 +101,7 @@ impl<'a> Extensions<'a> {
 pub struct Certificate<'a> {
     /// The two resource extensions of the certificate.
     pub extensions: Extensions<'a>,
-    /// The policy for overclaimed resources: those that are claimed and the issuer does not have.
+    /// The policy for overclaimed resources: those that the certificate claims and its issuer does not have.
     pub mode: Overclaim,
 }
 
@@ -97,7 +115,7 @@ pub struct Resources {
 }
 
 impl Resources {
-    /// Borrows the encoded set.
+    /// Borrows the set, as an argument of another call.
     pub fn octets(&self) -> Octets<'_> {
         Octets {
             asn: &self.asn,
@@ -106,7 +124,7 @@ impl Resources {
     }
 }
 
-/// The encodings that a call accepts. The choice applies to all octets that the call reads, the issuer's too.
+/// The encodings that a call accepts. The choice applies to all DER that the call reads, the issuer's too.
 #[derive(Clone, Copy, Debug, PartialEq, Eq)]
 pub enum Encoding {
     /// Any DER that the grammar allows: blocks in any order, which may overlap.
@@ -115,7 +133,7 @@ pub enum Encoding {
     Strict = raw::STRICT as isize,
 }
 
-/// The policy for overclaimed resources: those that are claimed and the issuer does not have.
+/// The policy for overclaimed resources: those that a certificate claims and its issuer does not have.
 #[derive(Clone, Copy, Debug, PartialEq, Eq)]
 pub enum Overclaim {
     /// The certificate is refused (RFC 6487, 7.2).
@@ -201,14 +219,14 @@ fn with_buffer(call: impl Fn(&mut [u8]) -> (u32, usize)) -> (u32, Vec<u8>) {
 /// The result for AS numbers, for IPv4 and for IPv6 is:
 ///
 /// - nothing, if the certificate does not have the extension, or the extension does not have the family;
-/// - all that the issuer has, if the certificate inherits;
+/// - all that the issuer has, if the certificate has `inherit`;
 /// - otherwise what the certificate lists and the issuer has.
 ///
 /// # Parameters
 ///
-/// - `issuer`: the issuer's set.
+/// - `issuer`: the issuer's set. It lists its resources, so it has no `inherit`.
 /// - `certificate`: the extensions of the certificate.
-/// - `encoding`: which encodings are accepted of both.
+/// - `encoding`: the encodings that are accepted of both.
 /// - `mode`: the policy for overclaimed resources.
 ///
 /// # Errors
@@ -216,7 +234,7 @@ fn with_buffer(call: impl Fn(&mut [u8]) -> (u32, usize)) -> (u32, Vec<u8>) {
 /// The first of these, in this order:
 ///
 /// - [`Reason::BadAs`], [`Reason::BadIp`] with [`Side::First`]: an extension of the issuer is invalid.
-/// - [`Reason::Inherited`] with [`Side::First`]: the issuer's set inherits, and does not list its resources.
+/// - [`Reason::Inherited`] with [`Side::First`]: the issuer's set has `inherit`.
 /// - [`Reason::Absent`]: the certificate has neither extension.
 /// - [`Reason::BadAs`], [`Reason::BadIp`] with [`Side::Second`]: an extension of the certificate is invalid.
 /// - [`Reason::OverclaimedAs`], [`Reason::OverclaimedV4`], [`Reason::OverclaimedV6`]: the certificate overclaims, and
@@ -274,13 +292,15 @@ fn concatenate(certificates: &[Certificate<'_>]) -> (Vec<u8>, Vec<raw::Certifica
 ///
 /// - `anchor`: the trust anchor's set.
 /// - `certificates`: the certificates in the order of the path, the one under the anchor first.
-/// - `encoding`: which encodings are accepted of all of them.
+/// - `encoding`: the encodings that are accepted of all of them.
+///
+/// The result for an empty path is the anchor's set.
 ///
 /// # Errors
 ///
-/// [`PathError`] has the reason and the number of verified certificates. The anchor's octets are checked first, with
-/// the reasons that [`verify`] has for the issuer. The first certificate that is not verified follows, with the other
-/// reasons of [`verify`]. The call may return [`Reason::Memory`] instead of any other result.
+/// [`PathError`] has the reason and the number of verified certificates. The call checks the anchor's set first, and
+/// then each certificate in the order of the path. The reasons are those of [`verify`], with the anchor as the issuer
+/// of the first certificate. The call may return [`Reason::Memory`] instead of any other result.
 pub fn verify_path(
     anchor: Octets<'_>,
     certificates: &[Certificate<'_>],
@@ -319,7 +339,7 @@ fn address_of(octets: &[u8]) -> IpAddr {
 /// # Parameters
 ///
 /// - `ip`: the IP address blocks of the set (RFC 3779, 2.2.3).
-/// - `encoding`: which encodings are accepted.
+/// - `encoding`: the encodings that are accepted.
 /// - `family`: the family whose addresses are covered.
 ///
 /// # Errors
@@ -327,7 +347,7 @@ fn address_of(octets: &[u8]) -> IpAddr {
 /// The first of these, in this order:
 ///
 /// - [`Reason::BadIp`] with [`Side::First`]: `ip` is invalid.
-/// - [`Reason::Inherited`] with [`Side::First`]: `ip` inherits the addresses of either family.
+/// - [`Reason::Inherited`] with [`Side::First`]: `ip` has `inherit` for a family, also if this is not `family`.
 ///
 /// The call may return [`Reason::Memory`] instead of any other result.
 pub fn cover(ip: &[u8], encoding: Encoding, family: Family) -> Result<Vec<Prefix>, ResourceError> {
@@ -366,8 +386,8 @@ fn validity_of(octet: u8) -> Validity {
 ///
 /// [`OriginError`] has the index of the first malformed VRP, or else of the first malformed route:
 ///
-/// - [`Reason::BadFamily`], [`Reason::BadPrefix`] with [`Side::First`], [`Reason::BadMaxLen`]: a VRP.
-/// - [`Reason::BadFamily`], [`Reason::BadPrefix`] with [`Side::Second`]: a route.
+/// - [`Reason::BadFamily`], [`Reason::BadPrefix`] with [`Side::First`], [`Reason::BadMaxLen`]: the VRP is malformed.
+/// - [`Reason::BadFamily`], [`Reason::BadPrefix`] with [`Side::Second`]: the route is malformed.
 ///
 /// The call may return [`Reason::Memory`] instead of any other result.
 pub fn origins(vrps: &[Vrp], routes: &[Route]) -> Result<Vec<Validity>, OriginError> {
@@ -381,6 +401,9 @@ pub fn origins(vrps: &[Vrp], routes: &[Route]) -> Result<Vec<Validity>, OriginEr
 }
 
 /// Returns the answer of the program `respath` to a line. Errors in the line are part of the answer.
+///
+/// `der v4 LIST` converts text to DER in hexadecimal, and `read v4 HEX` converts DER to text. `README.md` has all
+/// commands.
 ///
 /// # Parameters
 ///
@@ -403,7 +426,7 @@ pub fn answer(line: &[u8]) -> Result<String, Reason> {
 ///
 /// - `operation`: union, intersection or difference.
 /// - `a`, `b`: the first and the second set.
-/// - `encoding`: which encodings are accepted of both.
+/// - `encoding`: the encodings that are accepted of both.
 ///
 /// # Errors
 ///
@@ -411,7 +434,7 @@ pub fn answer(line: &[u8]) -> Result<String, Reason> {
 ///
 /// - [`Reason::BadAs`]: the AS identifiers of the set are invalid.
 /// - [`Reason::BadIp`]: the IP address blocks of the set are invalid.
-/// - [`Reason::Inherited`]: the set inherits, and does not list its resources.
+/// - [`Reason::Inherited`]: the set has `inherit`, and does not list its resources.
 ///
 /// The call may return [`Reason::Memory`] instead of any other result.
 pub fn combine(
@@ -458,7 +481,7 @@ pub fn difference(
     combine(Operation::Difference, a, b, encoding)
 }
 
-/// Evaluates a predicate on two sets.
+/// Evaluates a predicate on two sets. Returns whether it holds.
 ///
 /// # Errors
 ///

@@ -1,7 +1,8 @@
 //! The calls of `pigyelund.h`, with slices in place of pointers and lengths.
 //!
-//! This module is for callers that provide their own buffers, or that need the statuses of C. Each function is one call
-//! of the library: it takes the numbers of the header, and returns the status.
+//! This module is for callers that provide their own buffers, or that need the statuses of C. All others use the calls
+//! of the [crate root](crate). Each function here is one call of the library. It takes the numbers of the header, and
+//! returns the status.
 //!
 //! # Outputs
 //!
@@ -11,26 +12,26 @@
 //! |---|---|---|
 //! | [`OK`] | the output | of the output |
 //! | [`OVERCLAIM_AS`], [`OVERCLAIM_V4`], [`OVERCLAIM_V6`] | the overclaimed resources, as a set | of this set |
-//! | [`TOO_SMALL`] | unchanged | those that are needed |
+//! | [`TOO_SMALL`] | unchanged | the required ones |
 //! | any other | unchanged | 0 |
 //!
-//! A second call with buffers of the needed lengths does not return [`TOO_SMALL`].
+//! A second call with buffers of the required lengths does not return [`TOO_SMALL`].
 //!
 //! # Preconditions
 //!
-//! No call has a precondition on the values of its arguments, so this module checks none. The rules for pointers hold:
-//! a `&[u8]` is never null, and a `&mut` buffer overlaps no other argument.
+//! You may pass any values: the library checks them, and this module does not. The library also has preconditions on
+//! pointers. Rust's references meet these: a `&[u8]` is never null, and a `&mut` buffer overlaps no other argument.
 use core::net::IpAddr;
 
 use crate::Family;
 
 /// Success. From a comparison: yes.
 pub const OK: u32 = 0;
-/// A buffer is too small. Nothing is written, and the lengths are those that are needed.
+/// A buffer is too small. Nothing is written, and the lengths are the required ones.
 pub const TOO_SMALL: u32 = 1;
-/// Out of memory: `malloc` refused. Nothing is written, and the status says nothing about the input.
+/// Out of memory: `malloc` failed. Nothing is written, and the status says nothing about the input.
 pub const MEMORY: u32 = 2;
-/// A set inherits resources, and does not list them.
+/// A set has `inherit`, and does not list its resources.
 pub const INHERITED: u32 = 3;
 /// The mode is neither [`REFUSE`] nor [`TRIM`].
 pub const BAD_MODE: u32 = 4;
@@ -46,7 +47,7 @@ pub const NO: u32 = 8;
 pub const BAD_ENCODING: u32 = 9;
 /// The certificate has neither extension (RFC 6487, 4.8.10 and 4.8.11).
 pub const ABSENT: u32 = 10;
-/// A certificate of a path has an extension that is not within the array `run`.
+/// A certificate of a path has an extension that is not within the array `run` of [`verify_path`].
 pub const OUTSIDE: u32 = 11;
 /// The number that says which extensions are present is greater than [`HAS_BOTH`].
 pub const BAD_PRESENT: u32 = 12;
@@ -66,7 +67,7 @@ pub const DUPLICATE_ANNOUNCEMENT: u32 = 18;
 pub const BAD_AS: u32 = 0x100;
 /// The IP address blocks are invalid. The number of the first error is added: 1 to 14, as in [`Fault`](crate::Fault).
 pub const BAD_IP: u32 = 0x200;
-/// Added to another status if this is about the certificate, the second set, a route, or a withdrawn VRP.
+/// Added to another status if the error is in the certificate, the second set, a route, or a withdrawn VRP.
 pub const SECOND: u32 = 0x1000;
 
 /// Encoding: any DER that the grammar allows, with blocks in any order.
@@ -98,7 +99,7 @@ pub const OTHER_AS: u32 = 1;
 /// Mismatch: the route's prefix is longer than the maximum length of the covering VRP.
 pub const TOO_LONG: u32 = 2;
 
-/// The C type of a set operation: both sets, the encoding, both buffers, and where the output lengths go.
+/// The C type of a set operation: both sets, the encoding, both buffers, and the pointers for the output lengths.
 type OperationFn = unsafe extern "C" fn(
     *const u8,
     usize,
@@ -411,7 +412,7 @@ struct Handle {
     inside: [u8; 0],
 }
 
-/// A table handle of the library, or null. Dropping it frees the table.
+/// A table handle of the library, or null. Dropping this value frees the table.
 #[derive(Debug)]
 pub struct Table(*mut Handle);
 
@@ -744,7 +745,7 @@ pub fn answer(line: &[u8], out: &mut [u8]) -> (u32, usize) {
 ///
 /// # Parameters
 ///
-/// - `operation`: which call.
+/// - `operation`: union, intersection or difference.
 /// - `a`, `b`: the first and the second set.
 /// - `encoding`: [`LENIENT`] or [`STRICT`].
 /// - `asn`, `ip`: the output buffers.

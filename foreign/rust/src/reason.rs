@@ -1,4 +1,4 @@
-//! Error types: the reasons why a call returns no result.
+//! The error types. Each has a [`Reason`]: why a call returns no result.
 use core::error::Error;
 use core::fmt::{Display, Formatter, Result};
 
@@ -6,6 +6,20 @@ use crate::raw;
 use crate::Resources;
 
 /// The operand that an error is about.
+///
+/// | call | `First` | `Second` |
+/// |---|---|---|
+/// | [`verify`](crate::verify) | the issuer | the certificate |
+/// | [`verify_path`](crate::verify_path) | the trust anchor | a certificate |
+/// | [`combine`](crate::combine), [`compare`](crate::compare) | the first set | the second set |
+/// | [`cover`](crate::cover) | the set | |
+/// | [`origins`](crate::origins) | a VRP | a route |
+/// | [`Table::new`](crate::Table::new) | a VRP | |
+/// | [`Table::changed`](crate::Table::changed) | an announced VRP | a withdrawn VRP |
+/// | other calls of [`Table`](crate::Table) | | a route |
+///
+/// For [`union`](crate::union), [`contains`](crate::contains) and the other calls on two sets the sides are those of
+/// `combine` and `compare`.
 #[derive(Clone, Copy, Debug, PartialEq, Eq, Hash)]
 pub enum Side {
     /// The issuer, the trust anchor, the first set, a VRP, or an announced VRP.
@@ -28,9 +42,9 @@ impl Side {
 #[non_exhaustive]
 #[derive(Clone, Copy, Debug, PartialEq, Eq, Hash)]
 pub enum Fault {
-    /// Octets are missing, or a length is too great (X.690, 8.1).
+    /// Octets are missing, or a length is greater than the octets that follow (X.690, 8.1).
     Truncated = 1,
-    /// A tag is not the one that belongs there (RFC 3779, 2.2.3 and 3.2.3).
+    /// A tag is not the one that the syntax requires there (RFC 3779, 2.2.3 and 3.2.3).
     BadTag = 2,
     /// A length is indefinite, is not as short as possible, or has more than eight octets (X.690, 8.1.3 and 10.1).
     BadLength = 3,
@@ -106,7 +120,7 @@ impl Fault {
 pub enum Reason {
     /// Out of memory. This reason says nothing about the input.
     Memory,
-    /// The operand inherits resources, and does not list a set.
+    /// The operand has `inherit`, and does not list its resources. A certificate may have `inherit`; a set may not.
     Inherited(Side),
     /// The certificate claims AS numbers that its issuer does not have (RFC 6487, 7.2).
     OverclaimedAs,
@@ -120,11 +134,11 @@ pub enum Reason {
     BadAs(Side, Fault),
     /// The IP address blocks are invalid; the field is the first error found.
     BadIp(Side, Fault),
-    /// The family of a VRP or of a route is neither IPv4 nor IPv6.
+    /// The family of a VRP or of a route is neither IPv4 nor IPv6. `Vrp::new` and `Route::new` always set one of these.
     BadFamily(Side),
-    /// The prefix length of a VRP or of a route is above the family's, or address bits after it are set.
+    /// The prefix length of a VRP or of a route is above the family's, or address bits after it (host bits) are set.
     BadPrefix(Side),
-    /// The maximum length of a VRP is below its prefix length, or above the family's.
+    /// The maximum length of a VRP or of an announced VRP is below its prefix length, or above the family's.
     BadMaxLen,
     /// The maximum length of a withdrawn VRP is below its prefix length, or above the family's.
     BadWithdrawnMaxLen,
@@ -132,14 +146,14 @@ pub enum Reason {
     UnknownWithdrawal,
     /// An announced VRP is in the table and is not withdrawn, or is announced twice (RFC 8210, 12, code 7).
     DuplicateAnnouncement,
-    /// Any other status. Only the calls of [`raw`] return one.
+    /// Any other status. Only the calls of [`raw`] return such a status.
     Other(u32),
 }
 
 impl Reason {
     /// Returns the reason for a status of `pigyelund.h`.
     ///
-    /// A status that has no variant of its own, as [`raw::OK`], becomes [`Reason::Other`].
+    /// A status without a variant of its own, such as [`raw::OK`], becomes [`Reason::Other`].
     pub fn of_status(status: u32) -> Reason {
         let (side, first) = match status {
             raw::SECOND.. => (Side::Second, status - raw::SECOND),
@@ -246,7 +260,8 @@ impl Error for Reason {}
 pub struct ResourceError {
     /// The reason.
     pub reason: Reason,
-    /// The overclaimed resources of the kind that `reason` names; empty for any other reason.
+    /// The overclaimed resources, if `reason` is [`Reason::OverclaimedAs`], [`Reason::OverclaimedV4`] or
+    /// [`Reason::OverclaimedV6`]: exactly those of that kind. Empty for any other reason.
     pub excess: Resources,
 }
 
@@ -273,7 +288,7 @@ impl Error for ResourceError {}
 pub struct PathError {
     /// The number of verified certificates. This is also the index, from 0, of the certificate that is not verified.
     ///
-    /// It is 0 if the anchor's octets are refused. It has no meaning if the reason is [`Reason::Memory`].
+    /// It is 0 if the anchor's set is refused. It has no meaning if the reason is [`Reason::Memory`].
     pub verified: usize,
     /// The reason, and the overclaimed resources if there are any.
     pub error: ResourceError,
@@ -292,12 +307,12 @@ impl Error for PathError {}
 pub struct OriginError {
     /// The reason.
     pub reason: Reason,
-    /// The index, from 0, of the VRP or route that is refused.
+    /// The index, from 0, of the refused VRP or route.
     ///
-    /// - With [`Side::Second`], [`Reason::BadWithdrawnMaxLen`] and [`Reason::UnknownWithdrawal`] it counts in the
-    ///   routes, or in the withdrawn VRPs.
-    /// - With the other reasons it counts in the VRPs, or in the announced VRPs.
-    /// - It is 0 if none of them is refused.
+    /// - With [`Side::Second`], [`Reason::BadWithdrawnMaxLen`] and [`Reason::UnknownWithdrawal`] it is an index of the
+    ///   routes, or of the withdrawn VRPs.
+    /// - With [`Reason::Memory`] it is 0.
+    /// - With the other reasons it is an index of the VRPs, or of the announced VRPs.
     pub index: usize,
 }
 

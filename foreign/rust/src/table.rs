@@ -9,21 +9,23 @@ use crate::{address_of, validity_of, OriginError, Prefix, Reason, Route, Validit
 /// A table of VRPs (validated ROA payloads) for route origin validation (RFC 6811, 2).
 ///
 /// A table can be queried any number of times. It never changes: [`Table::changed`] makes the next table from withdrawn
-/// and announced VRPs (RFC 8210, 5.6). It is `Send` and `Sync`: any number of threads may query it at once.
+/// and announced VRPs (RFC 8210, 5.6). A table is `Send` and `Sync`: any number of threads may query it at once.
 ///
 /// # Example
 ///
 /// ```
 /// use pigyelund::{Route, Table, Validity, Vrp};
 ///
-/// fn main() -> Result<(), pigyelund::RefusedOrigin> {
+/// fn main() -> Result<(), pigyelund::OriginError> {
 ///     let net = "10.0.0.0".parse().unwrap();
 ///     let table = Table::new(&[Vrp::new(net, 8, 16, 64496)])?;
 ///     let route = Route::new(net, 24, 64497);
 ///     assert_eq!(table.origin(&route).unwrap(), Validity::Invalid);
+///     // Why: the VRP has another AS, and the route is longer than its maximum length.
 ///     for vrp in table.covering(&route).unwrap() {
 ///         assert!(vrp.is_other_as() && vrp.is_too_long());
 ///     }
+///     // The next table has a second VRP, which matches.
 ///     let next = table.changed(&[Vrp::new(net, 8, 24, 64497)], &[])?;
 ///     assert_eq!(next.origin(&route).unwrap(), Validity::Valid);
 ///     Ok(())
@@ -69,17 +71,17 @@ fn with_items<T: Copy + Default>(
 impl Table {
     /// Builds a table of VRPs.
     ///
-    /// The VRPs may come in any order. Duplicates are kept: a VRP that is passed twice is listed twice, and
-    /// [`Table::covering`] returns it twice.
+    /// The VRPs may come in any order. The table copies them. Duplicates are kept: a VRP that is passed twice is listed
+    /// twice, and [`Table::covering`] returns it twice.
     ///
     /// # Errors
     ///
-    /// [`OriginError::index`] is the index, from 0, of the first malformed VRP. The first reason that applies to it
-    /// is reported:
+    /// [`OriginError::index`] is the index, from 0, of the first malformed VRP. The reason is the first of these that
+    /// applies to this VRP:
     ///
     /// - [`Reason::BadFamily`] with [`Side::First`]: its family is neither IPv4 nor IPv6.
-    /// - [`Reason::BadPrefix`] with [`Side::First`]: its prefix is invalid.
-    /// - [`Reason::BadMaxLen`]: its maximum length is invalid.
+    /// - [`Reason::BadPrefix`] with [`Side::First`]: its prefix length is above the family's, or host bits are set.
+    /// - [`Reason::BadMaxLen`]: its maximum length is below its prefix length, or above the family's.
     ///
     /// The call may return [`Reason::Memory`] instead of any other result.
     ///
@@ -100,7 +102,8 @@ impl Table {
     ///
     /// # Errors
     ///
-    /// [`OriginError::index`] is the index, from 0, of the VRP in its list. The reasons come in this order:
+    /// [`OriginError::index`] is the index, from 0, of the refused VRP in its list. The reason is the first of these
+    /// that applies:
     ///
     /// - [`Reason::BadFamily`], [`Reason::BadPrefix`] with [`Side::First`], [`Reason::BadMaxLen`]: the first malformed
     ///   VRP of `announced`.
@@ -126,7 +129,7 @@ impl Table {
     /// [`OriginError::index`] is the index, from 0, of the first malformed route:
     ///
     /// - [`Reason::BadFamily`] with [`Side::Second`]: its family is neither IPv4 nor IPv6.
-    /// - [`Reason::BadPrefix`] with [`Side::Second`]: its prefix is invalid.
+    /// - [`Reason::BadPrefix`] with [`Side::Second`]: its prefix length is above the family's, or host bits are set.
     ///
     /// The call may return [`Reason::Memory`] instead of any other result.
     ///
@@ -154,7 +157,7 @@ impl Table {
         }
     }
 
-    /// Returns the VRPs that cover a route. They explain its validity.
+    /// Returns the VRPs that cover a route. They explain its validity: the route is valid if one of them matches.
     ///
     /// The longest prefix comes first. VRPs of the same prefix come by ascending AS number. VRPs of the same prefix and
     /// AS come by descending maximum length.

@@ -1,14 +1,16 @@
 #!/usr/bin/env python3
 """Makes docs/API.md and docs/api from the sources, and `crates/test_paths` with a `use` line of each path on the pages.
 
-A page shows the public types of a library, their calls, and the signatures and contracts of these. The internal API and
-the laws have parts of their own. With --write the files are written. Without it they are compared with what would be
-written, and the status is 1 if one differs. The sources are read as `rt fmt` leaves them: an item begins at its indent,
-and a body at a brace of the same indent.
+A page shows the public types of a library, their calls, and the signatures and contracts of these. Each call has a
+heading. The text of a doc comment is below the signature. The internal API and the lemmas have parts of their own. With
+--write the files are written. Without it they are compared with what would be written, and the status is 1 if one
+differs. The sources are read as `rt fmt` leaves them: an item begins at its indent, and a body at a brace of the same
+indent.
 """
 
 import re
 import sys
+import textwrap
 from collections.abc import Iterator
 from dataclasses import dataclass, field, replace
 from functools import cache
@@ -20,26 +22,66 @@ from groups import GROUPS, about, crates_of, group_of, is_program, stands_on
 TOP = Path(__file__).resolve().parent.parent
 DOCS = TOP / "docs"
 PATHS = TOP / "crates" / "test_paths" / "src" / "lib.rt"
-HEAD = """# Public calls
+HEAD = """# API reference
 
-`tests/api_page.py --write` makes these pages from the sources, and `./check` fails if a page isn't current. Each
-library has a page: its public types, their calls, and the contract of each call as the source has it. The internal API,
-which serves the crates above alone, and the laws come last.
+This page is the index of the libraries. The page of a library lists its public types and its calls. It shows the
+signature and the contract of each call, as the source has them. The pages are for programmers who write Rattle.
 
-- [DEFINITIONS.md](DEFINITIONS.md) says what the words of a contract mean.
-- [CALLING.md](CALLING.md) shows how calls work together.
-- [PATHS.md](PATHS.md) lists the path here of each type of the Rust crate.
+| you look for | see |
+|---|---|
+| a task and an example of it | [CALLING.md](CALLING.md) |
+| a type of the Rust crate `rpki` | [PATHS.md](PATHS.md) |
+| sets, blocks, claims and prefixes, under one crate | [rpki_resources](api/rpki_resources.md#re-exports), "Re-exports" |
+| the resource extensions of a certificate | [rpki_extensions](api/rpki_extensions.md) |
+| route origin validation | [roa_origin](api/roa_origin.md), [roa_check](api/roa_check.md) |
+| files of VRPs | [roa_vrps](api/roa_vrps.md) |
+| the meaning of a word in a contract | [DEFINITIONS.md](DEFINITIONS.md) |
 
-| about | library | | types and calls | internal API | laws |
+## How to read a page
+
+This is the signature of a call with its contract:
+
+```rust
+{example}
+```
+
+`requires` is a precondition, and `ensures` a postcondition. `self.now` is the value of `self` at the call; for an
+argument of type `&mut`, `.old` and `.new` are its values before and after the call. The clause says: if the result is
+Ok, it is the union of `self` and `other`. `IsUnion` is one of the words in [DEFINITIONS.md](DEFINITIONS.md).
+
+A page has up to four parts:
+
+- **Types and calls** are for users.
+- **Re-exports** are the items of other libraries that this library offers too.
+- **Internal API** is public because other crates of this repository call it. A user has a call that does the same with
+  a whole value.
+- **Lemmas** are functions that do nothing when they run ([CALLING.md](CALLING.md#lemmas)). They are in the modules
+  called `laws`.
+
+`tests/api_page.py --write` makes this page and those below from the sources. `./check` fails if one of them isn't
+current.
+
+## Libraries
+
+The last three columns count the items of the parts.
+
+| subject | library | what it has | types and calls | internal API | lemmas |
 |---|---|---|---|---|---|"""
+# The call that the index shows, with its crate and its type.
+EXAMPLE = "rpki_as", "AsBlocks", "union"
 CRATE_HEAD = """{about}
 
-[All libraries](../API.md). [DEFINITIONS.md](../DEFINITIONS.md) says what the words of a contract mean.
+Contents: {parts}
+
+[All libraries](../API.md) · [How to read a page](../API.md#how-to-read-a-page) ·
+[Words of the contracts](../DEFINITIONS.md)
 """
 # What a page of a static library says of all its items.
-OF_C = """No item of this library has a public path. C calls the functions by name. `foreign/pigyelund.h` declares them.
+OF_C = """No item of this library has a path that a `use` line can name. C calls the functions by name.
+`foreign/pigyelund.h` declares them.
 """
-NO_PATH = "No public path."
+NO_PATH = "This item has no public path: a `use` line can't name it. You get its values from calls."
+WIDTH = 120
 PATHS_HEAD = """//! A `use` line of each public path that docs/api shows. `tests/api_page.py --write` makes this file.
 #![tactic(auto)]
 
@@ -105,6 +147,8 @@ class Item:
     name: str
     path: str = ""
     of: str = ""
+    # The module whose names its doc comment uses.
+    home: Module | None = None
     doc: list[str] = field(default_factory=list)
     code: list[str] = field(default_factory=list)
     calls: list["Item"] = field(default_factory=list)
@@ -228,7 +272,7 @@ def read_items(module: Module, items: dict[Key, Item]) -> None:
     for at, line in enumerate(lines):
         if not (found := ITEM.match(line)):
             continue
-        item = Item(found[1] or found[2] or found[3], doc=doc_above(lines, at))
+        item = Item(found[1] or found[2] or found[3], home=module, doc=doc_above(lines, at))
         head = signature(lines, at) if found[2] else type_code(lines[at : block_end(lines, at)])
         item.code = [*attributes_above(lines, at), *head]
         items[(module.path, item.name)] = item
@@ -245,14 +289,14 @@ def read_impls(module: Module, items: dict[Key, Item]) -> None:
             continue
         doc = doc_above(lines, at)
         if owner_of(line)[1]:
-            items[key].calls.append(Item("", doc=doc, code=without_bodies(block)))
+            items[key].calls.append(Item("", home=module, doc=doc, code=without_bodies(block)))
             continue
         for k, inner in enumerate(block):
             if found := MEMBER.match(inner):
                 code = [it[4:] for it in block[k : member_end(block, k)]] if found[1] else signature(block, k)
                 own = doc_above(block, k)
                 said = [*doc, *([""] if doc and own else []), *own]
-                items[key].calls.append(Item(found[2], of=line.removesuffix(" {"), doc=said, code=code))
+                items[key].calls.append(Item(found[2], of=line.removesuffix(" {"), home=module, doc=said, code=code))
                 doc = []
 
 
@@ -267,8 +311,8 @@ def is_from_c(crate: str) -> bool:
 
 
 @cache
-def items_of(crate: str) -> list[Item]:
-    """The public items of a crate, by name: what has a public path, and what a public alias means."""
+def shown_items(crate: str) -> dict[Key, Item]:
+    """The public items of a crate: what has a public path, and what a public alias means."""
     modules = list(root_of(crate).all())
     items: dict[Key, Item] = {}
     for module in modules:
@@ -283,7 +327,13 @@ def items_of(crate: str) -> list[Item]:
         shown |= {key for key in meant if key in items}
     for key in shown:
         items[key].path = "" if is_from_c(crate) else paths.get(key, "")
-    return sorted((items[key] for key in shown), key=lambda it: (it.name.lower(), it.path))
+    return {key: items[key] for key in items if key in shown}
+
+
+@cache
+def items_of(crate: str) -> list[Item]:
+    """The public items of a crate, by name."""
+    return sorted(shown_items(crate).values(), key=lambda it: (it.name.lower(), it.path))
 
 
 def libraries() -> list[str]:
@@ -317,31 +367,66 @@ def count_of(items: list[Item]) -> int:
     return sum(bool(it.code) + sum(1 for call in it.calls if call.name) for it in items)
 
 
+def call_heading(item: Item, call: Item) -> str:
+    """The heading of a call: its type and its name. If several impls have a call of that name, the type is whole."""
+    if [it.name for it in item.calls].count(call.name) == 1:
+        return f"{item.name}::{call.name}"
+    kind = re.search(rf"{item.name}<.*>", call.of)[0]
+    return f"{kind.replace(', A>', '>')}::{call.name}"
+
+
+def code_and_text(item: Item) -> Iterator[str]:
+    """A block of code, and below it the text of its doc comment. Headings of the text are bold words."""
+    yield from ["```rust", *item.code, "```", ""] if item.code else []
+    in_code = False
+    for line in item.doc:
+        in_code ^= line.startswith("```")
+        if in_code or line.startswith("```"):
+            yield line
+        else:
+            indent = " " * indent_of(line) + ("  " if line.lstrip().startswith("- ") else "")
+            yield from wrapped(linked(re.sub(r"^#+ (.*)", r"**\1**", line), item), indent) or [""]
+    yield ""
+
+
 def calls_of(item: Item) -> Iterator[str]:
-    """The calls on a type, then its traits: those without a doc comment and without members in one block."""
-    names = [it.name for it in item.calls]
-    for call in item.calls:
-        if call.name:
-            head = [f"// {call.of}"] if names.count(call.name) > 1 else []
-            yield from ["", *call.doc, *([""] if call.doc else []), "```rust", *head, *call.code, "```"]
-    traits = [it for it in item.calls if not it.name]
+    """The calls on a type, each with a heading, then its traits: those without a doc comment and without members in one
+    block."""
+    named = [it for it in item.calls if it.name]
+    if len(named) > 1:
+        yield from wrapped("Calls: " + " · ".join(f"[{it.name}]({anchor(call_heading(item, it))})" for it in named))
+        yield ""
+    for call in named:
+        yield from [f"#### `{call_heading(item, call)}`", "", *code_and_text(call)]
+    if traits := [it for it in item.calls if not it.name]:
+        yield from [f"#### Traits of `{item.name}`", ""]
     for it in traits:
         if it.doc or len(it.code) > 1:
-            yield from ["", *it.doc, *([""] if it.doc else []), "```rust", *it.code, "```"]
+            yield from code_and_text(it)
     if plain := [it.code[0] for it in traits if not it.doc and len(it.code) == 1]:
-        yield from ["", "```rust", *plain, "```"]
+        yield from ["```rust", *plain, "```", ""]
 
 
 def part(title: str, items: list[Item], no_path: str = NO_PATH) -> Iterator[str]:
     """A part of a page, or nothing if it has no items."""
     if not items:
         return
-    links = (f"[{it.name}]({anchor(it.heading())})" for it in items)
-    yield from [f"## {title}", "", ", ".join(links), ""]
+    yield from [f"## {title}", ""]
     for item in items:
-        yield from [f"### {item.heading()}", "", *item.doc, *([""] if item.doc else [])]
+        paragraph = " ".join([*item.doc, ""]).split("  ")[0].strip()
+        first = re.split(r"(?<=\.) |$", paragraph, maxsplit=1)[0]
+        text = f": {linked(first, item)}" if first else ""
+        yield from wrapped(f"- [{item.name}]({anchor(item.heading())}){text}", "  ")
+    yield ""
+    for item in items:
+        yield from [f"### {item.heading()}", ""]
         yield from [] if item.path else [no_path, ""]
-        yield from [*(["```rust", *item.code, "```"] if item.code else []), *calls_of(item), ""]
+        yield from [*code_and_text(item), *calls_of(item)]
+
+
+def wrapped(text: str, indent: str = "") -> list[str]:
+    """The lines of a text; links are not cut."""
+    return textwrap.wrap(text, WIDTH, subsequent_indent=indent, break_long_words=False, break_on_hyphens=False)
 
 
 def anchor(path: str) -> str:
@@ -349,12 +434,38 @@ def anchor(path: str) -> str:
     return "#" + re.sub(r"[^a-z0-9_ -]", "", path.lower()).replace(" ", "-")
 
 
+def linked(line: str, item: Item) -> str:
+    """A line of a doc comment: a link of rustdoc to what a page shows becomes a link to its heading, any other one its
+    own text."""
+
+    def link(found: re.Match[str]) -> str:
+        words = (found[2] or found[1]).removeprefix("fn@").removesuffix("()").split("::")
+        place = place_of(item, words)
+        return f"[`{found[1]}`]({place.removeprefix(f'{item.home.path[0]}.md')})" if place else f"`{found[1]}`"
+
+    return re.sub(r"\[`([\w:()]+)`\](?:\(([^)]*)\))?", link, line)
+
+
+def place_of(item: Item, words: list[str]) -> str | None:
+    """The link to the heading of an item or of a call on it, by the words of its path in a doc comment."""
+    for count in range(len(words), 0, -1):
+        key = meant_by(item.home, tuple(words[:count]))
+        if not isinstance(key, tuple) and count == 1:
+            own = [it for it in shown_items(item.home.path[0]) if it[1] == words[0]]
+            key = own[0] if len(own) == 1 else None
+        if isinstance(key, tuple) and (place := heading_of(key)):
+            shown = shown_items(key[0][0])[key]
+            calls = [it for it in shown.calls if words[count:] == [it.name]]
+            return f"{place.split('#')[0]}{anchor(call_heading(shown, calls[0]))}" if calls else place
+    return None
+
+
 @cache
 def heading_of(key: Key) -> str | None:
     """The link to an item, if the page of its library shows it."""
     crate = key[0][0]
-    path = public_paths(crate).get(key) if crate in libraries() else None
-    return f"{crate}.md{anchor(path)}" if path else None
+    item = shown_items(crate).get(key) if crate in libraries() else None
+    return f"{crate}.md{anchor(item.path or item.name)}" if item else None
 
 
 def re_exports(crate: str) -> Iterator[str]:
@@ -369,7 +480,7 @@ def re_exports(crate: str) -> Iterator[str]:
             elif isinstance(place, tuple) and place[0][0] != crate and (link := heading_of(place)):
                 links.append(f"[{name}]({link})")
         if links:
-            lines.append(f"- `{'::'.join(module.path)}`: {', '.join(links)}")
+            lines += wrapped(f"- `{'::'.join(module.path)}`: {', '.join(links)}", "  ")
     if lines:
         yield from ["## Re-exports", "", *lines, ""]
 
@@ -379,16 +490,22 @@ def page(crate: str) -> str:
     offered, internal, laws = parts_of(items_of(crate))
     text = (TOP / "crates" / crate / "src" / "lib.rt").read_text()
     first = re.match(r"(?://! ?(?!\n)[^\n]*\n)*", text)[0]
-    said = "\n".join(line[3:].strip() for line in first.splitlines())
-    out = [f"# {crate}", "", CRATE_HEAD.format(about=said), *([OF_C] if is_from_c(crate) else [])]
-    out += [*part("Types and calls", offered, "" if is_from_c(crate) else NO_PATH), *re_exports(crate)]
-    out += [*part("Internal API", internal), *part("Laws", laws)]
+    head = Item(crate, home=root_of(crate))
+    said = "\n".join(linked(line[3:].strip(), head) for line in first.splitlines())
+    parts = [*part("Types and calls", offered, "" if is_from_c(crate) else NO_PATH), *re_exports(crate)]
+    parts += [*part("Internal API", internal), *part("Lemmas", laws)]
+    titles = [line.removeprefix("## ") for line in parts if line.startswith("## ")]
+    contents = " ·\n".join(f"[{it}]({anchor(it)})" for it in titles)
+    out = [f"# {crate}", "", CRATE_HEAD.format(about=said, parts=contents), *([OF_C] if is_from_c(crate) else [])]
+    out += parts
     return re.sub(r"\n{3,}", "\n\n", "\n".join(out)).rstrip() + "\n"
 
 
 def index() -> str:
     """The index: a row for each library, by groups."""
-    out = [HEAD]
+    crate, owner, name = EXAMPLE
+    shown = next(call for it in items_of(crate) if it.name == owner for call in it.calls if call.name == name)
+    out = [HEAD.replace("{example}", "\n".join(shown.code))]
     for group in GROUPS:
         title = group.title
         for crate in (it for it in crates_of(group) if it in libraries()):

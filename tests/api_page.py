@@ -157,7 +157,7 @@ class Item:
 
     def heading(self) -> str:
         """The heading of the item on its page."""
-        return f"{'on ' if self.is_part else ''}{self.path or self.name}"
+        return f"{'Internal calls of ' if self.is_part else ''}{self.path or self.name}"
 
 
 def indent_of(line: str) -> int:

@@ -1,0 +1,76 @@
+#!/usr/bin/env python3
+"""page_links.py: finds relative links of the pages whose file or heading does not exist.
+
+The pages are README.md, CONTRIBUTING.md, CHANGELOG.md and the pages below docs/. A heading has the anchor that hosting
+sites give it: its text in lower case without marks, with '-' for each space, and a number if the page has it twice.
+Status 1 if a link leads nowhere."""
+
+import re
+import sys
+from collections import Counter
+from pathlib import Path
+
+TOP = Path(__file__).resolve().parent.parent
+HEADING = re.compile(r"#{1,6} (.*)")
+LINK = re.compile(r"\]\(([^)\s]+)\)")
+INLINE_CODE = re.compile(r"`[^`]*`")
+
+
+def pages() -> list[Path]:
+    """The pages."""
+    at_top = [TOP / name for name in ("README.md", "CONTRIBUTING.md", "CHANGELOG.md")]
+    return [*at_top, *sorted((TOP / "docs").glob("**/*.md"))]
+
+
+def prose(page: Path) -> list[tuple[int, str]]:
+    """The lines of a page outside of blocks of code, each with its number."""
+    lines, in_code = [], False
+    for number, line in enumerate(page.read_text().splitlines(), 1):
+        if line.lstrip().startswith("```"):
+            in_code = not in_code
+        elif not in_code:
+            lines.append((number, line))
+    return lines
+
+
+def anchors(page: Path) -> set[str]:
+    """The anchors of the headings of a page."""
+    found, counts = set(), Counter()
+    for _, line in prose(page):
+        if heading := HEADING.match(line):
+            text = LINK.sub("", heading[1].replace("[", "")).replace("`", "")
+            anchor = re.sub(r"[^\w -]", "", text.lower()).strip().replace(" ", "-")
+            found.add(f"{anchor}-{counts[anchor]}" if counts[anchor] else anchor)
+            counts[anchor] += 1
+    return found
+
+
+def fault(page: Path, target: str, anchors_of: dict[Path, set[str]]) -> str:
+    """What is wrong with a link of a page; empty if it leads somewhere."""
+    file, _, anchor = target.partition("#")
+    linked = (page.parent / file).resolve() if file else page
+    if not linked.exists():
+        return "no such file"
+    if anchor and anchor not in anchors_of.get(linked, set()):
+        return "no such heading"
+    return ""
+
+
+def main() -> int:
+    """Prints each link that leads nowhere, and how many there are."""
+    anchors_of = {page: anchors(page) for page in pages()}
+    links = faults = 0
+    for page in anchors_of:
+        for number, line in prose(page):
+            for target in LINK.findall(INLINE_CODE.sub("code", line)):
+                if re.match(r"[a-z]+:", target):
+                    continue
+                links += 1
+                if why := fault(page, target, anchors_of):
+                    faults += 1
+                    print(f"{page.relative_to(TOP)}:{number}: {why}: {target}")
+    print(f"links of {len(anchors_of)} pages: {links}, {faults} lead nowhere")
+    return 1 if faults else 0
+
+
+sys.exit(main())

@@ -133,10 +133,19 @@ prove_in_place() {
     fi
 }
 
-# Proves and builds a crate, and says why where that fails.
+# Appends to the file PROOF_SECONDS a crate and the seconds of one processor that this job's ended children used.
+note_seconds() {
+    times >"$work/times-$1" # in this shell: a subshell has no ended children
+    awk -v crate="$1" 'NR == 2 { gsub(/[ms]/, " "); print crate, int($1 * 60 + $2 + $3 * 60 + $4 + 0.5) }' \
+        "$work/times-$1" >>"$PROOF_SECONDS"
+}
+
+# Proves and builds a crate, and says why where that fails. If PROOF_SECONDS names a file, it appends the crate and the
+# seconds of one processor that this took: the figures of seconds_of_crates.
 prove() {
     log=$work/$1
     if prove_in_place "$1" </dev/null >"$log" 2>&1; then
+        [ -z "${PROOF_SECONDS-}" ] || note_seconds "$1"
         end_copy "$1"
     else
         tail -n 20 "$log" >&2
@@ -144,8 +153,8 @@ prove() {
     fi
 }
 
-# Rough guesses of the seconds of one processor that the proof of each crate takes. They were not measured one by one.
-# Only the estimate of the time that is left uses them. A crate that is missing here counts as a minute.
+# The seconds of one processor that the proof of each crate took, by PROOF_SECONDS=FILE ./respath and ./origins. Only the
+# estimate of the time that is left uses them. A crate that is missing here counts as a minute.
 seconds_of_crates() {
     cat <<'END'
 lines_engine 60
@@ -232,8 +241,9 @@ in_minutes() {
     echo "$((($1 + 59) / 60)) min"
 }
 
-# Prints that a crate is proved, and an estimate of the time that is left: the rest of the plan, slower or faster by the
-# ratio of the time gone to the time that the plan has for the proved crates.
+# Prints that a crate is proved, and an estimate of the time that is left. The rest of the plan is scaled by the ratio of
+# the time gone to the time that the plan has for the proved crates. Two minutes are added to both times, so that the
+# first crates, which take seconds, do not decide the ratio.
 report_proved() {
     gone=$(($(date +%s) - began))
     proved=$(find "$marks" -type f 2>/dev/null | wc -l)
@@ -242,7 +252,7 @@ report_proved() {
         NR == FNR { marked[$1]; next }
         { all = $2 }
         $1 in marked { planned = $2 }
-        END { print int(gone * (all - planned) / (planned > 0 ? planned : 1)) }
+        END { print int((gone + 120) * (all - planned) / (planned + 120)) }
     ' - "$work/plan" >"$work/left-$1" 2>/dev/null || return 0
     seconds_left=$(cat "$work/left-$1")
     tell "$proved of $all crates are proved, $(in_minutes "$gone") gone, about $(in_minutes "$seconds_left") left"

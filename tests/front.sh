@@ -217,7 +217,8 @@ all=$( (top=$copy started=respath && . "$top/program.sh" && needed_crates) | wc 
 expect "each crate but the last is reported when it is proved" 0 "$((all - 1))" $? \
     "$(echo "$said" | grep -cE "^respath: [0-9]+ of $all crates are proved, [0-9]+ min gone, about [0-9]+ min left\$")"
 
-# The estimate: the rest of the plan, slower by as much as the proved crates were. Three are proved, twice as slowly.
+# The estimate: the rest of the plan, slower by as much as the proved crates were and two minutes more. Three are proved,
+# twice as slowly.
 estimate() (
     top=$copy started=respath all=$all work=$copy/tmp marks=$copy/tmp/marks
     . "$top/program.sh"
@@ -227,7 +228,8 @@ estimate() (
     planned=$(sed -n '3s/.* //p' "$work/plan")
     whole=$(sed -n '$s/.* //p' "$work/plan")
     began=$(($(date +%s) - 2 * planned))
-    report_proved one 2>&1 | sed "s/about $(((2 * (whole - planned) + 59) / 60)) min/about the rest/; s/ [0-9]* min gone/ gone/"
+    rest=$(((2 * planned + 120) * (whole - planned) / (planned + 120)))
+    report_proved one 2>&1 | sed "s/about $(((rest + 59) / 60)) min/about the rest/; s/ [0-9]* min gone/ gone/"
     rm -rf "$marks" "$work/plan" "$work/left-one"
 )
 said=$(PATH=$copy/bin:$copy/tools estimate)

@@ -36,6 +36,7 @@ signature and the contract of each call, as the source has them. The pages are f
 | route origin validation | [roa_origin](api/roa_origin.md), [roa_check](api/roa_check.md) |
 | files of VRPs | [roa_vrps](api/roa_vrps.md) |
 | the meaning of a word in a contract | [DEFINITIONS.md](DEFINITIONS.md) |
+| the meaning of a sign in a contract | [TRUSTED.md](TRUSTED.md#signs-of-a-contract) |
 
 ## How to read a page
 
@@ -74,7 +75,7 @@ CRATE_HEAD = """{about}
 Contents: {parts}
 
 [All libraries](../API.md) · [How to read a page](../API.md#how-to-read-a-page) ·
-[Words of the contracts](../DEFINITIONS.md)
+[Words of the contracts](../DEFINITIONS.md) · [Signs of the contracts](../TRUSTED.md#signs-of-a-contract)
 """
 # What a page of a static library says of all its items.
 OF_C = """No item of this library has a path that a `use` line can name. C calls the functions by name.

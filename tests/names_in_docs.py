@@ -2,14 +2,13 @@
 """Finds names in README.md, CONTRIBUTING.md, docs/ and the heads of sources that aren't there: files, crates, calls, and
 code that its file doesn't have.
 
-Of what stands between backticks it takes paths, names of files, names of crates, and words with an underscore or of the
-form Type::call, each of which must stand somewhere in the sources, definitions or scripts. docs/DIFFERENCES.md and
-docs/PATHS.md also name what the Rust crate alone has, so their words aren't looked for. A definition, as in
-crate.File.Name, must stand in that file of `specs/`. A block of Rust behind the name of a file must stand in that file,
-line by line. The tables of docs/CALLING.md, Conditions, must have the public calls of the libraries with a `requires`,
-and no others. A block in the head of a source must stand, without its comments, in the file or the crate that is named
-before it. Ends with status 1 where something isn't there.
-"""
+Of what stands between backticks it takes paths, names of files, names of crates, and words with an underscore or of
+the form Type::call, each of which must stand somewhere in the sources, definitions or scripts. docs/DIFFERENCES.md
+and docs/PATHS.md also name what the Rust crate alone has, so their words aren't looked for. A definition, as in
+crate.File.Name, must stand in that file of `specs/`. A block of Rust behind the name of a file must stand in that
+file, line by line. The tables of docs/CALLING.md, Preconditions, must have the public calls of the libraries with a
+`requires`, and no others. A block in the head of a source must stand, without its comments, in the file or the crate
+that is named before it. Ends with status 1 where something isn't there."""
 
 import re
 import sys
@@ -195,7 +194,7 @@ def faults_of_conditions() -> Iterator[tuple[int, str]]:
     is_part = False
     for number, line in enumerate((TOP / "docs" / "CALLING.md").read_text().split("\n"), 1):
         if line.startswith("## "):
-            is_part = line == "## Conditions"
+            is_part = line == "## Preconditions"
         elif is_part and line.startswith("| `"):
             # Of what stands in front of the condition a name in small letters with colons is a module.
             for name in (it for token in re.findall(r"`([^`]+)`", line.split(" | ")[0]) for it in names_of(token)):

@@ -92,7 +92,7 @@ CASES = (
     Case(PROVED, "crates/lines_engine/src/engine.rt", "ensures flushed", "ensures flooded",
          "no call has the clause flushed"),
     Case(PROVED, "README.md", "|---|---|\n", f"|---|---|\n| {'x' * 201} | |\n", "a cell of 201 characters"),
-    Case(NAMES, "docs/CALLING.md", "## Conditions", "`rpki_moon`\n\n## Conditions", "no crate rpki_moon"),
+    Case(NAMES, "docs/CALLING.md", "## Preconditions", "`rpki_moon`\n\n## Preconditions", "no crate rpki_moon"),
     Case(NAMES, "docs/TESTS.md", "# Tests", "# Tests\n\n`tests/moon.py` `moon_rises`", "no file tests/moon.py"),
     Case(NAMES, "CONTRIBUTING.md", "# Contrib", "`tests/moon.py`\n# Contrib", "CONTRIBUTING.md:1: no file tests/moon"),
     Case(NAMES, "docs/TESTS.md", "# Tests", "# Tests\n\n`tests/rows.py` `moon_rises`", "no moon_rises"),

@@ -6,7 +6,7 @@ use std::fmt;
 /// Why the program has no answer, or not all of them.
 #[derive(Clone, Copy, Debug)]
 pub enum Failure<'a> {
-    /// The command-line arguments can't be read.
+    /// A command-line argument is not UTF-8, or memory ran out.
     Words,
     /// A file can't be opened.
     NotOpened(&'a str),
@@ -19,7 +19,7 @@ pub enum Failure<'a> {
 impl fmt::Display for Failure<'_> {
     fn fmt<W: fmt::Write>(&self, f: &mut fmt::Formatter<W>) -> fmt::Result {
         match self {
-            Failure::Words => f.write_str("the words behind the name can't be read"),
+            Failure::Words => f.write_str("an argument is not UTF-8, or memory ran out"),
             Failure::NotOpened(name) => write!(f, "{name}: can't be opened"),
             Failure::Vrps(name, ReadVrpsError::Read) => write!(f, "{name}: read failed"),
             Failure::Vrps(name, ReadVrpsError::File(fault)) => write!(f, "{name}: {fault}"),

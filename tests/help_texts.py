@@ -20,7 +20,11 @@ SECONDS = 0.2
 OF_SCRIPT = re.compile(r"-|[0-3]$|norm .*  |cover .*  |read .*  |path as AS1")
 WRONG = {
     "respath": (["--strange"], ["norm as 1"]),
-    "origins": ([], ["--strange"], ["--table"], ["--table", "--of", "ASX", "a"], ["--diff", "a"], ["a", "b"]),
+    "origins": (
+        [], ["--strange"], ["--table"], ["--table", "--of", "ASX", "a"], ["--diff", "a"], ["a", "b"], ["a", "b", "c"],
+        ["--table", "--of"], ["--of", "1", "a"], ["--table", "--diff", "a", "b"], ["--why", "--table", "a"],
+        ["--why", "--diff", "a", "b"], ["--check", "--table", "a"], ["--check", "--diff", "a", "b"],
+    ),  # fmt: skip
 }
 
 

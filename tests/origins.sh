@@ -199,15 +199,31 @@ expect "JSON of 128 levels" 0 "192.0.2.0/23-24 AS64496" $? "$said"
 said=$( (ulimit -s "$stack" && "$program" --table deep.129) 2>&1)
 expect "JSON of 129 levels" 1 "origins: deep.129: not a JSON object" $? "$said"
 
-# Wrong usage
-for words in "" "--table" "--why" "--diff vrps" "vrps next" "--diff vrps next wrong" \
-    "--table --diff vrps next" "--of 1 vrps" "--table vrps --of" "--why --table vrps" \
-    "--check --diff vrps next" "--diff --of 1 vrps next"; do
+# Wrong usage: the words, a colon, and what is wrong with them
+while IFS=: read -r words reason; do
     # shellcheck disable=SC2086 # the words
     said=$("$program" $words <routes 2>&1)
-    expect "wrong usage: $words" 2 "origins: wrong usage
+    expect "wrong usage: $words" 2 "origins:$reason
 $usage" $? "$said"
-done
+done <<'END'
+: too few file names
+--table: too few file names
+--why: too few file names
+--diff vrps: too few file names
+vrps next: too many file names: next
+vrps next wrong: too many file names: wrong
+--table vrps next: too many file names: next
+--diff vrps next wrong: too many file names: wrong
+--diff vrps next wrong routes: too many file names: wrong
+--table --diff vrps next: --table does not go with --diff
+--why --table vrps: --why does not go with --table
+--diff vrps next --why: --why does not go with --diff
+--table --check vrps: --check does not go with --table
+--check --diff vrps next: --check does not go with --diff
+--of 1 vrps: --of needs --table
+--diff --of 1 vrps next: --of needs --table
+--table vrps --of: --of needs an AS number
+END
 said=$("$program" --strange vrps <routes 2>&1)
 expect "an unknown option" 2 "origins: unknown option: --strange
 $usage" $? "$said"

@@ -42,8 +42,16 @@ pub enum Misuse<'a> {
     UnknownOption(&'a str),
     /// The argument of `--of` is not an AS number.
     NoAsn(&'a str),
-    /// There are too many options or names, or too few.
-    Usage,
+    /// `--of` is the last argument.
+    OfWithoutAsn,
+    /// `--of` is passed without `--table`.
+    OfWithoutTable,
+    /// The two options do not go together.
+    Options(&'static str, &'static str),
+    /// A file name is missing.
+    TooFewNames,
+    /// There are too many file names, and this is one of those too many.
+    TooManyNames(&'a str),
 }
 
 impl fmt::Display for Misuse<'_> {
@@ -51,7 +59,11 @@ impl fmt::Display for Misuse<'_> {
         match self {
             Misuse::UnknownOption(word) => write!(f, "unknown option: {word}"),
             Misuse::NoAsn(word) => write!(f, "invalid AS number: {word}"),
-            Misuse::Usage => f.write_str("wrong usage"),
+            Misuse::OfWithoutAsn => f.write_str("--of needs an AS number"),
+            Misuse::OfWithoutTable => f.write_str("--of needs --table"),
+            Misuse::Options(one, other) => write!(f, "{one} does not go with {other}"),
+            Misuse::TooFewNames => f.write_str("too few file names"),
+            Misuse::TooManyNames(name) => write!(f, "too many file names: {name}"),
         }
     }
 }
@@ -72,7 +84,8 @@ enum Names<'a> {
     None,
     One(&'a str),
     Two(&'a str, &'a str),
-    More,
+    /// More than two names; this is the third.
+    More(&'a str),
 }
 
 /// Returns the task of the command line. Its first word is the program's name.
@@ -112,7 +125,7 @@ pub fn parse(words: &[String]) -> Result<Task<'_>, Misuse<'_>> {
         }
     }
     if asks_of {
-        return Err(Misuse::Usage);
+        return Err(Misuse::OfWithoutAsn);
     }
     asked_for(options, names)
 }
@@ -122,29 +135,44 @@ fn with_name<'a>(names: Names<'a>, name: &'a str) -> Names<'a> {
     match names {
         Names::None => Names::One(name),
         Names::One(first) => Names::Two(first, name),
-        _ => Names::More,
+        Names::Two(_, _) => Names::More(name),
+        Names::More(third) => Names::More(third),
     }
 }
 
 /// Returns the task of options and file names, if they fit together.
 fn asked_for<'a>(options: Options, names: Names<'a>) -> Result<Task<'a>, Misuse<'a>> {
-    let answers = options.why || options.check;
+    if options.table && options.diff {
+        return Err(Misuse::Options("--table", "--diff"));
+    }
+    if options.why && options.table {
+        return Err(Misuse::Options("--why", "--table"));
+    }
+    if options.why && options.diff {
+        return Err(Misuse::Options("--why", "--diff"));
+    }
+    if options.check && options.table {
+        return Err(Misuse::Options("--check", "--table"));
+    }
+    if options.check && options.diff {
+        return Err(Misuse::Options("--check", "--diff"));
+    }
+    if options.of.is_some() && !options.table {
+        return Err(Misuse::OfWithoutTable);
+    }
     match names {
-        Names::One(vrps) if options.table && !options.diff && !answers => Ok(Task::Table {
+        Names::One(vrps) if options.table => Ok(Task::Table {
             vrps,
             of: options.of,
         }),
-        Names::One(vrps) if !options.table && !options.diff && options.of.is_none() => {
-            Ok(Task::Answer {
-                vrps,
-                why: options.why,
-                check: options.check,
-            })
-        }
-        Names::Two(old, new)
-            if options.diff && !options.table && !answers && options.of.is_none() => {
-            Ok(Task::Changes { old, new })
-        }
-        _ => Err(Misuse::Usage),
+        Names::One(vrps) if !options.diff => Ok(Task::Answer {
+            vrps,
+            why: options.why,
+            check: options.check,
+        }),
+        Names::Two(old, new) if options.diff => Ok(Task::Changes { old, new }),
+        Names::None | Names::One(_) => Err(Misuse::TooFewNames),
+        Names::Two(_, name) => Err(Misuse::TooManyNames(name)),
+        Names::More(name) => Err(Misuse::TooManyNames(name)),
     }
 }

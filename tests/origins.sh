@@ -75,7 +75,7 @@ origins: 3 VRPs" $? "$said"
 said=$("$program" --diff vrps next 2>&1)
 expect "what changes" 0 "withdraw 2001:db8::/32-48 AS64497
 announce 198.51.100.0/24-24 AS64498
-origins: 2 VRPs, and then 3" $? "$said"
+origins: 2 VRPs in vrps, 3 in next" $? "$said"
 said=$("$program" --diff next next 2>/dev/null)
 expect "nothing changes" 0 "" $? "$said"
 
@@ -86,9 +86,9 @@ expect "one VRP, beside routes" 0 "origins: 1 VRP" $? "$said"
 said=$("$program" --table single 2>&1 >/dev/null)
 expect "one VRP, beside a table" 0 "origins: 1 VRP" $? "$said"
 said=$("$program" --diff single next 2>&1 >/dev/null)
-expect "one VRP, and then 3" 0 "origins: 1 VRP, and then 3" $? "$said"
+expect "one VRP, and then 3" 0 "origins: 1 VRP in single, 3 in next" $? "$said"
 said=$("$program" --diff next single 2>&1 >/dev/null)
-expect "3 VRPs, and then one" 0 "origins: 3 VRPs, and then 1" $? "$said"
+expect "3 VRPs, and then one" 0 "origins: 3 VRPs in next, 1 in single" $? "$said"
 
 # Files that fail or are wrong: nothing is answered.
 for words in "none" "--table none" "--diff none next" "--diff next none"; do

@@ -226,7 +226,7 @@ class Comparison:
         changes = [f"withdraw {text(one)}" for one in table(withdrawn)]
         changes += [f"announce {text(one)}" for one in table(announced)]
         status, found, said = run(self.program, ["--diff", old, new])
-        self.same("a change", (0, f"origins: {counted(before)}, and then {len(after)}\n"), (status, said))
+        self.same("a change", (0, f"origins: {counted(before)} in {old}, {len(after)} in {new}\n"), (status, said))
         self.same("a change", changes, found)
 
     def wrong(self) -> None:

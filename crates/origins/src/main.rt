@@ -115,7 +115,7 @@ fn print_changes<'a>(rt: &HostRuntime, old: &'a str, new: &'a str) -> Result<u8,
     let mut writer = IntoWrite::new(buffered(rt)?);
     match write_changes(rt.alloc(), &mut before, &mut after, &mut writer) {
         Ok((count, next)) => {
-            let _ = eprintln!(rt; "origins: {}, and then {next}", Counted(count));
+            let _ = eprintln!(rt; "origins: {} in {old}, {next} in {new}", Counted(count));
             Ok(0)
         }
         Err(ChangesError::Old(error)) => Err(Failure::Vrps(old, error)),

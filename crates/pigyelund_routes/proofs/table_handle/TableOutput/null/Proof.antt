@@ -1,8 +1,8 @@
 -- An output without a table.
 use Rattle.pigyelund_routes.proofs.Common.{List, [], lit<, refl, ◌∷◌, ◌≡◌, leaves, proved_at, None, ftrue, SProp, emp, fact, fact_i, tables, RawPtr, Valss, owns, null_ptr, types_at, nothing, shape, within, alive, Stays, walk_of, Val, vcons, vnil, vnull, vstruct, alloc_all, free_all, look_at, pass_all, sets, !, by, drop, feq_i, fjoin, fpack, keep, move, qed, raw, split, use0, ‵, ◌$◌, ◌∵◌, ◌⊛◌, agg, and_then, enter, lit, no_more, returns}
-use Rattle.pigyelund_routes.specs.contracts.handle.TableOutput as output_struct
-use Rattle.pigyelund_routes.specs.contracts.handle.TableOutput.null.{ended, clauses}
-use Rattle.pigyelund_routes.specs.contracts.handle.TableOutput.null.Key.{name as #self}
+use Rattle.pigyelund_routes.specs.contracts.table_handle.TableOutput as output_struct
+use Rattle.pigyelund_routes.specs.contracts.table_handle.TableOutput.null.{ended, clauses}
+use Rattle.pigyelund_routes.specs.contracts.table_handle.TableOutput.null.Key.{name as #self}
 use Rattle.pigyelund_routes.proofs.table_handle.TableOutput.null.Statement.{statement}
 use Rattle.pigyelund_routes.proofs.table_handle.TableOutput.null.Code as code
 

@@ -5,9 +5,9 @@ use Rattle.std.proofs.alloc.Global.TheLaws as heap_laws
 use Rattle.std.specs.contracts.impls.GlobalAllocator.TheImpl.{ghosts}
 use Rattle.std.specs.declared.alloc.Global.{Global}
 use Rattle.box_pointer.specs.contracts.BoxPointer as pointer
-use Rattle.pigyelund_routes.specs.contracts.handle.TableOutput as output_struct
-use Rattle.pigyelund_routes.specs.contracts.handle.TableOutput.of.{ended, clauses}
-use Rattle.pigyelund_routes.specs.contracts.handle.TableOutput.of.Key.{name as #self}
+use Rattle.pigyelund_routes.specs.contracts.table_handle.TableOutput as output_struct
+use Rattle.pigyelund_routes.specs.contracts.table_handle.TableOutput.of.{ended, clauses}
+use Rattle.pigyelund_routes.specs.contracts.table_handle.TableOutput.of.Key.{name as #self}
 use Rattle.pigyelund_routes.proofs.table_handle.TableOutput.of.Statement.{statement}
 use Rattle.pigyelund_routes.proofs.table_handle.TableOutput.of.Code as code
 

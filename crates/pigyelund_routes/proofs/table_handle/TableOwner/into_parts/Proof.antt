@@ -9,9 +9,9 @@ use Rattle.box_pointer.proofs.BoxWords.{heap as words_heap}
 use Rattle.std.proofs.cell.Inside.{Good}
 use Rattle.std.proofs.ResultValues.{and_tt}
 use Rattle.std.specs.contracts.option.Option as option
-use Rattle.pigyelund_routes.specs.contracts.handle.TableOwner as owner_struct
-use Rattle.pigyelund_routes.specs.contracts.handle.TableOwner.into_parts.{ended, clauses}
-use Rattle.pigyelund_routes.specs.contracts.handle.TableOwner.into_parts.Key.{name as #self}
+use Rattle.pigyelund_routes.specs.contracts.table_handle.TableOwner as owner_struct
+use Rattle.pigyelund_routes.specs.contracts.table_handle.TableOwner.into_parts.{ended, clauses}
+use Rattle.pigyelund_routes.specs.contracts.table_handle.TableOwner.into_parts.Key.{name as #self}
 use Rattle.pigyelund_routes.proofs.table_handle.TableOwner.into_parts.Statement.{statement}
 use Rattle.pigyelund_routes.proofs.table_handle.TableOwner.into_parts.Code as code
 

@@ -12,9 +12,9 @@ use denote.Struct.Lending.{lent_at}
 use mir.Syntax.{named}
 use Rattle.std.specs.contracts.option.Option as option
 use Rattle.roa_origin.proofs.table.OriginTable.TheLaws as table_laws
-use Rattle.pigyelund_routes.specs.contracts.handle.TableRef as ref_struct
-use Rattle.pigyelund_routes.specs.contracts.handle.TableRef.table.{ended, clauses}
-use Rattle.pigyelund_routes.specs.contracts.handle.TableRef.table.Key.{name as #self}
+use Rattle.pigyelund_routes.specs.contracts.table_handle.TableRef as ref_struct
+use Rattle.pigyelund_routes.specs.contracts.table_handle.TableRef.table.{ended, clauses}
+use Rattle.pigyelund_routes.specs.contracts.table_handle.TableRef.table.Key.{name as #self}
 use Rattle.pigyelund_routes.proofs.table_handle.TableRef.table.Statement.{statement}
 use Rattle.pigyelund_routes.proofs.table_handle.TableRef.table.Code as code
 

@@ -24,7 +24,7 @@ TOP = Path(__file__).resolve().parent.parent
 CRATES = TOP / "crates"
 PAGES = [TOP / "README.md", TOP / "CONTRIBUTING.md", *sorted((TOP / "docs").glob("*.md"))]
 OF_THE_RUST_CRATE = {"DIFFERENCES.md", "PATHS.md"}
-FOLDERS = ("crates", "docs", "tests", "bench", "foreign")
+FOLDERS = ("crates", "docs", "tests", "bench", "foreign", "vectors")
 SCRIPTS = {".py", ".sh", ".h", ".c", ".rs"}
 ENDINGS = (".md", ".rt", ".antt", ".sh", ".py", ".edit", ".h", ".c")
 PATH = re.compile(r"[\w./*-]+")
@@ -42,7 +42,7 @@ def sources() -> Iterator[Path]:
         yield from CRATES.glob(f"*/{pattern}")
     for folder in ("must-fail", "edits"):
         yield from CRATES.glob(f"*/{folder}/*.edit")
-    for folder in ("tests", "bench", "foreign"):
+    for folder in ("tests", "bench", "foreign", "vectors"):
         yield from (it for it in (TOP / folder).rglob("*") if it.is_file() and it.suffix in SCRIPTS)
     yield from (TOP / name for name in ("check", "respath", "crates.txt"))
 

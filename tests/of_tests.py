@@ -6,7 +6,7 @@ with its status. A case whose text is not there fails. The copies have the first
 quick, and nothing outside a temporary folder is written. What needs a program or a library that is not built is left
 out by name. `check` runs beside parts that only fail or don't, and a prover that only prints what it is told.
 tests/wrong_programs.py has the tests beside programs that do everything wrong, tests/wrong_checks.py those of the
-crates test_*. The status is 1 if a test does not tell what is wrong.
+crates test_*, tests/wrong_vectors.py those of the vectors. The status is 1 if a test does not tell what is wrong.
 """
 
 import os
@@ -25,6 +25,7 @@ from queue import SimpleQueue
 import wrong_checks
 import wrong_programs
 import wrong_quick
+import wrong_vectors
 
 TOP = Path(__file__).resolve().parent.parent
 COPIES = min(4, os.cpu_count() or 1)
@@ -373,6 +374,7 @@ def all_cases(folder: Path) -> Iterator[tuple[str, str | None]]:
           for at, it in enumerate(wrong_programs.STUBBED)),
         lambda: wrong_checks.of_assertions(folder / "assertions"),
         lambda: wrong_quick.of_quick(folder / "quick"),
+        lambda: wrong_vectors.of_vectors(folder / "vectors"),
     ]
     with ThreadPoolExecutor(COPIES) as pool:
         for results in pool.map(lambda group: list(group()), groups):

@@ -47,6 +47,12 @@ def random_lines(command: str) -> Callable[[], int]:
     return lambda: int(re.findall(rf"^\s*{command} 1 (\d+)", text_of("check"), re.MULTILINE)[0])
 
 
+def vectors(name: str) -> Callable[[], int]:
+    """Counts the cases of files of vectors, whose name is a pattern."""
+    files = sorted((TOP / "vectors").glob(f"{name}.json"))
+    return lambda: sum(len(re.findall(r'^  \{"comment": ', it.read_text(), re.MULTILINE)) for it in files)
+
+
 # A page, a pattern whose group is the number, and what counts it.
 COUNTED: tuple[tuple[str, str, Callable[[], int]], ...] = (
     *(("docs/TESTS.md", rf"`{name}`, {NUMBER} lines", rows(name)) for name in ROWS),
@@ -54,6 +60,8 @@ COUNTED: tuple[tuple[str, str, Callable[[], int]], ...] = (
     ("docs/TESTS.md", rf"`foreign/numbers.txt`, {NUMBER} numbers", file("foreign/numbers.txt")),
     ("docs/TESTS.md", rf"`foreign/texts.txt`, {NUMBER} statuses", file("foreign/texts.txt")),
     ("README.md", rf"\b{NUMBER} calls\b", rows(*ROWS[:3])),
+    ("CHANGELOG.md", rf"`vectors/` has {NUMBER} test cases", vectors("*")),
+    ("docs/CONFORMANCE.md", rf"vrp_updates: {NUMBER} cases", vectors("vrp_updates")),
 )
 # Numbers that have to be exactly those of `check`.
 EXACT: tuple[tuple[str, str, Callable[[], int]], ...] = tuple(

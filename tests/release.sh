@@ -67,7 +67,7 @@ make_copy() {
     tar -cf - --exclude=out --exclude=rows.txt --exclude=__pycache__ .gitignore release program.sh respath origins \
         README.md CHANGELOG.md LICENSE foreign tests/foreign_page.py tests/foreign.sh tests/logic.sh \
         docs/FOREIGN.md docs/respath.1 docs/origins.1 crates/pigyelund_c/src crates/pigyelund_c/specs \
-        crates/pigyelund_routes/src crates/pigyelund_routes/specs | tar -xf - -C "$copy"
+        crates/pigyelund_routes/src crates/pigyelund_routes/specs vectors docs/CONFORMANCE.md | tar -xf - -C "$copy"
     (
         cd "$copy" || exit
         printf 'respath:\norigins:\n' >crates.txt
@@ -207,18 +207,19 @@ makes_the_same() {
         fail "a release names its builder"
 }
 
-# modes FOLDER BIN: programs and folders have mode 755, other files 644
+# modes FOLDER BIN: programs and folders have mode 755, other files 644; runners of the vectors have one of the two
 modes() {
     [ -n "$(find "$1/$2" -type f)" ] && [ -z "$(find "$1" -type d ! -perm 0755 -print -o \
+        -type f -path "*/vectors/run/*" ! -perm 0755 ! -perm 0644 -print -o -path "*/vectors/run/*" -o \
         -type f -path "*/$2/*" ! -perm 0755 -print -o -type f ! -path "*/$2/*" ! -perm 0644 -print)" ]
 }
 
-# try_package PACKAGE: its fields, owners and modes; and it installs below a clean root, whose libc6 is this system's.
-# dpkg --verify finds nothing wrong there, and finds each file that is changed.
+# try_package PACKAGE NAME BIN: its fields, owners and modes; and it installs below a clean root, whose libc6 is this
+# system's. dpkg --verify finds nothing wrong there, and finds each file that is changed.
 try_package() {
-    local package=$1 said file
-    [ "$(dpkg-deb -f "$package" Package Version)" = "Package: pigyelund
-Version: $version" ] || fail "the fields of the package"
+    local package=$1 name=$2 bin=$3 said file
+    [ "$(dpkg-deb -f "$package" Package Version)" = "Package: $name
+Version: $version" ] || fail "the fields of the package $name"
     dpkg-deb -c "$package" >"$out/list"
     [ -s "$out/list" ] && ! grep -Ev '^(drwxr-xr-x|-rw-r--r--|-rwxr-xr-x) root/root ' "$out/list" ||
         fail "owners and modes in the package"
@@ -226,14 +227,25 @@ Version: $version" ] || fail "the fields of the package"
     mkdir -p "$out/root/var/lib/dpkg/info" "$out/root/var/lib/dpkg/updates" && : >"$out/root/var/lib/dpkg/status"
     to_root() { dpkg --root="$out/root" --log="$out/dpkg" --force-not-root --force-depends "$@"; }
     to_root -i "$package" >"$out/log" 2>&1 || { cat "$out/log"; fail "dpkg --install"; }
-    said=$(to_root --verify pigyelund 2>&1) && [ -z "$said" ] || fail "dpkg --verify: $said"
-    modes "$out/root/usr" bin || fail "modes of the installed files"
+    said=$(to_root --verify "$name" 2>&1) && [ -z "$said" ] || fail "dpkg --verify: $said"
+    modes "$out/root/usr" "$bin" || fail "modes of the installed files of $name"
     find "$out/root/usr" -type f | while IFS= read -r file; do
         cp -p "$file" "$out/kept" && echo >>"$file"
-        to_root --verify pigyelund 2>&1 | grep -qF "${file#"$out/root"}" || echo "dpkg --verify doesn't see ${file##*/}"
+        to_root --verify "$name" 2>&1 | grep -qF "${file#"$out/root"}" || echo "dpkg --verify doesn't see ${file##*/}"
         cp -p "$out/kept" "$file"
     done >"$out/unseen"
     [ ! -s "$out/unseen" ] || { cat "$out/unseen"; fail "dpkg --verify sees each changed file"; }
+}
+
+# try_vectors PACKAGE: it installs, its files are those of the tree, and its runner validates them.
+try_vectors() {
+    try_package "$1" pigyelund-vectors share/pigyelund/vectors/run
+    local file
+    [ "$(dpkg-deb -f "$1" Architecture)" = all ] || fail "the vectors are a package of one architecture"
+    for file in vectors/*.json vectors/schemas/*.json vectors/README.md vectors/run/*.*; do
+        cmp "$file" "$out/root/usr/share/pigyelund/$file" || fail "$file in the package"
+    done
+    "$out/root/usr/share/pigyelund/vectors/run/validate.py" >"$out/log" || { cat "$out/log"; fail "the installed vectors"; }
 }
 
 # Makes a tool that installs files of another owner, as whoever isn't root does.
@@ -252,8 +264,11 @@ makes_the_same_package() {
     released_package env && mv "$out/made" "$out/first_package" && sleep 1.1 && install_as_other &&
         find "$copy" -name .git -prune -o -type f -exec touch -d '2001-01-01' {} + &&
         (umask 077 && released_package env TZ=Asia/Tokyo) || { fail "a package in a copy"; return; }
-    cmp "$out"/first_package/*.deb "$out"/made/*.deb || fail "the same commit makes the same package"
-    try_package "$out"/made/*.deb
+    cmp "$out"/first_package/pigyelund_*.deb "$out"/made/pigyelund_*.deb || fail "the same commit makes the same package"
+    cmp "$out"/first_package/pigyelund-vectors_*.deb "$out"/made/pigyelund-vectors_*.deb ||
+        fail "the same commit makes the same package of vectors"
+    try_package "$out"/made/pigyelund_*.deb pigyelund bin
+    try_vectors "$out"/made/pigyelund-vectors_*.deb
 }
 released_package() {
     (cd "$copy" && PATH=$kit/tools:$kit/bin:$PATH "$@" ./release --deb "$version" "$out/made" >"$out/said" 2>&1) ||
@@ -310,7 +325,9 @@ of_archive() {
 # Makes a package, and compares it with the archive and with a second package.
 of_package() {
     ./release --deb "$version" "$out/deb" >"$out/log" 2>&1 || { cat "$out/log"; fail "release --deb"; return; }
-    try_package "$out"/deb/*.deb
+    try_vectors "$out"/deb/pigyelund-vectors_*.deb
+    diff -r "$tree/share/pigyelund" "$out/root/usr/share/pigyelund" || fail "the same tree makes the same vectors"
+    try_package "$out"/deb/pigyelund_*.deb pigyelund bin
     for program in respath origins; do
         gzip -d <"$out/root/usr/share/man/man1/$program.1.gz" >"$out/page"
         answers "$out/root/usr/bin" "$out/page" || fail "the installed $program"
@@ -318,8 +335,10 @@ of_package() {
     for part in bin include lib; do
         diff -r "$tree/$part" "$out/root/usr/$part" || fail "the same tree makes the same $part"
     done
-    ./release --deb "$version" "$out/again" >"$out/log" 2>&1 && cmp "$out"/deb/*.deb "$out"/again/*.deb ||
-        fail "the same tree makes the same package"
+    ./release --deb "$version" "$out/again" >"$out/log" 2>&1 &&
+        cmp "$out"/deb/pigyelund_*.deb "$out"/again/pigyelund_*.deb &&
+        cmp "$out"/deb/pigyelund-vectors_*.deb "$out"/again/pigyelund-vectors_*.deb ||
+        fail "the same tree makes the same packages"
 }
 
 if [ ! -x crates/respath/out/respath ]; then

@@ -9,16 +9,16 @@ from reference import (
     ip,
     lines,
     paths,
-    payload_files,
     prefixes,
     resources,
     sets,
     texts,
+    vrp_files,
 )
 from reference.addresses import Family
 from reference.faults import Der, DerFault, Fault
 from reference.paths import Refused, Step
-from reference.prefixes import MaxLenPrefix, Payload, Prefix
+from reference.prefixes import MaxLenPrefix, Prefix, Vrp
 from reference.resources import INHERIT, Claim, Families
 from reference.sets import Set
 
@@ -37,8 +37,6 @@ __all__ = [
     "Vrp",
 ]
 
-# What the reference calls a VRP.
-Vrp = Payload
 ALL_DER_FAULTS = [it.name for it in Der if it is not Der.NotCanonical]
 FAMILIES = {"v4": Family.V4, "v6": Family.V6}
 
@@ -116,6 +114,6 @@ def vrp_of(text: str) -> Vrp:
 def vrps_of_file(octets: bytes) -> Vrps:
     """The VRPs of a file."""
     try:
-        return Vrps(payload_files.read(octets), None)
+        return Vrps(vrp_files.read(octets), None)
     except Fault as fault:
         return Vrps([], str(fault))

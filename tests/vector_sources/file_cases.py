@@ -30,7 +30,7 @@ FAULTS = {
     r"item \d+: \w+: missing": ("MemberMissing", "an item does not have a member that is needed"),
     r"item \d+: \w+: repeated": ("MemberRepeated", "an item has a member twice"),
     r"item \d+: \w+: wrong kind of value": ("MemberKind", "a member of an item is of another kind"),
-    r"no (payload|VRP)": ("NoVrp", "the file has no VRP"),
+    r"no VRP": ("NoVrp", "the file has no VRP"),
     r"not a JSON object": ("NotJson", "the file is not JSON"),
     r"a JSON array, .*": ("JsonArray", "the file is a JSON array"),
     r"roas: missing": ("RoasMissing", "the member roas is missing"),
@@ -114,7 +114,7 @@ def case_of(octets: bytes, stored: str | None = None) -> Case:
         expected: dict[str, Any] = {"result": "valid", "vrps": [vrp(it) for it in found.vrps]}
     else:
         name = fault_of(found.fault)
-        expected = {"result": "invalid", "fault": name, "reason": found.fault.replace("payload", "VRP")}
+        expected = {"result": "invalid", "fault": name, "reason": found.fault}
         flags = {name, *(flags & {"Csv", "Json", "Decision"})} - (
             {"Csv", "Json"} if name in ("NoVrp", "JsonArray") else set()
         )
@@ -128,7 +128,7 @@ def case_of(octets: bytes, stored: str | None = None) -> Case:
 def stored() -> Iterator[Case]:
     """The files of rows."""
     rows = Rows("rows_claims")
-    for text, answer in rows.of("payloads"):
+    for text, answer in rows.of("vrps"):
         octets = text.replace("|", "\n").encode()
         if len(octets) <= 700:
             yield case_of(octets, answer)

@@ -23,11 +23,12 @@ Resource sets: the calls take and return the DER of two certificate extensions.
     [IPv4Network('12.0.0.0/8')]
 
 The extensions are AS identifiers (RFC 3779, 3.2.3) and IP address blocks (RFC 3779, 2.2.3). Their DER is the content of
-the OCTET STRING `extnValue` (RFC 5280, 4.1). In a set the value of an extension is `b""` if the set lists nothing
-there. The calls return canonical DER. Two sets that calls returned are equal if and only if their octets are equal.
+the OCTET STRING `extnValue` (RFC 5280, 4.1). A set without AS numbers has `b""` as its AS identifiers. A set without
+addresses has `b""` as its IP address blocks. The calls return canonical DER. Two sets that calls returned are equal if
+and only if their octets are equal.
 
-A call that fails raises a subclass of `PigyelundError`. `pigyelund.raw` has the same calls with the statuses and
-buffers of `pigyelund.h`.
+A call that fails raises a subclass of `PigyelundError`. An argument of a wrong type raises a `TypeError` or another
+exception of Python's own. `pigyelund.raw` has the same calls with the statuses and buffers of `pigyelund.h`.
 """
 
 import os
@@ -112,8 +113,8 @@ class Mode(IntEnum):
 class Extensions(NamedTuple):
     """The two resource extensions of a certificate, as DER.
 
-    None means that the certificate does not have the extension. It then claims nothing there. An extension that is
-    present but empty (`b""`) is invalid. A certificate has at least one of them (RFC 6487, 4.8.10 and 4.8.11).
+    None means that the certificate does not have the extension, and claims no resources of its kind. An extension that
+    is present but empty (`b""`) is invalid. A certificate has at least one extension (RFC 6487, 4.8.10 and 4.8.11).
 
     Attributes:
         asn: The AS identifiers (RFC 3779, 3.2.3), or None.
@@ -201,8 +202,8 @@ class Pigyelund:
         """Computes the resources of a certificate from its issuer's set (RFC 3779, 2.3 and 3.3).
 
         Args:
-            issuer: The issuer's set. It lists its resources, so it has no `inherit`.
-            certificate: The extensions of the certificate.
+            issuer: The issuer's set. It must list its resources, without `inherit`.
+            certificate: The extensions of the certificate. They may have `inherit`.
             encoding: The encodings that are accepted.
             mode: The policy for overclaimed resources.
 
@@ -235,7 +236,7 @@ class Pigyelund:
         what the certificates before it leave.
 
         Args:
-            anchor: The trust anchor's set.
+            anchor: The trust anchor's set. It must list its resources, without `inherit`.
             certificates: The certificates, the one under the anchor first. Each has its own `mode`.
             encoding: The encodings that are accepted.
 
@@ -256,12 +257,12 @@ class Pigyelund:
         """Returns the shortest list of prefixes that has exactly the addresses of one family of a set.
 
         Args:
-            ip: The IP address blocks of the set (RFC 3779, 2.2.3).
+            ip: The IP address blocks of the set (RFC 3779, 2.2.3), or `b""` for a set without addresses.
             family: The family whose addresses are covered.
             encoding: The encodings that are accepted.
 
         Returns:
-            The prefixes, ascending.
+            The prefixes, ascending. The list is empty if the set has no address of the family.
 
         Raises:
             DerError: `ip` is invalid.
@@ -286,8 +287,9 @@ class Pigyelund:
             The validity of each route, in the order of `routes`.
 
         Raises:
-            OriginError: A VRP is malformed, or else a route. The attribute `index` is the index, from 0, of the first
-                one in its list.
+            OriginError: A VRP or a route is malformed. VRPs are checked first. The attribute `index` is the index, from
+                0, of the first malformed VRP in `vrps`, or else of the first malformed route in `routes`. The attribute
+                `status` is at least `Status.SECOND` for a route.
             TypeError: An item of `vrps` is no `Vrp`, or an item of `routes` is no `Route`.
         """
         asked = list(routes)
@@ -317,7 +319,7 @@ class Pigyelund:
         """Returns the answer of the program `respath` to a line. Errors in the line are part of the answer.
 
         `der v4 LIST` converts text to DER in hexadecimal, and `read v4 HEX` converts DER to text. The README has all
-        commands.
+        commands. A wrong line raises no exception: its answer begins with `error: `.
 
         Args:
             line: The line, without its line end.

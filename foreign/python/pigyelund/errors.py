@@ -8,11 +8,9 @@ from .raw import Status
 class Resources(NamedTuple):
     """A set of resources, as the DER of both extensions.
 
-    A value is `b""` if the set lists nothing there.
-
     Attributes:
-        asn: The AS identifiers (RFC 3779, 3.2.3).
-        ip: The IP address blocks (RFC 3779, 2.2.3).
+        asn: The AS identifiers (RFC 3779, 3.2.3), or `b""` if the set has no AS numbers.
+        ip: The IP address blocks (RFC 3779, 2.2.3), or `b""` if the set has no addresses.
     """
 
     asn: bytes = b""
@@ -126,15 +124,18 @@ class DerError(PigyelundError):
 
     @property
     def fault(self) -> int:
-        """The number of the first error found, 1 to 14. `docs/ERRORS.md` has an example of each number."""
+        """The number of the first error found, 1 to 14. The text of the exception names this error.
+
+        `docs/ERRORS.md` has an example of each number.
+        """
         return self.status & 0xFF
 
 
 class OriginError(PigyelundError):
     """A VRP or a route is malformed: its family, its prefix, or its maximum length is invalid.
 
-    The attribute `index` is the index, from 0, of the first one. `ChangeError` is a subclass of this class. Catch
-    `ChangeError` first.
+    The attribute `index` is the index, from 0, of the first malformed VRP or route in its list. `ChangeError` is a
+    subclass of this class. Catch `ChangeError` first.
     """
 
 
@@ -152,7 +153,7 @@ class ChangeError(OriginError):
 class BadNumberError(PigyelundError):
     """A number in place of an `Encoding`, a `Mode` or a `Family` is unknown.
 
-    This is also the class for `Status.BAD_PRESENT` and `Status.OUTSIDE`, which only the calls of `raw` return.
+    Two statuses that only the calls of `raw` return have this class too: `Status.BAD_PRESENT` and `Status.OUTSIDE`.
     """
 
 

@@ -1,8 +1,8 @@
 """The calls of `pigyelund.h`, through ctypes.
 
 This module is for callers that need the statuses and the buffers of C. `pigyelund.Pigyelund` is the interface for all
-others. Each method of `Library` is one call of the shared library. It takes the numbers of the header, and the
-capacities of the output buffers. It returns the status, also that of an error.
+others. Each method of `Library` is one call of the shared library. The method takes the numbers of the header, and the
+capacities of the output buffers. It returns the status, also if the call fails.
 
     status                                     buffers                                lengths
     OK                                         the output, at the beginning           those of the output
@@ -10,7 +10,7 @@ capacities of the output buffers. It returns the status, also that of an error.
     TOO_SMALL                                  not written                            the required capacities
     any other                                  not written                            0
 
-The module checks only that each integer fits its parameter; otherwise it raises `OverflowError`.
+The module makes one check of its own: an integer that does not fit its parameter raises `OverflowError`.
 """
 
 import ctypes
@@ -98,7 +98,7 @@ class Mismatch(IntFlag):
 
 
 class Present(IntEnum):
-    """The number that says which extensions a certificate has. It is 0 if the certificate has neither.
+    """The bit mask of the extensions that a certificate has. The mask is 0 if the certificate has neither.
 
     Attributes:
         HAS_AS: The certificate has the extension of AS identifiers.
@@ -150,7 +150,7 @@ class Comparison(Enum):
 
 
 def fits(value: object, limit: int) -> bool:
-    """Returns whether a value is no integer, or is one from 0 to below `limit`. Numpy's integers are integers too."""
+    """Returns False for an integer below 0 or from `limit` on, also of numpy, and True for any other value."""
     return not hasattr(value, "__index__") or 0 <= index(value) < limit
 
 
@@ -226,7 +226,8 @@ class Vrp(Struct):
         >>> Vrp.of(ip_network("10.0.0.0/8"), asn=64496, max_len=16)
         Vrp.of(prefix=IPv4Network('10.0.0.0/8'), asn=64496, max_len=16)
 
-    A VRP can be compared and hashed, so it can be in a set. A call that reads the VRP checks the ranges below.
+    A VRP can be compared and hashed, so it can be in a set. A call that reads the VRP checks the ranges below, and
+    `Vrp.of` does not.
 
     Attributes:
         address: 16 octets in network byte order. An IPv4 address is the first four; calls ignore the others.

@@ -68,21 +68,21 @@ class Table:
         ...     table.origin(Route.of(ip_network("10.0.0.0/8"), asn=64496))
         <Validity.VALID: 0>
 
-    Memory. `close`, the end of a `with`, or the end of the object frees the table. If another thread is in a call on
-    the table, the memory is freed when that call returns. Calls on a closed table raise `ValueError`. A table cannot be
-    copied or pickled.
+    Memory. `close` frees the table. The end of a `with`, and the end of the last reference to the object, do the same.
+    If another thread is in a call on the table, the memory is freed when that call returns. Calls on a closed table
+    raise `ValueError`. A table cannot be copied or pickled.
 
     Threads. Any number of threads may query a table at once. ctypes releases Python's global lock during a call.
 
-    Arguments. VRPs and routes are iterables of `Vrp` and `Route`. They may also be one object with the buffer protocol
-    that has C structs side by side: `bytes`, a `memoryview`, an `array`, a numpy array. Each struct has 24 octets. The
-    module `struct` makes one by these formats, from the address in network byte order, the AS, the family and the
-    lengths:
+    Arguments. Pass VRPs as an iterable of `Vrp`, and routes as an iterable of `Route`. You may also pass an object with
+    the buffer protocol that has C structs side by side: `bytes`, a `memoryview`, an `array.array`, a numpy array. Each
+    struct has 24 octets. The module `struct` makes the octets by these formats. The address is in network byte order,
+    and the family is 1 for IPv4 and 2 for IPv6:
 
         struct.pack("16sIBBBx", address, asn, family, len, max_len)    a VRP
         struct.pack("16sIBBxx", address, asn, family, len)             a route
 
-    Calls that return validities, VRPs or a table may raise `OutOfMemoryError`, which says nothing about the input.
+    Calls that return validities, VRPs or a table may raise `OutOfMemoryError`. This error says nothing about the input.
     """
 
     _owner: _Owner | None = None

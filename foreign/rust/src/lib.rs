@@ -71,8 +71,9 @@ use raw::{HAS_AS, HAS_IP, NO, OK, TOO_SMALL};
 
 /// The two resource extensions of a certificate, as DER.
 ///
-/// `None` means that the certificate does not have the extension. It then claims nothing there. An extension that is
-/// present but empty, `Some(&[])`, is invalid. A certificate has at least one extension (RFC 6487, 4.8.10 and 4.8.11).
+/// `None` means that the certificate does not have the extension, and claims no resources of its kind. An extension
+/// that is present but empty, `Some(&[])`, is invalid. A certificate has at least one extension (RFC 6487, 4.8.10 and
+/// 4.8.11).
 #[derive(Clone, Copy, Debug, Default, PartialEq, Eq)]
 pub struct Extensions<'a> {
     /// The value of the extension of AS identifiers (RFC 3779, 3.2.3).
@@ -224,9 +225,9 @@ fn with_buffer(call: impl Fn(&mut [u8]) -> (u32, usize)) -> (u32, Vec<u8>) {
 ///
 /// # Parameters
 ///
-/// - `issuer`: the issuer's set. It lists its resources, so it has no `inherit`.
-/// - `certificate`: the extensions of the certificate.
-/// - `encoding`: the encodings that are accepted of both.
+/// - `issuer`: the issuer's set. It must list its resources, without `inherit`.
+/// - `certificate`: the extensions of the certificate. They may have `inherit`.
+/// - `encoding`: the encodings that are accepted, for the issuer and for the certificate.
 /// - `mode`: the policy for overclaimed resources.
 ///
 /// # Errors
@@ -290,9 +291,9 @@ fn concatenate(certificates: &[Certificate<'_>]) -> (Vec<u8>, Vec<raw::Certifica
 ///
 /// # Parameters
 ///
-/// - `anchor`: the trust anchor's set.
+/// - `anchor`: the trust anchor's set. It must list its resources, without `inherit`.
 /// - `certificates`: the certificates in the order of the path, the one under the anchor first.
-/// - `encoding`: the encodings that are accepted of all of them.
+/// - `encoding`: the encodings that are accepted, for the anchor and for all certificates.
 ///
 /// The result for an empty path is the anchor's set.
 ///
@@ -334,11 +335,11 @@ fn address_of(octets: &[u8]) -> IpAddr {
 
 /// Returns the shortest list of prefixes that has exactly the addresses of one family of a set.
 ///
-/// The prefixes ascend.
+/// The prefixes ascend. The list is empty if the set has no address of the family.
 ///
 /// # Parameters
 ///
-/// - `ip`: the IP address blocks of the set (RFC 3779, 2.2.3).
+/// - `ip`: the IP address blocks of the set (RFC 3779, 2.2.3), or `&[]` for a set without addresses.
 /// - `encoding`: the encodings that are accepted.
 /// - `family`: the family whose addresses are covered.
 ///
@@ -384,7 +385,8 @@ fn validity_of(octet: u8) -> Validity {
 ///
 /// # Errors
 ///
-/// [`OriginError`] has the index of the first malformed VRP, or else of the first malformed route:
+/// [`OriginError::index`] is the index, from 0, of the first malformed VRP in `vrps`, or else of the first malformed
+/// route in `routes`:
 ///
 /// - [`Reason::BadFamily`], [`Reason::BadPrefix`] with [`Side::First`], [`Reason::BadMaxLen`]: the VRP is malformed.
 /// - [`Reason::BadFamily`], [`Reason::BadPrefix`] with [`Side::Second`]: the route is malformed.
@@ -403,7 +405,7 @@ pub fn origins(vrps: &[Vrp], routes: &[Route]) -> Result<Vec<Validity>, OriginEr
 /// Returns the answer of the program `respath` to a line. Errors in the line are part of the answer.
 ///
 /// `der v4 LIST` converts text to DER in hexadecimal, and `read v4 HEX` converts DER to text. `README.md` has all
-/// commands.
+/// commands. A wrong line is no `Err`: its answer begins with `error: `.
 ///
 /// # Parameters
 ///
@@ -426,11 +428,12 @@ pub fn answer(line: &[u8]) -> Result<String, Reason> {
 ///
 /// - `operation`: union, intersection or difference.
 /// - `a`, `b`: the first and the second set.
-/// - `encoding`: the encodings that are accepted of both.
+/// - `encoding`: the encodings that are accepted, for both sets.
 ///
 /// # Errors
 ///
-/// The first of these, in this order, for `a` with [`Side::First`] and then for `b` with [`Side::Second`]:
+/// The call checks `a` with [`Side::First`], and then `b` with [`Side::Second`]. The reason is the first of these that
+/// applies to the set:
 ///
 /// - [`Reason::BadAs`]: the AS identifiers of the set are invalid.
 /// - [`Reason::BadIp`]: the IP address blocks of the set are invalid.

@@ -309,10 +309,10 @@ pub struct OriginError {
     pub reason: Reason,
     /// The index, from 0, of the refused VRP or route.
     ///
-    /// - With [`Side::Second`], [`Reason::BadWithdrawnMaxLen`] and [`Reason::UnknownWithdrawal`] it is an index of the
-    ///   routes, or of the withdrawn VRPs.
+    /// - With [`Side::Second`], [`Reason::BadWithdrawnMaxLen`] and [`Reason::UnknownWithdrawal`] it counts in the list
+    ///   of routes, or of withdrawn VRPs.
     /// - With [`Reason::Memory`] it is 0.
-    /// - With the other reasons it is an index of the VRPs, or of the announced VRPs.
+    /// - With any other reason it counts in the list of VRPs, or of announced VRPs.
     pub index: usize,
 }
 

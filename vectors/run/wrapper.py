@@ -5,6 +5,7 @@ PIGYELUND_LIB names the folder of libpigyelund.so, and PYTHONPATH has the packag
 canonical if a strict call accepts it. The status is 77 if the package or the library is missing."""
 
 import sys
+from collections import Counter
 from collections.abc import Callable, Iterable
 from ipaddress import ip_network
 from typing import Any
@@ -30,7 +31,6 @@ class Asked:
         v4, v6 = (bytes.fromhex(self.library.answer(f"der {kind} {ALL[kind]}")) for kind in ("v4", "v6"))
         addresses = self.library.union(wrapper.Resources(ip=v4), wrapper.Resources(ip=v6)).ip
         self.all = wrapper.Resources(bytes.fromhex(self.library.answer(f"der as {ALL['as']}")), addresses)
-        self.vrp = getattr(wrapper, "Vrp", None) or wrapper.Payload
 
     def octets(self, kind: str, text: str) -> bytes:
         """The value of an extension for a list."""
@@ -53,12 +53,12 @@ class Asked:
         extensions = wrapper.Extensions(asn=octets) if kind == "as" else wrapper.Extensions(ip=octets)
         try:
             found = self.library.verify(self.all, extensions)
-        except wrapper.Refused:
+        except wrapper.DerError:
             return REFUSED
         try:
             self.library.verify(self.all, extensions, wrapper.Encoding.STRICT)
             word = "canonical"
-        except wrapper.BadOctets:
+        except wrapper.DerError:
             word = "valid"
         listed = (found.asn if kind == "as" else found.ip).hex()
         return word, None if b"\5\0" in octets else listed
@@ -88,7 +88,7 @@ class Asked:
         anchor = self.resources(kind, bytes.fromhex(asked["anchor"]["octets"] or ""))
         try:
             left = self.library.verify_path(anchor, [self.certificate(kind, it) for it in asked["certificates"]])
-        except wrapper.Overclaimed as refused:
+        except wrapper.OverclaimedError as refused:
             return "refuse", f"{refused.verified} {self.text(kind, refused.excess)}"
         return "accept", self.text(kind, left)
 
@@ -101,7 +101,7 @@ class Asked:
 
     def vrps(self, listed: list[Case]) -> list[Any]:
         """VRPs of the wrapper."""
-        return [self.vrp.of(ip_network(it["prefix"]), it["asn"], it["maxLength"]) for it in listed]
+        return [wrapper.Vrp.of(ip_network(it["prefix"]), it["asn"], it["maxLength"]) for it in listed]
 
     def origin(self, asked: Case) -> Answer:
         """The validity of a route."""
@@ -110,18 +110,18 @@ class Asked:
         return "accept", found.name.lower().replace("_", "-")
 
     def update(self, asked: Case, wanted: list[Case] | None) -> Answer:
-        """The table after changes: it has the expected VRPs if no change lies between the two."""
+        """The table after changes, compared as VRPs: versions of Python print some prefixes in another way."""
         try:
             with self.library.table(self.vrps(asked["table"])) as table:
                 changed = table.changed(self.vrps(asked["announced"]), self.vrps(asked["withdrawn"]))
-        except wrapper.BadChange as refused:
+        except wrapper.ChangeError as refused:
             code = 6 if refused.status == wrapper.Status.UNKNOWN_WITHDRAWAL else 7
-            return "refuse", f"{code} {refused.place}"
+            return "refuse", f"{code} {refused.index}"
         with changed:
-            if wanted is None:
-                return "accept", None
-            changed.changed([], self.vrps(wanted)).close()  # each expected VRP is there
-        return "accept", vrp_texts(wanted)
+            found = list(changed)
+        if wanted is not None and Counter(found) == Counter(self.vrps(wanted)):
+            return "accept", vrp_texts(wanted)
+        return "accept", ", ".join(sorted(f"{it.prefix}-{it.max_len} AS{it.asn}" for it in found))
 
     def answer(self, file: str, case: Case) -> Answer:
         """The answer to a case."""

@@ -6,8 +6,8 @@
  * - Resource sets. pigy_union, pigy_intersection, pigy_difference, pigy_contains and pigy_equal operate on two sets.
  *   pigy_cover lists the fewest prefixes of a set. pigy_answer converts text to DER and DER to text, as the program
  *   respath does.
- * - Route origins. pigy_origins validates routes by VRPs (validated ROA payloads). The calls pigy_table_... keep a
- *   table of VRPs, as a router's cache does.
+ * - Route origins. pigy_origins validates routes by VRPs (validated ROA payloads). The calls pigy_table_... make and
+ *   use a table of VRPs that stays between calls, for example in a router.
  *
  * Example: does a certificate claim more than its issuer has?
  *
@@ -53,8 +53,9 @@
  * return PIGY_NO_TABLE, and pigy_table_free does nothing. The obligations for any other handle are below.
  *
  * CHECKS. Each call checks its arguments in the order that its comment lists, and returns the first error.
- * PIGY_TOO_SMALL comes after all checks. Each call that returns a status, except pigy_table_len, can return PIGY_MEMORY
- * instead of any other status except PIGY_NO_TABLE. The comments of the calls do not repeat this.
+ * PIGY_TOO_SMALL comes after all checks. PIGY_MEMORY can come instead of any other status, with two exceptions:
+ * pigy_table_len never returns it, and no call returns it for a NULL handle. The comments of the calls do not repeat
+ * this.
  *
  * OBLIGATIONS of the caller, which nothing checks:
  *
@@ -105,8 +106,8 @@ extern "C" {
 #define PIGY_OUTSIDE 11u      /* The range of a certificate's extension does not lie in `run` (pigy_verify_path). */
 #define PIGY_BAD_PRESENT 12u  /* The bit mask of the extensions is above PIGY_HAS_BOTH. */
 #define PIGY_BAD_FAMILY 13u   /* The family is neither PIGY_IPV4 nor PIGY_IPV6. */
-#define PIGY_BAD_PREFIX 14u   /* The length is above the family's, or bits of the address after the prefix are set. */
-#define PIGY_BAD_MAX_LEN 15u  /* The maximum length is below the prefix's length, or above the family's. */
+#define PIGY_BAD_PREFIX 14u   /* The prefix is longer than its family allows, or has host bits set. */
+#define PIGY_BAD_MAX_LEN 15u  /* The maximum length is below the prefix length, or is above 32 (IPv4) or 128 (IPv6). */
 #define PIGY_NO_TABLE 16u     /* The handle is NULL. */
 #define PIGY_UNKNOWN_WITHDRAWAL 17u     /* A withdrawn VRP is not in the table, or is listed twice (RFC 8210, 12: 6). */
 #define PIGY_DUPLICATE_ANNOUNCEMENT 18u /* An announced VRP is in the table, or is listed twice (RFC 8210, 12: 7). */
@@ -143,7 +144,8 @@ extern "C" {
 #define PIGY_STRICT 1u
 
 /* Modes, for a certificate that claims more than its issuer has. PIGY_REFUSE refuses the certificate (RFC 6487, 7.2).
- * PIGY_TRIM reduces the claim to the resources that the issuer has (RFC 8360, 4). */
+ * PIGY_TRIM reduces the claim to the resources that the issuer has (RFC 8360, 4). It is for certificates with the
+ * policy id-cp-ipAddr-asNumber-v2, whose extensions have the OIDs of RFC 8360, 4.2. */
 #define PIGY_REFUSE 0u
 #define PIGY_TRIM 1u
 
@@ -183,7 +185,8 @@ uint32_t pigy_version(void);
 /**
  * Verifies the resources of a certificate against those of its issuer.
  *
- * pigy_verify_set is a shorter form.
+ * pigy_verify_set is a shorter form. The issuer's set is the verified resources of the issuer: the outputs of this call
+ * with PIGY_OK, for the issuer's certificate. Only for a trust anchor, pass the extensions of its certificate.
  *
  * The outputs are the verified resources of the certificate, as a set. For AS numbers, IPv4 and IPv6 each, the result
  * depends on the claim of the certificate:
@@ -473,7 +476,7 @@ uint32_t pigy_table_covering(const pigy_table *table, const pigy_route *route, p
 uint32_t pigy_table_len(const pigy_table *table, size_t *len);
 
 /**
- * Lists all VRPs of a table.
+ * Lists all VRPs of a table. The last 12 octets of an IPv4 address are 0.
  *
  * IPv4 comes before IPv6. Then the order is by address, and then by prefix length, the shorter first. If two VRPs have
  * the same prefix, the greater AS number comes first. If they also have the same AS, the shorter maximum length comes
@@ -753,7 +756,7 @@ static inline size_t pigy_len_or_zero(const uint8_t *octets, size_t len) { retur
 /**
  * Verifies the resources of a certificate against those of its issuer: a short form of pigy_verify.
  *
- * @param issuer    The issuer's set. Members may be NULL.
+ * @param issuer    The issuer's set, as for pigy_verify. Members may be NULL.
  * @param cert      The certificate's extensions. A NULL member is an absent extension.
  * @param encoding  PIGY_LENIENT or PIGY_STRICT, for the certificate and for the issuer.
  * @param mode      PIGY_REFUSE or PIGY_TRIM.

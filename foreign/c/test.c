@@ -246,7 +246,7 @@ static uint32_t of_vrps(attempt *a) {
 
 _Static_assert(sizeof(pigy_covering) == sizeof(pigy_vrp), "a VRP that covers is one with one octet more");
 
-/* Makes a call with a buffer for count VRPs, and checks its outputs. rows.txt has so many octets of each VRP. */
+/* Makes a call with a buffer for count VRPs, and checks its outputs. In rows.txt each VRP has this number of octets. */
 static void ask_with_capacity(uint32_t (*call)(attempt *), const question *q, const pigy_table *table, size_t count,
                               size_t octets) {
   size_t wanted = q->expected[0].length / octets, length = count * sizeof(pigy_covering);
@@ -605,7 +605,7 @@ static void ask_on_threads(questions rows) {
 
 /* ---- the stack */
 
-/* STACK is the stack that the header requires. USED is what these calls use of it at most, by the header. The stack of
+/* STACK is the stack that the header requires. The header says that these calls use less than USED of it. The stack of
  * the thread is much larger. */
 enum { STACK = 128 << 10, USED = 8 << 10, STACK_OF_THREAD = 8 << 20, ALIGNED = 4096 };
 

@@ -3,8 +3,11 @@
  *
  * The program connects to a cache at PORT of 127.0.0.1 and asks for all VRPs. It asks for the changes when the cache
  * sends a Serial Notify, and for all VRPs after a Cache Reset. It prints each table: a line with its number, a line for
- * each VRP, and the line "end". It stops after TABLES tables or after SECONDS. In one response it accepts at most MOST
- * announced and MOST withdrawn VRPs.
+ * each VRP, and the line "end". It stops after TABLES tables or after SECONDS. In one response it accepts at most
+ * 8,388,608 announced and as many withdrawn VRPs.
+ *
+ * It ignores the intervals in End of Data (RFC 8210, 6): it does not poll the cache, and its table does not expire. It
+ * ignores Router Keys (5.10). It connects again 0.2 seconds after a session is over.
  *
  * The status is 0 if it printed all tables, and 1 if it did not. It is 2 if the arguments are wrong. It is also 2 if
  * memory runs out before the first connection or while a table is printed. */
@@ -35,11 +38,12 @@ typedef struct {
  * - has_version: Whether a PDU of this version has arrived on the connection.
  * - has_session: Whether the table belongs to session and serial.
  * - is_asked: Whether a query is open.
- * - is_answered: Whether the response to the query has begun. Then answering is the session of the Cache Response, and
- *   the lists hold the VRPs of the response.
+ * - is_answered: Whether the response to the query has begun.
+ * - answering: The session of the Cache Response, if is_answered.
  * - is_full: Whether the response lists all VRPs, and not changes.
- * - has_notice: Whether the cache sent a Serial Notify while the query was open. Then notice is its serial.
- * - session, serial: Those of the table.
+ * - has_notice: Whether the cache sent a Serial Notify while the query was open.
+ * - notice: The serial of this Serial Notify.
+ * - session, serial: The session and the serial of the table.
  * - tables: The number of printed tables.
  * - table: The current table, or NULL.
  * - announced, withdrawn: The VRPs of the response.
@@ -130,8 +134,8 @@ static int refuse_session(router *r) {
   return refuse(r, CORRUPT);
 }
 
-/* Appends a VRP. The capacity doubles from 1,024 up to 8,388,608 elements. It does not double again, since the next
- * capacity is above MOST. Returns 0 if the array is full, or memory runs out. */
+/* Appends a VRP. The capacity doubles from 1,024 up to 8,388,608 elements. The next capacity would be above MOST.
+ * Returns 0 if the array is full, or memory runs out. */
 static int add(list *to, const pigy_vrp *vrp) {
   if (to->count == to->capacity) {
     size_t capacity = to->capacity ? 2 * to->capacity : 1024;

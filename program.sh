@@ -153,31 +153,33 @@ prove() {
     fi
 }
 
-# The seconds of one processor that the proof of each crate took, by PROOF_SECONDS=FILE ./respath and ./origins. Only the
-# estimate of the time that is left uses them. A crate that is missing here counts as a minute.
+# The seconds of one processor that the proof of each crate took in rt ci on 2026-11-28, beside other work. For respath
+# they add up to 42 minutes, and a whole ./respath used 42. Those of rpki_block, rpki_text, respath and origins are
+# guesses. Only the estimate of the time that is left uses them. A crate that is missing here counts as a minute.
+# PROOF_SECONDS=FILE ./respath measures them anew.
 seconds_of_crates() {
     cat <<'END'
-lines_engine 60
-origins 90
-origins_lines 230
-respath 60
-respath_lines 200
-roa_origin 200
-roa_vrps 170
-rpki_addr 75
-rpki_as 110
-rpki_as_block 90
-rpki_base 75
-rpki_block 20
-rpki_chain 130
-rpki_chain_core 260
+lines_engine 160
+origins 60
+origins_lines 316
+respath 40
+respath_lines 239
+roa_origin 301
+roa_vrps 187
+rpki_addr 135
+rpki_as 167
+rpki_as_block 101
+rpki_base 88
+rpki_block 33
+rpki_chain 211
+rpki_chain_core 434
 rpki_cover 35
-rpki_der 130
-rpki_ip 130
-rpki_ip_block 90
-rpki_ipres 170
-rpki_prefix 80
-rpki_text 45
+rpki_der 208
+rpki_ip 166
+rpki_ip_block 113
+rpki_ipres 264
+rpki_prefix 86
+rpki_text 54
 END
 }
 

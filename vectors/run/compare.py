@@ -1,5 +1,5 @@
 #!/usr/bin/env python3
-"""compare.py [--json FILE] [--only NAME] NAME COMMAND ..: asks a command every case, and compares its answers.
+"""compare.py [--show] [--json FILE] [--only NAME] NAME COMMAND ..: asks a command every case, and compares its answers.
 
 The command reads a line for each case and writes a line for each. A line has fields with tabs between them: the file's
 name, and what `fields` below says. An answer is `accept` or `refuse`, or `-` if the case does not apply. For DER it may
@@ -7,7 +7,8 @@ also be `canonical` or `valid`. `abort` says that the implementation ended the p
 space: it is compared then. docs/CONFORMANCE.md has the values.
 
 For each file it prints how many answers agree, and the flags of those that differ. The status is 1 if an answer
-differs, and 2 if the command fails. --only takes one file. --json writes the counts of each flag.
+differs, and 2 if the command fails. --only takes one file. --json writes the counts of each flag. --show prints each
+case that differs.
 """
 
 import argparse

@@ -150,7 +150,7 @@ def main(words: list[str]) -> int:
     def answers(file: str, cases: list[Case]) -> Iterable[Answer]:
         return (library.answer(file, case) for case in cases)
 
-    return run("wrapper", answers, words)
+    return run("pigyelund (Python)", answers, words)
 
 
 if __name__ == "__main__":

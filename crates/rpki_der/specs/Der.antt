@@ -6,14 +6,16 @@ use Rattle.std.specs.Int.{w64, to_be_bytes}
 abbrev pub IsBytes : List ℕ → Type 0
 IsBytes bytes = (i : ℕ) → slice_index bytes i < 256
 
--- the number that octets spell, the most significant first
+-- the number that a number n and further octets spell, the most significant octet first
 abbrev pub big_endian_after : ℕ → List ℕ → ℕ
 big_endian_after n [] = n
 big_endian_after n (b ∷ bs) = big_endian_after (n * 256 + b) bs
 
+-- the number that octets spell, the most significant first
 abbrev pub big_endian : List ℕ → ℕ
 big_endian bytes = big_endian_after 0 bytes
 
+-- the octets without the zero octets at their start
 abbrev pub without_zeros : List ℕ → List ℕ
 without_zeros [] = []
 without_zeros (zero ∷ bs) = without_zeros bs
@@ -43,6 +45,7 @@ length_octets n = if nat_lt n 128 then n ∷ [] else (128 + length (octets n)) �
 unfoldable pub header : ℕ → ℕ → List ℕ
 header tag n = tag ∷ length_octets n
 
+-- the octets of a value: the tag, the length and the content (X.690, 8.1.1)
 abbrev pub value : ℕ → List ℕ → List ℕ
 value tag content = header tag (length content) ++ content
 
@@ -79,9 +82,11 @@ pub record IsBits (b : Bits) : Type 0 where
   pub below : b.unused < 8
   pub empty : length b.octets ≡ 0 → b.unused ≡ 0
 
+-- the bit string with this number of unused bits and these octets
 abbrev pub bits_with : ℕ → List ℕ → Bits
 bits_with unused octets = record { unused = unused; octets = octets }
 
+-- the content of a BIT STRING: an octet with the number of unused bits, and the octets (X.690, 8.6.2.1 and 8.6.2.2)
 abbrev pub bit_content : Bits → List ℕ
 bit_content b = b.unused ∷ b.octets
 
@@ -99,23 +104,27 @@ bit_count b = 8 * length b.octets - b.unused
 
 -- ---- grammars: the octets, all of them, are an encoding of x
 
+-- a value with any tag (X.690, 8.1)
 abbrev pub IsTlv : List ℕ → Tlv → Type 0
 IsTlv bytes v = IsValue bytes v.tag v.content
 
--- an INTEGER from 0 to 4294967295
+-- an INTEGER from 0 to 4294967295 (X.690, 8.3)
 abbrev pub IsU32 : List ℕ → ℕ → Type 0
 IsU32 bytes n = (n < 2 ^ 32) × IsValue bytes 2 (integer n)
 
+-- a BIT STRING, primitive (X.690, 8.6.2)
 abbrev pub IsBitString : List ℕ → Bits → Type 0
 IsBitString bytes b = IsBits b × IsValue bytes 3 (bit_content b)
 
+-- an OCTET STRING, primitive (X.690, 8.7.2)
 abbrev pub IsOctetString : List ℕ → List ℕ → Type 0
 IsOctetString bytes content = IsValue bytes 4 content
 
+-- a NULL, which has no content (X.690, 8.8)
 abbrev pub IsNull : List ℕ → Unit {0} → Type 0
 IsNull bytes u = IsValue bytes 5 []
 
--- a SEQUENCE and the octets of its content
+-- a SEQUENCE and the octets of its content (X.690, 8.9)
 abbrev pub IsSequence : List ℕ → List ℕ → Type 0
 IsSequence bytes content = IsValue bytes 48 content
 
@@ -165,25 +174,30 @@ Each G = EachFrom (λ (state : Unit {0}) x. state) (λ state. G) tt
 
 -- ---- encodings
 
+-- the octets of an INTEGER
 abbrev pub u32_value : ℕ → List ℕ
 u32_value n = value 2 (integer n)
 
+-- the octets of a BIT STRING
 abbrev pub bit_string_value : Bits → List ℕ
 bit_string_value b = value 3 (bit_content b)
 
+-- the octets of an OCTET STRING with this content
 abbrev pub octet_string_value : List ℕ → List ℕ
 octet_string_value content = value 4 content
 
+-- the octets of a NULL: 05 00
 abbrev pub null_value : List ℕ
 null_value = value 5 []
 
+-- the octets of a SEQUENCE with this content
 abbrev pub sequence_value : List ℕ → List ℕ
 sequence_value content = value 48 content
 
 -- ---- the same values by the conditions of the standard
 
--- the first octet is 128 and the count of the others; these are at most eight, don't begin with zero, and spell
--- 128 or more
+-- a length in the long form: the first octet is 128 plus the count of the others; these are at most eight, don't begin
+-- with zero, and spell n, which is 128 or more (X.690, 8.1.3.5 and 10.1)
 pub record IsLongLength (first : ℕ) (digits : List ℕ) (n : ℕ) : Type 0 where
   pub count : first ≡ 128 + length digits
   pub few : length digits ≤ 8
@@ -191,11 +205,13 @@ pub record IsLongLength (first : ℕ) (digits : List ℕ) (n : ℕ) : Type 0 whe
   pub large : 128 ≤ n
   pub spelled : big_endian digits ≡ n
 
+-- the octets are the length n, in the short form or in the long form (X.690, 8.1.3.4, 8.1.3.5 and 10.1)
 abbrev pub IsLength : List ℕ → ℕ → Type 0
 IsLength [] n = ⊥
 IsLength (first ∷ digits) n = ((first < 128) × (n ≡ first) × (digits ≡ [])) ⊎ IsLongLength first digits n
 
--- one to five octets; the first bit is 0; of two or more octets the first nine bits aren't all zero
+-- one to five octets that spell n, which is below 2 ^ 32; the first bit is 0; of two or more octets the first nine bits
+-- aren't all zero (X.690, 8.3.2 and 8.3.3)
 pub record IsUnsigned (content : List ℕ) (n : ℕ) : Type 0 where
   pub some : 0 < length content
   pub few : length content ≤ 5
@@ -204,10 +220,11 @@ pub record IsUnsigned (content : List ℕ) (n : ℕ) : Type 0 where
   pub spelled : big_endian content ≡ n
   pub limit : n < 2 ^ 32
 
--- an octet that counts the unused bits, and the octets that hold the bits
+-- an octet that counts the unused bits, and the octets that hold the bits (X.690, 8.6.2)
 pub record IsBitContent (content : List ℕ) (b : Bits) : Type 0 where
   pub counted : IsBits b
   pub spelled : content ≡ bit_content b
 
+-- there is no octet, as in the content of a NULL (X.690, 8.8.2)
 abbrev pub IsNothing : List ℕ → Unit {0} → Type 0
 IsNothing content u = content ≡ []

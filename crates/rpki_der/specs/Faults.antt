@@ -20,6 +20,7 @@ fault_number DuplicateFamily = 12
 fault_number NoFamily = 13
 fault_number NotCanonical = 14
 
+-- the name of a fault, which is that of its variant
 abbrev pub fault_name : DerError → List ℕ
 fault_name Truncated = codes "Truncated"
 fault_name BadTag = codes "BadTag"

@@ -4,6 +4,7 @@ use Rattle.rpki_der.specs.declared.error.DerError.{DerError}
 use Rattle.rpki_der.specs.declared.error.DerError.TheVariants.{Truncated, BadTag, BadLength, BadInteger, BadBitString, BadNull, TrailingData, NotCanonical}
 use Rattle.rpki_der.specs.Der.{Tlv, Bits, IsBytes, Front, big_endian, last_octet}
 
+-- f of the value, or the error if there is no value
 infixl 10 ◌>>=◌
 abbrev pub ◌>>=◌ : {A B : Type 0} → Result A DerError → (A → Result B DerError) → Result B DerError
 (Ok x) >>= f = f x
@@ -24,10 +25,12 @@ long_length_at count bytes =
     if (slice_index bytes 0 == 0) || nat_lt (big_endian (take count bytes)) 128 then Err BadLength else
     Ok (big_endian (take count bytes), drop count bytes)
 
+-- the length at the front and the octets after it (X.690, 8.1.3 and 10.1)
 unfoldable pub length_at : List ℕ → Result (ℕ × List ℕ) DerError
 length_at [] = Err Truncated
 length_at (first ∷ bytes) = if nat_lt first 128 then Ok (first, bytes) else long_length_at (first - 128) bytes
 
+-- the value at the front and the octets after it (X.690, 8.1)
 unfoldable pub value_at : List ℕ → Result (Tlv × List ℕ) DerError
 value_at [] = Err Truncated
 value_at (tag ∷ bytes) =
@@ -43,12 +46,14 @@ tagged_at tag bytes = do
 
 -- ---- contents
 
+-- the number that the content of an INTEGER spells, if it is from 0 to 4294967295 and in the fewest octets
 unfoldable pub unsigned : List ℕ → Result ℕ DerError
 unsigned content =
     if (length content == 0) || nat_lt 5 (length content) || nat_le 128 (slice_index content 0) then Err BadInteger else
     if nat_lt 1 (length content) && (slice_index content 0 == 0) && nat_lt (slice_index content 1) 128 then Err BadInteger else
     if nat_lt (big_endian content) (2 ^ 32) then Ok (big_endian content) else Err BadInteger
 
+-- the bit string in the content of a BIT STRING, unused bits as they are
 unfoldable pub bits : List ℕ → Result Bits DerError
 bits [] = Err BadBitString
 bits (unused ∷ octets) = if nat_lt 7 unused || (nat_lt 0 unused && (length octets == 0)) then Err BadBitString else Ok (record { unused = unused; octets = octets })
@@ -58,6 +63,7 @@ abbrev pub is_longer : ℕ → List ℕ → Bool
 is_longer limit [] = false
 is_longer limit (unused ∷ octets) = nat_le unused 7 && nat_lt (limit + unused) (8 * length octets)
 
+-- the content of a NULL, which has no octet
 unfoldable pub nothing : List ℕ → Result (Unit {0}) DerError
 nothing [] = Ok tt
 nothing (b ∷ bytes) = Err BadNull
@@ -68,14 +74,15 @@ ended bytes = if length bytes == 0 then Ok tt else Err TrailingData
 
 -- ---- by the mode: a strict reading refuses octets that are not canonical
 
--- strictly, only what passes the test
+-- x; a strict reading refuses it by NotCanonical if it fails the test
 unfoldable pub passing : {X : Type 0} → Bool → (X → Bool) → X → Result X DerError
 passing strict test x = if strict && not (test x) then Err NotCanonical else Ok x
 
--- whether the bits that aren't used are zero
+-- whether the bits that aren't used are zero (X.690, 11.2.1)
 abbrev pub is_padded : Bits → Bool
 is_padded b = last_octet b.octets % 2 ^ b.unused == 0
 
+-- the bit string in the content of a BIT STRING; a strict reading requires that its unused bits are zero
 unfoldable pub bits_by : Bool → List ℕ → Result Bits DerError
 bits_by strict content = bits content >>= passing strict is_padded
 
@@ -114,15 +121,19 @@ each steps reading = each_from (λ (state : Unit {0}) x. state) steps (λ state.
 
 -- ---- values of one tag
 
+-- an INTEGER from 0 to 4294967295
 abbrev pub u32_at : List ℕ → Result (ℕ × List ℕ) DerError
 u32_at = refined (tagged_at 2) unsigned
 
+-- a BIT STRING, unused bits as they are
 abbrev pub bit_string_at : List ℕ → Result (Bits × List ℕ) DerError
 bit_string_at = refined (tagged_at 3) bits
 
+-- a BIT STRING; a strict reading requires that its unused bits are zero
 abbrev pub bit_string_by : Bool → List ℕ → Result (Bits × List ℕ) DerError
 bit_string_by strict = refined (tagged_at 3) (bits_by strict)
 
+-- a NULL
 abbrev pub null_at : List ℕ → Result (Unit {0} × List ℕ) DerError
 null_at = refined (tagged_at 5) nothing
 

@@ -1,5 +1,6 @@
 -- Readings that blocks and other values share: values of one of two tags, one or two values in a content, optional
--- values, skipped values, and a SEQUENCE of values (X.690, 8.9 and 8.10). An optional value is there if its tag is.
+-- values, skipped values, and a SEQUENCE of values (X.690, 8.9 and 8.10). An optional value is present if and only if
+-- the next octet is its tag.
 use Rattle.std.specs.Prelude.{◌≡◌, ◌⊎◌, ℕ, Bool, false, List, [], ◌∷◌, length, Option, Some, None, Result, Ok, Err, ◌==◌, if◌then◌else◌}
 use Rattle.rpki_der.specs.declared.error.DerError.{DerError}
 use Rattle.rpki_der.specs.declared.error.DerError.TheVariants.{BadTag, EmptyBlocks}
@@ -12,6 +13,7 @@ use Rattle.rpki_der.specs.Reading.{◌>>=◌, each_from, ended, passing, refined
 abbrev pub SaysByTag : {X : Type 0} → ℕ → (List ℕ → X → Type 0) → (List ℕ → X → Type 0) → Tlv → X → Type 0
 SaysByTag tag One Two v x = ((v.tag ≡ tag) × One v.content x) ⊎ ((v.tag ≡ 48) × Two v.content x)
 
+-- what one finds in the content of a value of the tag, or two in that of a SEQUENCE; another tag is BadTag
 unfoldable pub by_tag : {X : Type 0} → ℕ → (List ℕ → Result X DerError) → (List ℕ → Result X DerError) → Tlv
     → Result X DerError
 by_tag tag one two v =
@@ -25,7 +27,7 @@ by_tag tag one two v =
 abbrev pub SaysPair : {X Y : Type 0} → (List ℕ → X → Type 0) → (X → X → Y → Type 0) → List ℕ → Y → Type 0
 SaysPair {X} G C content y = (first : X) × (second : X) × Both G G content first second × C first second y
 
--- the two values are checked before the end of the content is
+-- what two values of the content give by a check, and nothing else; the check is before that of the content's end
 unfoldable pub pair_in : {X Y : Type 0} → (List ℕ → Result (X × List ℕ) DerError) → (X → X → Result Y DerError) → List ℕ
     → Result Y DerError
 pair_in reading check content = do
@@ -59,6 +61,7 @@ only reading content = do
   end ← ended x.1
   Ok x.0
 
+-- what reading finds in the content of a value of the tag, and nothing else, as with explicit tags (X.690, 8.14)
 abbrev pub enclosed_at : {X : Type 0} → ℕ → (List ℕ → Result (X × List ℕ) DerError) → List ℕ
     → Result (X × List ℕ) DerError
 enclosed_at tag reading = refined (tagged_at tag) (only reading)
@@ -69,6 +72,7 @@ enclosed_at tag reading = refined (tagged_at tag) (only reading)
 abbrev pub Skips : {X : Type 0} → (List ℕ → X → Type 0) → List ℕ → Unit {0} → Type 0
 Skips G = Refines G (λ x u. Unit {0})
 
+-- the octets after what reading finds, without its value
 abbrev pub skipping : {X : Type 0} → (List ℕ → Result (X × List ℕ) DerError) → List ℕ
     → Result (Unit {0} × List ℕ) DerError
 skipping reading = refined reading (λ x. Ok tt)
@@ -96,27 +100,30 @@ IsSequenceFrom next G state = Refines IsSequence (EachFrom next G state)
 abbrev pub IsSequenceOf : {X : Type 0} → (List ℕ → X → Type 0) → List ℕ → List X → Type 0
 IsSequenceOf G = Refines IsSequence (Each G)
 
--- all values of a content
+-- all values of a content, each read in the state that follows from the values before
 unfoldable pub values_from : {S X : Type 0} → (S → X → S) → (S → List ℕ → Result (X × List ℕ) DerError) → S → List ℕ
     → Result (List X) DerError
 values_from next reading state content = each_from next (length content) reading state content
 
--- at least one value
+-- the values, or EmptyBlocks if there is none
 abbrev pub some_of : {X : Type 0} → List X → Result (List X) DerError
 some_of [] = Err EmptyBlocks
 some_of (x ∷ xs) = Ok (x ∷ xs)
 
+-- the values of a content, or EmptyBlocks if there is none
 abbrev pub some_in : {X : Type 0} → (List ℕ → Result (List X) DerError) → List ℕ → Result (List X) DerError
 some_in values content = values content >>= some_of
 
+-- the values of a SEQUENCE, each read in the state that follows from the values before
 abbrev pub sequence_from : {S X : Type 0} → (S → X → S) → (S → List ℕ → Result (X × List ℕ) DerError) → S → List ℕ
     → Result (List X × List ℕ) DerError
 sequence_from next reading state = refined (tagged_at 48) (values_from next reading state)
 
--- the same without a state
+-- all values of a content, without a state
 abbrev pub values_of : {X : Type 0} → (List ℕ → Result (X × List ℕ) DerError) → List ℕ → Result (List X) DerError
 values_of reading = values_from (λ (state : Unit {0}) x. state) (λ state. reading) tt
 
+-- the values of a SEQUENCE, without a state
 abbrev pub sequence_of : {X : Type 0} → (List ℕ → Result (X × List ℕ) DerError) → List ℕ
     → Result (List X × List ℕ) DerError
 sequence_of reading = refined (tagged_at 48) (values_of reading)

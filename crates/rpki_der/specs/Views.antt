@@ -11,12 +11,15 @@ use Rattle.rpki_der.specs.Der.{Tlv, Bits, Front, HasNone, NoFront}
 abbrev pub left : Cursor → List ℕ
 left cursor = cursor.octets.now
 
+-- the tag and the content of a decoded value
 abbrev pub tlv : Content → Tlv
 tlv value = record { tag = value.tag; content = value.octets.now }
 
+-- the octets of the content of a decoded value
 abbrev pub content_octets : Content → List ℕ
 content_octets value = value.octets.now
 
+-- the number of unused bits and the octets of a bit string
 abbrev pub bit_string_of : BitString → Bits
 bit_string_of b = record { unused = b.unused; octets = b.octets.now }
 

@@ -61,7 +61,7 @@ impl<'a> Content<'a> {
     ///
     /// # Errors
     ///
-    /// [`DerError::BadInteger`]: the content is no such INTEGER.
+    /// [`DerError::BadInteger`]: the content is not such an INTEGER, or is not in the fewest octets.
     #[tactic(auto, using(crate::proofs::ContentReadings::unsigned_check))]
     pub fn to_u32(&self) -> Result<u32, DerError>
         ensures reads { Parses IsUnsigned (λ n. n) (content_octets self.now) result }
@@ -92,8 +92,9 @@ impl<'a> Content<'a> {
         self.to_bit_string_by_mode()
     }
 
-    /// Returns whether the content is that of a BIT STRING with more than `limit` bits. Any other content gives
-    /// false.
+    /// Returns whether the content is that of a BIT STRING with more than `limit` used bits.
+    ///
+    /// The call returns false for any other content.
     pub fn has_more_bits_than(&self, limit: u8) -> bool
         ensures { result ≡ is_longer limit (content_octets self.now) }
     {
@@ -105,7 +106,7 @@ impl<'a> Content<'a> {
         }
     }
 
-    /// Reads the content as an OCTET STRING (X.690, 8.7). Any octets are one, so this call never fails.
+    /// Reads the content as an OCTET STRING (X.690, 8.7). Any octets are valid, so the call never fails.
     pub fn to_octets(&self) -> Result<&'a [u8], DerError>
         ensures exact { Gives (λ o. o.now) result (Ok (content_octets self.now)) }
     {
@@ -126,8 +127,8 @@ impl<'a> Content<'a> {
     }
 }
 
-// The implementations of the calls above. Each is separate from its call, because the call's further clause, `reads`,
-// follows from `exact` by a theorem on the grammar.
+// The implementations of the calls above. Each has the clause `exact` or `by_mode`. The further clauses of the call
+// follow from this clause by theorems on the grammar.
 impl<'a> Content<'a> {
     ghost use Rattle.rpki_der.specs.Reading.{Gives, bits_by, nothing, unsigned};
     ghost use Rattle.rpki_der.specs.Views.{bit_string_of, content_octets, is_strict_in};

@@ -101,7 +101,8 @@ impl<'a> Cursor<'a> {
     ///
     /// - [`DerError::Truncated`]: octets are missing.
     /// - [`DerError::BadTag`]: the low five bits of the tag octet are all ones.
-    /// - [`DerError::BadLength`]: the length is indefinite, or is not in the fewest octets.
+    /// - [`DerError::BadLength`]: the length is indefinite, is not in the fewest octets, or has more than eight octets
+    ///   after the first one.
     #[tactic(auto, using(crate::proofs::ValueReadings::value_reading))]
     pub fn take_value(&mut self) -> Result<Content<'a>, DerError>
         ensures reads { ReadsValue IsTlv tlv self.old self.new result }
@@ -151,7 +152,7 @@ impl<'a> Cursor<'a> {
     /// The cursor is unchanged after an error. The errors are those of `take_value`, and:
     ///
     /// - [`DerError::BadTag`]: the value has another tag.
-    /// - [`DerError::BadInteger`]: the content is no such INTEGER.
+    /// - [`DerError::BadInteger`]: the content is not such an INTEGER, or is not in the fewest octets.
     #[tactic(auto, using(crate::proofs::ValueReadings::u32_reading))]
     pub fn take_u32(&mut self) -> Result<u32, DerError>
         ensures reads { ReadsValue IsU32 (λ n. n) self.old self.new result }
@@ -219,7 +220,7 @@ impl<'a> Cursor<'a> {
         self.take_null_exact()
     }
 
-    /// Ends the reading.
+    /// Returns Ok if no octet is left. The call consumes the cursor.
     ///
     /// # Errors
     ///
@@ -234,8 +235,8 @@ impl<'a> Cursor<'a> {
     }
 }
 
-// The implementations of the takes: the value, or the error, that the octets give. Each is separate from its take,
-// because the take's further clause, `reads`, follows from this one by a theorem on the grammar.
+// The implementations of the takes. Each returns the value or the error that the octets give, which is its clause
+// `exact` or `by_mode`. The further clauses of the take follow from this clause by theorems on the grammar.
 impl<'a> Cursor<'a> {
     ghost use Rattle.std.specs.Prelude.{◌≡◌, option_map, IfOk, IfSome};
     ghost use Rattle.rpki_der.specs.Reading.{bit_string_by, null_at, optional, tagged_at, u32_at, value_at};

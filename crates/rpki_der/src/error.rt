@@ -10,31 +10,32 @@ use std::fmt;
 /// Why octets are refused: the first fault from left to right.
 #[derive(Clone, Copy, Debug, PartialEq, Eq)]
 pub enum DerError {
-    /// Octets are missing.
+    /// Octets are missing: the tag, the length or the content of a value is not complete.
     Truncated = 1,
-    /// The tag is not the expected one, or continues in further octets.
+    /// The tag is not the expected one, or continues in further octets (X.690, 8.1.2.4).
     BadTag = 2,
-    /// The length is indefinite, is not in the fewest octets, or has more than eight octets.
+    /// The length is indefinite, is not in the fewest octets, or has more than eight octets after the first one (X.690,
+    /// 8.1.3 and 10.1).
     BadLength = 3,
-    /// The content is not an integer from 0 to 4294967295 in the fewest octets.
+    /// The content is not an INTEGER from 0 to 4294967295 in the fewest octets (X.690, 8.3).
     BadInteger = 4,
-    /// The content is not a count of unused bits followed by octets that have them.
+    /// The content is not that of a BIT STRING: a count of unused bits, 0 to 7, and the octets (X.690, 8.6.2).
     BadBitString = 5,
-    /// A NULL has content.
+    /// A NULL has content (X.690, 8.8).
     BadNull = 6,
     /// Octets are left after the last value.
     TrailingData = 7,
-    /// The bit string is too long for a prefix.
+    /// The BIT STRING of a prefix or of a bound has more bits than an address of the family (RFC 3779, 2.1.1).
     BadPrefix = 8,
-    /// The octets name no address family.
+    /// The octets do not name IPv4 or IPv6 (RFC 3779, 2.2.3.3).
     BadFamily = 9,
     /// The first bound of a range is above the second.
     ReversedRange = 10,
-    /// The first bound of a range is above the second.
-    EmptyBlocks = 11,
     /// The list of blocks is empty, but at least one block is required.
-    DuplicateFamily = 12,
+    EmptyBlocks = 11,
     /// An address family occurs for the second time.
+    DuplicateFamily = 12,
+    /// The list of address families is empty, but at least one family is required.
     NoFamily = 13,
     /// A strict cursor found octets that are not canonical.
     NotCanonical = 14,

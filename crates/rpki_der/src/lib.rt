@@ -7,7 +7,7 @@
 //!
 //! Values have a tag of one octet and a definite length in the fewest octets. Readers copy no octets.
 //!
-//! A take returns a value or an error, as in `test_der::values`:
+//! A take returns a value or an error. This example is in `test_der::values`:
 //!
 //! ```rust
 //! let mut cursor = Cursor::new(octets);

@@ -55,7 +55,7 @@ fn length_of(octets: &[u8]) -> Result<(usize, &[u8]), DerError>
     long_length_of(first - 128, rest)
 }
 
-/// Reads the value at the front of octets, for a cursor of this mode, and returns it with the octets after it.
+/// Reads the value at the front of octets, for a cursor of the given mode. Returns it with the octets after it.
 #[tactic(auto, unfolding(crate::specs::Reading::value_at))]
 pub(crate) fn value_of(octets: &[u8], strict: bool) -> Result<(Content<'_>, &[u8]), DerError>
     ensures exact { Gives (λ x. (tlv x.0, x.1.now)) result (value_at octets.now) }

@@ -84,7 +84,12 @@ pub fn append_header<A: Allocator>(out: &mut Vec<u8, A>, tag: u8, content_len: u
     }
 }
 
-/// Appends the octets of a length of 128 or more, which few values have. The capacity suffices for them.
+/// Appends the octets of a length of 128 or more, which few values have.
+///
+/// # Preconditions
+///
+/// - `content_len` is at least 128.
+/// - The capacity of `out` suffices for these octets.
 #[cold]
 #[tactic(auto, unfolding(crate::specs::Der::length_octets, crate::specs::Der::octets))]
 fn append_long_length<A: Allocator>(out: &mut Vec<u8, A>, content_len: usize)
@@ -99,7 +104,7 @@ fn append_long_length<A: Allocator>(out: &mut Vec<u8, A>, content_len: usize)
     append(out, digits);
 }
 
-/// Appends octets, for which the capacity suffices.
+/// Appends `octets`, without allocation. The capacity of `out` must suffice for them.
 fn append<A: Allocator>(out: &mut Vec<u8, A>, octets: &[u8])
     requires fits { vec_len out.old + length octets.now ≤ vec_capacity out.old }
     ensures items { out.new.items ≡ out.old.items ++ octets.now }
@@ -109,7 +114,7 @@ fn append<A: Allocator>(out: &mut Vec<u8, A>, octets: &[u8])
     let _appended = out.extend_from_slice(octets);
 }
 
-/// Returns the octets to put before `digits` so that the first bit is 0.
+/// Returns the octets to put before `digits` so that there is an octet and the first bit is 0.
 fn sign_of(digits: &[u8]) -> &'static [u8]
     ensures sign { result.now ++ digits.now ≡ with_sign digits.now }
     ensures short { length result.now ≤ 1 }
@@ -120,7 +125,7 @@ fn sign_of(digits: &[u8]) -> &'static [u8]
     }
 }
 
-/// Returns the number of octets of a value with `content_len` octets of content.
+/// Returns the number of octets of a value with `content_len` octets of content, which is below 2^63 + 16.
 fn value_len(tag: u8, content_len: usize) -> usize
     requires { content_len < 2 ^ 63 + 16 }
     ensures len { result ≡ length (header tag content_len) + content_len }
@@ -149,7 +154,7 @@ pub fn u32_len(number: u32) -> usize
     value_len(tag::INTEGER, integer_len(number))
 }
 
-/// Appends an INTEGER (X.690, 8.3).
+/// Appends the INTEGER `number` (X.690, 8.3).
 ///
 /// # Errors
 ///
@@ -190,8 +195,9 @@ pub fn bit_string_len(unused: u8, octets: &[u8]) -> usize
     value_len(tag::BIT_STRING, 1 + octets.len())
 }
 
-/// Appends a BIT STRING (X.690, 8.6.2) with these octets, unchanged. `unused` is the number of unused bits in the
-/// last one.
+/// Appends a BIT STRING (X.690, 8.6.2) with these octets, unchanged.
+///
+/// `unused` is the number of unused bits in the last octet. The call does not clear unused bits that are set.
 ///
 /// # Preconditions
 ///
@@ -244,7 +250,7 @@ pub fn octets_len(octets: &[u8]) -> usize
     value_len(tag::OCTET_STRING, octets.len())
 }
 
-/// Appends an OCTET STRING (X.690, 8.7).
+/// Appends an OCTET STRING with these octets (X.690, 8.7).
 ///
 /// # Errors
 ///

@@ -15,11 +15,11 @@ impl AddressFamily {
     ghost use Rattle.rpki_der.specs.Views.{ReadsValue, Takes, is_strict, left};
     ghost use Rattle.rpki_der.specs.FamilyDer.{IsFamilyDer, SaysFamily, family_at, family_der, family_octets};
 
-    /// Returns the family that two octets name (RFC 3779, 2.2.3.3): 0 and 1 name IPv4, 0 and 2 name IPv6.
+    /// Returns the family that `octets` name (RFC 3779, 2.2.3.3): 0 and 1 name IPv4, 0 and 2 name IPv6.
     ///
     /// # Errors
     ///
-    /// [`DecodeFamilyError`]: `octets` name no family.
+    /// [`DecodeFamilyError`]: `octets` are any other octets.
     pub fn from_octets(octets: &[u8]) -> Result<AddressFamily, DecodeFamilyError>
         ensures { MatchResult result (SaysFamily octets.now)
             (λ _. (family : SomeFamily) → ¬ SaysFamily octets.now family) }
@@ -34,7 +34,7 @@ impl AddressFamily {
     /// The cursor is unchanged after an error. The errors are those of [`Cursor::take_value`], and:
     ///
     /// - [`DerError::BadTag`]: the value has another tag.
-    /// - [`DerError::BadFamily`]: the octets name no family.
+    /// - [`DerError::BadFamily`]: the content names no family.
     #[tactic(auto, using(crate::proofs::CursorReadings::reads_by, crate::proofs::FamilyDerLemmas::family_reading, crate::proofs::FamilyDerLemmas::family_again))]
     pub fn take_from(cursor: &mut Cursor<'_>) -> Result<AddressFamily, DerError>
         ensures reads { ReadsValue IsFamilyDer (λ f. f) cursor.old cursor.new result }
@@ -64,7 +64,13 @@ impl AddressFamily {
         Self::take_opt_from_exact(cursor)
     }
 
-    /// Skips what `take_opt_from` takes, with the same errors.
+    /// Skips the family that `take_opt_from` takes.
+    ///
+    /// Returns None, and skips nothing, if the next octet is not the tag of an OCTET STRING or no octet is left.
+    ///
+    /// # Errors
+    ///
+    /// The errors of `take_from`. The cursor is unchanged after an error.
     #[tactic(auto, using(crate::proofs::SequenceCursors::reads_tagged_by, crate::proofs::FamilyDerLemmas::family_skipped))]
     pub fn skip_opt_in(cursor: &mut Cursor<'_>) -> Result<Option<()>, DerError>
         ensures reads { ReadsTagged 4 (Skips IsFamilyDer) cursor.old cursor.new result }
@@ -84,7 +90,8 @@ impl AddressFamily {
         octets_len(self.octets())
     }
 
-    /// Appends the OCTET STRING of the family to `out`. The call succeeds if the capacity of `out` suffices.
+    /// Appends the OCTET STRING of the family to `out` (RFC 3779, 2.2.3.3). The call succeeds if the capacity of `out`
+    /// suffices.
     ///
     /// # Errors
     ///

@@ -73,8 +73,10 @@ pub trait ReadClaim {
         (λ strict. reading_by reader strict family) };
 }
 
-/// Takes a SEQUENCE of at least one address family, each at most once and with its claim. A lenient cursor accepts
-/// them in any order.
+/// Takes a SEQUENCE of at least one address family, each at most once and with its claim (RFC 3779, 2.2.3.1 to
+/// 2.2.3.3).
+///
+/// A lenient cursor accepts the families in any order. A strict cursor requires IPv4 before IPv6.
 ///
 /// # Errors
 ///
@@ -107,8 +109,8 @@ pub fn take_families<R: ReadClaim>(
     take_families_by_mode(reader, cursor)
 }
 
-// The implementation of `take_families`, whose further clauses, `reads` and `exact`, follow from `by_mode` by
-// theorems on the grammar.
+// The implementation of `take_families`. The further clauses of that call, `reads` and `exact`, follow from `by_mode`
+// by theorems on the grammar.
 #[tactic(auto, unfolding(crate::specs::Reading::refined))]
 fn take_families_by_mode<R: ReadClaim>(
     reader: &R,
@@ -162,7 +164,7 @@ fn members_within<R: ReadClaim>(
     Ok(found)
 }
 
-/// Takes a member whose family is not among those in `found`.
+/// Takes a member whose family is not among those in `found`. The cursor is unchanged after an error.
 #[tactic(auto, unfolding(crate::specs::Reading::refined))]
 fn next_member<R: ReadClaim>(
     reader: &R,
@@ -215,7 +217,7 @@ fn is_among<C>(found: &ByFamily<C>, family: AddressFamily) -> bool
     }
 }
 
-/// Refuses IPv4 after IPv6 in the content of a strict cursor.
+/// Refuses IPv4 after IPv6 if the cursor `content` is strict.
 #[tactic(auto, unfolding(crate::specs::Reading::passing))]
 fn look_at_order<C>(
     content: &Cursor<'_>,

@@ -79,7 +79,7 @@ pub trait ReadNext {
         (λ strict. reading_by reader strict state) };
 }
 
-/// Returns all values of a content, to its end.
+/// Reads the values of `content` to its end, and returns them in order.
 ///
 /// # Errors
 ///
@@ -101,7 +101,7 @@ pub fn read_values<R: ReadNext, A: Allocator>(
     read_values_by_mode(alloc, reader, content)
 }
 
-// The implementation of `read_values`, whose further clause, `exact`, follows from `by_mode`.
+// The implementation of `read_values`. The further clause of that call, `exact`, follows from `by_mode`.
 fn read_values_by_mode<R: ReadNext, A: Allocator>(
     alloc: A,
     reader: &R,
@@ -121,7 +121,7 @@ fn read_values_by_mode<R: ReadNext, A: Allocator>(
     Ok(values)
 }
 
-/// Returns all values of a content, as [`read_values`] does, if there is at least one.
+/// Reads the values of `content` as [`read_values`] does, and requires at least one.
 ///
 /// # Errors
 ///
@@ -144,13 +144,13 @@ pub fn read_some<R: ReadNext, A: Allocator>(
     Ok(values)
 }
 
-/// Takes a SEQUENCE of values, which may be empty.
+/// Takes a SEQUENCE of values (X.690, 8.9 and 8.10), and returns the values in order. The SEQUENCE may be empty.
 ///
 /// # Errors
 ///
 /// The cursor is unchanged after an error.
 ///
-/// - `Refused`: the first fault of the octets.
+/// - `Refused`: the first fault of the octets. It is an error of [`Cursor::take_sequence`] or of a value.
 /// - `Memory`: out of memory for the values.
 pub fn take_sequence_of<R: ReadNext, A: Allocator>(
     alloc: A,
@@ -173,8 +173,8 @@ pub fn take_sequence_of<R: ReadNext, A: Allocator>(
     take_sequence_of_by_mode(alloc, reader, cursor)
 }
 
-// The implementation of `take_sequence_of`, whose further clauses, `reads` and `exact`, follow from `by_mode` by
-// theorems on the grammar.
+// The implementation of `take_sequence_of`. The further clauses of that call, `reads` and `exact`, follow from
+// `by_mode` by theorems on the grammar.
 #[tactic(auto, unfolding(crate::specs::Reading::refined))]
 fn take_sequence_of_by_mode<R: ReadNext, A: Allocator>(
     alloc: A,

@@ -7,7 +7,7 @@ use crate::tag;
 use crate::write::{append_header, header_len};
 use std::alloc::{AllocError, Allocator};
 
-/// A value that has a DER encoding.
+/// A type whose values have a DER encoding.
 pub trait Encode {
     // The encoding of a value.
     ghost octets: { Self → List ℕ };
@@ -84,7 +84,8 @@ pub fn sequence_len<V: Encode>(values: &[V]) -> Option<usize>
     header_len(tag::SEQUENCE, content_len).checked_add(content_len)
 }
 
-/// Appends a SEQUENCE of the values to `out`. The call succeeds if the capacity of `out` suffices.
+/// Appends a SEQUENCE of the values to `out` (X.690, 8.9 and 8.10). The call succeeds if the capacity of `out`
+/// suffices.
 ///
 /// # Errors
 ///
@@ -116,7 +117,7 @@ pub fn encode_sequence<V: Encode, A: Allocator>(
 /// # Preconditions
 ///
 /// - `content_len` is the number of octets of the encodings of `values`.
-/// - The capacity of `out` suffices for these octets.
+/// - The capacity of `out` suffices for the SEQUENCE.
 pub fn append_sequence<V: Encode, A: Allocator>(
     values: &[V],
     content_len: usize,

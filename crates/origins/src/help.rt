@@ -33,22 +33,30 @@ Options:
                length:  the VRP has the AS of the route, but the route is longer than its maxLength
                as:      the VRP has another AS, or AS0
   --check      exit with status 3 if a route is invalid or a line is not a route. Without this
-               option the status is then 0
+               option the status is 0 in these cases too
   --table      print the VRPs, sorted and each once: 192.0.2.0/23-24 AS64496
   --of ASN     with --table: print only the VRPs of this AS
-  --diff       print a line withdraw .. for each VRP that only OLD has, and then a line announce ..
-               for each VRP that only NEW has
+  --diff       compare two files: print withdraw VRP for each VRP that only OLD has, and then
+               announce VRP for each VRP that only NEW has
   -h, --help   print the help
   --version    print the version
 
-The program prints on standard error how many VRPs it read. Check this number: a file that was cut
-at the end of a line is not reported. The program ignores the date at which a VRP expires: an old
-file is used like a new one.
+The program prints on standard error how many VRPs it read. Check this number: the program cannot
+detect that a CSV file was cut at the end of a line, or after the maxLength of a line. The program
+ignores the date at which a VRP expires: an old file is used like a new one.
 
 Exit status:
 
-  0  every line was answered
+  0  every line was answered, or with --table or --diff every line was printed. With --diff the
+     status is 0 also if the files differ
   1  a file or a stream could not be read or written, memory ran out, or a file of VRPs is invalid.
      For an invalid file the program reports the first invalid line or item, and answers no route
   2  wrong usage
-  3  with --check: a route is invalid or a line is not a route";
+  3  with --check: a route is invalid or a line is not a route
+
+For example, if vrps.csv has only the line AS64496,192.0.2.0/23,24:
+
+  $ echo 192.0.2.0/25 AS64496 | origins --why vrps.csv
+  invalid-length length:192.0.2.0/23-24:AS64496
+  $ origins --table vrps.csv
+  192.0.2.0/23-24 AS64496";

@@ -11,8 +11,9 @@
  *
  * Example: does a certificate claim more than its issuer has?
  *
- *   // IP address blocks: 10.0.0.0/8; the same and 12.0.0.0/8
+ *   // IP address blocks with 10.0.0.0/8
  *   static const uint8_t ten[] = {0x30, 12, 0x30, 10, 4, 2, 0, 1, 0x30, 4, 3, 2, 0, 10};
+ *   // IP address blocks with 10.0.0.0/8 and 12.0.0.0/8
  *   static const uint8_t both[] = {0x30, 16, 0x30, 14, 4, 2, 0, 1, 0x30, 8, 3, 2, 0, 10, 3, 2, 0, 12};
  *   uint8_t as[4096], ip[4096];
  *   pigy_set issuer = {.ip = ten, .ip_len = sizeof ten}, cert = {.ip = both, .ip_len = sizeof both};
@@ -31,9 +32,9 @@
  * means that the set has no AS numbers, or no addresses. This holds for inputs and outputs. A set that a call writes is
  * canonical DER. Two such sets are equal if and only if their octets are equal.
  *
- * CERTIFICATES. A certificate is the same two values, and a bit mask of the extensions that it has (PIGY_HAS_AS,
- * PIGY_HAS_IP). An absent extension claims nothing. A value of length 0 is invalid if its extension is present.
- * Overclaimed resources are those that a certificate claims and its issuer does not have.
+ * CERTIFICATES. The calls take a certificate as the values of these two extensions, and a bit mask of the extensions
+ * that it has (PIGY_HAS_AS, PIGY_HAS_IP). An absent extension claims nothing. A value of length 0 is invalid if its
+ * extension is present. Overclaimed resources are those that a certificate claims and its issuer does not have.
  *
  * BUFFERS. The caller owns all inputs and all output buffers. For each output the caller passes a buffer, its capacity,
  * and a pointer to a size_t. The call stores the length there. Lengths and capacities are in octets, unless the call
@@ -42,8 +43,9 @@
  * - If all outputs fit, the call writes each output at the front of its buffer, and stores its length. The rest of the
  *   buffer is unchanged.
  * - If an output does not fit, the call returns PIGY_TOO_SMALL. Then no buffer is changed, and the lengths are the
- *   required ones. A second call with these capacities does not return PIGY_TOO_SMALL.
- * - Pass capacity 0 to ask for the lengths alone.
+ *   required ones. Call again with the same inputs, and with buffers of these capacities. The second call does not
+ *   return PIGY_TOO_SMALL.
+ * - Pass capacity 0 to get the lengths alone. An output of length 0 fits a buffer of capacity 0.
  *
  * MEMORY. Except for tables, the library keeps nothing between calls and hands out no memory. Each call frees all that
  * it takes from malloc before it returns. PIGY_MEMORY means that malloc failed. It says nothing about the arguments.
@@ -68,15 +70,15 @@
  *   write the memory at the handle.
  * - Outputs overlap neither inputs nor other outputs. Until the call returns, nothing else writes to inputs or outputs,
  *   and nothing else reads outputs.
- * - malloc, realloc and free belong to one allocator. If 2, 4, 8 or 16 divides the size of a block, that number also
- *   divides its address. The C library's allocator does this.
+ * - malloc, realloc and free belong to one allocator. It aligns each block by its size: if the size is a multiple of
+ *   16, 8, 4 or 2 octets, the address is a multiple of the same number. The C library's allocator does this.
  * - The stack has 128 KiB left. The calls of foreign/c/test.c use less than 8 KiB of it. This is measured on x86-64,
  *   and is not proved.
  * - No call is made in a signal handler, or in the forked child of a process with threads.
  *
- * THREADS. The calls share no state. Any number of them may run at the same time if each meets the obligations. Inputs
- * may be shared between calls, and outputs may not. A test runs the calls on eight threads. There is no proof that they
- * may run at the same time.
+ * THREADS. The calls share no state. Any number of them may run at the same time if each meets the obligations. Several
+ * calls may read one input, and no two calls may write to one output. A test runs the calls on eight threads. There is
+ * no proof that they may run at the same time.
  *
  * - Any number of threads may use one table, and may make the next table from it at the same time.
  * - If a thread passes a handle to another thread, order the two by a lock, by the start or join of a thread, or by a
@@ -91,7 +93,7 @@
 extern "C" {
 #endif
 
-/* Statuses. A number, once it is given out, never changes its meaning. */
+/* Statuses. The meaning of a released number never changes. The codes of RFC 8210 are those of its section 12. */
 #define PIGY_OK 0u            /* Success. For pigy_contains and pigy_equal: yes. */
 #define PIGY_TOO_SMALL 1u     /* A buffer is too small. No buffer is changed, and the lengths are the required ones. */
 #define PIGY_MEMORY 2u        /* Out of memory: malloc failed. No buffer is changed. */
@@ -109,24 +111,26 @@ extern "C" {
 #define PIGY_BAD_PREFIX 14u   /* The prefix is longer than its family allows, or has host bits set. */
 #define PIGY_BAD_MAX_LEN 15u  /* The maximum length is below the prefix length, or is above 32 (IPv4) or 128 (IPv6). */
 #define PIGY_NO_TABLE 16u     /* The handle is NULL. */
-#define PIGY_UNKNOWN_WITHDRAWAL 17u     /* A withdrawn VRP is not in the table, or is listed twice (RFC 8210, 12: 6). */
-#define PIGY_DUPLICATE_ANNOUNCEMENT 18u /* An announced VRP is in the table, or is listed twice (RFC 8210, 12: 7). */
+#define PIGY_UNKNOWN_WITHDRAWAL 17u     /* A withdrawn VRP is not in the table, or comes twice (RFC 8210: code 6). */
+#define PIGY_DUPLICATE_ANNOUNCEMENT 18u /* An announced VRP is in the table, or comes twice (RFC 8210: code 7). */
 #define PIGY_BAD_AS 0x100u    /* The AS identifiers are invalid. The number of the first error is added. */
 #define PIGY_BAD_IP 0x200u    /* The IP address blocks are invalid. The number of the first error is added. */
-/* PIGY_SECOND is added to a status if the error is in the second of two arguments:
+/* PIGY_SECOND is added to PIGY_BAD_AS + n, PIGY_BAD_IP + n, PIGY_INHERITED, PIGY_BAD_FAMILY, PIGY_BAD_PREFIX and
+ * PIGY_BAD_MAX_LEN, and to no other status. With PIGY_SECOND the error is in one argument, and without it in another:
  *
- * - PIGY_BAD_AS, PIGY_BAD_IP: in the certificate (not in the issuer's set), or in the second set.
- * - PIGY_INHERITED: in the second set.
- * - PIGY_BAD_FAMILY, PIGY_BAD_PREFIX: in a route (not in a VRP), or in a withdrawn VRP.
- * - PIGY_BAD_MAX_LEN: in a withdrawn VRP (not in an announced one). */
+ * - pigy_verify, pigy_verify_path: in a certificate. Without PIGY_SECOND: in the set of the issuer or trust anchor.
+ * - The calls with two sets, such as pigy_union and pigy_contains: in the second set. Without: in the first set.
+ * - pigy_origins: in a route. Without: in a VRP.
+ * - pigy_table_origins, pigy_table_covering: in a route.
+ * - pigy_table_changed: in a withdrawn VRP. Without: in an announced VRP. */
 #define PIGY_SECOND 0x1000u
 /* The number n of the first error, from a status PIGY_BAD_AS + n or PIGY_BAD_IP + n, also with PIGY_SECOND:
  *
  * - 1: The value is truncated.
  * - 2: Another tag is expected.
- * - 3: A length is invalid, for example that of BER.
- * - 4: An INTEGER is not an AS number in the fewest octets.
- * - 5: A BIT STRING is invalid.
+ * - 3: A length is invalid: it is indefinite, is not in the fewest octets, or has more than eight octets.
+ * - 4: An INTEGER is not from 0 to 4294967295, or is not in the fewest octets.
+ * - 5: The number of unused bits of a BIT STRING is missing or invalid.
  * - 6: A NULL has content.
  * - 7: Octets follow the value.
  * - 8: A prefix is longer than its family allows.
@@ -167,7 +171,7 @@ extern "C" {
 #define PIGY_NOT_FOUND 1u
 #define PIGY_INVALID 2u
 
-/* Why a VRP that covers a route does not match it: one of these, their sum, or 0 if it matches.
+/* The reason why a VRP that covers a route does not match it: one of these, their sum, or 0 if it matches.
  *
  * - PIGY_OTHER_AS: The AS of the VRP is not the route's, or is AS 0.
  * - PIGY_TOO_LONG: The route's prefix is longer than the maximum length of the VRP. */
@@ -186,7 +190,8 @@ uint32_t pigy_version(void);
  * Verifies the resources of a certificate against those of its issuer.
  *
  * pigy_verify_set is a shorter form. The issuer's set is the verified resources of the issuer: the outputs of this call
- * with PIGY_OK, for the issuer's certificate. Only for a trust anchor, pass the extensions of its certificate.
+ * for the issuer's certificate, if the status was PIGY_OK. If the issuer is a trust anchor, pass the extensions of its
+ * certificate instead.
  *
  * The outputs are the verified resources of the certificate, as a set. For AS numbers, IPv4 and IPv6 each, the result
  * depends on the claim of the certificate:
@@ -246,8 +251,9 @@ typedef struct {
 /**
  * Verifies the resources of certificates on a path, from a trust anchor down.
  *
- * The anchor's set verifies the first certificate. The result verifies the next certificate, and so on. The outputs are
- * the verified resources of the last certificate, as a set. If there are no certificates, they are the anchor's set.
+ * The claim of the first certificate is compared with the anchor's set. The claim of each later certificate is compared
+ * with the verified resources of the certificate before it. The outputs are the verified resources of the last
+ * certificate, as a set. If there are no certificates, the outputs are the anchor's set.
  *
  * @param anchor_as      Trust anchor's AS identifiers: DER. Not NULL.
  * @param anchor_as_len  Length in octets; 0 if the anchor has no AS numbers.
@@ -275,10 +281,11 @@ typedef struct {
  *      - PIGY_SECOND + PIGY_BAD_AS + n, PIGY_SECOND + PIGY_BAD_IP + n: the certificate's extensions.
  *      - PIGY_OVERCLAIM_AS, PIGY_OVERCLAIM_V4, PIGY_OVERCLAIM_V6, with PIGY_REFUSE only. The outputs are exactly the
  *        overclaimed resources of that kind, as a set. If these do not fit, the status is PIGY_TOO_SMALL.
- *   4. PIGY_TOO_SMALL, then PIGY_OK.
+ *   4. PIGY_TOO_SMALL, then PIGY_OK. *verified is `count`.
  *
  * With any status except PIGY_OK, PIGY_TOO_SMALL and the three of overclaimed resources, both lengths are 0 and the
- * buffers are unchanged. With PIGY_MEMORY *verified is unspecified.
+ * buffers are unchanged. With PIGY_MEMORY *verified is unspecified. With PIGY_TOO_SMALL *verified is below `count` if
+ * and only if the outputs that do not fit are overclaimed resources.
  */
 uint32_t pigy_verify_path(const uint8_t *anchor_as, size_t anchor_as_len, const uint8_t *anchor_ip,
                           size_t anchor_ip_len, const uint8_t *run, size_t run_len,
@@ -328,8 +335,8 @@ typedef struct {
 /* A route: a prefix, and the AS that originates it.
  *
  * - address, family, len: The prefix, as in a VRP.
- * - asn: AS number, in host byte order. Use AS 0 if the path of the route ends in an AS_SET: no VRP matches AS 0
- *   (RFC 6811, 2). */
+ * - asn: AS number, in host byte order. Use AS 0 if the path of the route ends in an AS_SET. RFC 6811, 2 calls the
+ *   origin of such a route "NONE". No VRP matches AS 0. */
 typedef struct {
   uint8_t address[16];
   uint32_t asn;
@@ -374,7 +381,9 @@ typedef struct {
 } pigy_covering;
 
 /**
- * Makes a table of VRPs. Duplicates are kept: a VRP that comes twice is listed and reported twice.
+ * Makes a table of VRPs.
+ *
+ * Duplicates are kept: if a VRP comes twice, pigy_table_vrps and pigy_table_covering list it twice.
  *
  * @param vrps   VRPs, in any order. The table copies them. Not NULL.
  * @param count  Number of VRPs.
@@ -390,13 +399,15 @@ typedef struct {
 uint32_t pigy_table_new(const pigy_vrp *vrps, size_t count, pigy_table **table, size_t *index);
 
 /**
- * Makes the next table: `table` without the withdrawn VRPs, and then with the announced ones (RFC 8210, 5.6).
+ * Makes the next table: `table` without the withdrawn VRPs, and then with the announced ones.
  *
  * - The next table has a handle of its own, and `table` does not change.
+ * - The call applies all withdrawals before all announcements. In general, the response of a cache to a Serial Query
+ *   has at most one withdrawal of a VRP, and then at most one announcement of it (RFC 8210, 5.3).
  * - A withdrawal removes all copies of a VRP.
  * - Each array may list a VRP only once, even if the table lists it more than once.
  * - A VRP in both arrays has to be in the table. The next table lists it once.
- * - If an array has no VRPs, pass a pointer to any VRP and length 0.
+ * - If an array has no VRPs, pass a pointer to any VRP and count 0.
  *
  * @param table            The table, which is only read. The status is PIGY_NO_TABLE if it is NULL.
  * @param announced        Announced VRPs. Not NULL.
@@ -505,7 +516,8 @@ void pigy_table_free(pigy_table *table);
 /**
  * Returns the answer of the program respath to one line. README.md lists its commands.
  *
- * Both texts are UTF-8, without the end of a line.
+ * Both texts are UTF-8, without the end of a line. If the line is wrong, the status is still PIGY_OK, and the answer
+ * begins with "error: ". A line that is not UTF-8 is wrong too.
  *
  * @param line      The line, for example "der v4 10.0.0.0/8". Not NULL.
  * @param line_len  Length in octets.
@@ -513,8 +525,7 @@ void pigy_table_free(pigy_table *table);
  * @param capacity  Capacity of `out` in octets; may be 0.
  * @param len       Receives the length in octets, written or required. Not NULL.
  *
- * @return PIGY_TOO_SMALL, PIGY_MEMORY or PIGY_OK. No status is about the line: the answer says what is wrong with it.
- *   With PIGY_MEMORY *len is 0 and the buffer is unchanged.
+ * @return PIGY_TOO_SMALL, PIGY_MEMORY or PIGY_OK. With PIGY_MEMORY *len is 0 and the buffer is unchanged.
  */
 uint32_t pigy_answer(const uint8_t *line, size_t line_len, uint8_t *out, size_t capacity, size_t *len);
 

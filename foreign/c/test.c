@@ -35,8 +35,8 @@ typedef struct {
 
 typedef enum { VERIFY, PATH, MAKE, TEST, COVER, ANSWER, ORIGINS, COVERING, VRPS, CHANGED } kind;
 
-/* One row: the call, its numbers (encoding, extensions or family, mode), its inputs, and the expected outputs. In
- * verified is the expected number of verified certificates, or the expected index of an error. */
+/* One row: the call, its numbers (encoding, extensions or family, mode), its inputs, and the expected outputs. The
+ * member verified is the expected number of verified certificates, or the expected index of an error. */
 typedef struct {
   unsigned row;
   kind call;
@@ -246,7 +246,7 @@ static uint32_t of_vrps(attempt *a) {
 
 _Static_assert(sizeof(pigy_covering) == sizeof(pigy_vrp), "a VRP that covers is one with one octet more");
 
-/* Makes a call with a buffer for count VRPs, and checks its outputs. In rows.txt each VRP has this number of octets. */
+/* Makes a call with a buffer for count VRPs, and checks its outputs. `octets` is the size of a VRP in rows.txt. */
 static void ask_with_capacity(uint32_t (*call)(attempt *), const question *q, const pigy_table *table, size_t count,
                               size_t octets) {
   size_t wanted = q->expected[0].length / octets, length = count * sizeof(pigy_covering);

@@ -4,13 +4,17 @@
  * The program connects to a cache at PORT of 127.0.0.1 and asks for all VRPs. It asks for the changes when the cache
  * sends a Serial Notify, and for all VRPs after a Cache Reset. It prints each table: a line with its number, a line for
  * each VRP, and the line "end". It stops after TABLES tables or after SECONDS. In one response it accepts at most
- * 8,388,608 announced and as many withdrawn VRPs.
+ * 8,388,608 announced and as many withdrawn VRPs. It changes its table at End of Data: it removes all withdrawn VRPs,
+ * and then adds all announced ones. The order of the VRPs in the response has no effect on the table.
  *
- * It ignores the intervals in End of Data (RFC 8210, 6): it does not poll the cache, and its table does not expire. It
- * ignores Router Keys (5.10). It connects again 0.2 seconds after a session is over.
+ * - It ignores the intervals in End of Data (RFC 8210, 6): it does not poll the cache, and its table does not expire.
+ * - It ignores Router Keys (5.10).
+ * - It does not negotiate the version (7): a PDU of another version ends the session, also a Serial Notify.
+ * - An Error Report of the cache ends the session. The router keeps its table.
+ * - It connects again 0.2 seconds after a session is over. If an error ended the session, it asks for all VRPs.
  *
- * The status is 0 if it printed all tables, and 1 if it did not. It is 2 if the arguments are wrong. It is also 2 if
- * memory runs out before the first connection or while a table is printed. */
+ * The status is 0 if it printed all tables, and 1 if it did not. It is 2 if the number of arguments is wrong. It is
+ * also 2 if memory runs out before the first connection or while a table is printed. */
 #include "../pigyelund.h"
 #include <arpa/inet.h>
 #include <poll.h>
@@ -37,10 +41,10 @@ typedef struct {
  * - to_cache: The connection.
  * - has_version: Whether a PDU of this version has arrived on the connection.
  * - has_session: Whether the table belongs to session and serial.
- * - is_asked: Whether a query is open.
- * - is_answered: Whether the response to the query has begun.
+ * - is_asked: Whether a query is open: it is sent, and its End of Data has not arrived.
+ * - is_answered: Whether the response to this query has begun.
  * - answering: The session of the Cache Response, if is_answered.
- * - is_full: Whether the response lists all VRPs, and not changes.
+ * - is_full: Whether the query is a Reset Query. Its response lists all VRPs, and that of a Serial Query lists changes.
  * - has_notice: Whether the cache sent a Serial Notify while the query was open.
  * - notice: The serial of this Serial Notify.
  * - session, serial: The session and the serial of the table.
@@ -109,7 +113,7 @@ static int ask(router *r) {
 }
 
 /* Sends an Error Report with the wrong PDU and without text (RFC 8210, 5.11). Sends nothing if the PDU that is being
- * read is an Error Report. The report has at most QUOTED octets of the wrong PDU. Returns 0, since the session is
+ * read is an Error Report. The report has at most QUOTED octets of the wrong PDU. Returns 0, because the session is
  * over. */
 static int refuse_pdu(router *r, uint16_t code, const uint8_t *pdu, uint32_t length) {
   uint8_t body[4 + QUOTED + 4] = {0};
@@ -123,7 +127,7 @@ static int refuse_pdu(router *r, uint16_t code, const uint8_t *pdu, uint32_t len
   return 0;
 }
 
-/* Refuses the PDU that is being read. An internal error is not about a PDU, so its report has none (RFC 8210, 5.11). */
+/* Refuses the PDU that is being read. The report of an internal error has no PDU (RFC 8210, 5.11). */
 static int refuse(router *r, uint16_t code) { return refuse_pdu(r, code, r->pdu, code == INTERNAL ? 0 : r->length); }
 
 /* Refuses a PDU of another session, and drops all data of the cache (RFC 8210, 5.1). */
@@ -134,8 +138,8 @@ static int refuse_session(router *r) {
   return refuse(r, CORRUPT);
 }
 
-/* Appends a VRP. The capacity doubles from 1,024 up to 8,388,608 elements. The next capacity would be above MOST.
- * Returns 0 if the array is full, or memory runs out. */
+/* Appends a VRP. The capacity is 1,024 at first, and doubles if the array is full. The largest capacity that is not
+ * above MOST is 8,388,608. Returns 0 if an array of this capacity is full, or memory runs out. */
 static int add(list *to, const pigy_vrp *vrp) {
   if (to->count == to->capacity) {
     size_t capacity = to->capacity ? 2 * to->capacity : 1024;

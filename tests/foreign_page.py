@@ -152,7 +152,7 @@ def of_python() -> list[str]:
     used = max(first_of_node(node) for file in sources for node in ast.walk(ast.parse(file.read_text())))
     wanted = {
         folder / "pyproject.toml": f'requires-python = ">=3.{used}"',
-        PAGE: f"Wants `python3` from 3.{used},",
+        PAGE: f"`python3` 3.{used} or later",
         TOP / "tests" / "foreign.sh": f"sys.version_info < (3, {used})",
     }
     faults = [

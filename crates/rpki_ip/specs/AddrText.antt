@@ -20,7 +20,7 @@ abbrev pub first_of : IpAddr → ℕ
 first_of (V4 n) = n * 2 ^ 96
 first_of (V6 n) = n
 
--- the greatest number: the 32 bits are followed by 96 ones
+-- the greatest number of an address: the 32 bits of an IPv4 address are followed by 96 ones
 abbrev pub greatest_of : IpAddr → ℕ
 greatest_of (V4 n) = n * 2 ^ 96 + (2 ^ 96 - 1)
 greatest_of (V6 n) = n
@@ -29,17 +29,19 @@ greatest_of (V6 n) = n
 abbrev pub IsFirstOf : {X : Type 0} → (X → ℕ) → (X → Type 0) → ℕ → Type 0
 IsFirstOf {X} first Writes a = (x : X) × Writes x × (a ≡ first x)
 
--- the text denotes no value of the kind, and this is its fault
+-- the text denotes no value of the kind, and e is the fault of such a text
 abbrev pub IsNoText : {X : Type 0} → (X → Type 0) → AddrParseError → AddrParseError → Type 0
 IsNoText {X} Writes fault e = (e ≡ fault) × ((x : X) → ¬ Writes x)
 
--- The text is parsed as a number if and only if it denotes an address of the family, else it is refused.
+-- The text is parsed as the least number of the IPv4 address that it denotes. Any other text has the fault Ipv4.
 abbrev pub ReadsIpv4Addr : List ℕ → Result ℕ AddrParseError → Type 0
 ReadsIpv4Addr text r = Answers (IsFirstOf (λ n. n * 2 ^ 96) (IsIpv4Text text)) (IsNoText (IsIpv4Text text) Ipv4) r
 
+-- The text is parsed as the number of the IPv6 address that it denotes. Any other text has the fault Ipv6.
 abbrev pub ReadsIpv6Addr : List ℕ → Result ℕ AddrParseError → Type 0
 ReadsIpv6Addr text r = Answers (IsFirstOf (λ n. n) (IsIpv6Text text)) (IsNoText (IsIpv6Text text) Ipv6) r
 
--- the same for either family
+-- The text is parsed as the least number of the address of either family that it denotes. Any other text has the fault
+-- Ip.
 abbrev pub ReadsAddr : List ℕ → Result ℕ AddrParseError → Type 0
 ReadsAddr text r = Answers (IsFirstOf first_of (IsIpText text)) (IsNoText (IsIpText text) Ip) r

@@ -1,4 +1,5 @@
--- Definitions: families, texts of addresses, prefixes and ranges, ranges of addresses, whole IPv4 addresses, and DER.
+-- Definitions: texts and printed texts of addresses, prefixes and ranges, ranges of addresses, whole IPv4 addresses,
+-- and DER.
 pub mod AddrText
 pub mod BlockText
 pub mod Faults

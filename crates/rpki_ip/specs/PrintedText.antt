@@ -20,7 +20,7 @@ abbrev pub as_ip : AddressFamily → ℕ → IpAddr
 as_ip Ipv4 bits = V4 bits
 as_ip Ipv6 bits = V6 bits
 
--- the printed text of an address
+-- the printed text of an address as an address of the family
 abbrev pub addr_text : AddressFamily → ℕ → List ℕ
 addr_text family n = ip_text (as_ip family (shown_bits family n))
 

@@ -13,8 +13,8 @@ use std::str::FromStr;
 
 /// An address of either family, as a number of 128 bits.
 ///
-/// An IPv6 address is its number. An IPv4 address is its 32 bits followed by 96 other bits. These are zeros in the
-/// least address of a prefix or range, and ones in the greatest. So an address by itself has no family.
+/// An IPv6 address is its number. An IPv4 address is its 32 bits followed by 96 other bits. These bits are zeros in the
+/// least address of a prefix or range, and ones in the greatest. The type doesn't record the family.
 #[derive(Clone, Copy, Debug, PartialEq, Eq, PartialOrd, Ord, Hash)]
 pub struct Addr(u128);
 
@@ -31,7 +31,7 @@ impl Model for Addr {
 }
 
 impl Addr {
-    /// Returns the address with this number.
+    /// Returns the address with the number `bits`.
     pub fn from_bits(bits: u128) -> Addr
         ensures { result ≡ bits }
     {
@@ -45,7 +45,7 @@ impl Addr {
         Addr(u128::from(addr.to_bits()) << 96)
     }
 
-    /// Returns the address of an IPv6 address.
+    /// Returns an IPv6 address as a number.
     pub fn from_v6(addr: Ipv6Addr) -> Addr
         ensures { result ≡ addr }
     {
@@ -76,7 +76,7 @@ impl Addr {
 
     /// States an invariant for the proofs of callers: the number of the address has 128 bits.
     ///
-    /// This call is no test. It does nothing and returns nothing.
+    /// The call checks nothing when it runs, and returns nothing.
     #[doc(hidden)]
     pub fn recall_invariant(self)
         ensures { self < 2 ^ 128 }
@@ -114,7 +114,7 @@ impl Addr {
 
     /// Returns the least address with the same first `len` bits: the other bits are cleared.
     ///
-    /// For `len` from 128 on, the result is the address itself.
+    /// If `len` is 128 or more, the result is the address itself.
     #[tactic(auto, using(crate::proofs::AddressMasks::least_by))]
     pub fn to_min(self, len: u8) -> Addr
         ensures { result ≡ cleared 128 self len }
@@ -128,7 +128,7 @@ impl Addr {
 
     /// Returns the greatest address with the same first `len` bits: the other bits are set.
     ///
-    /// For `len` from 128 on, the result is the address itself.
+    /// If `len` is 128 or more, the result is the address itself.
     #[tactic(auto, using(crate::proofs::AddressMasks::greatest_by, crate::proofs::AddressMasks::greatest_fits))]
     pub fn to_max(self, len: u8) -> Addr
         ensures { result + 1 ≡ cleared 128 self len + 2 ^ (128 - len) }
@@ -141,6 +141,10 @@ impl Addr {
     }
 
     /// Prints the first 32 bits as an IPv4 address.
+    ///
+    /// # Errors
+    ///
+    /// `fmt::Error` if the writer fails. It may have a part of the text then.
     pub fn fmt_v4<W: fmt::Write>(self, f: &mut fmt::Formatter<W>) -> fmt::Result
         ensures { WritesOnOk W.write_str_gives f.old result (ipv4_text (self / 2 ^ 96)) f.new }
     {
@@ -149,6 +153,10 @@ impl Addr {
     }
 
     /// Prints the address as an IPv6 address.
+    ///
+    /// # Errors
+    ///
+    /// `fmt::Error` if the writer fails. It may have a part of the text then.
     pub fn fmt_v6<W: fmt::Write>(self, f: &mut fmt::Formatter<W>) -> fmt::Result
         ensures { WritesOnOk W.write_str_gives f.old result (ipv6_text self) f.new }
     {
@@ -219,7 +227,7 @@ impl From<Addr> for Ipv6Addr {
 
 /// Parses an address of either family and returns its least address.
 ///
-/// The fault of any other text is [`AddrParseError::Ip`].
+/// The error for any other text is [`AddrParseError::Ip`].
 impl FromStr for Addr {
     type Err = AddrParseError;
 

@@ -12,9 +12,9 @@ use crate::range::AddressRange;
 use rpki_cover::cover::Cover;
 use std::marker::Model;
 
-/// Iterates over the prefixes of a range's shortest cover, ascending.
+/// Iterates over the prefixes of the shortest cover of a range, ascending.
 ///
-/// Contracts see it as the list of the prefixes that are left.
+/// In contracts its value is the list of the prefixes that are left.
 #[derive(Debug, Drop)]
 pub struct V6Prefixes {
     cover: Cover,
@@ -31,7 +31,7 @@ impl Model for V6Prefixes {
     ghost invariant = { λ p. All (IsPrefix 128) p.cover };
 }
 
-/// The default has no prefixes.
+/// Returns an iterator without prefixes.
 impl Default for V6Prefixes {
     ghost is_default = { λ prefixes. prefixes ≡ [] };
 
@@ -55,9 +55,9 @@ impl Iterator for V6Prefixes {
     }
 }
 
-/// Iterates over the prefixes of the shortest cover of IPv4 addresses, ascending.
+/// Iterates over the prefixes of the shortest cover of a range of IPv4 addresses, ascending.
 ///
-/// Contracts see it as the list of the prefixes that are left, as prefixes of addresses of either family.
+/// In contracts its value is the list of the prefixes that are left, as prefixes of 128 bits.
 #[derive(Debug, Drop)]
 pub struct V4Prefixes {
     cover: Cover,
@@ -75,7 +75,7 @@ impl Model for V4Prefixes {
     ghost invariant = { λ p. All (IsPrefix 32) p.cover };
 }
 
-/// The default has no prefixes.
+/// Returns an iterator without prefixes.
 impl Default for V4Prefixes {
     ghost is_default = { λ prefixes. prefixes ≡ [] };
 
@@ -100,10 +100,10 @@ impl Iterator for V4Prefixes {
 }
 
 impl AddressRange {
-    /// Returns the shortest list of prefixes that covers the range, ascending.
+    /// Returns the prefixes of the shortest list that covers the range, ascending.
     ///
     /// The list has all prefixes inside the range that have length 0 or whose parent (one bit shorter) isn't inside. It
-    /// has at most 254 prefixes.
+    /// has at most 254 prefixes. The call allocates nothing.
     pub fn to_v6_prefixes(self) -> V6Prefixes
         ensures cover { IsShortestCover 128 (IsWithin (range_bounds self)) result }
         ensures few { length result ≤ 254 }
@@ -114,11 +114,11 @@ impl AddressRange {
         }
     }
 
-    /// Returns the shortest list of prefixes for the IPv4 addresses from the range's first to its last, ascending.
+    /// Returns the prefixes of the shortest list for the IPv4 addresses from the range's first to its last, ascending.
     ///
     /// These addresses are the first 32 bits of the bounds. The lengths are at most 32, and the list has at most 62
     /// prefixes. If the range consists of whole IPv4 addresses ([`AddressRange::is_whole_v4`]), the list is that of
-    /// [`AddressRange::to_v6_prefixes`].
+    /// [`AddressRange::to_v6_prefixes`]. The call allocates nothing.
     pub fn to_v4_prefixes(self) -> V4Prefixes
         ensures cover { IsV4CoverList (IsWithin (self.min / 2 ^ 96, self.max / 2 ^ 96)) result }
         ensures whole { HasWholeBounds (range_bounds self)

@@ -1,4 +1,4 @@
-//! Faults of texts of prefixes, ranges or blocks of addresses.
+//! Errors of parsing prefixes, ranges or blocks of addresses.
 ghost use Rattle.std.specs.Prelude.{◌≡◌, Some};
 ghost use Rattle.rpki_ip.specs.Faults.{ip_from_str_error_text};
 ghost use Rattle.rpki_ip.specs.declared.error.FromStrError.TheVariants.{Addr, PrefixLen};
@@ -8,18 +8,19 @@ use rpki_text::number::ParseIntError;
 use std::error::Error;
 use std::fmt;
 
-/// Why a text isn't a prefix, a range or a block of addresses, or a list of such blocks.
+/// The reason why a text isn't a prefix, a range or a block of addresses, or a list of such blocks.
 #[derive(Clone, Copy, Debug, PartialEq, Eq)]
 pub enum FromStrError {
     /// The text of an address isn't an address of the required kind.
     Addr(AddrParseError),
-    /// The text after the slash isn't a number of a `u8`, or the number is above the number of bits of the address.
+    /// The text after the slash isn't a number of 8 bits, or the number is above 32 in IPv4 or above 128 in IPv6.
     PrefixLen(ParseIntError),
     /// The separator of the two parts is missing: `/` in a prefix, `-` in a range.
     MissingSeparator,
-    /// An address or a block is of the other family.
+    /// The two addresses of a range are of two families, or an element of a list is rejected as one of the other
+    /// family. A list without a given family has this error for each invalid element.
     FamilyMismatch,
-    /// Blocks can't be parsed. No call returns this error.
+    /// A list of blocks can't be parsed. No call returns this error.
     BadBlocks,
     /// The first address of a range is above the second.
     BadRange,

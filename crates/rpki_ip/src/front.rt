@@ -1,6 +1,7 @@
-//! Addresses, and what follows them, at the front of a text, for lists that are read in one pass.
+//! Parsing of an address, and of the text after it, at the front of a text. Lists are parsed so in one pass.
 //!
-//! A call returns None for other texts. The readers of whole texts accept some of these.
+//! Each call accepts only the usual form. It returns None for any other text, even for one that a call of
+//! [`crate::text`] accepts.
 ghost use Rattle.std.specs.Prelude.{◌≡◌, Some, IfSome};
 ghost use Rattle.std.specs.Str.Parse.{AllDigits};
 ghost use Rattle.rpki_addr.specs.AddressFronts.{IsAtFront};
@@ -13,7 +14,7 @@ use rpki_addr::addr::front::{ipv4_at_front, ipv6_at_front};
 use rpki_addr::addr::{Ipv4Addr, Ipv6Addr};
 use rpki_text::number::digits_from;
 
-/// An address with the family as its type, so that a reader of many addresses checks the family once.
+/// An address whose type is its family. A reader of many addresses then checks the family once.
 pub trait FamilyAddr: Copy {
     ghost use Rattle.std.specs.Prelude.{ℕ};
     ghost use Rattle.rpki_addr.specs.Widths.{width};
@@ -32,7 +33,9 @@ pub trait FamilyAddr: Copy {
     /// The number of bits of the family's addresses.
     const BITS: u8;
 
-    /// Returns the address whose text is at the front, and the rest of the text.
+    /// Returns the address at the front of the text, and the rest of the text.
+    ///
+    /// It returns None if the text doesn't begin with an address of the usual form.
     fn addr_at_front(text: &[u8]) -> Option<(Self, &[u8])>
         ensures { IfSome result
             (λ found. IsAtFront (IsAddressText (Some family)) text.now (ip found.0) found.1.now) };
@@ -118,7 +121,9 @@ impl FamilyAddr for Ipv6Addr {
     }
 }
 
-/// Returns the range from `first` to the address of its family whose text is at the front, and the rest of the text.
+/// Returns the range from `first` to the address at the front of the text, and the rest of the text.
+///
+/// It returns None if the text doesn't begin with an address of the family, or if that address is below `first`.
 #[inline(always)]
 pub fn range_end_at_front<A: FamilyAddr>(first: A, text: &[u8]) -> Option<(AddressRange, &[u8])>
     ensures { IfSome result (λ found. IsAtFront
@@ -135,9 +140,10 @@ pub fn range_end_at_front<A: FamilyAddr>(first: A, text: &[u8]) -> Option<(Addre
     Some((AddressRange::new(min, max), rest))
 }
 
-/// Returns the prefix at `first` whose length in digits is at the front, and the rest of the text.
+/// Returns the prefix at `first` whose length in digits is at the front of the text, and the rest of the text.
 ///
-/// The bits after the length are cleared.
+/// The bits after the length are cleared. It returns None if the text doesn't begin with a digit, or if the length is
+/// above the number of bits of the address.
 #[inline(always)]
 pub fn prefix_len_at_front<A: FamilyAddr>(first: A, text: &[u8]) -> Option<(Prefix, &[u8])>
     ensures { IfSome result
@@ -151,7 +157,7 @@ pub fn prefix_len_at_front<A: FamilyAddr>(first: A, text: &[u8]) -> Option<(Pref
     Some((Prefix::new(first.least(), len as u8), &text[end..]))
 }
 
-/// Returns the range of the numbers of one address.
+/// Returns the range of the numbers of one address, from its least to its greatest.
 #[inline(always)]
 pub fn range_of<A: FamilyAddr>(addr: A) -> AddressRange
     ensures { IsRangeFrom (A.ip addr) (A.ip addr) result }

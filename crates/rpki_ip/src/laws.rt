@@ -1,4 +1,4 @@
-//! Facts that callers can use and that no single call states.
+//! Lemmas about the order and the equality of addresses, prefixes and ranges, for the proofs of callers.
 ghost use Rattle.std.specs.Prelude.{◌≡◌, ◌↔◌, ℕ, IsTrue};
 ghost use Rattle.std.specs.Ordering.{nat_cmp};
 ghost use Rattle.rpki_cover.specs.Prefixes.{PrefixValue};

@@ -27,6 +27,6 @@ pub use error::FromStrError;
 pub use prefix::Prefix;
 pub use range::AddressRange;
 
-/// Address families, from a crate below this one, because claims are also listed by family.
+/// Address families, re-exported from `rpki_der`. That crate has them because claims are also listed by family.
 pub use rpki_der::family;
 pub use rpki_der::family::AddressFamily;

@@ -9,7 +9,7 @@ use std::marker::Model;
 
 /// The addresses that begin with the same bits (RFC 3779, 2.2.3.8).
 ///
-/// The length is 0 to 128. In the prefix's address the bits after the length are clear.
+/// The length is 0 to 128. The bits of the prefix's address after the length are zero.
 #[derive(Clone, Copy, Debug, PartialEq, Eq, Hash)]
 pub struct Prefix {
     addr: Addr,
@@ -29,7 +29,7 @@ impl Model for Prefix {
 }
 
 impl Prefix {
-    /// Returns the prefix of the first `len` bits of an address.
+    /// Returns the prefix of the first `len` bits of `addr`. The other bits are cleared.
     ///
     /// # Preconditions
     ///

@@ -96,8 +96,8 @@ impl AddressRange {
 
     /// Returns whether the range consists of whole IPv4 addresses.
     ///
-    /// Its least address then ends with 96 zeros and its greatest with 96 ones, as in the range between two IPv4
-    /// addresses.
+    /// The last 96 bits of its least address are then zeros, and those of its greatest are ones. The range between two
+    /// IPv4 addresses is an example.
     pub fn is_whole_v4(&self) -> bool
         ensures bounds { IsTrue result ↔ HasWholeBounds (range_bounds self.now) }
         ensures set { IsTrue result ↔ IsWhole (IsWithin (range_bounds self.now)) }
@@ -109,7 +109,7 @@ impl AddressRange {
     ///
     /// # Errors
     ///
-    /// The range itself, if no prefix has exactly these addresses.
+    /// The range itself if no prefix has exactly these addresses.
     pub fn into_prefix(self) -> Result<Prefix, AddressRange>
         ensures prefix { IfOk result (λ p. IsPrefix 128 p × IsRangeOf p self) }
         ensures found { (p : PrefixValue) → IsPrefix 128 p → IsRangeOf p self → result ≡ Ok p }
@@ -153,7 +153,7 @@ impl From<Prefix> for AddressRange {
     }
 }
 
-/// Ranges are blocks of the numbers 0 to 2^128 - 1, with one form.
+/// A range is a block of the numbers 0 to 2^128 - 1, and has one form.
 impl Block for AddressRange {
     ghost use Rattle.std.specs.Prelude.{refl};
     ghost use Rattle.rpki_block.specs.Ranges.{range_bounds, new_range};

@@ -1,7 +1,7 @@
 //! Texts of prefixes and ranges: parsing and printing.
 //!
-//! A text is parsed as IPv4, as IPv6, or as either family. It is printed as IPv4, by the first 32 bits of each address,
-//! or as IPv6.
+//! A text is parsed as IPv4, as IPv6, or as either family. A value is printed as IPv4, by the first 32 bits of each
+//! address, or as IPv6.
 ghost use Rattle.std.specs.Prelude.{◌≡◌, ◌+◌, ◌≤◌, ◌↔◌, ◌++◌, IsTrue, None, Some, MatchResult, length, take};
 ghost use Rattle.std.specs.Fmt.{WritesOnOk};
 ghost use Rattle.rpki_text.specs.Reading.{Answers};
@@ -53,8 +53,10 @@ fn read_address(wanted: Option<AddressFamily>, text: &str) -> Result<IpAddr, Add
 ///
 /// # Errors
 ///
+/// The first of these faults is returned:
+///
 /// - [`FromStrError::Addr`]: `left` isn't an address of the family.
-/// - [`FromStrError::PrefixLen`]: `left` is an address, but `right` isn't a number from 0 to the number of its bits.
+/// - [`FromStrError::PrefixLen`]: `right` isn't a number from 0 to the number of the address's bits.
 #[tactic(auto, using(crate::proofs::RangeTextLemmas::too_long))]
 pub fn prefix_between(
     wanted: Option<AddressFamily>,
@@ -80,8 +82,8 @@ pub fn prefix_between(
 ///
 /// The first of these faults is returned:
 ///
-/// - [`FromStrError::Addr`]: `left` isn't an address of the family, or then `right` isn't.
-/// - [`FromStrError::FamilyMismatch`]: the addresses are of two families.
+/// - [`FromStrError::Addr`]: `left` isn't an address of the family, or `right` isn't.
+/// - [`FromStrError::FamilyMismatch`]: the addresses are of two families. This needs `wanted` to be None.
 /// - [`FromStrError::BadRange`]: the first address is above the second.
 pub fn range_between(
     wanted: Option<AddressFamily>,
@@ -121,8 +123,7 @@ fn range_from(first: IpAddr, last: IpAddr) -> Result<AddressRange, FromStrError>
 ///
 /// - [`FromStrError::MissingSeparator`]: the text has no slash.
 /// - [`FromStrError::Addr`]: the text before the first slash isn't an address of the family.
-/// - [`FromStrError::PrefixLen`]: the text after that slash isn't a length, or it is above 32 in IPv4 or above 128 in
-///   IPv6.
+/// - [`FromStrError::PrefixLen`]: the text after that slash isn't a number from 0 to the number of the address's bits.
 pub fn read_prefix(wanted: Option<AddressFamily>, text: &str) -> Result<Prefix, FromStrError>
     ensures { Answers (IsIpPrefixText wanted text.now) (HasIpPrefixTextFault wanted text.now)
         result }
@@ -142,8 +143,8 @@ pub fn read_prefix(wanted: Option<AddressFamily>, text: &str) -> Result<Prefix, 
 /// The first of these faults is returned:
 ///
 /// - [`FromStrError::MissingSeparator`]: the text has no dash.
-/// - [`FromStrError::Addr`]: the text before the first dash isn't an address of the family, or then the text after it.
-/// - [`FromStrError::FamilyMismatch`]: the addresses are of two families.
+/// - [`FromStrError::Addr`]: the text before or after the first dash isn't an address of the family.
+/// - [`FromStrError::FamilyMismatch`]: the addresses are of two families. This needs `wanted` to be None.
 /// - [`FromStrError::BadRange`]: the first address is above the second.
 pub fn read_range(wanted: Option<AddressFamily>, text: &str) -> Result<AddressRange, FromStrError>
     ensures { Answers (IsRangeText wanted text.now) (HasRangeTextFault wanted text.now) result }
@@ -154,7 +155,7 @@ pub fn read_range(wanted: Option<AddressFamily>, text: &str) -> Result<AddressRa
     }
 }
 
-/// Parses one address and returns the range of its numbers.
+/// Parses one address and returns the range of its numbers, from its least to its greatest.
 ///
 /// `wanted` is the family of the address, None for either.
 ///
@@ -168,7 +169,7 @@ pub fn read_single(wanted: Option<AddressFamily>, text: &str) -> Result<AddressR
     Ok(AddressRange::new(Addr::from(addr), greatest(&addr)))
 }
 
-/// Returns the address as an address of the family. In IPv4 it is the first 32 bits.
+/// Returns the address as an address of `family`. An IPv4 address is the first 32 bits.
 pub fn shown_addr(family: AddressFamily, addr: Addr) -> IpAddr
     ensures { result ≡ as_ip family (shown_bits family addr) }
 {
@@ -268,10 +269,14 @@ impl Prefix {
         read_prefix(Some(AddressFamily::Ipv6), text)
     }
 
-    /// Prints the prefix as a prefix of the family: its address, a slash and the length.
+    /// Prints the prefix as a prefix of `family`: its address, a slash and the length.
     ///
     /// An IPv4 address is the first 32 bits. The slash and the length are left out if the length is the number of bits
     /// of the family's addresses.
+    ///
+    /// # Errors
+    ///
+    /// `fmt::Error` if the writer fails. It may have a part of the text then.
     pub fn fmt_with_family<W: fmt::Write>(
         &self,
         family: AddressFamily,
@@ -299,7 +304,7 @@ impl Prefix {
     }
 }
 
-/// Parses a prefix of either family, as [`read_prefix`] does: an address and a length, separated by the first slash.
+/// Parses a prefix of either family as [`read_prefix`] does: an address and a length, separated by the first slash.
 impl FromStr for Prefix {
     type Err = FromStrError;
 
@@ -344,9 +349,13 @@ impl AddressRange {
         read_range(Some(AddressFamily::Ipv6), text)
     }
 
-    /// Prints the range as a range of the family: the least address, a dash and the greatest address.
+    /// Prints the range as a range of `family`: the least address, a dash and the greatest address.
     ///
-    /// An IPv4 address is the first 32 bits. If the two addresses are printed alike, only one is printed.
+    /// An IPv4 address is the first 32 bits. If the texts of both addresses are the same, only one is printed.
+    ///
+    /// # Errors
+    ///
+    /// `fmt::Error` if the writer fails. It may have a part of the text then.
     pub fn fmt_with_family<W: fmt::Write>(
         &self,
         family: AddressFamily,
@@ -374,7 +383,7 @@ impl AddressRange {
     }
 }
 
-/// Parses a range between two addresses of one family, which may be either, as [`read_range`] does.
+/// Parses a range between two addresses of one family as [`read_range`] does. The family may be either.
 impl FromStr for AddressRange {
     type Err = FromStrError;
 

@@ -4,7 +4,7 @@ ghost use Rattle.std.specs.Prelude.{Some, codes};
 use std::error::Error;
 use std::fmt;
 
-/// A bit string is too long for a prefix: it has more than sixteen octets.
+/// The error for a bit string that is too long for a prefix: it has more than sixteen octets.
 #[derive(Clone, Copy, Debug, PartialEq, Eq)]
 pub struct DecodePrefixError;
 

@@ -10,17 +10,17 @@ ghost use Rattle.rpki_ip.specs.PrefixDer.{IsPrefixDer, SaysPrefix, prefix_at, pr
 ghost use Rattle.rpki_ip.specs.RangeDer.{IsRangeDer, IsRangeWithin, IsShortestFrom, IsShortestTo, range_der, range_in, without_end_ones, without_end_zeros};
 ghost use Rattle.rpki_ip.specs.Ranges.{RangeValue};
 
-/// Octets begin with at most one value of each kind.
+/// States that octets begin with at most one value of each kind: a family, a prefix or a range.
 pub fn one_value()
     ensures family { OneFront IsFamilyDer }
     ensures prefix { (limit : ℕ) → OneFront (IsPrefixDer limit) }
     ensures range { (limit : ℕ) → OneFront (IsRangeDer limit) }
 {}
 
-/// The octets that `encode` appends conform to the grammar.
+/// States that the octets that `encode` appends conform to the grammar.
 ///
 /// This holds for a family, for a prefix that isn't longer than the limit, and for a range whose bounds need no more
-/// bits than the limit.
+/// bits than the limit. For a range the limit is at most 128.
 pub fn written()
     ensures family { (family : AddressFamily) → IsFamilyDer (family_der family) family }
     ensures prefix { (limit : ℕ) (p : PrefixValue) → IsPrefix 128 p → p.len ≤ limit
@@ -29,7 +29,7 @@ pub fn written()
         → IsRangeDer limit (range_der r) r }
 {}
 
-/// A value that a bit string denotes, by `SaysPrefix`, is a prefix.
+/// States that a value that a bit string denotes, by `SaysPrefix`, is a prefix. The limit is at most 128.
 #[tactic(auto, using(crate::proofs::PrefixBits::said_prefix))]
 pub fn is_prefix()
     ensures { (limit : ℕ) (b : Bits) (p : PrefixValue) → limit ≤ 128 → IsBytes b.octets
@@ -46,20 +46,20 @@ pub fn shortest()
     ensures ones { (a : ℕ) → a < 2 ^ 128 → IsShortestTo a (without_end_ones a) }
 {}
 
-/// States when a range is reversed.
+/// States when a range has the fault `ReversedRange`.
 ///
-/// It is if and only if its content begins with two prefixes of which the second ends before the first begins. Any
-/// octets may follow the two prefixes.
+/// It has the fault if and only if its content begins with two prefixes, and the second ends before the first begins.
+/// Any octets may follow the two prefixes.
 #[tactic(auto, using(crate::proofs::PrefixDerFaults::range_fails))]
 pub fn reversed()
     ensures { (limit : ℕ) (content : List ℕ) → (range_in limit content ≡ Err ReversedRange)
         ↔ BeginsWithTwo (prefix_at limit) (λ p q. last_of 128 q < p.first) content }
 {}
 
-/// Only a strict cursor refuses octets by `NotCanonical`.
+/// States that a lenient cursor never returns `NotCanonical` for a prefix or a range.
 ///
-/// It refuses a prefix by `NotCanonical` only if a lenient cursor accepts the prefix. Each other fault is reported
-/// first, such as `BadPrefix` for too many bits.
+/// A strict cursor returns `NotCanonical` for a prefix only if a lenient cursor accepts the prefix. Each other fault is
+/// reported first, such as `BadPrefix` for too many bits.
 #[tactic(auto, using(crate::proofs::PrefixDerFaults::prefix_names, crate::proofs::PrefixDerFaults::range_names, crate::proofs::PrefixDerFaults::prefix_last))]
 pub fn not_canonical()
     ensures prefix { (limit : ℕ) (bytes : List ℕ) → prefix_at limit bytes ≢ Err NotCanonical }

@@ -41,8 +41,9 @@ impl Prefix {
         Ok(Prefix::new(beginning_with(bits.octets()), len))
     }
 
-    /// Reads the BIT STRING of a prefix (RFC 3779, 2.2.3.8). In lenient mode its unused bits may be set, and count as
-    /// zero.
+    /// Reads the BIT STRING of a prefix (RFC 3779, 2.2.3.8).
+    ///
+    /// From a lenient cursor its unused bits may be set, and count as zero.
     ///
     /// # Errors
     ///
@@ -159,7 +160,7 @@ impl Prefix {
         Self::parse_content_with_family_by_mode(content, family)
     }
 
-    /// Returns how many octets `encode` appends.
+    /// Returns how many octets `encode` appends: fewer than 20.
     #[tactic(auto, using(crate::proofs::PrefixDerWritten::length_prefix))]
     pub fn encoded_len(&self) -> usize
         ensures len { result ≡ length (prefix_der self.now) }
@@ -189,7 +190,7 @@ impl Prefix {
         put_bit_string(out, unused, &octets[..count])
     }
 
-    /// Appends what `encode` appends.
+    /// Appends the octets that `encode` appends.
     ///
     /// # Preconditions
     ///
@@ -231,7 +232,7 @@ impl Prefix {
     ghost use Rattle.rpki_der.specs.Views.{Takes, content_octets, is_strict, is_strict_in};
     ghost use Rattle.rpki_ip.specs.PrefixDer.{prefix_by, prefix_in_by};
 
-    // The length is checked before the unused bits are.
+    // The prefix length is checked before the unused bits.
     #[tactic(auto, using(crate::proofs::PrefixDerModes::length_first, crate::proofs::PrefixDerModes::few_enough, crate::proofs::PrefixBits::used_bits), unfolding(crate::specs::PrefixDer::prefix_of))]
     fn parse_content_with_family_by_mode(
         content: &Content<'_>,

@@ -14,7 +14,7 @@ impl AddressRange {
     ghost use Rattle.rpki_ip.specs.Ranges.{IsRange};
     ghost use Rattle.rpki_ip.specs.RangeDer.{is_written_as, range_content, range_der};
 
-    /// Returns how many octets `encode` appends.
+    /// Returns how many octets `encode` appends: fewer than 64.
     pub fn encoded_len(&self) -> usize
         ensures len { result ≡ length (range_der self.now) }
         ensures short { result < 64 }
@@ -25,8 +25,8 @@ impl AddressRange {
 
     /// Appends the SEQUENCE of the range (RFC 3779, 2.2.3.9).
     ///
-    /// It has the least address without all the zero bits at its end, and the greatest without all the one bits at its
-    /// end.
+    /// The SEQUENCE has the least address without all the zero bits at its end, and the greatest address without all
+    /// the one bits at its end.
     ///
     /// # Errors
     ///
@@ -45,7 +45,7 @@ impl AddressRange {
         Ok(())
     }
 
-    /// Appends what `encode` appends.
+    /// Appends the octets that `encode` appends.
     ///
     /// # Preconditions
     ///
@@ -68,7 +68,8 @@ impl AddressRange {
 
     /// Returns whether `first` and `second` have the lengths of the prefixes that `append` writes.
     ///
-    /// If `first` begins with the least address and `second` ends with the greatest, they are then these prefixes.
+    /// They are these prefixes if, in addition, `first` begins with the least address and `second` ends with the
+    /// greatest.
     pub fn is_written_as(&self, first: &Prefix, second: &Prefix) -> bool
         ensures { result ≡ is_written_as self.now first.now second.now }
     {

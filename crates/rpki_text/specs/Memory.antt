@@ -13,7 +13,7 @@ abbrev pub IfRefused : {E : Type 0} → (E → Type 0) → OrMemory E → Type 0
 IfRefused P (Refused e) = P e
 IfRefused P (Memory e) = Unit {0}
 
--- the same as a premise
+-- P holds of each refusal that the error may be: IfRefused as a precondition
 abbrev pub ForRefused : {E : Type 0} → OrMemory E → (E → Type 0) → Type 0
 ForRefused {E} error P = (e : E) → error ≡ Refused e → P e
 
@@ -22,7 +22,7 @@ abbrev pub IsRefusedAnd : {E : Type 0} → OrMemory E → (E → Type 0) → Typ
 IsRefusedAnd (Refused e) P = P e
 IsRefusedAnd (Memory e) P = ⊥
 
--- P holds of a refusal of the input, and Q holds for out of memory
+-- P holds of the refusal if the call refuses its input, and Q holds if it is out of memory
 abbrev pub MatchOrMemory : {E : Type 0} → OrMemory E → (E → Type 0) → Type 0 → Type 0
 MatchOrMemory (Refused e) P Q = P e
 MatchOrMemory (Memory e) P Q = Q

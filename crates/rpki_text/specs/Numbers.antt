@@ -11,7 +11,7 @@ pub record IsNumberText (limit : ℕ) (text : List ℕ) (n : ℕ) : Type 0 where
   pub value : digits_value 10 (without_leading_plus text) ≡ n
   pub within : n ≤ limit
 
--- the bytes begin with digits whose value is above the limit
+-- the bytes begin with digits that write a number above the limit
 pub record PassesLimit (limit : ℕ) (digits : List ℕ) : Type 0 where
   pub front : List ℕ
   pub rest : List ℕ
@@ -52,7 +52,7 @@ pub record StopsBelow (limit : ℕ) (bytes : List ℕ) : Type 0 where
   pub value : IsValueUpTo limit front (digits_value 10 front)
   pub not_digit : 10 ≤ digit_value byte
 
--- why the bytes after the plus write no number
+-- this is the first fault of the bytes after an optional plus
 abbrev pub DigitsFail : ℕ → List ℕ → ParseIntError → Type 0
 DigitsFail limit bytes Empty = ⊥
 DigitsFail limit bytes InvalidDigit = StopsBelow limit bytes

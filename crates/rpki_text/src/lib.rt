@@ -1,7 +1,7 @@
 //! Basic calls on texts: lines, number texts, lists of texts, and the error of a call that may run out of memory.
 //!
-//! The definitions also say what a reader of a text returns. [`OrMemory`] separates a refusal from an out-of-memory
-//! error, as in `example_calls::errors::fault_of`:
+//! The definitions also state what a reader of a text returns. [`OrMemory`] separates a refusal from an out-of-memory
+//! error. This example is in `example_calls::errors::fault_of`:
 //!
 //! ```rust
 //! match AsBlocks::from_str(alloc, list) {

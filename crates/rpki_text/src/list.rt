@@ -25,13 +25,18 @@ pub trait ReadElement {
     // The text has the fault.
     ghost fails: { Self → List ℕ → Self.Fault → Type 0 };
 
-    /// Returns the value that the text of an element writes, or the fault of the text.
+    /// Returns the value that the text of an element writes.
+    ///
+    /// # Errors
+    ///
+    /// The fault of the text.
     fn read_element(&self, text: &str) -> Result<Self::Value, Self::Fault>
         ensures { MatchResult result (has self.now text.now) (fails self.now text.now) };
 }
 
-/// Returns the text without white space at its start and end. If the first and the last byte are visible ASCII, the
-/// call does not decode characters.
+/// Returns the text without white space at its start and end.
+///
+/// If the first and the last byte of at least two are visible ASCII, the call does not decode characters.
 #[tactic(auto, using(crate::proofs::TrimLemmas::trim_visible))]
 fn trimmed(text: &str) -> &str
     ensures { result.now ≡ trim text.now }
@@ -46,7 +51,7 @@ fn trimmed(text: &str) -> &str
 
 /// Returns the values of the elements of a list, in order.
 ///
-/// The call splits the text at its commas, trims white space from each part, and skips the parts that are then empty.
+/// The call splits `text` at its commas, trims white space from each part, and skips the parts that are then empty.
 ///
 /// # Errors
 ///
@@ -125,6 +130,10 @@ pub trait FmtElement {
     ghost text: { Self → Self.Item → Option (List ℕ) };
 
     /// Prints one element.
+    ///
+    /// # Errors
+    ///
+    /// `fmt::Error`: the writer of `f` or the printer failed. A part of the text may be written then.
     fn fmt_element<W: fmt::Write>(
         &self,
         item: &Self::Item,
@@ -135,12 +144,16 @@ pub trait FmtElement {
 }
 
 /// Prints the elements of a list with a comma and a space between them. Prints nothing for an empty list.
+///
+/// # Errors
+///
+/// `fmt::Error`: the writer of `f` or the printer failed. A part of the text may be written then.
 pub fn fmt_elements<P: FmtElement, W: fmt::Write>(
     printer: &P,
     items: &[P::Item],
     f: &mut fmt::Formatter<W>,
 ) -> fmt::Result
-    // For any texts that the printer writes of the elements, these texts are joined.
+    // If the printer's text of every item is known, the joined texts of the elements are written.
     ensures { (show : P.Item → List ℕ)
         → ((item : P.Item) → P.text printer.now item ≡ Some (show item))
         → WritesOnOk W.write_str_gives f.old result (joined (map show items.now)) f.new }
@@ -172,11 +185,15 @@ impl<T: fmt::Display> FmtElement for ByDisplay<T> {
 }
 
 /// Prints the elements of a list, as [`fmt_elements`] does, with the `Display` of their type.
+///
+/// # Errors
+///
+/// The errors of [`fmt_elements`].
 pub fn fmt_joined<T: fmt::Display, W: fmt::Write>(
     items: &[T],
     f: &mut fmt::Formatter<W>,
 ) -> fmt::Result
-    // For any texts that the elements print, these texts are joined.
+    // If the text of every item is known, the joined texts of the elements are written.
     ensures { (show : T → List ℕ) → ((item : T) → T.output item ≡ Some (show item))
         → WritesOnOk W.write_str_gives f.old result (joined (map show items.now)) f.new }
 {

@@ -10,14 +10,14 @@ use std::fmt;
 /// Why a call that also allocates returned no value.
 #[derive(Clone, Copy, Debug, PartialEq, Eq, Drop)]
 pub enum OrMemory<E> {
-    /// The call refuses its input.
+    /// The call refuses its input, for this reason.
     Refused(E),
-    /// Out of memory: an allocation was refused. This says nothing about the input.
+    /// Out of memory: an allocation failed. The error carries no information about the input.
     Memory(AllocError),
 }
 
 impl<E> OrMemory<E> {
-    /// Replaces the error of a refusal by what `f` returns for it.
+    /// Returns the error with what `f` returns in place of the error of a refusal.
     ///
     /// An out-of-memory error is unchanged. The call runs `f` only for a refusal.
     ///
@@ -36,7 +36,7 @@ impl<E> OrMemory<E> {
     }
 }
 
-/// Replaces the error of a refusal in `answer` by what `f` returns for it.
+/// Returns `answer` with what `f` returns in place of the error of a refusal.
 ///
 /// A value and an out-of-memory error are unchanged. The call runs `f` only for a refusal.
 ///

@@ -12,8 +12,8 @@ use std::fmt;
 pub enum ParseIntError {
     /// The text is empty.
     Empty,
-    /// A sign is alone, or another character is where a digit is expected. The digits before it do not exceed the
-    /// limit.
+    /// A plus sign has no digit after it, or another character is in the place of a digit. The digits before it do not
+    /// exceed the limit.
     InvalidDigit,
     /// The digits exceed the highest number that is accepted.
     PosOverflow,
@@ -43,7 +43,7 @@ fn after_plus(text: &[u8]) -> &[u8]
     }
 }
 
-/// Returns the value of digits, which is 0 if there is no digit.
+/// Returns the value of `digits`, which is 0 if there is no digit.
 #[tactic(auto, using(crate::proofs::NumberLemmas::stops_at, crate::proofs::NumberLemmas::value_passes))]
 fn read_digits(limit: u64, digits: &[u8]) -> Result<u64, ParseIntError>
     requires { limit < 2 ^ 32 }
@@ -65,7 +65,7 @@ fn read_digits(limit: u64, digits: &[u8]) -> Result<u64, ParseIntError>
 /// The number of digits that are read without a check of the limit. The value of any ten digits is a `u64`.
 const FEW: usize = 10;
 
-/// Returns the index after the last byte that may be read of a number at index `start`.
+/// Returns the index after the last byte that may be read of a number at index `start`: at most ten bytes are read.
 fn few_end(start: usize, len: usize) -> usize
     requires { start ≤ len }
     ensures within { (result ≤ len) × (result ≤ start + 10) }

@@ -1,29 +1,29 @@
--- What a run leaves in a writer. `old` and `new` are the known bytes that it held; `Is` says which text is answered to
--- a line.
+-- What a run writes. `old` and `new` are the known bytes of the writer before and after the run. `Is` says which texts
+-- are answers to a line.
 use Rattle.std.specs.Prelude.{◌≡◌, ◌≢◌, ℕ, List, [], ◌∷◌, ◌++◌, Option, None, Some, ⊤}
 use Rattle.std.specs.List.{AllZip, flat_map}
 use Rattle.std.specs.Io.KnownBytes.{Appends}
 use Rattle.rpki_text.specs.Cuts.{HasNo}
 use Rattle.rpki_text.specs.Lines.{lines_of}
 
--- a text as a line
+-- a text and the end of line after it
 abbrev pub as_line : List ℕ → List ℕ
 as_line text = text ++ 10 ∷ []
 
--- Of these bytes all but `unwritten`, at their end, was written, and nothing else.
+-- These bytes were written, except `unwritten` at their end, and nothing else was written.
 pub record HasWritten (old new : Option (List ℕ)) (bytes unwritten : List ℕ) : Type 0 where
   pub written : List ℕ
   pub bytes_are : bytes ≡ written ++ unwritten
   pub wrote : Appends old new written
 
--- The line was answered, and of its answer as a line all but `unwritten` was written.
+-- The line was answered. Its answer and an end of line were written, except `unwritten` at their end.
 pub record HasAnsweredLine (Is : List ℕ → List ℕ → Type 0) (old new : Option (List ℕ)) (line unwritten : List ℕ) : Type 0 where
   pub text : List ℕ
   pub is_answer : Is line text
   pub wrote : HasWritten old new (as_line text) unwritten
 
--- Of these lines all but `rest`, at their end, were answered, in order,
--- and of those answers as lines all but `unwritten` was written.
+-- These lines were answered in order, except `rest` at their end. The answers were written as lines, except `unwritten`
+-- at their end.
 pub record HasAnswered (Is : List ℕ → List ℕ → Type 0) (old new : Option (List ℕ)) (lines rest : List (List ℕ)) (unwritten : List ℕ) : Type 0 where
   pub answered : List (List ℕ)
   pub texts : List (List ℕ)
@@ -31,35 +31,36 @@ pub record HasAnswered (Is : List ℕ → List ℕ → Type 0) (old new : Option
   pub are_answers : AllZip Is answered texts
   pub wrote : HasWritten old new (flat_map as_line texts) unwritten
 
--- the answers of all lines of the input were written whole
+-- the answers to all lines of the input were written whole
 abbrev pub AnswersAll : (List ℕ → List ℕ → Type 0) → Option (List ℕ) → Option (List ℕ) → List ℕ → Type 0
 AnswersAll Is old new input = HasAnswered Is old new (lines_of input) [] []
 
--- the answers of some first lines were written whole: of not all, where there is any
+-- The answers to some first lines of the input were written whole. They are not the answers to all lines, unless the
+-- input has no line.
 abbrev pub AnswersFirst : (List ℕ → List ℕ → Type 0) → Option (List ℕ) → Option (List ℕ) → List ℕ → Type 0
 AnswersFirst Is old new input = (rest : List (List ℕ)) × HasAnswered Is old new (lines_of input) rest [] × (rest ≡ [] → lines_of input ≡ [])
 
--- a beginning of the answers was written
+-- a beginning of the answers to the lines of the input was written
 abbrev pub BeginsAnswers : (List ℕ → List ℕ → Type 0) → Option (List ℕ) → Option (List ℕ) → List ℕ → Type 0
 BeginsAnswers Is old new input = (rest : List (List ℕ)) × ((unwritten : List ℕ) × HasAnswered Is old new (lines_of input) rest unwritten)
 
--- of these lines some first ones were answered, not all, and those answers were written whole
+-- the answers to some first ones of these lines, not to all, were written whole
 abbrev pub AnswersSomeOf : (List ℕ → List ℕ → Type 0) → Option (List ℕ) → Option (List ℕ) → List (List ℕ) → Type 0
 AnswersSomeOf Is old new lines = (rest : List (List ℕ)) × (rest ≢ []) × HasAnswered Is old new lines rest []
 
--- some first ones were answered, and a beginning of those answers was written
+-- some first ones of these lines were answered, and a beginning of the answers was written
 abbrev pub BeginsAnswersOf : (List ℕ → List ℕ → Type 0) → Option (List ℕ) → Option (List ℕ) → List (List ℕ) → Type 0
 BeginsAnswersOf Is old new lines = (rest : List (List ℕ)) × ((unwritten : List ℕ) × HasAnswered Is old new lines rest unwritten)
 
--- The answers of some first lines of the input were written whole. The other lines are those of `left`, what is left
--- to be read, behind a part of a line that was read.
+-- The answers to some first lines of the input were written whole. The other lines are those of `part`, which was read,
+-- followed by `left`, which is left to read.
 abbrev pub AnswersBut : (List ℕ → List ℕ → Type 0) → Option (List ℕ) → Option (List ℕ) → Option (List ℕ)
     → Option (List ℕ) → List ℕ → Type 0
 AnswersBut Is old new None left part = ⊤
 AnswersBut Is old new (Some input) None part = ⊥
 AnswersBut Is old new (Some input) (Some left) part = HasAnswered Is old new (lines_of input) (lines_of (part ++ left)) []
 
--- the answers of the lines whose ends were read, and of no other, were written whole
+-- the answers to the lines whose ends were read, and to no other line, were written whole
 abbrev pub AnswersEnded : (List ℕ → List ℕ → Type 0) → Option (List ℕ) → Option (List ℕ) → Option (List ℕ)
     → Option (List ℕ) → Type 0
 AnswersEnded Is old new input left = (part : List ℕ) × HasNo 10 part × AnswersBut Is old new input left part

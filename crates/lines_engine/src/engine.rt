@@ -1,4 +1,4 @@
-//! The engine that reads the whole input before it answers a line, and steps that both engines share.
+//! The engine that reads the whole input before it answers a line, and the steps that both engines share.
 ghost use Rattle.std.specs.Prelude.{◌≡◌, ◌<◌, [], ℕ, true, false, vec_len, IfOk, IfErr, IfSome, OnOk, OnErr, IsErrOf, List};
 ghost use Rattle.std.specs.Io.KnownBytes.{IsAtEnd, Keeps};
 ghost use Rattle.lines_engine.specs.Run.{HasWritten, HasAnsweredLine, AnswersAll, AnswersFirst, BeginsAnswers};
@@ -9,10 +9,10 @@ use crate::error::RunError;
 use rpki_text::line::cut_at_line_end;
 use std::alloc::{AllocError, Allocator};
 
-/// The bytes that one read asks for.
+/// The number of bytes that one read requests at most.
 const PIECE: usize = 64 * 1024;
 
-/// Allocates the buffer that each read of a run fills. On the stack it would take half of what a program has.
+/// Allocates the buffer for the reads of a run. On the stack it would take half of a program's stack.
 pub(crate) fn read_buffer<A: Allocator>(alloc: A) -> Result<Vec<u8, A>, AllocError>
     ensures { IfOk result (λ buffer. 0 < vec_len buffer) }
 {
@@ -25,12 +25,12 @@ pub(crate) fn read_buffer<A: Allocator>(alloc: A) -> Result<Vec<u8, A>, AllocErr
 ///
 /// # Preconditions
 ///
-/// No call of `reader` or `writer` has failed, and no write has taken nothing.
+/// No call of `reader` or `writer` has failed, and each write of bytes has taken at least one.
 ///
 /// # Errors
 ///
 /// - [`RunError::Read`]: a read failed. The run wrote nothing.
-/// - [`RunError::Write`]: a write or the flush failed, or a write took nothing. A beginning of the answers was written.
+/// - [`RunError::Write`]: a write or the flush failed, or a write took no byte. A beginning of the answers was written.
 /// - [`RunError::Memory`]: an allocation failed. The answers to some first lines were written whole, and nothing else.
 ///   They are not the answers to all lines, unless the input is empty.
 #[tactic(auto, using(crate::proofs::RunLemmas::unanswered, crate::proofs::RunLemmas::unflushed))]
@@ -40,7 +40,7 @@ pub fn run<A: Allocator + Copy, L: Answers, R: Source, W: Sink>(
     reader: &mut R,
     writer: &mut W,
 ) -> Result<(), RunError>
-    // No call of either has failed.
+    // No call of `reader` or `writer` has failed.
     requires reader_clear { R.mark reader.old ≡ false }
     requires writer_clear { W.mark writer.old ≡ false }
 
@@ -56,14 +56,14 @@ pub fn run<A: Allocator + Copy, L: Answers, R: Source, W: Sink>(
     ensures read { IsErrOf result RunError.Read → R.mark reader.new ≡ true }
     ensures nothing_written { IsErrOf result RunError.Read → writer.new ≡ writer.old }
 
-    // Memory: no call failed. The answers to some first lines, not to all unless there is none, were written whole, and
-    // nothing else.
+    // Memory: no call failed. The answers to some first lines were written whole, and nothing else. They are not the
+    // answers to all lines, unless the input has no line.
     ensures memory_unmarked { IsErrOf result RunError.Memory →
         (R.mark reader.new ≡ R.mark reader.old) × (W.mark writer.new ≡ W.mark writer.old) }
     ensures some_answered { IsErrOf result RunError.Memory → IfSome (R.left reader.old)
         (AnswersFirst (L.is_answer answers.now) (W.written writer.old) (W.written writer.new)) }
 
-    // Write: a write or the flush failed, or a write took nothing, and no read failed. A beginning of the answers was
+    // Write: a write or the flush failed, or a write took no byte, and no read failed. A beginning of the answers was
     // written.
     ensures write { IsErrOf result RunError.Write → W.mark writer.new ≡ true }
     ensures no_read_failed { IsErrOf result RunError.Write → R.mark reader.new ≡ R.mark reader.old }
@@ -83,7 +83,7 @@ pub fn run<A: Allocator + Copy, L: Answers, R: Source, W: Sink>(
 ///
 /// # Errors
 ///
-/// After an error the bytes that were read are lost.
+/// After an error, the bytes that were read are lost.
 ///
 /// - [`RunError::Read`]: a read failed. The call doesn't repeat it.
 /// - [`RunError::Memory`]: an allocation failed.
@@ -114,7 +114,7 @@ pub fn read_to_end<A: Allocator + Copy, R: Source>(
     }
 }
 
-/// Answers each line of a text.
+/// Writes to `writer` the answer to each line of `text`, in order, as one line.
 fn answer_lines<A: Allocator + Copy, L: Answers, W: Sink>(
     alloc: A,
     answers: &L,
@@ -144,7 +144,7 @@ fn answer_lines<A: Allocator + Copy, L: Answers, W: Sink>(
     Ok(())
 }
 
-/// Makes the whole answer to a line in a text, in the place of what that had, and then writes it.
+/// Replaces the content of `text` by the answer to `line` and an end of line, and then writes it to `writer`.
 #[tactic(auto, using(crate::proofs::RunLemmas::line_answered))]
 pub(crate) fn answer_line<A: Allocator + Copy, L: Answers, W: Sink>(
     alloc: A,
@@ -169,15 +169,15 @@ pub(crate) fn answer_line<A: Allocator + Copy, L: Answers, W: Sink>(
     write_all(writer, text.as_bytes()).map_err(|_| RunError::Write)
 }
 
-/// Writes all of `piece`. The call flushes nothing.
+/// Writes all of `piece` to `writer`. The call flushes nothing.
 ///
 /// # Preconditions
 ///
-/// No call of `writer` has failed, and no write has taken nothing.
+/// No call of `writer` has failed, and each write of bytes has taken at least one.
 ///
 /// # Errors
 ///
-/// [`DeviceFault`] if a write failed or took nothing. The call doesn't repeat it. A beginning of `piece` was written.
+/// [`DeviceFault`]: a write failed or took no byte. The call doesn't repeat it. A beginning of `piece` was written.
 #[tactic(auto, using(std::proofs::lemmas::Grind::common_steps, crate::proofs::RunLemmas::written_more))]
 pub fn write_all<W: Sink>(writer: &mut W, piece: &[u8]) -> Result<(), DeviceFault>
     requires clear { W.mark writer.old ≡ false }
@@ -199,15 +199,15 @@ pub fn write_all<W: Sink>(writer: &mut W, piece: &[u8]) -> Result<(), DeviceFaul
     Ok(())
 }
 
-/// Flushes `writer`. Its written bytes stay as they are.
+/// Flushes `writer`. The written bytes are unchanged.
 ///
 /// # Preconditions
 ///
-/// No call of `writer` has failed, and no write has taken nothing.
+/// No call of `writer` has failed, and each write of bytes has taken at least one.
 ///
 /// # Errors
 ///
-/// [`RunError::Write`] if the flush failed. The call doesn't repeat it.
+/// [`RunError::Write`]: the flush failed. The call doesn't repeat it.
 pub fn flush_all<W: Sink>(writer: &mut W) -> Result<(), RunError>
     requires clear { W.mark writer.old ≡ false }
     ensures unmarked { OnOk result (W.mark writer.new ≡ W.mark writer.old) }

@@ -3,7 +3,7 @@
 //! - [`engine::run`] reads the whole input, and then answers each line.
 //! - [`stream::answer_as_read`] answers each line as soon as it has read its end.
 //!
-//! The answer to a line is a parameter of both ([`answers::Answers`]). `respath_lines::run` is an example:
+//! A type that answers a line is a parameter of both ([`answers::Answers`]). This example is in `respath_lines::run`:
 //!
 //! ```rust
 //! engine::run(alloc, &Commands, reader, writer)

@@ -19,13 +19,13 @@ use std::alloc::Allocator;
 ///
 /// # Preconditions
 ///
-/// No call of `reader` or `writer` has failed, and no write has taken nothing.
+/// No call of `reader` or `writer` has failed, and each write of bytes has taken at least one.
 ///
 /// # Errors
 ///
 /// - [`RunError::Read`]: a read failed. The answers to the lines whose ends were read were written whole, and nothing
 ///   else.
-/// - [`RunError::Write`]: a write or the flush failed, or a write took nothing. A beginning of the answers was written.
+/// - [`RunError::Write`]: a write or the flush failed, or a write took no byte. A beginning of the answers was written.
 /// - [`RunError::Memory`]: an allocation failed, or the input has 2^64 bytes. The answers to some first lines were
 ///   written whole, and nothing else. They are not the answers to all lines, unless the input is empty.
 pub fn answer_as_read<A: Allocator + Copy, L: Answers, R: Source, W: Sink>(
@@ -34,7 +34,7 @@ pub fn answer_as_read<A: Allocator + Copy, L: Answers, R: Source, W: Sink>(
     reader: &mut R,
     writer: &mut W,
 ) -> Result<(), RunError>
-    // No call of either has failed.
+    // No call of `reader` or `writer` has failed.
     requires reader_clear { R.mark reader.old ≡ false }
     requires writer_clear { W.mark writer.old ≡ false }
 
@@ -53,14 +53,14 @@ pub fn answer_as_read<A: Allocator + Copy, L: Answers, R: Source, W: Sink>(
     ensures ended_answered { IsErrOf result RunError.Read → AnswersEnded (L.is_answer answers.now)
         (W.written writer.old) (W.written writer.new) (R.left reader.old) (R.left reader.new) }
 
-    // Memory: no call failed. The answers to some first lines, not to all unless there is none, were written whole, and
-    // nothing else.
+    // Memory: no call failed. The answers to some first lines were written whole, and nothing else. They are not the
+    // answers to all lines, unless the input has no line.
     ensures memory_unmarked { IsErrOf result RunError.Memory →
         (R.mark reader.new ≡ R.mark reader.old) × (W.mark writer.new ≡ W.mark writer.old) }
     ensures some_answered { IsErrOf result RunError.Memory → IfSome (R.left reader.old)
         (AnswersFirst (L.is_answer answers.now) (W.written writer.old) (W.written writer.new)) }
 
-    // Write: a write or the flush failed, or a write took nothing, and no read failed. A beginning of the answers was
+    // Write: a write or the flush failed, or a write took no byte, and no read failed. A beginning of the answers was
     // written.
     ensures write { IsErrOf result RunError.Write → W.mark writer.new ≡ true }
     ensures no_read_failed { IsErrOf result RunError.Write → R.mark reader.new ≡ R.mark reader.old }
@@ -105,7 +105,7 @@ fn answer_ended<A: Allocator + Copy, L: Answers, R: Source, W: Sink>(
     answer_pieces(alloc, answers, &mut buffer, reader, writer)
 }
 
-/// Does the same by reads into `piece`.
+/// Does what [`answer_ended`] does, with reads into `piece`.
 #[tactic(auto, using(crate::proofs::StreamLemmas::but_begun, crate::proofs::StreamLemmas::but_more, crate::proofs::StreamLemmas::but_none, crate::proofs::StreamLemmas::but_some))]
 fn answer_pieces<A: Allocator + Copy, L: Answers, R: Source, W: Sink>(
     alloc: A,
@@ -162,8 +162,9 @@ fn answer_pieces<A: Allocator + Copy, L: Answers, R: Source, W: Sink>(
     }
 }
 
-/// Answers each line that ends in a piece. The first line begins with the part that earlier pieces have. The part then
-/// is what the piece has of a line whose end wasn't read.
+/// Answers each line that ends in `piece`. The first of these lines begins with `part`.
+///
+/// Afterwards `part` is the start of the line whose end wasn't read.
 fn answer_piece<A: Allocator + Copy, L: Answers, W: Sink>(
     alloc: A,
     answers: &L,
@@ -197,7 +198,7 @@ fn answer_piece<A: Allocator + Copy, L: Answers, W: Sink>(
     keep(part, rest)
 }
 
-/// Answers a line of which earlier pieces have a part, which is empty then.
+/// Answers the line that is `part` and then `line`. Afterwards `part` is empty.
 fn answer_joined<A: Allocator + Copy, L: Answers, W: Sink>(
     alloc: A,
     answers: &L,
@@ -226,7 +227,7 @@ fn answer_joined<A: Allocator + Copy, L: Answers, W: Sink>(
     Ok(())
 }
 
-/// Keeps what a piece has of a line whose end wasn't read. Nothing is asked for where that is nothing.
+/// Appends `rest`, the bytes of a line whose end wasn't read, to `part`. The call allocates nothing if `rest` is empty.
 fn keep<A: Allocator>(part: &mut Vec<u8, A>, rest: &[u8]) -> Result<(), RunError>
     ensures kept { OnOk result (part.new.items ≡ part.old.items ++ rest.now) }
     ensures memory { IfErr result (λ error. (error ≡ RunError.Memory) × (0 < length rest.now)) }
@@ -237,7 +238,7 @@ fn keep<A: Allocator>(part: &mut Vec<u8, A>, rest: &[u8]) -> Result<(), RunError
     Ok(())
 }
 
-/// Answers the last line, whose end is missing, if there is one.
+/// Answers `part`, the last line without an end, unless it is empty.
 #[tactic(auto, using(std::proofs::lemmas::Grind::common_steps, crate::proofs::StreamLemmas::line_last, crate::proofs::StreamLemmas::none_last))]
 fn answer_last<A: Allocator + Copy, L: Answers, W: Sink>(
     alloc: A,
@@ -265,7 +266,7 @@ fn answer_last<A: Allocator + Copy, L: Answers, W: Sink>(
     answer_line(alloc, answers, part, &mut answer, writer)
 }
 
-/// The first line of a text without its end, and the text after that end, if the text has an end of line.
+/// Returns the first line of a text without its end, and the text after that end, if the text has an end of line.
 fn split_at_newline(text: &[u8]) -> Option<(&[u8], &[u8])>
     ensures { MatchOption result (HasNo 10 text.now) (λ cut. IsCutAt 10 text.now cut.0.now cut.1.now) }
 {

@@ -42,6 +42,7 @@ pub record AreGroupsAndIpv4 (text groups : List ℕ) : Type 0 where
   pub ipv4 : IsIpv4Text last n
   pub value : groups ≡ front ++ (n / 0x10000) ∷ (n % 0x10000) ∷ []
 
+-- the text is groups, the last two of which may be an IPv4 text (RFC 4291, 2.2)
 abbrev pub AreGroupsAtEnd : List ℕ → List ℕ → Type 0
 AreGroupsAtEnd text groups = AreGroups text groups ⊎ AreGroupsAndIpv4 text groups
 

@@ -1,4 +1,4 @@
--- The results of the readers of addresses.
+-- The results of the readers of whole texts.
 use Rattle.std.specs.Prelude.{◌≡◌, ℕ, ◌^◌, ◌<◌, List, Result, Ok, codes}
 use Rattle.rpki_addr.specs.AddressText.{IsIpv4Text, IsIpv6Text, IsIpText}
 use Rattle.rpki_addr.specs.PrintedAddress.{ipv4_text, ipv6_text, ip_text}
@@ -8,13 +8,14 @@ use Rattle.rpki_addr.specs.declared.addr.AddrParseError.TheVariants.{Ipv4, Ipv6,
 use Rattle.rpki_addr.specs.declared.addr.IpAddr.{IpAddr}
 use Rattle.rpki_addr.specs.declared.addr.IpAddr.TheVariants.{V4, V6}
 
--- The text is read as an address if and only if it writes one. Otherwise it is refused as no IPv4 text. The printed
--- text of an address is read as that address.
+-- The text is read as an IPv4 address if and only if it writes one. Any other text is refused by the error Ipv4. The
+-- printed text of an address is read as that address.
 pub record ReadsIpv4 (text : List ℕ) (r : Result ℕ AddrParseError) : Type 0 where
   pub exact : Answers (IsIpv4Text text) (λ e. (e ≡ Ipv4) × ((n : ℕ) → ¬ IsIpv4Text text n)) r
   pub reads_back : (n : ℕ) → n < 2 ^ 32 → text ≡ ipv4_text n → r ≡ Ok n
 
--- the same for IPv6
+-- The text is read as an IPv6 address if and only if it writes one. Any other text is refused by the error Ipv6. The
+-- printed text of an address is read as that address.
 pub record ReadsIpv6 (text : List ℕ) (r : Result ℕ AddrParseError) : Type 0 where
   pub exact : Answers (IsIpv6Text text) (λ e. (e ≡ Ipv6) × ((n : ℕ) → ¬ IsIpv6Text text n)) r
   pub reads_back : (n : ℕ) → n < 2 ^ 128 → text ≡ ipv6_text n → r ≡ Ok n
@@ -24,7 +25,8 @@ abbrev pub IsAddress : IpAddr → Type 0
 IsAddress (V4 n) = n < 2 ^ 32
 IsAddress (V6 n) = n < 2 ^ 128
 
--- the same for either family
+-- The text is read as an address of either family if and only if it writes one. Any other text is refused by the error
+-- Ip. The printed text of an address is read as that address.
 pub record ReadsIp (text : List ℕ) (r : Result IpAddr AddrParseError) : Type 0 where
   pub exact : Answers (IsIpText text) (λ e. (e ≡ Ip) × ((a : IpAddr) → ¬ IsIpText text a)) r
   pub reads_back : (a : IpAddr) → IsAddress a → text ≡ ip_text a → r ≡ Ok a

@@ -9,7 +9,7 @@ use Rattle.rpki_addr.specs.declared.addr.read.Groups.{Groups}
 abbrev pub parts : Groups → ℕ × ℕ × Bool × List ℕ
 parts groups = (groups.bits, groups.count, groups.closed, groups.rest.now)
 
--- all that a reader of at most n groups finds, if it has read these groups so far
+-- all groups that a reader of at most n groups finds, if it has read these groups so far
 abbrev pub found_with : ℕ → List ℕ → Groups → Segments
 found_with n front groups =
     if groups.closed then (front, true, groups.rest.now)

@@ -9,19 +9,19 @@ use Rattle.rpki_text.specs.Lists.{joined_by}
 use Rattle.rpki_addr.specs.declared.addr.IpAddr.{IpAddr}
 use Rattle.rpki_addr.specs.declared.addr.IpAddr.TheVariants.{V4, V6}
 
--- four decimals with dots between them
+-- the printed text of an IPv4 address: four decimals with dots between them
 abbrev pub ipv4_text : ℕ → List ℕ
 ipv4_text n = dotted (octets_of n)
 
--- the number of hexadecimal digits that a group needs, and the group in these digits, in lower case (RFC 5952, 4.1
--- and 4.3)
+-- the number of hexadecimal digits of a group without leading zeros (RFC 5952, 4.1)
 abbrev pub hex_len : ℕ → ℕ
 hex_len group = if nat_lt group 0x10 then 1 else (if nat_lt group 0x100 then 2 else (if nat_lt group 0x1000 then 3 else 4))
 
+-- a group in hexadecimal digits, in lower case and without leading zeros (RFC 5952, 4.1 and 4.3)
 abbrev pub hex_text : ℕ → List ℕ
 hex_text group = map digit_char (last_digits 16 (hex_len group) group)
 
--- groups with colons between them
+-- the texts of groups with colons between them
 abbrev pub groups_text : List ℕ → List ℕ
 groups_text groups = joined_by (codes ":") (map hex_text groups)
 
@@ -59,7 +59,8 @@ IsPrintedIpv6 n text =
     (IsMapped n × (text ≡ codes "::ffff:" ++ ipv4_text (n % 2 ^ 32)))
     ⊎ ((¬ IsMapped n) × (IsShortened (groups_of n) text ⊎ IsUnshortened (groups_of n) text))
 
--- The same text as std's printer makes it. `laws::ipv6_is_printed_so` proves that it is the printed text.
+-- The printed text of an IPv6 address, as std's printer makes it. `laws::ipv6_is_printed_so` proves that it is the text
+-- of IsPrintedIpv6.
 unfoldable pub ipv6_text : ℕ → List ℕ
 ipv6_text n = std.ipv6_text (groups_of n)
 

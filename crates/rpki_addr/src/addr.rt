@@ -178,14 +178,14 @@ impl From<Ipv6Addr> for IpAddr {
     }
 }
 
-/// Why a text was refused: it is no address of the expected kind.
+/// Why a text was refused: it is not an address of the expected kind.
 #[derive(Clone, Copy, Debug, PartialEq, Eq)]
 pub enum AddrParseError {
-    /// The text is no IPv4 address.
+    /// The text is not an IPv4 address.
     Ipv4,
-    /// The text is no IPv6 address.
+    /// The text is not an IPv6 address.
     Ipv6,
-    /// The text is no address of either family.
+    /// The text is not an address of either family.
     Ip,
 }
 

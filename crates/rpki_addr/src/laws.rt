@@ -1,4 +1,4 @@
-//! Lemmas for callers that no single call states.
+//! Lemmas for callers about several calls. Each is the contract of a function that does nothing when it runs.
 ghost use Rattle.std.specs.Prelude.{◌≡◌, ◌↔◌, ℕ, ◌<◌, ◌^◌, List, IsTrue};
 ghost use Rattle.std.specs.Ordering.{nat_cmp};
 ghost use Rattle.rpki_addr.specs.Orders.{ip_cmp};
@@ -7,8 +7,8 @@ ghost use Rattle.rpki_addr.specs.declared.addr.IpAddr.{IpAddr as EitherAddr};
 
 use crate::addr::{IpAddr, Ipv4Addr, Ipv6Addr};
 
-/// The printed text of an IPv6 address is the one that RFC 5952, 4, requires. For a mapped address it is that of
-/// section 5.
+/// The printed text of an IPv6 address is the one that RFC 5952, section 4, requires. For an IPv4-mapped address it is
+/// the one of section 5.
 pub fn ipv6_is_printed_so()
     ensures { (n : ℕ) → n < 2 ^ 128 → (text : List ℕ)
         → (IsPrintedIpv6 n text) ↔ (text ≡ ipv6_text n) }

@@ -12,7 +12,7 @@ use super::{Ipv4Addr, Ipv6Addr};
 #[tactic(auto, using(crate::proofs::AddressFronts::ipv4_reader, crate::proofs::AddressFronts::found))]
 pub fn ipv4_at_front(text: &[u8]) -> Option<(Ipv4Addr, &[u8])>
     ensures found { IfSome result (λ found. IsAtFront IsIpv4Text text.now found.0 found.1.now) }
-    // An address that no digit follows is found.
+    // An address that is not followed by a digit is found.
     ensures each { (n : ℕ) (rest : List ℕ) → IsAtFront IsIpv4Text text.now n rest → EndsIpv4 rest
         → MatchOption result ⊥ (λ found. (found.0 ≡ n) × (found.1.now ≡ rest)) }
 {
@@ -28,7 +28,7 @@ pub fn ipv4_at_front(text: &[u8]) -> Option<(Ipv4Addr, &[u8])>
 #[tactic(auto, using(crate::proofs::AddressFronts::ipv6_reader, crate::proofs::AddressFronts::found))]
 pub fn ipv6_at_front(text: &[u8]) -> Option<(Ipv6Addr, &[u8])>
     ensures found { IfSome result (λ found. IsAtFront IsIpv6Text text.now found.0 found.1.now) }
-    // An address that neither a hexadecimal digit nor a dot nor a colon follows is found.
+    // An address that is not followed by a hexadecimal digit, a dot or a colon is found.
     ensures each { (n : ℕ) (rest : List ℕ) → IsAtFront IsIpv6Text text.now n rest → EndsIpv6 rest
         → MatchOption result ⊥ (λ found. (found.0 ≡ n) × (found.1.now ≡ rest)) }
 {

@@ -10,7 +10,7 @@ fn split_group(bits: u128) -> (u128, u16)
     (bits / 0x10000, (bits % 0x10000) as u16)
 }
 
-/// Returns the groups of an address, the highest first.
+/// Returns the eight groups of the IPv6 address with these bits, the highest first.
 pub(crate) fn split_groups(bits: u128) -> [u16; 8]
     ensures { result ≡ groups_of bits }
 {

@@ -17,10 +17,10 @@ use std::{fmt, str};
 /// The maximum number of bytes of an IPv4 text.
 pub(crate) const IPV4_ROOM: usize = 15;
 
-/// The maximum number of bytes of a text of either family, and one for the colon after a last group.
+/// The size of a buffer for the text of an address of either family: five bytes for each of eight groups.
 pub const IP_ROOM: usize = 40;
 
-/// The maximum number of bytes of a prefix: an address, a slash and a length.
+/// The size of a buffer for the text of a prefix: an address, a slash and a length of at most three digits.
 pub const PREFIX_ROOM: usize = IP_ROOM + 4;
 
 /// Writes one byte.
@@ -100,7 +100,7 @@ static HEX_DIGITS: [u8; 16] = [
     b'0', b'1', b'2', b'3', b'4', b'5', b'6', b'7', b'8', b'9', b'a', b'b', b'c', b'd', b'e', b'f',
 ];
 
-/// Returns the digit of this value.
+/// Returns the hexadecimal digit with this value.
 #[inline(always)]
 fn hex_digit(value: u16) -> u8
     requires { value < 16 }
@@ -159,7 +159,7 @@ struct ZeroRun {
 }
 
 impl ZeroRun {
-    /// Returns whether the run is printed as two colons. A single zero group isn't (RFC 5952, 4.2.2).
+    /// Returns whether the run is printed as two colons. A single zero group is not (RFC 5952, 4.2.2).
     #[inline(always)]
     fn is_shortened(self) -> bool
         ensures { result ≡ nat_lt 1 self.len }
@@ -207,7 +207,7 @@ fn put_shortened(out: &mut [u8], at: usize, groups: &[u16]) -> usize
     put_groups(out, at, groups)
 }
 
-/// Writes the IPv4-mapped address of an IPv4 address (RFC 4291, 2.5.5.2), with dots.
+/// Writes the IPv4-mapped address of an IPv4 address (RFC 4291, 2.5.5.2): `::ffff:` and four decimals with dots.
 fn put_mapped(out: &mut [u8], at: usize, low: Ipv4Addr) -> usize
     requires { at + 22 ≤ length out.old }
     ensures text { take result out.new ≡ take at out.old ++ codes "::ffff:" ++ ipv4_text low }
@@ -217,7 +217,8 @@ fn put_mapped(out: &mut [u8], at: usize, low: Ipv4Addr) -> usize
     put_ipv4(out, at, low.octets())
 }
 
-/// Writes the IPv6 address with these bits. An IPv4-mapped one ends in its IPv4 address (RFC 5952, 5).
+/// Writes the IPv6 address with these bits (RFC 5952, 4). An IPv4-mapped address ends in its IPv4 address (RFC 5952,
+/// 5).
 ///
 /// # Preconditions
 ///
@@ -286,6 +287,10 @@ pub fn put_with_length(out: &mut [u8], at: usize, addr: IpAddr, len: u8) -> usiz
 /// # Preconditions
 ///
 /// `end` is at most the length of `out`.
+///
+/// # Errors
+///
+/// `fmt::Error`: the bytes are not UTF-8, or the writer of `f` failed.
 pub fn write_front<W: fmt::Write>(out: &[u8], end: usize, f: &mut fmt::Formatter<W>) -> fmt::Result
     requires { end ≤ length out.now }
     ensures { WritesOnOk W.write_str_gives f.old result (take end out.now) f.new }

@@ -1,6 +1,6 @@
-//! Reads addresses from bytes, each byte about once.
+//! Reads addresses from bytes. Most bytes are read once.
 //!
-//! Each reader takes bytes from the front of a text. It returns the value that they spell, and the text after them.
+//! Each reader takes bytes from the front of a text. It returns the value that they write, and the text after them.
 ghost use Rattle.std.specs.Prelude.{◌≡◌, ◌==◌, true, ◌*◌, ◌^◌, ◌<◌, ◌≤◌, ℕ, List, Some, length, get_or, option_map, option_and_then, IfSome, MatchOption};
 ghost use Rattle.std.specs.Char.{digit_value};
 ghost use Rattle.std.specs.Net.Reader as Reader;
@@ -100,8 +100,10 @@ fn is_dot(text: &[u8], at: usize) -> bool
     at < text.len() && text[at] == b'.'
 }
 
-/// Takes an IPv4 address at a place where it may replace two groups, so both must fit (`both_fit`). `behind_group` is
-/// the text after the first group. An IPv4 address here begins with a group that a dot follows.
+/// Takes an IPv4 address in place of the last two groups, if two groups fit (`both_fit`).
+///
+/// `behind_group` is the text after the group at the front of `text`. It begins with a dot if `text` begins with an
+/// IPv4 address.
 #[inline(always)]
 #[tactic(auto, using(crate::proofs::DigitGroupLemmas::no_last_two))]
 fn take_last_two<'a>(text: &'a [u8], behind_group: &[u8], both_fit: bool) -> Option<(u32, &'a [u8])>
@@ -186,7 +188,7 @@ fn take_group(text: &[u8]) -> Option<(u16, &[u8])>
     Some((three * 16 + u16::from(fourth), &text[4..]))
 }
 
-/// The groups that were read, with colons between them.
+/// The groups that were read so far.
 #[derive(Clone, Copy)]
 struct Groups<'a> {
     /// The groups as one number, the first group highest.
@@ -254,7 +256,7 @@ impl<'a> Groups<'a> {
     }
 }
 
-/// Takes groups for as long as one follows and fewer than `max_count` were read.
+/// Takes groups with colons between them, until no group follows or `max_count` groups were read.
 fn take_groups(text: &[u8], max_count: usize) -> Groups<'_>
     requires { max_count ≤ 8 }
     ensures value { parts result ≡ numbered (Reader.read_segments max_count true text.now) }
@@ -282,7 +284,7 @@ fn strip_colons(text: &[u8]) -> Option<&[u8]>
     strip_byte(b':', strip_byte(b':', text)?)
 }
 
-/// Returns the number of these groups followed by `count` zero groups.
+/// Returns the number of the groups of `bits` followed by `count` zero groups.
 #[tactic(auto, using(crate::proofs::GroupLemmas::one_zero_more, crate::proofs::GroupLemmas::power_less))]
 fn with_zeros(bits: u128, count: usize) -> u128
     requires { bits * 0x10000 ^ count < 2 ^ 128 }

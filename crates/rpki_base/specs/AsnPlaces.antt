@@ -11,12 +11,12 @@ pub record HasLettersAt (start : ℕ) (text : List ℕ) : Type 0 where
   pub first : (slice_index text start ≡ 65) ⊎ (slice_index text start ≡ 97)
   pub second : (slice_index text (start + 1) ≡ 83) ⊎ (slice_index text (start + 1) ≡ 115)
 
--- after is the index after `as` if that is at start, and else start
+-- after is the index after `as` if `as` is at start, and start otherwise
 abbrev pub IsAfterLetters : ℕ → ℕ → List ℕ → Type 0
 IsAfterLetters start after text = ((after ≡ start) × (¬ HasLettersAt start text)) ⊎ ((after ≡ start + 2) × HasLettersAt start text)
 
--- At start is an AS number of the usual form: `as`, in any case of letters, or nothing, and then one to ten digits.
--- These are all digits there or the first ten. They write n and end at end.
+-- An AS number of the usual form is at start: an optional `as`, in any case of letters, and then one to ten digits. No
+-- digit follows them, or they are ten. They write n, and end is the index after them.
 pub record IsAsnAt (start end : ℕ) (text : List ℕ) (n : ℕ) : Type 0 where
   pub after : ℕ
   pub letters : IsAfterLetters start after text

@@ -1,5 +1,5 @@
--- A helper: the numbers that a traversal of two ascending lists gives. The calls that start a traversal state them by
--- membership.
+-- The numbers that a traversal of two ascending lists gives, for the proofs of set operations. The contracts of these
+-- operations state the numbers by membership.
 use Rattle.std.specs.Prelude.{ℕ, List, [], ◌∷◌, Bool, true, false, nat_lt, if◌then◌else◌}
 use Rattle.rpki_base.specs.declared.small_set.walk.Wanted.{Wanted}
 
@@ -7,7 +7,7 @@ use Rattle.rpki_base.specs.declared.small_set.walk.Wanted.{Wanted}
 abbrev pub kept_items : Bool → ℕ → List ℕ → List ℕ
 kept_items wanted n others = if wanted then n ∷ others else others
 
--- all of these, if they are wanted
+-- all of these numbers, if they are wanted
 abbrev pub all_kept : Bool → List ℕ → List ℕ
 all_kept wanted numbers = if wanted then numbers else []
 
@@ -24,15 +24,18 @@ abbrev pub walk : Wanted → List ℕ → List ℕ → List ℕ
 walk wanted [] right = all_kept wanted.right right
 walk wanted (x ∷ left) right = walk_step wanted x left (walk wanted left) right
 
--- the wanted numbers of each operation
+-- the numbers of a difference: those of the left list alone
 abbrev pub only_left : Wanted
 only_left = record { left = true; both = false; right = false }
 
+-- the numbers of a symmetric difference: those of exactly one list
 abbrev pub only_one : Wanted
 only_one = record { left = true; both = false; right = true }
 
+-- the numbers of an intersection: those of both lists
 abbrev pub only_both : Wanted
 only_both = record { left = false; both = true; right = false }
 
+-- the numbers of a union: those of at least one list
 abbrev pub any_side : Wanted
 any_side = record { left = true; both = true; right = true }

@@ -100,7 +100,7 @@ impl From<Asn> for u32 {
     }
 }
 
-/// Why a text was refused: it is no AS number.
+/// Why a text was refused: it is not an AS number.
 #[derive(Clone, Copy, Debug, PartialEq, Eq)]
 pub struct ParseAsnError;
 
@@ -130,7 +130,7 @@ fn after_as(text: &[u8]) -> &[u8]
     }
 }
 
-/// Parses the AS number of any text.
+/// Parses an AS number in any form that `from_str` accepts.
 fn read_any(text: &[u8]) -> Result<Asn, ParseAsnError>
     ensures { ReadsAsn text.now result }
 {

@@ -1,4 +1,4 @@
-//! Lemmas for callers that no single call states.
+//! Lemmas for callers about several calls. Each is the contract of a function.
 ghost use Rattle.std.specs.Prelude.{◌≡◌, ◌≢◌, ◌↔◌, ℕ, ◌-◌, ◌^◌, List, Err, true, Contains, IsOk, IsTrue};
 ghost use Rattle.std.specs.Ordering.{nat_cmp};
 ghost use Rattle.rpki_der.specs.declared.error.DerError.TheVariants.{NotCanonical};
@@ -11,7 +11,7 @@ use crate::asn::Asn;
 use crate::small_set::SmallAsnSet;
 use std::alloc::Allocator;
 
-/// `Asn::MIN` and `Asn::MAX` are the lowest and the highest AS number, 0 and 4294967295 (RFC 6793).
+/// Returns `Asn::MIN` and `Asn::MAX`: the lowest and the highest AS number, 0 and 4294967295 (RFC 6793).
 pub fn ends_of_asns() -> (Asn, Asn)
     ensures min { result.0 ≡ 0 }
     ensures max { result.1 ≡ 2 ^ 32 - 1 }
@@ -36,7 +36,7 @@ pub fn equal_small_sets<A: Allocator>()
         ↔ ((n : ℕ) → (Contains a n) ↔ (Contains b n)) }
 {}
 
-/// Small sets with the same AS numbers are one list. They are therefore equal, and they hash and compare alike.
+/// Small sets with the same AS numbers are the same list. They are therefore equal, and they hash and compare alike.
 #[tactic(auto, using(crate::proofs::SmallSetLemmas::one_set))]
 pub fn one_small_set()
     ensures { (a b : List ℕ) → IsSmallSet a → IsSmallSet b
@@ -45,8 +45,8 @@ pub fn one_small_set()
 
 /// Only a strict cursor refuses octets as not canonical.
 ///
-/// It never does so for a value of any tag, an AS number or a family, which both modes read alike. It does so for a
-/// BIT STRING only if a lenient cursor accepts the octets: every other fault is reported first.
+/// Neither mode refuses a value of any tag, an AS number or a family as not canonical. A strict cursor refuses a BIT
+/// STRING as not canonical only if a lenient cursor accepts the octets: every other fault is reported first.
 #[tactic(auto, using(rpki_der::proofs::SequenceFaults::value_faults, rpki_der::proofs::FamilyDerLemmas::family_names, rpki_der::proofs::ReadingSteps::ok_or_err), unfolding(rpki_der::specs::Reading::refined, rpki_der::specs::Reading::bits_by))]
 pub fn not_canonical()
     ensures value { (bytes : List ℕ) → value_at bytes ≢ Err NotCanonical }

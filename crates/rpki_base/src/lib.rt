@@ -1,10 +1,10 @@
-//! Basic values that the crates above share.
+//! Basic values that other crates share.
 //!
 //! - [`asn`] has AS numbers, and [`small_set`] has small sets of them.
 //! - Other crates provide addresses, number texts, lists of texts, and the error of a call that may run out of
 //!   memory. This crate re-exports them.
 //!
-//! [`Asn::add`] requires that the sum is an AS number, as checked in `example_calls::conditions::behind`:
+//! [`Asn::add`] requires that the sum is an AS number. This example, in `example_calls::conditions::behind`, checks it:
 //!
 //! ```rust
 //! if asn == Asn::MAX {

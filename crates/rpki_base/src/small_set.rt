@@ -24,7 +24,7 @@ use std::marker::Model;
 
 /// A set of AS numbers, stored as an ascending list.
 ///
-/// Sets are equal if and only if they have the same numbers. They sort item by item.
+/// Sets are equal if and only if they have the same numbers. They sort as their ascending lists, number by number.
 #[derive(Drop)]
 pub struct SmallAsnSet<A: Allocator = Global> {
     items: Vec<Asn, A>,
@@ -68,7 +68,7 @@ impl<A: Allocator> SmallAsnSet<A> {
         Ok(SmallAsnSet { items })
     }
 
-    /// Returns the set of these AS numbers, without a check.
+    /// Returns the set of the AS numbers in `items`, without a check.
     ///
     /// # Preconditions
     ///
@@ -103,7 +103,7 @@ impl<A: Allocator> SmallAsnSet<A> {
         self.items.is_empty()
     }
 
-    /// Returns whether the AS number is in the set. This is a binary search.
+    /// Returns whether the AS number is in the set, by a binary search.
     pub fn contains(&self, asn: Asn) -> bool
         ensures { IsTrue result ↔ Contains self.now asn }
     {

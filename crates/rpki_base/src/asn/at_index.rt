@@ -5,7 +5,7 @@ ghost use Rattle.rpki_base.specs.AsnPlaces.{IsAfterLetters, IsAsnAt, IsAsnBetwee
 use super::Asn;
 use rpki_text::number::digits_from;
 
-/// Returns the index after `as`, in any case of letters, if the text has that at `start`, and else `start`.
+/// Returns the index after `as`, in any case of letters, if the text has `as` at `start`. Otherwise returns `start`.
 fn after_letters(text: &[u8], start: usize) -> usize
     requires { start ≤ length text.now }
     ensures { IsAfterLetters start result text.now }
@@ -26,11 +26,10 @@ fn after_letters(text: &[u8], start: usize) -> usize
 
 /// Reads an AS number of the usual form at index `start`, and returns it with the index after it.
 ///
-/// The usual form is an optional `as`, in any case of letters, and then digits. The call reads all digits there, but
-/// at most ten. Use it to read the usual texts at once. [`Asn::from_str`] also reads texts with a plus sign or more
-/// digits.
+/// The usual form is an optional `as`, in any case of letters, and then digits. The call reads the digits that follow,
+/// but at most ten. [`Asn::from_str`] also reads texts with a plus sign or more digits.
 ///
-/// Returns None if no digit is there, or if the digits exceed 4294967295.
+/// Returns None if no digit follows, or if the digits exceed 4294967295.
 ///
 /// # Preconditions
 ///

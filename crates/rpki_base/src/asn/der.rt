@@ -13,7 +13,7 @@ impl Asn {
     ghost use Rattle.rpki_der.specs.SequenceReading.{Skips, if_tagged, skipping};
     ghost use Rattle.rpki_der.specs.SequenceViews.{ReadsTagged};
 
-    /// Takes an AS number.
+    /// Takes an AS number: an INTEGER from 0 to 4294967295.
     ///
     /// # Errors
     ///
@@ -48,7 +48,11 @@ impl Asn {
         Asn::take_opt_from_exact(cursor)
     }
 
-    /// Skips an AS number, with the errors of `take_from`. The cursor is unchanged after an error.
+    /// Skips an AS number.
+    ///
+    /// # Errors
+    ///
+    /// The errors of `take_from`. The cursor is unchanged after an error.
     #[tactic(auto, using(rpki_der::proofs::CursorReadings::reads_by, rpki_der::proofs::SequenceReadings::number_skipped))]
     pub fn skip_in(cursor: &mut Cursor<'_>) -> Result<(), DerError>
         ensures reads { ReadsValue (Skips IsAsNumber) (λ u. u) cursor.old cursor.new result }
@@ -58,11 +62,11 @@ impl Asn {
         Asn::skip_in_exact(cursor)
     }
 
-    /// Reads the AS number of a content. The tag is not checked.
+    /// Reads `content` as an AS number. The tag is not checked.
     ///
     /// # Errors
     ///
-    /// [`DerError::BadInteger`]: the content is no AS number.
+    /// [`DerError::BadInteger`]: the content is not an INTEGER from 0 to 4294967295 in the fewest octets.
     pub fn parse_content(content: &Content<'_>) -> Result<Asn, DerError>
         ensures reads { Parses IsUnsigned (λ n. n) (content_octets content.now) result }
         ensures exact { Gives (λ n. n) result (unsigned (content_octets content.now)) }
@@ -71,11 +75,11 @@ impl Asn {
         Ok(Asn(number))
     }
 
-    /// Checks that a content is an AS number. The tag is not checked.
+    /// Checks that `content` is that of an AS number. The tag is not checked.
     ///
     /// # Errors
     ///
-    /// [`DerError::BadInteger`]: the content is no AS number.
+    /// [`DerError::BadInteger`]: the content is not an INTEGER from 0 to 4294967295 in the fewest octets.
     pub fn skip_content(content: &Content<'_>) -> Result<(), DerError>
         ensures reads { Parses SaysAsNumber (λ u. u) (content_octets content.now) result }
         ensures exact { Gives (λ u. u) result (skip_number (content_octets content.now)) }
@@ -127,8 +131,8 @@ impl Asn {
     }
 }
 
-// The implementations of the calls above. Each is separate from its call, because the call's further clauses, `reads`
-// and `reads_back`, follow from `exact` by theorems on the grammar.
+// The implementations of the calls above. Each has the clause `exact`. The further clauses of the call, `reads` and
+// `reads_back`, follow from `exact` by theorems on the grammar.
 impl Asn {
     ghost use Rattle.std.specs.Prelude.{◌≡◌};
     ghost use Rattle.rpki_der.specs.Views.{Takes, is_strict};

@@ -14,7 +14,7 @@ const ROOM: usize = 12;
 /// The maximum number of bytes of a range: two AS numbers and a dash.
 const RANGE_ROOM: usize = 25;
 
-/// Writes the text of an AS number before index `end`, and returns the index where it begins.
+/// Writes the text of an AS number before index `end`, and returns the index of its first byte.
 #[tactic(auto, using(crate::proofs::AsnPrinting::ten_digits, crate::proofs::AsnPrinting::letters_before))]
 #[inline(always)]
 fn put_before(out: &mut [u8], end: usize, asn: Asn) -> usize
@@ -39,7 +39,7 @@ pub(crate) fn fmt_asn<W: fmt::Write>(asn: Asn, f: &mut fmt::Formatter<W>) -> fmt
     f.write_str(text)
 }
 
-/// Prints two AS numbers with a dash between them, as in `AS3-AS5`.
+/// Prints two AS numbers with a dash between them, as in `AS3-AS5`. The call does not compare them.
 pub fn fmt_asn_range<W: fmt::Write>(min: Asn, max: Asn, f: &mut fmt::Formatter<W>) -> fmt::Result
     ensures { WritesOnOk W.write_str_gives f.old result (asn_text min ++ dash ∷ asn_text max) f.new }
 {

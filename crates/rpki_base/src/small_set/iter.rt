@@ -1,5 +1,5 @@
-//! Iterators over small sets: ascending, each number once. They allocate nothing, and each step takes a number off
-//! one list or off both.
+//! Iterators over small sets: ascending, each number once. They allocate nothing. Each step takes a number off one
+//! list or off both.
 ghost use Rattle.std.specs.Prelude.{◌≡◌};
 ghost use Rattle.std.specs.Iterator.{YieldsFirst, item_count};
 ghost use Rattle.rpki_base.specs.Walks.{walk, only_left, only_one, only_both, any_side};

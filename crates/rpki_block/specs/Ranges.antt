@@ -6,7 +6,7 @@ pub record RangeValue : Type 0 where
   pub min : ℕ
   pub max : ℕ
 
--- the same, as the bounds of a block
+-- the least and the greatest number of a range, as the bounds of a block
 abbrev pub range_bounds : RangeValue → ℕ × ℕ
 range_bounds r = (r.min, r.max)
 

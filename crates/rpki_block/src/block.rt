@@ -6,8 +6,8 @@ ghost use Rattle.rpki_block.specs.Bounds.{IsWithin, IsBeside, IsNew};
 /// A range of items, from a minimum to a maximum with all items between them (RFC 3779, 2 and 3).
 ///
 /// An item denotes a whole number, and items compare as their numbers. The items of a kind denote all whole numbers
-/// from the kind's first to its last. A type whose values have several forms, such as a single number and a range, is
-/// lawful as long as `new` always gives the same form for the same bounds.
+/// from the kind's first to its last. The values of a type may have several forms, such as a single number and a range.
+/// `new` must then return the same form for the same bounds.
 pub trait Block: Drop {
     /// The type of the items.
     type Item: Copy + Eq + Ord;
@@ -34,7 +34,7 @@ pub trait Block: Drop {
     ///
     /// # Preconditions
     ///
-    /// `max` isn't below `min`.
+    /// `max` is not below `min`.
     fn new(min: Self::Item, max: Self::Item) -> Self
         requires { number min ≤ number max }
         ensures bounds { bounds result ≡ (number min, number max) }
@@ -73,7 +73,7 @@ pub trait Block: Drop {
         (self.min(), self.max())
     }
 
-    /// Returns whether `item` lies in the block.
+    /// Returns whether `item` is in the block.
     fn contains(&self, item: Self::Item) -> bool
         ensures { IsTrue result ↔ IsWithin (bounds self.now) (number item) }
     {
@@ -88,7 +88,7 @@ pub trait Block: Drop {
         self.min() <= other.max() && self.max() >= other.min()
     }
 
-    /// Returns whether each item of the block lies in `other`.
+    /// Returns whether each item of the block is in `other`.
     fn is_encompassed(&self, other: &Self) -> bool
         ensures { IsTrue result ↔
             ((n : ℕ) → IsWithin (bounds self.now) n → IsWithin (bounds other.now) n) }
@@ -96,7 +96,7 @@ pub trait Block: Drop {
         other.min() <= self.min() && other.max() >= self.max()
     }
 
-    /// Returns the block that covers both if they overlap or touch, and None if they are apart.
+    /// Returns the block of the items of both, in the form of `new`, or None if the blocks neither overlap nor touch.
     fn sum(&self, other: &Self) -> Option<Self>
         ensures over { IfSome result (λ sum. (n : ℕ) → IsWithin (bounds sum) n ↔
             (IsWithin (bounds self.now) n ⊎ IsWithin (bounds other.now) n)) }
@@ -120,7 +120,7 @@ pub trait Block: Drop {
         Some(Self::new(first, last))
     }
 
-    /// Returns whether the blocks have the same bounds, in any form.
+    /// Returns whether the blocks have the same bounds. Their forms may differ.
     fn is_equivalent(&self, other: &Self) -> bool
         ensures { IsTrue result ↔ (bounds self.now ≡ bounds other.now) }
     {

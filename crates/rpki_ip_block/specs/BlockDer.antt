@@ -8,14 +8,14 @@ use Rattle.rpki_ip_block.specs.Blocks.{ip_bounds, new_ip_block}
 use Rattle.rpki_ip_block.specs.declared.block.IpBlock.{IpBlock}
 use Rattle.rpki_ip_block.specs.declared.block.IpBlock.TheVariants.{Prefix, Range}
 
--- a prefix or a range (2.2.3.7); limit is the maximum length of a prefix
+-- the octets are the BIT STRING of a prefix or the SEQUENCE of a range (2.2.3.7); limit is the maximum prefix length
 abbrev pub IsIpBlockDer : ℕ → List ℕ → IpBlock → Type 0
 IsIpBlockDer limit bytes (Prefix p) = IsPrefixDer limit bytes p
 IsIpBlockDer limit bytes (Range r) = IsRangeDer limit bytes r
 
 -- ---- encodings
 
--- a block in its own form
+-- the encoding of a block in its own form, as a prefix or as a range (2.2.3.7)
 abbrev pub ip_block_der : IpBlock → List ℕ
 ip_block_der (Prefix p) = prefix_der p
 ip_block_der (Range r) = range_der r
@@ -27,6 +27,6 @@ abbrev pub IsBlockWithin : ℕ → IpBlock → Type 0
 IsBlockWithin limit (Prefix p) = IsPrefix 128 p × (p.len ≤ limit)
 IsBlockWithin limit (Range r) = IsRangeWithin limit r
 
--- a block that sets have: within the limit, and in new form
+-- the block is one that sets have: it is within the limit, and a Prefix if it can be one
 abbrev pub IsSetIpBlock : ℕ → IpBlock → Type 0
 IsSetIpBlock limit block = IsBlockWithin limit block × IsNew ip_bounds new_ip_block block

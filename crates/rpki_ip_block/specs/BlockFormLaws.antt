@@ -18,7 +18,7 @@ bounds_of_length b len has =
     let last : b.0 + 2 ^ (128 - len) - 1 ≡ b.1 = omega (arith, count) in
     λ i. (b.0, last i)
 
--- bounds have a length that is found for them
+-- a length that is found for bounds is one that they have
 pub found_length : (n : ℕ) (b : ℕ × ℕ) (len : ℕ) → length_upto n b ≡ Some len → (len ≤ n) × (has_length b len ≡ true)
 unfolding length_upto
 found_length zero b len found = by_test (has_length b zero) refl
@@ -44,7 +44,7 @@ found_length (suc n) b len found = by_test (has_length b (suc n)) refl (found_le
         let (small, has) = before (ap (λ (t : Bool). if t then Some (suc n) else length_upto n b) (sym here) ∙ found) in
         (omega (arith, small), has)
 
--- therefore the block has these bounds
+-- the block of given bounds has these bounds
 pub new_ip_block_bounds : (b : ℕ × ℕ) → ip_bounds (new_ip_block b) ≡ b
 unfolding length_of
 new_ip_block_bounds b = by_length (length_of b) refl

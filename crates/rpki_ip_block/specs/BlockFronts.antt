@@ -25,7 +25,7 @@ abbrev pub IsRangeAfterDash : AddressFamily → IpAddr → List ℕ → IpBlock 
 IsRangeAfterDash family first text (Range r) rest = IsAtFront (λ t r. WithAddress (Some family) t (λ last. IsRangeFrom first last r)) text r rest
 IsRangeAfterDash family first text (Prefix p) rest = ⊥
 
--- the block is the prefix at an address whose length in digits is at the front, and rest is after it
+-- the block is the prefix at an address; its length in digits is at the front of the text, and rest is after it
 abbrev pub IsPrefixAfterSlash : IpAddr → List ℕ → IpBlock → List ℕ → Type 0
 IsPrefixAfterSlash first text (Prefix p) rest = IsAtFront (λ t p. AllDigits 10 t × IsPrefixAt first t p) text p rest
 IsPrefixAfterSlash first text (Range r) rest = ⊥

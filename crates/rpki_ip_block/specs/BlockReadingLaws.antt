@@ -36,7 +36,7 @@ range_says limit = mapped_check IsBytes (SaysRange limit) (range_in limit) Range
 Says : ℕ → Tlv → IpBlock → Type 0
 Says limit = SaysByTag 3 (Named (IsPrefixContent limit) Prefix) (Named (SaysRange limit) Range)
 
--- this is a block of the grammar
+-- octets with such a value are a block of the grammar
 block_to : (limit : ℕ) (bytes : List ℕ) (block : IpBlock) → Refines IsTlv (Says limit) bytes block
     → IsIpBlockDer limit bytes block
 unfolding Says
@@ -46,7 +46,7 @@ block_to limit bytes block (v, is, inl (tag, (p, (b, says, prefix), same))) =
 block_to limit bytes block (v, is, inr (tag, (r, says, same))) =
     subst (IsIpBlockDer limit bytes) (sym same) (v.content, subst (λ (k : ℕ). IsValue bytes k v.content) tag is, says)
 
--- the converse
+-- a block of the grammar has such a value
 block_from : (limit : ℕ) (bytes : List ℕ) (block : IpBlock) → IsIpBlockDer limit bytes block
     → Refines IsTlv (Says limit) bytes block
 unfolding Says

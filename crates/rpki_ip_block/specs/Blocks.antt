@@ -28,10 +28,11 @@ length_upto (suc n) b = if has_length b (suc n) then Some (suc n) else length_up
 unfoldable pub length_of : ℕ × ℕ → Option ℕ
 length_of b = length_upto 128 b
 
--- the block of given bounds: a Prefix if its addresses are those of a prefix, else a Range (RFC 3779, 2.2.3.7)
+-- the block of bounds and of the length that is found for them: a Prefix if there is a length, and otherwise a Range
 abbrev pub block_from : ℕ × ℕ → Option ℕ → IpBlock
 block_from b (Some len) = Prefix (record { first = b.0; len = len })
 block_from b None = Range (record { min = b.0; max = b.1 })
 
+-- the block of given bounds: a Prefix if its addresses are those of a prefix, and otherwise a Range (RFC 3779, 2.2.3.7)
 abbrev pub new_ip_block : ℕ × ℕ → IpBlock
 new_ip_block b = block_from b (length_of b)

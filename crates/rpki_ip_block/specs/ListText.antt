@@ -8,11 +8,11 @@ use Rattle.rpki_der.specs.declared.family.AddressFamily.TheVariants.{Ipv4, Ipv6}
 use Rattle.rpki_ip_block.specs.BlockText.{IsIpBlockText, HasIpBlockFault}
 use Rattle.rpki_ip_block.specs.declared.block.IpBlock.{IpBlock}
 
--- `b'.'`
+-- the byte of a dot
 abbrev pub dot : ℕ
 dot = 46
 
--- `b':'`
+-- the byte of a colon
 abbrev pub colon : ℕ
 colon = 58
 
@@ -22,20 +22,21 @@ abbrev pub IsForeign : AddressFamily → List ℕ → Type 0
 IsForeign Ipv4 text = Contains text colon
 IsForeign Ipv6 text = Contains text dot × ¬ Contains text colon
 
--- an element of a list of the family
+-- the text is an element of a list of the family, and denotes the block
 abbrev pub IsElementText : AddressFamily → List ℕ → IpBlock → Type 0
 IsElementText family text block = (¬ IsForeign family text) × IsIpBlockText (Some family) text block
 
--- the fault of such an element
+-- e is the fault of an element of a list of the family
 abbrev pub HasElementFault : AddressFamily → List ℕ → FromStrError → Type 0
 HasElementFault family text e =
     (IsForeign family text × (e ≡ FamilyMismatch))
     ⊎ ((¬ IsForeign family text) × HasIpBlockFault (Some family) text e)
 
--- The blocks that a list of the family denotes, in its order, and its first fault.
+-- the text is a list of the family, and denotes these blocks in its order
 abbrev pub HasBlocks : AddressFamily → List ℕ → List IpBlock → Type 0
 HasBlocks family text blocks = HaveValues (IsElementText family) (elements text) blocks
 
+-- e is the fault of the first invalid element of a list of the family
 abbrev pub HasBlocksFault : AddressFamily → List ℕ → FromStrError → Type 0
 HasBlocksFault family text e = HasFirstFault (IsElementText family) (HasElementFault family) (elements text) e
 
@@ -43,13 +44,14 @@ HasBlocksFault family text e = HasFirstFault (IsElementText family) (HasElementF
 abbrev pub IsFamilyOf : List ℕ → AddressFamily → Type 0
 IsFamilyOf text family = (Contains text colon × (family ≡ Ipv6)) ⊎ ((¬ Contains text colon) × (family ≡ Ipv4))
 
--- in such a list, each element that denotes no block of the family is rejected as an element of the other family
+-- in a list without a given family, an element that denotes no block of the family has the fault FamilyMismatch
 abbrev pub HasMismatch : AddressFamily → List ℕ → FromStrError → Type 0
 HasMismatch family text e = ((block : IpBlock) → ¬ IsIpBlockText (Some family) text block) × (e ≡ FamilyMismatch)
 
--- The blocks that a list without a given family denotes, and its first fault.
+-- the text is a list without a given family, and denotes these blocks in its order
 abbrev pub HasIpBlocks : List ℕ → List IpBlock → Type 0
 HasIpBlocks text blocks = (family : AddressFamily) × IsFamilyOf text family × HaveValues (IsIpBlockText (Some family)) (elements text) blocks
 
+-- e is the fault of a list without a given family
 abbrev pub HasIpBlocksFault : List ℕ → FromStrError → Type 0
 HasIpBlocksFault text e = (family : AddressFamily) × IsFamilyOf text family × HasFirstFault (IsIpBlockText (Some family)) (HasMismatch family) (elements text) e

@@ -19,7 +19,7 @@ abbrev pub ip_block_text : AddressFamily → IpBlock → List ℕ
 ip_block_text family (Prefix p) = ip_prefix_text family p
 ip_block_text family (Range r) = ip_range_text family r
 
--- the printed text of a list of blocks
+-- the printed text of a list of blocks: their texts, joined by a comma and a space
 abbrev pub block_list_text : AddressFamily → List IpBlock → List ℕ
 block_list_text family blocks = joined (map (ip_block_text family) blocks)
 

@@ -30,7 +30,7 @@ impl IpBlock {
 
     /// Returns the block from the first address of the pair to the second.
     ///
-    /// The block is a Prefix if a prefix has exactly these addresses, else a Range.
+    /// The block is a Prefix if a prefix has exactly these addresses, and otherwise a Range.
     ///
     /// # Preconditions
     ///
@@ -48,7 +48,7 @@ impl IpBlock {
         }
     }
 
-    /// Returns whether the block is the Prefix of length 0. For a Range of all addresses the result is false.
+    /// Returns whether the block is the Prefix of length 0. The result for a Range of all addresses is false.
     pub fn is_slash_zero(&self) -> bool
         ensures { IsTrue result ↔ (self.now ≡ IpBlock.Prefix (record { first = 0; len = 0 })) }
     {
@@ -89,7 +89,7 @@ impl IpBlock {
     }
 }
 
-/// A block that `Block::new` makes is a Prefix if its addresses are those of a prefix, else a Range.
+/// A block of given bounds is a Prefix if its addresses are those of a prefix, and otherwise a Range.
 impl Block for IpBlock {
     ghost use Rattle.std.specs.Prelude.{refl};
     ghost use Rattle.rpki_ip_block.specs.Blocks.{ip_bounds, new_ip_block};
@@ -145,7 +145,7 @@ impl Block for IpBlock {
     }
 }
 
-/// Blocks are equal if and only if their bounds are equal. The form makes no difference.
+/// Blocks are equal if and only if their bounds are equal. A Prefix and a Range can be equal.
 impl PartialEq for IpBlock {
     ghost use Rattle.std.specs.Prelude.{◌≡◌, ◌↔◌, IsTrue};
     ghost use Rattle.rpki_ip_block.specs.Blocks.{ip_bounds};
@@ -182,7 +182,8 @@ impl From<Prefix> for IpBlock {
     }
 }
 
-/// Returns the block of the prefix's addresses. The addresses of an IPv4 prefix are followed by any 96 bits.
+/// Returns the block of the prefix's addresses as numbers of 128 bits. The 32 bits of an IPv4 address may be followed
+/// by any 96 bits.
 impl From<FamilyPrefix> for IpBlock {
     ghost use Rattle.std.specs.Prelude.{◌≡◌};
     ghost use Rattle.rpki_ip.specs.AddrText.{first_of};

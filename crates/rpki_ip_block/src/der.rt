@@ -30,18 +30,18 @@ impl IpBlock {
     ghost use Rattle.rpki_ip_block.specs.Blocks.{ip_bounds, new_ip_block};
     ghost use Rattle.rpki_ip_block.specs.PrintedBlocks.{IsBlock, IsBlockOf};
 
-    /// Reads a block, or returns None at the end, and only there.
+    /// Reads a block, or returns None if and only if no octets are left.
     ///
-    /// A BIT STRING becomes a Prefix, and a SEQUENCE of two prefixes becomes a Range.
+    /// A BIT STRING becomes a Prefix, and a SEQUENCE of two prefixes becomes a Range (RFC 3779, 2.2.3.7).
     ///
     /// # Errors
     ///
     /// The cursor is unchanged then. The errors are the faults of [`Cursor::take_opt_value`] and these:
     ///
     /// - `BadTag`: the value is neither a BIT STRING nor a SEQUENCE.
-    /// - In a BIT STRING: the faults of [`Prefix::take_from`].
-    /// - In a SEQUENCE: the faults of its two prefixes. Then `ReversedRange` if the least address is above the
-    ///   greatest, and then `TrailingData` if octets are left.
+    /// - In a BIT STRING: `BadBitString`, `BadPrefix` and `NotCanonical`, as in [`Prefix::parse_content`].
+    /// - In a SEQUENCE: the faults of its two prefixes, as in [`Prefix::take_from`]. Then `ReversedRange` if the least
+    ///   address is above the greatest, and then `TrailingData` if octets are left.
     /// - `NotCanonical`, from a strict cursor: the octets aren't the encoding of a block that sets have.
     #[tactic(auto, using(crate::proofs::IpBlockDerWritten::taken_exact, crate::proofs::IpBlockDerWritten::taken_reads, crate::proofs::IpBlockDerWritten::taken_strict, crate::proofs::IpBlockDerWritten::taken_refused))]
     pub fn take_opt_from(cursor: &mut Cursor<'_>) -> Result<Option<IpBlock>, DerError>
@@ -115,10 +115,10 @@ impl IpBlock {
         }
     }
 
-    /// Appends the block in its own form: a Prefix as a BIT STRING, a Range as a SEQUENCE.
+    /// Appends the block in its own form: a Prefix as a BIT STRING, a Range as a SEQUENCE (RFC 3779, 2.2.3.7).
     ///
-    /// The SEQUENCE has the least address without all the zero bits at its end, and the greatest without all the one
-    /// bits at its end.
+    /// The SEQUENCE has the least address without all the zero bits at its end, and the greatest address without all
+    /// the one bits at its end.
     ///
     /// # Errors
     ///
@@ -169,6 +169,7 @@ impl IpBlock {
     ghost use Rattle.rpki_ip_block.specs.BlockReading.{ip_block_by, next_ip_block_by};
     ghost use Rattle.rpki_ip_block.specs.Blocks.{ip_bounds};
 
+    /// Reads a block of a family, for both calls above.
     #[tactic(auto, unfolding(rpki_der::specs::Reading::optional, rpki_der::specs::Reading::refined, rpki_der::specs::SequenceReading::by_tag))]
     fn take_opt_from_with_family_by_mode(
         cursor: &mut Cursor<'_>,
@@ -191,6 +192,8 @@ impl IpBlock {
         Ok(Some(block))
     }
 
+    /// Reads the block that follows the address `before`, which is None for the first block. In strict mode the block
+    /// begins more than one above `before`.
     #[tactic(auto, unfolding(rpki_der::specs::Reading::optional, rpki_der::specs::Reading::refined, rpki_der::specs::Reading::passing))]
     fn next_opt_after(
         before: Option<Addr>,
@@ -212,7 +215,7 @@ impl IpBlock {
         Ok(Some(block))
     }
 
-    // Returns whether the block begins more than one above the address.
+    // Returns whether the block begins more than one above the address. Without an address the result is true.
     fn is_beyond(&self, before: Option<Addr>) -> bool
         ensures { result ≡ is_beyond before (ip_bounds self.now).0 }
     {
@@ -256,7 +259,7 @@ fn range_of(first: &Prefix, second: &Prefix) -> Result<AddressRange, DerError>
     Ok(AddressRange::new(first.min(), second.max()))
 }
 
-/// Returns whether the prefixes are those of the encoding of `range`, and no prefix has exactly its addresses.
+/// Returns whether the encoding of `range` has these prefixes, and no prefix has exactly its addresses.
 ///
 /// # Preconditions
 ///
@@ -272,11 +275,12 @@ fn is_set_range(range: &AddressRange, first: &Prefix, second: &Prefix) -> bool
         )
 }
 
-/// Reads blocks of a family one after another.
+/// A reader of the blocks of a family, one after another.
 ///
-/// From a strict cursor each block begins more than one above the greatest address of the block before it.
+/// From a strict cursor, each block begins more than one above the greatest address of the block before it.
 #[derive(Clone, Copy, Debug)]
 pub struct IpBlockReader {
+    /// The family, which limits the lengths of prefixes.
     pub family: AddressFamily,
 }
 

@@ -1,4 +1,4 @@
-//! Blocks of the usual form at the front of a text, and lists of such blocks.
+//! Parsing of a block at the front of a text, and of lists of such blocks in one pass.
 ghost use Rattle.std.specs.Prelude.{◌≡◌, ◌∷◌, IfOk, IfSome, IsTrue};
 ghost use Rattle.rpki_ip_block.specs.ListText.{HasBlocks};
 ghost use Rattle.rpki_ip_block.specs.BlockFronts.{IsBlockAtFront, IsRangeAfterDash, IsPrefixAfterSlash, IsAfterOptionalSpace, IsSpaceOrNothing};
@@ -9,7 +9,7 @@ use rpki_ip::family::AddressFamily;
 use rpki_ip::front::{FamilyAddr, prefix_len_at_front, range_end_at_front, range_of};
 use std::alloc::{AllocError, Allocator};
 
-/// Returns the text after this byte, if the byte is at the front.
+/// Returns the text after `byte` if the byte is at the front.
 #[inline(always)]
 fn strip_byte(byte: u8, text: &[u8]) -> Option<&[u8]>
     ensures { IfSome result (λ rest. text.now ≡ byte ∷ rest.now) }
@@ -44,7 +44,7 @@ fn prefix_after_slash<F: FamilyAddr>(first: F, text: &[u8]) -> Option<(IpBlock, 
 /// Returns the block at the front of the text, and the rest of the text.
 ///
 /// The block is one address, two addresses with a dash between them, or an address, a slash and a length. The call can
-/// return None for other texts of blocks.
+/// return None for blocks of another form.
 #[inline(always)]
 #[tactic(auto, using(crate::proofs::BlockFrontLemmas::prefix_found, crate::proofs::BlockFrontLemmas::range_found, crate::proofs::BlockFrontLemmas::single_front))]
 fn block_at_front<F: FamilyAddr>(text: &[u8]) -> Option<(IpBlock, &[u8])>
@@ -73,7 +73,7 @@ fn skip_space(text: &[u8]) -> &[u8]
     }
 }
 
-/// Returns whether the list ends here, after at most one space.
+/// Returns whether the list ends here. One space may precede the end.
 #[inline(always)]
 fn is_end(text: &[u8]) -> bool
     ensures { IsTrue result → IsSpaceOrNothing text.now }
@@ -84,7 +84,7 @@ fn is_end(text: &[u8]) -> bool
 /// Returns the blocks of a list whose elements all have the usual form.
 ///
 /// Each element has at most one space before it, and the last has at most one after it. The result is None if an
-/// element has another form or is no block.
+/// element has another form or isn't a block.
 fn usual_blocks_of<F: FamilyAddr, A: Allocator>(
     alloc: A,
     text: &[u8],
@@ -109,7 +109,7 @@ fn usual_blocks_of<F: FamilyAddr, A: Allocator>(
     }
 }
 
-/// Returns the blocks of a list of the family, as [`usual_blocks_of`] reads them.
+/// Returns the blocks of a list of the family, if all its elements have the usual form, as [`usual_blocks_of`] does.
 pub(crate) fn usual_blocks<A: Allocator>(
     alloc: A,
     family: AddressFamily,

@@ -32,7 +32,7 @@ fn is_foreign(family: AddressFamily, text: &str) -> bool
     }
 }
 
-/// Reads the elements of a list of a given family.
+/// A reader of the elements of a list of a given family.
 #[derive(Clone, Copy)]
 struct InFamily {
     family: AddressFamily,
@@ -55,7 +55,7 @@ impl ReadElement for InFamily {
     }
 }
 
-/// Reads the elements of a list whose family a colon decides.
+/// A reader of the elements of a list whose family depends on a colon in the list.
 #[derive(Clone, Copy)]
 struct ByColon {
     family: AddressFamily,
@@ -101,9 +101,9 @@ fn read_blocks_matched<A: Allocator + Copy>(
 ///
 /// # Errors
 ///
-/// - [`OrMemory::Refused`]: the fault of the first element that is no block of the family. The fault is
+/// - [`OrMemory::Refused`]: the fault of the first element that isn't a block of the family. The fault is
 ///   [`FromStrError::FamilyMismatch`] if the element has a colon in a list of IPv4, or a dot and no colon in a list of
-///   IPv6. Else it is the fault of [`IpBlock::from_v4_str`] or `from_v6_str`.
+///   IPv6. Otherwise it is the fault of [`IpBlock::from_v4_str`] or `from_v6_str`.
 /// - [`OrMemory::Memory`]: an allocation failed.
 pub fn read_blocks<A: Allocator + Copy>(
     alloc: A,
@@ -123,7 +123,7 @@ pub fn read_blocks<A: Allocator + Copy>(
     read_blocks_matched(alloc, family, text)
 }
 
-/// Returns the family of a list without a given family.
+/// Returns the family of a list without a given family: IPv6 if the list has a colon, and otherwise IPv4.
 fn family_of_text(text: &str) -> AddressFamily
     ensures { IsFamilyOf text.now result }
 {
@@ -136,12 +136,12 @@ fn family_of_text(text: &str) -> AddressFamily
 
 /// Parses a list of blocks without a given family and returns the blocks in the order of the list.
 ///
-/// The blocks are of IPv6 if the list has a colon anywhere, else of IPv4. The call splits the list as [`read_blocks`]
-/// does.
+/// The blocks are of IPv6 if the list has a colon anywhere, and otherwise of IPv4. The call splits the list as
+/// [`read_blocks`] does.
 ///
 /// # Errors
 ///
-/// - [`OrMemory::Refused`] with [`FromStrError::FamilyMismatch`]: an element is no block of the family.
+/// - [`OrMemory::Refused`] with [`FromStrError::FamilyMismatch`]: an element isn't a block of the family.
 /// - [`OrMemory::Memory`]: an allocation failed.
 pub fn read_ip_blocks<A: Allocator>(
     alloc: A,
@@ -161,7 +161,7 @@ pub fn read_ip_blocks<A: Allocator>(
     read_elements(alloc, &reader, text)
 }
 
-/// Prints blocks as blocks of a family.
+/// A printer of blocks as blocks of a family.
 #[derive(Clone, Copy)]
 struct AsFamily {
     family: AddressFamily,
@@ -181,7 +181,11 @@ impl FmtElement for AsFamily {
     }
 }
 
-/// Prints the blocks as blocks of the family, joined by a comma and a space. An empty list prints nothing.
+/// Prints the blocks as blocks of `family`, joined by a comma and a space. An empty list prints nothing.
+///
+/// # Errors
+///
+/// `fmt::Error` if the writer fails. It may have a part of the text then.
 pub fn fmt_blocks<W: fmt::Write>(
     family: AddressFamily,
     blocks: &[IpBlock],

@@ -12,11 +12,11 @@ use std::slice::Iter;
 
 /// Iterates over the prefixes of the shortest covers of blocks, one block after the other.
 ///
-/// For the blocks of a set these prefixes are the set's shortest cover, ascending. Contracts see it as the list of the
-/// prefixes that are left.
+/// For the blocks of a set these prefixes are the set's shortest cover, ascending. In contracts its value is the list
+/// of the prefixes that are left.
 #[derive(Debug, Drop)]
 pub struct SetPrefixes<'a> {
-    current: V6Prefixes, // for whole IPv4 addresses, the prefixes of their first 32 bits
+    current: V6Prefixes, // in whole IPv4 addresses all lengths are at most 32
     later: Iter<'a, IpBlock>,
 }
 
@@ -32,7 +32,7 @@ impl<'a> Model for SetPrefixes<'a> {
 }
 
 impl<'a> SetPrefixes<'a> {
-    /// Returns the prefixes of the shortest cover of each block, one block after the other.
+    /// Iterates over the prefixes of the shortest cover of each block, one block after the other.
     pub fn over(blocks: &'a [IpBlock]) -> SetPrefixes<'a>
         ensures { result ≡ blocks_cover blocks.now }
     {

@@ -25,10 +25,10 @@ pub(crate) fn has_byte(byte: u8, text: &str) -> bool
     text.as_bytes().contains(&byte)
 }
 
-/// Parses a block of the family `wanted`, or of either family for None.
+/// Parses a block of the family `wanted`, or of either family if `wanted` is None.
 ///
-/// A text with a slash is a prefix, separated by the first slash. Else a text with a dash is a range, separated by the
-/// first dash. Any other text is one address.
+/// A text with a slash is a prefix, separated by the first slash. Without a slash, a text with a dash is a range,
+/// separated by the first dash. Any other text is one address.
 pub(crate) fn read_block(wanted: Option<AddressFamily>, text: &str) -> Result<IpBlock, FromStrError>
     ensures { Answers (IsIpBlockText wanted text.now) (HasIpBlockFault wanted text.now) result }
 {
@@ -45,7 +45,7 @@ impl IpBlock {
     /// Parses a block of IPv4 addresses: a prefix, a range, or one address.
     ///
     /// - A text with a slash is a prefix, separated by the first slash. The bits after its length are cleared.
-    /// - Else a text with a dash is a range, separated by the first dash.
+    /// - Without a slash, a text with a dash is a range, separated by the first dash.
     /// - Any other text is one address, which is returned as a Range.
     ///
     /// # Errors
@@ -53,7 +53,7 @@ impl IpBlock {
     /// The first of these faults is returned:
     ///
     /// - [`FromStrError::Addr`]: the text of an address isn't an IPv4 address.
-    /// - [`FromStrError::PrefixLen`]: the text after the first slash isn't a length, or the length is above 32.
+    /// - [`FromStrError::PrefixLen`]: the text after the first slash isn't a number from 0 to 32.
     /// - [`FromStrError::BadRange`]: the first address of a range is above the second.
     pub fn from_v4_str(text: &str) -> Result<IpBlock, FromStrError>
         ensures exact { Answers (IsIpBlockText (Some Ipv4) text.now)
@@ -70,7 +70,7 @@ impl IpBlock {
     ///
     /// # Errors
     ///
-    /// The errors are those of [`IpBlock::from_v4_str`], for IPv6 addresses and for lengths above 128.
+    /// The errors are those of [`IpBlock::from_v4_str`], for IPv6 addresses and for lengths from 0 to 128.
     pub fn from_v6_str(text: &str) -> Result<IpBlock, FromStrError>
         ensures exact { Answers (IsIpBlockText (Some Ipv6) text.now)
             (HasIpBlockFault (Some Ipv6) text.now) result }
@@ -82,8 +82,12 @@ impl IpBlock {
         read_block(Some(AddressFamily::Ipv6), text)
     }
 
-    /// Prints the block as a block of the family, as [`Prefix::fmt_with_family`] and [`AddressRange::fmt_with_family`]
+    /// Prints the block as a block of `family`, as [`Prefix::fmt_with_family`] and [`AddressRange::fmt_with_family`]
     /// do.
+    ///
+    /// # Errors
+    ///
+    /// `fmt::Error` if the writer fails. It may have a part of the text then.
     pub fn fmt_with_family<W: fmt::Write>(
         &self,
         family: AddressFamily,
@@ -101,7 +105,12 @@ impl IpBlock {
     ///
     /// - A Prefix is printed as its address, a slash and its length. The slash and the length are left out if the
     ///   length is 32.
-    /// - A Range is printed as its bounds with a dash between them, or as one address if the bounds are printed alike.
+    /// - A Range is printed as its bounds with a dash between them, or as one address if the texts of both bounds are
+    ///   the same.
+    ///
+    /// # Errors
+    ///
+    /// `fmt::Error` if the writer fails. It may have a part of the text then.
     pub fn fmt_v4<W: fmt::Write>(&self, f: &mut fmt::Formatter<W>) -> fmt::Result
         ensures { WritesOnOk W.write_str_gives f.old result (ip_block_text Ipv4 self.now) f.new }
     {
@@ -113,6 +122,10 @@ impl IpBlock {
     /// - A Prefix is printed as its address, a slash and its length. The slash and the length are left out if the
     ///   length is 128.
     /// - A Range is printed as its bounds with a dash between them, or as one address if the bounds are the same.
+    ///
+    /// # Errors
+    ///
+    /// `fmt::Error` if the writer fails. It may have a part of the text then.
     pub fn fmt_v6<W: fmt::Write>(&self, f: &mut fmt::Formatter<W>) -> fmt::Result
         ensures { WritesOnOk W.write_str_gives f.old result (ip_block_text Ipv6 self.now) f.new }
     {
@@ -136,7 +149,7 @@ impl IpBlock {
 
 /// Parses a block of addresses of either family, as [`IpBlock::from_v4_str`] does for IPv4.
 ///
-/// The fault is [`FromStrError::FamilyMismatch`] if the two addresses of a range are of two families.
+/// A further error is [`FromStrError::FamilyMismatch`]: the two addresses of a range are of two families.
 impl FromStr for IpBlock {
     type Err = FromStrError;
 
@@ -163,6 +176,7 @@ impl Model for DisplayV4Block {
     ghost inverse = { λ block. record { block = block } };
 }
 
+/// Prints the block as [`IpBlock::fmt_v4`] does.
 impl fmt::Display for DisplayV4Block {
     ghost output = { λ block. Some (ip_block_text Ipv4 block) };
 
@@ -187,6 +201,7 @@ impl Model for DisplayV6Block {
     ghost inverse = { λ block. record { block = block } };
 }
 
+/// Prints the block as [`IpBlock::fmt_v6`] does.
 impl fmt::Display for DisplayV6Block {
     ghost output = { λ block. Some (ip_block_text Ipv6 block) };
 

@@ -12,14 +12,18 @@ use Rattle.rpki_ip_block.specs.BlockReading.{next_ip_block_by}
 use Rattle.rpki_ip_block.specs.Blocks.{ip_bounds}
 use Rattle.rpki_ip_block.specs.declared.block.IpBlock.{IpBlock}
 
+-- the state after a block: its greatest address
 abbrev pub greatest_of_ip_block : Option ℕ → IpBlock → Option ℕ
 greatest_of_ip_block before block = Some (ip_bounds block).1
 
+-- reads the SEQUENCE of blocks at the front of octets, in either mode (RFC 3779, 2.2.3.6)
 abbrev pub ip_blocks_by : Bool → ℕ → List ℕ → Result (List IpBlock × List ℕ) DerError
 ip_blocks_by strict limit = sequence_from greatest_of_ip_block (next_ip_block_by strict limit) None
 
+-- reads the resources of a family at the front of octets, in either mode (RFC 3779, 2.2.3.4)
 abbrev pub ip_resources_by : Bool → ℕ → List ℕ → Result (ResourcesChoice (List IpBlock) × List ℕ) DerError
 ip_resources_by strict limit = choice_at (values_from greatest_of_ip_block (next_ip_block_by strict limit) None)
 
+-- reads the SEQUENCE of families at the front of octets, in either mode (RFC 3779, 2.2.3.1)
 abbrev pub ip_families_by : Bool → List ℕ → Result (ByFamily (ResourcesChoice (List IpBlock)) × List ℕ) DerError
 ip_families_by strict = families_by strict (λ family. ip_resources_by strict (bits_of family))

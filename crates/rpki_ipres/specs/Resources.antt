@@ -9,15 +9,16 @@ use Rattle.rpki_der.specs.declared.family.AddressFamily.{AddressFamily}
 use Rattle.rpki_der.specs.declared.family.AddressFamily.TheVariants.{Ipv4, Ipv6}
 use Rattle.rpki_ipres.specs.SetText.{IsFamilySet, IsIpSet}
 
--- the listed set is a set of addresses
+-- the listed set, if there is one, is a set of addresses that isn't empty
 abbrev pub IsIpClaim : Claim → Type 0
 IsIpClaim = IsClaim IsIpSet
 
--- the listed set is a set of the family: any set in IPv6, and a set of whole addresses in IPv4
+-- the listed set, if there is one, isn't empty, and is a set of the family: any set in IPv6, and a set of whole
+-- addresses in IPv4
 abbrev pub IsFamilyClaim : AddressFamily → Claim → Type 0
 IsFamilyClaim family = IsClaim (IsFamilySet family)
 
--- the listed set consists of whole IPv4 addresses
+-- the listed set, if there is one, consists of whole IPv4 addresses
 abbrev pub IsWholeClaim : Claim → Type 0
 IsWholeClaim Missing = ⊤
 IsWholeClaim Inherit = ⊤

@@ -17,21 +17,23 @@ use Rattle.rpki_ip_block.specs.Blocks.{ip_bounds}
 use Rattle.rpki_ip_block.specs.declared.block.IpBlock.{IpBlock}
 use Rattle.rpki_ipres.specs.SetDer.{ip_set_der}
 
--- a NULL for inherited resources, else a SEQUENCE of at least one block, which denotes the set of their addresses
--- (2.2.3.4 to 2.2.3.6); limit is the maximum length of a prefix
+-- the octets are a NULL for inherited resources, or a SEQUENCE of at least one block, which denotes the set of their
+-- addresses (2.2.3.4 to 2.2.3.6); limit is the maximum length of a prefix
 abbrev pub IsIpResources : ℕ → List ℕ → Claim → Type 0
 IsIpResources limit = IsResourcesOf (IsSequenceOf (IsIpBlockDer limit)) (IsRunsOfBlocks ip_bounds)
 
--- a SEQUENCE of at least one family with its resources, in any order, each at most once (2.2.3.1 to 2.2.3.3; RFC 6487,
--- 4.8.10)
+-- the octets are a SEQUENCE of at least one family with its resources, in any order, each at most once (2.2.3.1 to
+-- 2.2.3.3; RFC 6487, 4.8.10)
 abbrev pub IsIpFamilies : List ℕ → ByFamily Claim → Type 0
 IsIpFamilies = IsFamilies (λ family. IsIpResources (bits_of family))
 
 -- ---- reading, from left to right
 
+-- reads the resources of a family at the front of octets: a NULL, or a SEQUENCE of blocks
 abbrev pub ip_resources_at : ℕ → List ℕ → Result (ResourcesChoice (List IpBlock) × List ℕ) DerError
 ip_resources_at limit = choice_at (values_of (ip_block_at limit))
 
+-- reads the SEQUENCE of families at the front of octets
 abbrev pub ip_families_at : List ℕ → Result (ByFamily (ResourcesChoice (List IpBlock)) × List ℕ) DerError
 ip_families_at = families_at (λ family. ip_resources_at (bits_of family))
 
@@ -39,12 +41,13 @@ ip_families_at = families_at (λ family. ip_resources_at (bits_of family))
 abbrev pub SaysClaimOf : ResourcesChoice (List IpBlock) → Claim → Type 0
 SaysClaimOf = ListsBy (IsRunsOfBlocks ip_bounds)
 
+-- the resources that were read for each family denote the family's claim
 abbrev pub SaysClaims : ByFamily (ResourcesChoice (List IpBlock)) → ByFamily Claim → Type 0
 SaysClaims = SaysByFamily SaysClaimOf
 
 -- ---- encodings
 
--- a NULL, or the runs of the set in one SEQUENCE; no octets for missing resources
+-- the encoding of a claim: a NULL, or the runs of the set in one SEQUENCE; no octets for missing resources
 abbrev pub ip_resources_der : Claim → List ℕ
 ip_resources_der = choice_octets ip_set_der
 

@@ -17,13 +17,13 @@ use Rattle.rpki_ip_block.specs.declared.block.IpBlock.{IpBlock}
 use Rattle.rpki_ipres.specs.Modes.{greatest_of_ip_block, ip_resources_by}
 use Rattle.rpki_ipres.specs.ResourcesDer.{ip_resources_at}
 
--- a NULL, or a SEQUENCE of at least one block
+-- the reading of a NULL or a SEQUENCE of at least one block
 pub resources_reading : (limit : ℕ) → IsReading (IsChoiceOf (IsSequenceOf (IsIpBlockDer limit))) (ip_resources_at limit)
 resources_reading limit =
     choice_reading (Each (IsIpBlockDer limit)) (values_of (ip_block_at limit))
     (values_check (λ (state : Unit {0}) (x : IpBlock). state) (λ state. IsIpBlockDer limit) (λ state. ip_block_at limit) (λ state. ip_block_reading limit) (λ state. ip_block_has_octets limit) tt)
 
--- the same in strict and lenient mode
+-- the reading in either mode, if the reading of the next block is one in either mode
 pub resources_modal_of : (limit : ℕ) (S : Option ℕ → List ℕ → IpBlock → Type 0)
     → ((before : Option ℕ) → IsModal (S before) (ip_block_at limit) (λ strict. next_ip_block_by strict limit before))
     → IsModal (IsChoiceOf (IsSequenceFrom greatest_of_ip_block S None)) (ip_resources_at limit)
@@ -34,6 +34,7 @@ resources_modal_of limit S next =
     (strict_values_check greatest_of_ip_block (λ before. IsIpBlockDer limit) S (λ before. ip_block_at limit) (λ strict. next_ip_block_by strict limit) (λ before. ip_block_reading limit) (λ before. ip_block_has_octets limit) next None)
     (λ strict. values_tighten strict greatest_of_ip_block (next_ip_block_by strict limit) (λ before. ip_block_at limit) (λ before. (next before).tightens strict) None))
 
+-- the reading in either mode
 pub resources_modal : (limit : ℕ)
     → IsModal (IsChoiceOf (IsSequenceFrom greatest_of_ip_block (IsNextIpBlock limit) None)) (ip_resources_at limit)
     (λ strict. ip_resources_by strict limit)

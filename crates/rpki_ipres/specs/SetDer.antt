@@ -10,22 +10,22 @@ use Rattle.rpki_der.specs.FamilyDer.{IsFamilyDer, family_der}
 use Rattle.rpki_ip_block.specs.BlockDer.{IsIpBlockDer, ip_block_der}
 use Rattle.rpki_ip_block.specs.Blocks.{ip_bounds, new_ip_block}
 
--- a SEQUENCE of blocks and nothing else, in any order, overlapping or not; it denotes the set of their addresses
--- (2.2.3.6)
+-- The octets are a SEQUENCE of blocks and nothing else, which denotes the set of their addresses (2.2.3.6). The blocks
+-- are in any order, overlapping or not.
 abbrev pub IsIpBlockSequence : ℕ → List ℕ → Runs → Type 0
 IsIpBlockSequence limit = Refines (IsSequenceOf (IsIpBlockDer limit)) (IsRunsOfBlocks ip_bounds)
 
--- a family and a SEQUENCE of its blocks, which denotes a set, in one SEQUENCE (2.2.3.2)
+-- the octets are one SEQUENCE of a family and of the SEQUENCE of its blocks, which denotes a set (2.2.3.2)
 abbrev pub IsIpFamily : List ℕ → AddressFamily × Runs → Type 0
 IsIpFamily bytes f = (content : List ℕ) × IsSequence bytes content × Both IsFamilyDer (IsIpBlockSequence (bits_of f.0)) content f.0 f.1
 
 -- ---- encodings
 
--- a run: a prefix if its addresses are those of a prefix, else a range (2.2.3.7)
+-- the encoding of a run: a prefix if its addresses are those of a prefix, and otherwise a range (2.2.3.7)
 abbrev pub ip_run_der : ℕ × ℕ → List ℕ
 ip_run_der run = ip_block_der (new_ip_block run)
 
--- the runs of a set in one SEQUENCE (2.2.3.6)
+-- the encoding of a set: its runs in one SEQUENCE (2.2.3.6)
 abbrev pub ip_set_der : Runs → List ℕ
 ip_set_der set = sequence_octets ip_run_der set
 

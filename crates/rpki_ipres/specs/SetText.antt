@@ -9,7 +9,7 @@ use Rattle.rpki_ip_block.specs.Blocks.{ip_bounds, new_ip_block}
 use Rattle.rpki_ip_block.specs.PrintedBlocks.{block_list_text}
 use Rattle.rpki_ip_block.specs.declared.block.IpBlock.{IpBlock}
 
--- the set has the addresses that are in at least one block of a list for which the predicate holds
+-- the set has the addresses of the blocks of a list for which the predicate holds
 abbrev pub IsSetOf : (List IpBlock → Type 0) → Runs → Type 0
 IsSetOf = IsSetOfBlocks ip_bounds
 
@@ -17,12 +17,12 @@ IsSetOf = IsSetOfBlocks ip_bounds
 abbrev pub set_text : AddressFamily → Runs → List ℕ
 set_text family set = block_list_text family (map new_ip_block set)
 
--- the printed text of addresses that are claimed and that the issuer doesn't have
+-- the printed text of claimed addresses that the issuer doesn't have, as addresses of a family
 abbrev pub overclaimed_ip_text : AddressFamily → Runs → List ℕ
 overclaimed_ip_text Ipv4 excess = codes "overclaimed IPv4 resources: " ++ set_text Ipv4 excess
 overclaimed_ip_text Ipv6 excess = codes "overclaimed IPv6 resources: " ++ set_text Ipv6 excess
 
--- the runs of a set of addresses, all below 2 ^ 128
+-- the runs are those of a set of addresses, all below 2 ^ 128
 abbrev pub IsIpSet : Runs → Type 0
 IsIpSet set = IsBlockSet 0 340282366920938463463374607431768211455 set
 

@@ -30,10 +30,10 @@ use std::slice::Iter;
 
 /// A set of addresses.
 ///
-/// An IPv4 address is stored as the numbers that begin with its 32 bits. Sets of the same addresses are equal and print
-/// alike. Several sets can share one memory. The empty set has no memory.
+/// An IPv4 address is stored as the numbers of 128 bits that begin with its 32 bits. Sets of the same addresses are
+/// equal and print alike. Several sets can share one memory. The empty set has no memory.
 ///
-/// Contracts see the set as the ascending list of its runs, each as its least and its greatest address.
+/// In contracts its value is the ascending list of its runs, each as its least and its greatest address.
 #[derive(Drop)]
 pub struct IpBlocks<A: Allocator = Global> {
     set: BlockSet<IpBlock, A>,
@@ -57,7 +57,7 @@ impl<A: Allocator> IpBlocks<A> {
         }
     }
 
-    /// Returns the set of all addresses, of IPv4 as of IPv6.
+    /// Returns the set of all addresses, which is the same set for IPv4 and for IPv6.
     ///
     /// # Errors
     ///
@@ -91,7 +91,7 @@ impl<A: Allocator> IpBlocks<A> {
     ///
     /// # Errors
     ///
-    /// [`AllocError`] if the allocation for what the owners of the set share fails.
+    /// [`AllocError`] if the allocation of the reference count fails.
     pub fn from_vec(alloc: A, blocks: Vec<IpBlock, A>) -> Result<IpBlocks<A>, AllocError>
         ensures { IfOk result (IsRunsOfBlocks ip_bounds blocks.items) }
     {
@@ -99,8 +99,11 @@ impl<A: Allocator> IpBlocks<A> {
         Ok(IpBlocks::from_set(set))
     }
 
-    /// Makes a set of blocks that are already its runs, each in the form that sets have. Returns [`AllocError`] if
-    /// the allocation for what the owners of the set share fails.
+    /// Returns the set of blocks that are already its runs, each in the form that sets have.
+    ///
+    /// # Errors
+    ///
+    /// [`AllocError`] if the allocation of the reference count fails.
     pub(crate) fn from_vec_unchecked(
         alloc: A,
         blocks: Vec<IpBlock, A>,
@@ -148,7 +151,7 @@ impl<A: Allocator> IpBlocks<A> {
 
     /// States an invariant for the proofs of callers: the set is one of addresses.
     ///
-    /// This call is no test. It does nothing and returns nothing.
+    /// The call checks nothing when it runs, and returns nothing.
     #[doc(hidden)]
     pub fn recall_invariant(&self)
         ensures { IsIpSet self.now }
@@ -156,7 +159,8 @@ impl<A: Allocator> IpBlocks<A> {
         self.set.recall_invariant();
     }
 
-    /// Iterates over the blocks of the set, ascending: its runs, each as a Prefix if possible, else as a Range.
+    /// Iterates over the blocks of the set, ascending: its runs, each as a Prefix if possible, and otherwise as a
+    /// Range.
     pub fn iter(&self) -> Iter<'_, IpBlock>
         ensures blocks { map ip_bounds (iter_rest result) ≡ self.now }
         ensures made { iter_rest result ≡ map new_ip_block self.now }
@@ -165,7 +169,7 @@ impl<A: Allocator> IpBlocks<A> {
         self.set.iter()
     }
 
-    /// Returns the blocks of the set, ascending: its runs, each as a Prefix if possible, else as a Range.
+    /// Returns the blocks of the set, ascending: its runs, each as a Prefix if possible, and otherwise as a Range.
     pub(crate) fn as_slice(&self) -> &[IpBlock]
         ensures blocks { map ip_bounds result.now ≡ self.now }
         ensures made { result.now ≡ map new_ip_block self.now }
@@ -201,9 +205,9 @@ impl<A: Allocator> IpBlocks<A> {
     ///
     /// # Errors
     ///
-    /// - [`OrMemory::Refused`]: the fault of the first element that is no block of the family. The fault is
+    /// - [`OrMemory::Refused`]: the fault of the first element that isn't a block of the family. The fault is
     ///   [`FromStrError::FamilyMismatch`] if the element has a colon in a list of IPv4, or a dot and no colon in a list
-    ///   of IPv6. Else it is the element's own fault.
+    ///   of IPv6. Otherwise it is the fault of [`IpBlock::from_v4_str`] or [`IpBlock::from_v6_str`].
     /// - [`OrMemory::Memory`]: an allocation failed.
     pub fn from_str_with_family(
         alloc: A,
@@ -226,12 +230,12 @@ impl<A: Allocator> IpBlocks<A> {
 
     /// Parses a list of blocks and returns the set of their addresses.
     ///
-    /// The blocks are of IPv6 if the text has a colon anywhere, else of IPv4. The call splits the text at commas and
-    /// trims white space from each element. It ignores elements that are then empty.
+    /// The blocks are of IPv6 if the text has a colon anywhere, and otherwise of IPv4. The call splits the text at
+    /// commas and trims white space from each element. It ignores elements that are then empty.
     ///
     /// # Errors
     ///
-    /// - [`OrMemory::Refused`] with [`FromStrError::FamilyMismatch`]: an element is no block of the family.
+    /// - [`OrMemory::Refused`] with [`FromStrError::FamilyMismatch`]: an element isn't a block of the family.
     /// - [`OrMemory::Memory`]: an allocation failed.
     pub fn from_str(alloc: A, text: &str) -> Result<IpBlocks<A>, OrMemory<FromStrError>>
     where
@@ -257,8 +261,7 @@ impl<A: Allocator> IpBlocks<A> {
         self.set.contains(&other.set)
     }
 
-    /// Returns whether the set has every address of a range, for example of a prefix of a ROA (route origin
-    /// authorization).
+    /// Returns whether the set has every address of a range, for example of a prefix of a ROA (RFC 9582, 5).
     pub fn contains_roa(&self, addr: AddressRange) -> bool
         ensures { IsTrue result ↔ ((n : ℕ) → IsWithin (range_bounds addr) n → Holds self.now n) }
     {
@@ -281,7 +284,7 @@ impl<A: Allocator> IpBlocks<A> {
 
     /// Returns whether the set consists of whole IPv4 addresses.
     ///
-    /// It does if the set has, with each of its numbers, every number with the same first 32 bits.
+    /// With each of its numbers the set then has every number with the same first 32 bits.
     pub fn is_whole_v4(&self) -> bool
         ensures { IsTrue result ↔ IsWhole (Holds self.now) }
     {
@@ -372,7 +375,7 @@ impl<A: Allocator> fmt::Debug for IpBlocks<A> {
     }
 }
 
-/// The default is the set of no addresses.
+/// Returns the set of no addresses.
 impl<A: Allocator> Default for IpBlocks<A> {
     ghost is_default = { λ set. set ≡ [] };
 

@@ -12,9 +12,10 @@ use std::alloc::{AllocError, Allocator, Global};
 use std::fmt;
 use std::marker::Model;
 
-/// Collects blocks of addresses, in any order, and builds their set. It stores the allocator that `new` gets.
+/// A collection of blocks of addresses, in any order, of which a set is made. It stores the allocator that `new` gets.
 ///
-/// Contracts see it as the list of the blocks' least and greatest addresses, in the order in which they were added.
+/// In contracts its value is the list of the blocks' least and greatest addresses, in the order in which they were
+/// added.
 #[derive(Drop)]
 pub struct IpBlocksBuilder<A: Allocator = Global> {
     blocks: BlockSetBuilder<IpBlock, A>,
@@ -38,7 +39,7 @@ impl<A: Allocator> IpBlocksBuilder<A> {
         }
     }
 
-    /// Adds a block.
+    /// Adds a block. It may overlap the blocks before it.
     ///
     /// # Errors
     ///
@@ -50,7 +51,7 @@ impl<A: Allocator> IpBlocksBuilder<A> {
         self.blocks.push(block)
     }
 
-    /// Adds several blocks.
+    /// Adds several blocks, in any order.
     ///
     /// # Errors
     ///
@@ -77,10 +78,10 @@ impl<A: Allocator> IpBlocksBuilder<A> {
     }
 }
 
-/// Builds resources of addresses: inherited resources, or a list of blocks, which is empty at first.
+/// A builder of resources of addresses: inherited resources, or a list of blocks, which is empty at first.
 ///
-/// Contracts see it as the list of the blocks' least and greatest addresses, in the order in which they were added. For
-/// inherited resources they see None.
+/// In contracts its value is the list of the blocks' least and greatest addresses, in the order in which they were
+/// added. For inherited resources its value is None.
 pub type IpResourcesBuilder<A = Global> = ResourcesBuilder<IpBlocksBuilder<A>>;
 
 impl<A: Allocator + Copy> CollectBlocks for IpBlocksBuilder<A> {

@@ -12,7 +12,7 @@ use std::marker::Model;
 
 /// A set of addresses that is displayed as a set of a family.
 ///
-/// Contracts see it as the family and the runs of the set.
+/// In contracts its value is the family and the runs of the set.
 #[derive(Drop)]
 pub struct IpBlocksForFamily<'a, A: Allocator = Global> {
     family: AddressFamily,

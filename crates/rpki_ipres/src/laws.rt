@@ -14,7 +14,9 @@ ghost use Rattle.rpki_ip_block.specs.ListText.{HasBlocks, HasIpBlocks};
 ghost use Rattle.rpki_ipres.specs.Resources.{IsFamilyClaim, IsIpClaim, IsWholeClaim};
 ghost use Rattle.rpki_ipres.specs.SetText.{IsFamilySet, IsSetOf, set_text};
 
-/// The union, the intersection and the difference of sets of whole IPv4 addresses consist of whole IPv4 addresses.
+/// States that the union, the intersection and the difference keep whole IPv4 addresses whole.
+///
+/// If both sets consist of whole IPv4 addresses, the result does too.
 pub fn laws_of_whole_sets()
     ensures union { (a b set : Runs) → IsWhole (Holds a) → IsWhole (Holds b) → IsUnion a b set
         → IsWhole (Holds set) }
@@ -24,10 +26,10 @@ pub fn laws_of_whole_sets()
         IsWhole (Holds a) → IsWhole (Holds b) → IsDifference a b set → IsWhole (Holds set) }
 {}
 
-/// Claims and paths keep whole IPv4 addresses whole.
+/// States that claims and paths keep whole IPv4 addresses whole.
 ///
-/// The lemma is for a set and claims that consist of whole IPv4 addresses. What a claim or a path of claims leaves then
-/// consists of whole IPv4 addresses, and so do the overclaimed addresses of a refusal.
+/// The lemma is for a set and claims that consist of whole IPv4 addresses. The part of the set that a claim or a path
+/// leaves then consists of whole IPv4 addresses, and so do the overclaimed addresses of a refusal.
 pub fn laws_of_whole_claims()
     ensures issued { (set issued : Runs) (claim : Claim) (mode : Overclaim) → IsWhole (Holds set)
         → IsWholeClaim claim →
@@ -51,18 +53,19 @@ pub fn laws_of_whole_claims()
 
 /// States which claims of addresses are claims of a family.
 ///
-/// All resources of addresses are resources of IPv6. They are resources of IPv4 if and only if what they list consists
-/// of whole IPv4 addresses.
+/// All resources of addresses are resources of IPv6. They are resources of IPv4 if and only if the listed set, if there
+/// is one, consists of whole IPv4 addresses.
 pub fn claims_of_families()
     ensures v4 { (claim : Claim) → IsIpClaim claim → IsWholeClaim claim → IsFamilyClaim Ipv4 claim }
     ensures whole { (claim : Claim) → IsFamilyClaim Ipv4 claim → IsWholeClaim claim }
     ensures v6 { (claim : Claim) → IsIpClaim claim → IsFamilyClaim Ipv6 claim }
 {}
 
-/// The printed text of a set of a family parses back to that set, and a text parses to at most one set.
+/// States that the printed text of a set of a family parses back to that set, and that a text parses to at most one
+/// set.
 ///
-/// The text parses as a list of that family, and also as a list without a given family. So two sets of a family print
-/// alike if and only if they have the same addresses.
+/// The text parses as a list of that family, and also as a list without a given family. Therefore two sets of a family
+/// print alike if and only if they have the same addresses.
 pub fn printed_sets()
     ensures written { (family : _) (set : Runs) →
         IsFamilySet family set → IsSetOf (HasBlocks family (set_text family set)) set }

@@ -32,5 +32,5 @@ pub use resources::{InheritedIpResources, IpResources};
 pub use text::{DisplayV4Block, DisplayV6Block};
 pub use verify::IpStep;
 
-/// Blocks of addresses, from the crate below this one.
+/// Blocks of addresses, re-exported from `rpki_ip_block`.
 pub use rpki_ip_block::{block, list, text};

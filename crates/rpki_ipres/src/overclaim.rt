@@ -1,4 +1,4 @@
-//! Faults of claims of addresses, with the overclaimed addresses.
+//! Errors for claims of addresses, with the overclaimed addresses.
 ghost use Rattle.std.specs.Prelude.{◌≡◌, ◌↔◌, IsTrue, IfOk, Some};
 ghost use Rattle.rpki_chain_core.specs.Equality.{same_runs};
 ghost use Rattle.rpki_chain_core.specs.EqualityLaws.{runs_per, runs_equiv};
@@ -16,11 +16,10 @@ use std::error::Error;
 use std::fmt;
 use std::marker::{Model, PhantomData};
 
-/// Reports that addresses are claimed that the issuer doesn't have.
+/// The error for claimed addresses that the issuer doesn't have.
 ///
-/// The fault is printed as a fault of a family, by [`OverclaimedIpResources::v4`] or [`OverclaimedIpResources::v6`].
-///
-/// Contracts see the runs of these addresses.
+/// It is printed as an error of a family, by [`OverclaimedIpResources::v4`] or [`OverclaimedIpResources::v6`]. In
+/// contracts its value is the runs of these addresses.
 #[derive(Drop)]
 pub struct OverclaimedIpResources<A: Allocator = Global> {
     excess: IpBlocks<A>,
@@ -45,8 +44,9 @@ impl<A: Allocator> OverclaimedIpResources<A> {
     /// Returns the fault for display as a fault of `family`, without the precondition of
     /// [`OverclaimedIpResources::v4`].
     ///
-    /// The family is a value, and the fault is borrowed. [`OverclaimedIpResources::into_family`] takes the fault, and
-    /// the family is a type. Internal API of the crates above: a caller prints the fault that `v4` or `v6` returns.
+    /// This call borrows the fault, and the family is a value. [`OverclaimedIpResources::into_family`] takes the fault,
+    /// and the family is a type. The call is internal API for other crates: a user prints the fault that `v4` or `v6`
+    /// returns.
     pub fn display_with_family(&self, family: AddressFamily) -> OverclaimedForFamily<'_, A>
         ensures { result ≡ (family, self.now) }
     {
@@ -79,8 +79,8 @@ impl<A: Allocator> OverclaimedIpResources<A> {
 
     /// Returns the fault as a fault of the family `F`.
     ///
-    /// The family is a type, and the fault is taken. [`OverclaimedIpResources::display_with_family`] borrows the fault,
-    /// and the family is a value.
+    /// This call takes the fault, and the family is a type. [`OverclaimedIpResources::display_with_family`] borrows the
+    /// fault, and the family is a value.
     ///
     /// # Preconditions
     ///
@@ -141,9 +141,9 @@ impl<A: Allocator> Eq for OverclaimedIpResources<A> {
     ghost laws = { runs_equiv };
 }
 
-/// A fault of claims of addresses that is displayed as a fault of a family.
+/// An error for overclaimed addresses that is displayed as an error of a family.
 ///
-/// Contracts see it as the family and the runs of the overclaimed addresses.
+/// In contracts its value is the family and the runs of the overclaimed addresses.
 #[derive(Drop)]
 pub struct OverclaimedForFamily<'a, A: Allocator = Global> {
     family: AddressFamily,
@@ -185,19 +185,19 @@ impl<'a, A: Allocator> fmt::Display for OverclaimedForFamily<'a, A> {
     }
 }
 
-/// Addresses of a family are claimed that the issuer doesn't have.
+/// The error for claimed addresses of a family that the issuer doesn't have.
 ///
-/// Contracts see the runs of these addresses. In IPv4 they are whole addresses.
+/// In contracts its value is the runs of these addresses. In IPv4 they are whole addresses.
 #[derive(Drop)]
 pub struct OverclaimedFamilyResources<F: Family, A: Allocator = Global> {
     excess: IpBlocks<A>,
     family: PhantomData<F>,
 }
 
-/// IPv4 addresses are claimed that the issuer doesn't have.
+/// The error for claimed IPv4 addresses that the issuer doesn't have.
 pub type OverclaimedIpv4Resources<A = Global> = OverclaimedFamilyResources<Ipv4Family, A>;
 
-/// IPv6 addresses are claimed that the issuer doesn't have.
+/// The error for claimed IPv6 addresses that the issuer doesn't have.
 pub type OverclaimedIpv6Resources<A = Global> = OverclaimedFamilyResources<Ipv6Family, A>;
 
 impl<F: Family, A: Allocator> Model for OverclaimedFamilyResources<F, A> {

@@ -32,9 +32,8 @@ use std::marker::Model;
 
 /// The resources of one family of addresses (RFC 3779, 2.2.3.4 to 2.2.3.6).
 ///
-/// They are missing, inherited from the issuer, or a set of addresses that isn't empty.
-///
-/// Contracts see them as Missing, as Inherit, or as Blocks with the runs of the set, which has at least one run.
+/// They are missing, inherited from the issuer, or a set of addresses that isn't empty. In contracts their value is
+/// Missing, Inherit, or Blocks with the runs of the set, which has at least one run.
 #[derive(Drop)]
 pub struct IpResources<A: Allocator = Global> {
     choice: ResourcesChoice<IpBlocks<A>>,
@@ -120,10 +119,12 @@ impl<A: Allocator> IpResources<A> {
 
     /// Returns the listed set, or the empty set if the resources are missing.
     ///
+    /// A listed set shares its memory with that of `self` (reference count + 1).
+    ///
     /// # Errors
     ///
     /// - [`OrMemory::Refused`]: the resources are inherited.
-    /// - [`OrMemory::Memory`]: out of memory.
+    /// - [`OrMemory::Memory`]: std refuses the additional reference.
     pub fn to_blocks(&self) -> Result<IpBlocks<A>, OrMemory<InheritedIpResources>>
         ensures { MatchChoice self.now (result ≡ Ok []) (IsRefused result)
             (λ listed. MatchResult result (λ set. set ≡ listed) IsMemory) }
@@ -150,8 +151,11 @@ impl<A: Allocator> IpResources<A> {
 
 // Internal steps of the DER reader and writer.
 impl<A: Allocator> IpResources<A> {
-    /// Makes a set of the blocks that were read, if the resources list any, by [`make_set`]. Returns the [`AllocError`]
-    /// of that call.
+    /// Returns the resources of the blocks that were read. If the resources list blocks, [`make_set`] makes their set.
+    ///
+    /// # Errors
+    ///
+    /// The [`AllocError`] of [`make_set`].
     pub(crate) fn from_listed(
         alloc: A,
         listed: ResourcesChoice<Vec<IpBlock, A>>,
@@ -174,7 +178,7 @@ impl<A: Allocator> IpResources<A> {
         Ok(IpResources { choice })
     }
 
-    /// Returns the listed blocks, ascending.
+    /// Returns the resources with the listed blocks, ascending.
     #[tactic(auto, using(crate::proofs::IpSetWritten::written_as_runs))]
     pub(crate) fn as_choice(&self) -> ResourcesChoice<&[IpBlock]>
         ensures octets { choice_octets (λ blocks. sequence_octets ip_block_der blocks.now) result
@@ -243,7 +247,8 @@ impl<A: Allocator> fmt::Debug for IpResources<A> {
     }
 }
 
-/// Resources are equal if both are missing, both are inherited, or both list the same addresses. Else they are unequal.
+/// Resources are equal if both are missing, both are inherited, or both list the same addresses. Otherwise they are
+/// unequal.
 impl<A: Allocator> PartialEq for IpResources<A> {
     ghost eq = { choice_eq same_runs };
 
@@ -261,7 +266,7 @@ impl<A: Allocator> Eq for IpResources<A> {
     ghost laws = { choice_equiv same_runs runs_equiv };
 }
 
-/// The resources are inherited, so they are no set of addresses by themselves.
+/// The error for inherited resources, which are no set of addresses by themselves.
 #[derive(Clone, Copy, Debug, PartialEq, Eq)]
 pub struct InheritedIpResources;
 

@@ -12,11 +12,11 @@ use rpki_chain::path::{BlockClaim, Overclaim, PathRefusal, Step};
 use rpki_text::memory::OrMemory;
 use std::alloc::{Allocator, Global};
 
-/// A step of a path: the addresses that are claimed, and what happens to a claim that lists too many.
+/// A step of a path: the claimed addresses, and the mode for a claim that lists more than the issuer has.
 pub type IpStep<A = Global> = Step<IpResources<A>>;
 
 impl<A: Allocator> IpBlocks<A> {
-    /// Returns what a claim leaves of the set.
+    /// Returns the part of the set that a claim leaves (RFC 3779, 2.3).
     ///
     /// - Missing resources leave nothing.
     /// - Inherited resources leave the whole set.
@@ -47,7 +47,7 @@ impl<A: Allocator> IpBlocks<A> {
         }
     }
 
-    /// Returns Ok if the claim of an issuer covers the whole set.
+    /// Returns Ok if and only if the claim of an issuer covers the whole set.
     ///
     /// Missing resources cover the empty set only. Inherited resources cover every set. Listed resources cover the sets
     /// within the list. A call for a covered set always returns Ok and allocates nothing.
@@ -72,7 +72,7 @@ impl<A: Allocator> IpBlocks<A> {
         }
     }
 
-    /// Returns what a path of claims leaves of the set. Each claim is made on what the steps before it leave.
+    /// Returns the part of the set that a path of claims leaves. Each claim is made on what the steps before it leave.
     ///
     /// A path without steps leaves the whole set.
     ///

@@ -9,21 +9,21 @@ ghost use Rattle.rpki_ip_block.specs.BlockDer.{IsBlockWithin, IsIpBlockDer, ip_b
 ghost use Rattle.rpki_ip_block.specs.BlockReading.{ip_block_at};
 ghost use Rattle.rpki_ip_block.specs.declared.block.IpBlock.{IpBlock};
 
-/// Octets begin with at most one block.
+/// States that octets begin with at most one block.
 pub fn one_block()
     ensures { (limit : ℕ) → OneFront (IsIpBlockDer limit) }
 {}
 
-/// The octets that `encode` appends denote the block, if its bounds need no more bits than the limit.
+/// States that the octets that `encode` appends denote the block, if its bounds need no more bits than the limit.
 #[tactic(auto, using(crate::proofs::IpBlockDerWritten::block_written))]
 pub fn written()
     ensures { (limit : ℕ) (block : IpBlock) → limit ≤ 128 → IsBlockWithin limit block
         → IsIpBlockDer limit (ip_block_der block) block }
 {}
 
-/// States when a block is a reversed range.
+/// States when a block has the fault `ReversedRange`.
 ///
-/// It is if and only if it is a SEQUENCE that begins with two prefixes of which the second ends before the first
+/// It has the fault if and only if it is a SEQUENCE that begins with two prefixes, and the second ends before the first
 /// begins. Any octets may follow the two prefixes.
 #[tactic(auto, using(crate::proofs::IpBlockDerFaults::block_fails))]
 pub fn reversed()
@@ -32,7 +32,7 @@ pub fn reversed()
         bytes }
 {}
 
-/// Only a strict cursor refuses octets by `NotCanonical`.
+/// States that a lenient cursor never returns `NotCanonical` for a block.
 #[tactic(auto, using(crate::proofs::IpBlockDerFaults::never_lenient))]
 pub fn not_canonical()
     ensures { (limit : ℕ) (bytes : List ℕ) → ip_block_at limit bytes ≢ Err NotCanonical }

@@ -36,10 +36,10 @@ impl<A: Allocator> IpBlocks<A> {
     ghost use Rattle.rpki_ipres.specs.SetDer.{IsIpBlockSequence, ip_family_der, ip_set_der};
     ghost use Rattle.rpki_ipres.specs.SetText.{IsFamilySet, IsIpSet};
 
-    /// Reads a SEQUENCE of blocks and returns the set of their addresses.
+    /// Reads a SEQUENCE of blocks and returns the set of their addresses (RFC 3779, 2.2.3.6).
     ///
-    /// The SEQUENCE may be empty. The blocks may be in any order and may overlap. Their prefixes have lengths up to
-    /// 128.
+    /// The SEQUENCE may be empty. From a lenient cursor the blocks may be in any order and may overlap. Their prefixes
+    /// have lengths up to 128.
     ///
     /// # Errors
     ///
@@ -111,9 +111,10 @@ impl<A: Allocator> IpBlocks<A> {
         Self::take_from_with_family_by_mode(alloc, cursor, family)
     }
 
-    /// Appends the SEQUENCE of the set's runs to `out`, ascending.
+    /// Appends the SEQUENCE of the set's runs to `out`, ascending (RFC 3779, 2.2.3.6).
     ///
-    /// A run is encoded as a prefix if its addresses are those of a prefix, else as the SEQUENCE of its bounds.
+    /// A run is encoded as a prefix if its addresses are those of a prefix, and otherwise as the SEQUENCE of its
+    /// bounds.
     ///
     /// # Errors
     ///
@@ -184,6 +185,10 @@ impl<A: Allocator> IpBlocks<A> {
 }
 
 /// Appends the SEQUENCE of a family and of its resources. Missing resources append nothing.
+///
+/// # Errors
+///
+/// [`AllocError`] if an allocation fails. The octets of `out` are unchanged then.
 pub(crate) fn put_family<B: Allocator>(
     out: &mut Vec<u8, B>,
     family: AddressFamily,
@@ -209,7 +214,7 @@ pub(crate) fn put_family<B: Allocator>(
 
 /// A family, its resources, and two lengths in octets: of the blocks alone, and of the whole content of their SEQUENCE.
 ///
-/// Contracts see the encoding, as `put_family` appends it.
+/// In contracts its value is the encoding, as `put_family` appends it.
 #[derive(Drop)]
 pub(crate) struct Member<'a> {
     family: AddressFamily,

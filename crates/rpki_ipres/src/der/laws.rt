@@ -19,7 +19,7 @@ ghost use Rattle.rpki_ipres.specs.SetText.{IsFamilySet, IsIpSet};
 /// The lemma about single blocks, from the crate of blocks.
 pub use rpki_ip_block::der::laws::one_block;
 
-/// Octets begin with at most one value of each grammar, and this value has one meaning.
+/// States that octets begin with at most one value of each grammar, and that this value has one meaning.
 ///
 /// - A SEQUENCE of blocks denotes one set.
 /// - A SEQUENCE of a family and of the SEQUENCE of its blocks denotes one family and one set.
@@ -32,7 +32,7 @@ pub fn one_value()
     ensures families { OneFront IsIpFamilies }
 {}
 
-/// Encodings of sets of a family conform to the grammar, if they have fewer than 2^64 octets.
+/// States that encodings of sets of a family conform to the grammar, if they have fewer than 2^64 octets.
 ///
 /// The encoding of the set is a SEQUENCE of the family's blocks, which denotes the set. The encoding of a family and of
 /// a set that isn't empty denotes both.
@@ -45,8 +45,9 @@ pub fn written_sets()
         → IsIpFamily (ip_family_der family set) (family, set) }
 {}
 
-/// Two sets have the same encoding if and only if they have the same addresses. For two sets of one family this also
-/// holds for the encodings with that family.
+/// States that two sets have the same encoding if and only if they have the same addresses.
+///
+/// For two sets of one family this also holds for the encodings with that family.
 pub fn canonical()
     ensures set { (a b : Runs) → IsIpSet a → IsIpSet b →
         (ip_set_der a ≡ ip_set_der b) ↔ ((n : ℕ) → Holds a n ↔ Holds b n) }
@@ -54,7 +55,7 @@ pub fn canonical()
         (ip_family_der family a ≡ ip_family_der family b) ↔ ((n : ℕ) → Holds a n ↔ Holds b n) }
 {}
 
-/// Encodings of resources that aren't missing conform to the grammar, if they have fewer than 2^64 octets.
+/// States that encodings of resources that aren't missing conform to the grammar, if they have fewer than 2^64 octets.
 ///
 /// The encoding of resources of a family denotes these resources. If at least one family isn't missing, the encoding of
 /// families denotes the families that aren't missing.
@@ -70,9 +71,9 @@ pub fn written_resources()
         → IsIpFamilies (ip_families_der v4 v6) (if_present v4, if_present v6) }
 {}
 
-/// The encoding of families is one SEQUENCE of the encodings of its members, each with its family.
+/// States that the encoding of families is one SEQUENCE of the encodings of its members, each with its family.
 ///
-/// The encoding of a set with its family is the encoding of the resources that list the set. So
+/// The encoding of a set with its family is the encoding of the resources that list the set. Therefore
 /// [`IpResources::take_families_from`](crate::resources::IpResources::take_families_from) reads each of them back. A
 /// caller that appends the members one by one needs a proof file. Only the caller knows that its octets are those of
 /// this lemma, as a sum of lists.
@@ -84,7 +85,7 @@ pub fn members()
         ip_family_der family set ≡ ip_member_der family (claim_of set) }
 {}
 
-/// Resources have the same encoding if and only if they are the same claim, alone and with one family.
+/// States that resources have the same encoding if and only if they are the same claim, alone and with one family.
 ///
 /// If at least one family isn't missing, families have the same encoding if and only if their claims are the same. This
 /// holds for fewer than 2^64 octets.
@@ -117,7 +118,7 @@ pub fn faults()
         ↔ BeginsWithValue 48 (BeginsWithRepeat (λ family. ip_resources_at (bits_of family))) bytes }
 {}
 
-/// Only a strict cursor refuses octets by `NotCanonical`.
+/// States that a lenient cursor never returns `NotCanonical` for sets, resources or families.
 #[tactic(auto, using(crate::proofs::IpResourcesDerFaults::all_names, crate::proofs::IpResourcesDerFaults::resources_names, crate::proofs::IpResourcesDerFaults::sequence_names))]
 pub fn not_canonical()
     ensures set { (limit : ℕ) (bytes : List ℕ) → ip_blocks_at limit bytes ≢ Err NotCanonical }

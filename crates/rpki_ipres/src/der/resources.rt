@@ -26,9 +26,10 @@ impl<A: Allocator> IpResources<A> {
     ghost use Rattle.rpki_chain.specs.Choices.{if_present};
     ghost use Rattle.rpki_ipres.specs.ResourcesDer.{IsIpFamilies, IsIpResources, SaysClaimOf, SaysClaims, ip_families_at, ip_families_der, ip_member_der, ip_resources_at, ip_resources_der};
 
-    /// Reads the resources of a family: a NULL for inherited resources, else a SEQUENCE of blocks of the family.
+    /// Reads the resources of a family: a NULL for inherited resources, or a SEQUENCE of blocks of the family (RFC
+    /// 3779, 2.2.3.4).
     ///
-    /// The SEQUENCE has at least one block. The blocks may be in any order and may overlap.
+    /// The SEQUENCE has at least one block. From a lenient cursor the blocks may be in any order and may overlap.
     ///
     /// # Errors
     ///
@@ -77,9 +78,11 @@ impl<A: Allocator> IpResources<A> {
         Self::take_from_by_mode(alloc, cursor, family)
     }
 
-    /// Appends a NULL for inherited resources, else the SEQUENCE of the set's runs, ascending.
+    /// Appends a NULL for inherited resources, or the SEQUENCE of the set's runs, ascending (RFC 3779, 2.2.3.4 to
+    /// 2.2.3.6).
     ///
-    /// A run is encoded as a prefix if its addresses are those of a prefix, else as the SEQUENCE of its bounds.
+    /// A run is encoded as a prefix if its addresses are those of a prefix, and otherwise as the SEQUENCE of its
+    /// bounds.
     ///
     /// # Preconditions
     ///
@@ -125,8 +128,8 @@ impl<A: Allocator> IpResources<A> {
 
     /// Reads a SEQUENCE of families and returns the resources of IPv4 and of IPv6. An unlisted family gives None.
     ///
-    /// The SEQUENCE has at least one family, in any order, each at most once (RFC 3779, 2.2.3.1 to 2.2.3.3; RFC 6487,
-    /// 4.8.10).
+    /// The SEQUENCE has at least one family, each at most once (RFC 3779, 2.2.3.1 to 2.2.3.3; RFC 6487, 4.8.10). From a
+    /// lenient cursor the families may be in any order.
     ///
     /// # Errors
     ///
@@ -213,7 +216,7 @@ impl<A: Allocator> IpResources<A> {
         Ok(())
     }
 
-    // Read for `take_from` and `take_families_from`.
+    // Reads for `take_from` and `take_families_from`.
     fn take_from_by_mode(
         alloc: A,
         cursor: &mut Cursor<'_>,
@@ -251,7 +254,7 @@ impl<A: Allocator> IpResources<A> {
     }
 }
 
-/// Reads the resources of families.
+/// A reader of the resources of families.
 #[derive(Clone, Copy, Debug)]
 struct IpResourcesReader<A: Allocator> {
     alloc: A,

@@ -1,7 +1,7 @@
 """The build backend of the package: makes the wheel that pip installs (PEP 517).
 
-The wheel has the sources in the folder `pigyelund`. If `libpigyelund.so` is in this folder, the wheel has it too, and
-is for this platform only. The backend needs nothing except Python, so pip downloads nothing.
+The wheel has the sources in the folder `pigyelund`. If the folder `pigyelund` also has `libpigyelund.so`, the wheel has
+this file too, and is for this platform only. The backend needs nothing except Python, so pip downloads nothing.
 """
 
 import base64
@@ -14,7 +14,7 @@ from pathlib import Path
 HERE = Path(__file__).parent
 LICENSE = HERE.parent.parent / "LICENSE"
 TEXT = (HERE / "pyproject.toml").read_text()
-# Each value that is needed is a text in one line. Python 3.10 has no module for TOML.
+# Python 3.10 has no module for TOML. Each value that the backend needs is a text in one line.
 PROJECT = dict(re.findall(r'^([\w-]+) = "(.*)"$', TEXT, re.MULTILINE))
 INFO = f"{PROJECT['name']}-{PROJECT['version']}.dist-info"
 

@@ -2,7 +2,7 @@
 
 The package is for programs that check the resources of certificates (RFC 3779), operate on sets of resources, or
 validate route origins (RFC 6811). It calls the proved shared library through ctypes. The package itself is tested, not
-proved. `docs/FOREIGN.md` is the guide: installation, programs, arguments, errors, threads.
+proved. `docs/FOREIGN.md` in the repository is the guide: installation, programs, arguments, errors, threads.
 
 Route origins: `Pigyelund.origins` validates routes against VRPs (validated ROA payloads), and `Pigyelund.table` keeps
 the VRPs in a `Table` for many calls.
@@ -102,8 +102,9 @@ class Mode(IntEnum):
     """The policy for overclaimed resources: those that a certificate claims and its issuer does not have.
 
     Attributes:
-        REFUSE: The certificate is refused (RFC 6487, 7.2).
-        TRIM: The claim is reduced to what the issuer has of it (RFC 8360, 4).
+        REFUSE: A certificate that overclaims is refused (RFC 6487, 7.2).
+        TRIM: The claim of a certificate is reduced to the resources that its issuer has (RFC 8360, 4). This is the mode
+            for certificates with the policy id-cp-ipAddr-asNumber-v2.
     """
 
     REFUSE = 0
@@ -125,7 +126,7 @@ class Extensions(NamedTuple):
     ip: bytes | None = None
 
     def present(self) -> int:
-        """Returns which extensions are present, as `raw.Library.verify` takes it: a `raw.Present`, or 0 for neither."""
+        """Returns the bit mask of the extensions that are present: a `raw.Present`, or 0 for neither extension."""
         found = Present.HAS_AS if self.asn is not None else 0
         return found + Present.HAS_IP if self.ip is not None else found
 
@@ -170,19 +171,19 @@ class Pigyelund:
     2. The folder of the package has `libpigyelund.so`: that file.
     3. Otherwise: `libpigyelund.so` where the system's loader searches.
 
-    Each call except `version` may raise these, besides the exceptions that it lists:
+    Each call lists the exceptions of its own. Each call except `version` may also raise these:
 
-    - `OutOfMemoryError`, which says nothing about the input
-    - `BadNumberError` for a number in place of an `Encoding`, `Mode` or `Family` that is no member
-    - `OverflowError` for such a number that does not fit 32 bits
-    - `ctypes.ArgumentError` or `TypeError` for DER that is no `bytes`
+    - `OutOfMemoryError`: It says nothing about the input.
+    - `BadNumberError`: You pass a number for an `Encoding`, `Mode` or `Family`, and the number is no member of it.
+    - `OverflowError`: You pass such a number, and it does not fit 32 bits.
+    - `ctypes.ArgumentError` or `TypeError`: You pass DER that is no `bytes`.
 
     Args:
         path: The file of the shared library. None means the library that the list above names.
 
     Raises:
-        ImportError: The file is missing, is not the library, or has an earlier version of the calls. The text names the
-            file and says how to build it. No other file is tried.
+        ImportError: The file is missing, is not the library, or lacks calls that this package requires. The text names
+            the file and says how to build it. No other file is tried.
     """
 
     def __init__(self, path: str | os.PathLike[str] | None = None) -> None:
@@ -202,7 +203,8 @@ class Pigyelund:
         """Computes the resources of a certificate from its issuer's set (RFC 3779, 2.3 and 3.3).
 
         Args:
-            issuer: The issuer's set. It must list its resources, without `inherit`.
+            issuer: The issuer's set, without `inherit`. For a trust anchor pass the extensions of its certificate as a
+                set (`Extensions.octets`). For any other issuer pass what `verify` returned for its certificate.
             certificate: The extensions of the certificate. They may have `inherit`.
             encoding: The encodings that are accepted.
             mode: The policy for overclaimed resources.
@@ -232,11 +234,11 @@ class Pigyelund:
     ) -> Resources:
         """Computes the resources of the last certificate of a path.
 
-        The first certificate is verified against the anchor's set, as by `verify`. Each other one is verified against
-        what the certificates before it leave.
+        The first certificate is verified against the anchor's set, as by `verify`. Each other certificate is verified
+        against the result for the certificate before it.
 
         Args:
-            anchor: The trust anchor's set. It must list its resources, without `inherit`.
+            anchor: The trust anchor's set, without `inherit`.
             certificates: The certificates, the one under the anchor first. Each has its own `mode`.
             encoding: The encodings that are accepted.
 
@@ -245,8 +247,8 @@ class Pigyelund:
             as canonical DER.
 
         Raises:
-            PigyelundError: The anchor's set is refused, or a certificate is not verified. The subclasses are those that
-                `verify` raises. The attribute `verified` is the number of verified certificates.
+            PigyelundError: The anchor's set or a certificate is refused. The exception is one of the subclasses that
+                `verify` raises. Its attribute `verified` is the number of verified certificates.
         """
         run, positions = concatenate(certificates)
         return with_buffers(lambda capacities: self.raw.verify_path(anchor, run, positions, encoding, capacities))
@@ -266,7 +268,7 @@ class Pigyelund:
 
         Raises:
             DerError: `ip` is invalid.
-            InheritedError: `ip` has `inherit` for a family, also if this is not `family`.
+            InheritedError: `ip` has `inherit` for a family, which may be another one than `family`.
         """
         octets = with_buffers(lambda capacities: self.raw.cover(ip, encoding, family, capacities[0])).asn
         if family == Family.V4:
@@ -288,8 +290,8 @@ class Pigyelund:
 
         Raises:
             OriginError: A VRP or a route is malformed. VRPs are checked first. The attribute `index` is the index, from
-                0, of the first malformed VRP in `vrps`, or else of the first malformed route in `routes`. The attribute
-                `status` is at least `Status.SECOND` for a route.
+                0, of the first malformed VRP in `vrps`. If all VRPs are valid, `index` counts in `routes`, and the
+                attribute `status` is at least `Status.SECOND`.
             TypeError: An item of `vrps` is no `Vrp`, or an item of `routes` is no `Route`.
         """
         asked = list(routes)
@@ -302,8 +304,8 @@ class Pigyelund:
         """Builds a table of VRPs. Use it in a `with`, or call `close`.
 
         Args:
-            vrps: The VRPs, in any order: an iterable of `Vrp`, or a buffer of C structs as the class `Table` describes
-                it. The table copies them. Duplicates are kept.
+            vrps: The VRPs, in any order: an iterable of `Vrp`, or a buffer of C structs. The class `Table` describes
+                the buffer. The table copies the VRPs, and keeps duplicates.
 
         Returns:
             The table.
@@ -316,10 +318,10 @@ class Pigyelund:
         return Table(self.raw, vrps)
 
     def answer(self, line: str) -> str:
-        """Returns the answer of the program `respath` to a line. Errors in the line are part of the answer.
+        """Returns the answer of the program `respath` to a line.
 
-        `der v4 LIST` converts text to DER in hexadecimal, and `read v4 HEX` converts DER to text. The README has all
-        commands. A wrong line raises no exception: its answer begins with `error: `.
+        `der v4 LIST` converts text to DER in hexadecimal, and `read v4 HEX` converts DER to text. The README of the
+        repository has all commands. A wrong line raises no exception: its answer begins with `error: `.
 
         Args:
             line: The line, without its line end.
@@ -340,8 +342,8 @@ class Pigyelund:
 
         Args:
             operation: Union, intersection or difference.
-            a: The first set.
-            b: The second set.
+            a: The first set, without `inherit`.
+            b: The second set, without `inherit`.
             encoding: The encodings that are accepted.
 
         Returns:
@@ -349,7 +351,7 @@ class Pigyelund:
 
         Raises:
             DerError: An extension of `a` or of `b` is invalid.
-            InheritedError: `a` or `b` has `inherit`, and does not list its resources.
+            InheritedError: `a` or `b` has `inherit` in place of a list of resources.
         """
         return with_buffers(lambda capacities: self.raw.combine(operation, a, b, encoding, capacities))
 
@@ -384,8 +386,8 @@ class Pigyelund:
 
         Args:
             comparison: The predicate.
-            a: The first set.
-            b: The second set.
+            a: The first set, without `inherit`.
+            b: The second set, without `inherit`.
             encoding: The encodings that are accepted.
 
         Returns:

@@ -75,7 +75,7 @@ def status_text(status: int) -> str:
 
 
 class PigyelundError(Exception):
-    """The reason why a call returns no result. Catch the subclasses to distinguish the reasons.
+    """The base class of the exceptions of this package. Catch the subclasses to distinguish the reasons.
 
     Attributes:
         status: The status of `pigyelund.h`: a member of `Status`, or a sum as that class describes it.
@@ -108,11 +108,15 @@ class OutOfMemoryError(PigyelundError, MemoryError):
 
 
 class InheritedError(PigyelundError):
-    """The issuer's set, the trust anchor's set or one of two sets has `inherit`, and does not list its resources."""
+    """A set has `inherit` in place of a list: the issuer's set, the trust anchor's set, or one of two sets."""
 
 
 class OverclaimedError(PigyelundError):
-    """The certificate claims resources that its issuer does not have (RFC 6487, 7.2). `excess` has these resources."""
+    """The certificate claims resources that its issuer does not have (RFC 6487, 7.2).
+
+    The attribute `excess` has the overclaimed resources. They are of one kind: AS numbers, IPv4 or IPv6. If several
+    kinds are overclaimed, they are those of the first kind, in this order.
+    """
 
 
 class NoExtensionError(PigyelundError):
@@ -142,18 +146,20 @@ class OriginError(PigyelundError):
 class ChangeError(OriginError):
     """A change does not apply to the table (RFC 8210, 12, codes 6 and 7).
 
-    The attribute `status` says which rule the change breaks. The attribute `index` is the index, from 0, of the first
-    VRP that breaks it:
+    The attribute `status` says which rule the change breaks:
 
-    - `Status.UNKNOWN_WITHDRAWAL`: a VRP in `withdrawn` is not in the table, or is listed twice.
-    - `Status.DUPLICATE_ANNOUNCEMENT`: a VRP in `announced` is in the table and is not withdrawn, or is listed twice.
+    - `Status.UNKNOWN_WITHDRAWAL`: A VRP in `withdrawn` is not in the table, or is listed twice. This is checked first.
+    - `Status.DUPLICATE_ANNOUNCEMENT`: A VRP in `announced` is in the table and is not withdrawn, or is listed twice.
+
+    The attribute `index` is the index, from 0, of the first VRP in this list that breaks the rule.
     """
 
 
 class BadNumberError(PigyelundError):
-    """A number in place of an `Encoding`, a `Mode` or a `Family` is unknown.
+    """A number that was passed for an `Encoding`, a `Mode` or a `Family` is no member of it.
 
-    Two statuses that only the calls of `raw` return have this class too: `Status.BAD_PRESENT` and `Status.OUTSIDE`.
+    This is also the class of `Status.BAD_PRESENT` and `Status.OUTSIDE`. Only the calls of `raw` have these two
+    statuses. They return the status, and do not raise it.
     """
 
 

@@ -1,8 +1,8 @@
 """The calls of `pigyelund.h`, through ctypes.
 
-This module is for callers that need the statuses and the buffers of C. `pigyelund.Pigyelund` is the interface for all
-others. Each method of `Library` is one call of the shared library. The method takes the numbers of the header, and the
-capacities of the output buffers. It returns the status, also if the call fails.
+This module is for callers that need the statuses and the buffers of C. All others use `pigyelund.Pigyelund`. Each
+method of `Library` is one call of the shared library. The method takes the numbers of the header, and the capacities of
+the output buffers. It returns the status, also if the call fails. The buffers and lengths depend on the status:
 
     status                                     buffers                                lengths
     OK                                         the output, at the beginning           those of the output
@@ -150,7 +150,7 @@ class Comparison(Enum):
 
 
 def fits(value: object, limit: int) -> bool:
-    """Returns False for an integer below 0 or from `limit` on, also of numpy, and True for any other value."""
+    """Returns whether a value is no integer, or is an integer from 0 to `limit` - 1. Integers of numpy are integers."""
     return not hasattr(value, "__index__") or 0 <= index(value) < limit
 
 
@@ -195,10 +195,11 @@ class Struct(ctypes.Structure):
 
 
 class Certificate(Struct):
-    """A certificate of a path, as `pigy_certificate`: where its extensions are in one array, and two numbers.
+    """A certificate of a path: the struct `pigy_certificate` of `pigyelund.h`.
 
-    The array has the octets of all certificates. Both ranges must lie within it. For an absent extension use index 0
-    and length 0.
+    An array has the DER of the extensions of all certificates, one after the other. This struct says in which ranges
+    of the array the two extensions of the certificate are. Both ranges must lie within the array. For an absent
+    extension use index 0 and length 0.
 
     Attributes:
         as_start: The index in the array, from 0, of the first octet of the AS identifiers.
@@ -220,21 +221,21 @@ class Certificate(Struct):
 
 
 class Vrp(Struct):
-    """A VRP (validated ROA payload, RFC 6811, 2), as `pigy_vrp`. `Vrp.of` makes one.
+    """A VRP (validated ROA payload, RFC 6811, 2): the struct `pigy_vrp` of `pigyelund.h`. `Vrp.of` makes one.
 
         >>> from ipaddress import ip_network
         >>> Vrp.of(ip_network("10.0.0.0/8"), asn=64496, max_len=16)
         Vrp.of(prefix=IPv4Network('10.0.0.0/8'), asn=64496, max_len=16)
 
-    A VRP can be compared and hashed, so it can be in a set. A call that reads the VRP checks the ranges below, and
-    `Vrp.of` does not.
+    A VRP can be compared and hashed, so it can be in a set. `Vrp.of` does not check the ranges below. A call that reads
+    the VRP checks them, and raises `OriginError`.
 
     Attributes:
         address: 16 octets in network byte order. An IPv4 address is the first four; calls ignore the others.
-        asn: The AS that may originate the prefix.
+        asn: The AS that may originate the prefix, 0 to 4294967295.
         family: A `Family`.
         len: The prefix length in bits: 0 to 32 for IPv4, 0 to 128 for IPv6.
-        max_len: The maximum length (maxLength, RFC 9582, 4.3.2) in bits: `len` to 32 or 128.
+        max_len: The maximum length (maxLength, RFC 9582, 4.3.2) in bits: `len` to 32 for IPv4, `len` to 128 for IPv6.
     """
 
     _fields_ = [
@@ -251,12 +252,13 @@ class Vrp(Struct):
 
         Args:
             prefix: The prefix, an object of `ipaddress`. For text use `ip_network(text)`.
-            asn: The AS that may originate the prefix.
-            max_len: The maximum length in bits. None means the prefix length.
+            asn: The AS that may originate the prefix, 0 to 4294967295.
+            max_len: The maximum length in bits: the prefix length to 32 for IPv4, the prefix length to 128 for IPv6.
+                None means the prefix length.
 
         Raises:
-            OverflowError: `asn` is not from 0 to 4294967295, or `max_len` is not from 0 to 255. Calls that read the VRP
-                check the other limits of `max_len`.
+            OverflowError: `asn` is not from 0 to 4294967295, or `max_len` is not from 0 to 255. If `max_len` is from 0
+                to 255 but out of its range, a call that reads the VRP raises `OriginError`.
             AttributeError: `prefix` is no network, for example a `str`.
             TypeError: `asn` or `max_len` is no integer.
         """
@@ -265,7 +267,7 @@ class Vrp(Struct):
 
     @property
     def prefix(self) -> IPv4Network | IPv6Network:
-        """The prefix. A family other than `Family.V4` is read as IPv6.
+        """The prefix, as an object of `ipaddress`. A family other than `Family.V4` is read as IPv6.
 
         Raises:
             ValueError: The length is above the family's, or address bits after it are set.
@@ -278,7 +280,7 @@ class Vrp(Struct):
 
 
 class Covering(Struct):
-    """A VRP that covers a route, and why it does not match the route, as `pigy_covering`.
+    """A VRP that covers a route, and why it does not match the route: the struct `pigy_covering` of `pigyelund.h`.
 
     The field `mismatch` is a `Mismatch`. The other fields are those of `Vrp`. The octets after an IPv4 address are 0.
     """
@@ -288,14 +290,14 @@ class Covering(Struct):
 
 
 class Route(Struct):
-    """A route: a prefix and the AS that originates it (RFC 6811, 2), as `pigy_route`. `Route.of` makes one.
+    """A route (RFC 6811, 2): a prefix and the AS that originates it. `Route.of` makes one.
 
         >>> from ipaddress import ip_network
         >>> Route.of(ip_network("10.0.0.0/16"), asn=64496)
         Route.of(prefix=IPv4Network('10.0.0.0/16'), asn=64496)
 
-    The field `asn` is 0 if the path ends in an AS_SET: then no VRP matches. The fields `address`, `family` and `len`
-    are those of `Vrp`.
+    This is the struct `pigy_route` of `pigyelund.h`. Its field `asn` is 0 if the path ends in an AS_SET. Then no VRP
+    matches the route. The fields `address`, `family` and `len` are those of `Vrp`.
     """
 
     _fields_ = Vrp._fields_[:-1]
@@ -306,7 +308,7 @@ class Route(Struct):
 
         Args:
             prefix: The prefix, an object of `ipaddress`. For text use `ip_network(text)`.
-            asn: The AS that originates the route, or 0 if the path ends in an AS_SET.
+            asn: The AS that originates the route, 1 to 4294967295, or 0 if the path ends in an AS_SET.
 
         Raises:
             OverflowError: `asn` is not from 0 to 4294967295.
@@ -327,7 +329,10 @@ def call_text(call: str, texts: dict[str, str]) -> str:
 
 
 def constructor_text(item: Vrp | Route, **numbers: int) -> str:
-    """Returns the text of the call of `of` that makes an item, or the text of its fields if no such call makes it."""
+    """Returns the text of the call, `Vrp.of` or `Route.of`, that makes an item.
+
+    If no such call makes the item, returns the text of its fields.
+    """
     kind = type(item)
     try:
         prefix = item.prefix
@@ -389,15 +394,16 @@ def array_of(kind: type[Struct], given: object) -> tuple[ctypes.Array[Struct], i
 
     Args:
         kind: The type of the structs.
-        given: An iterable of structs, or an object with the buffer protocol that has the C structs side by side.
+        given: An iterable of structs, or an object with the buffer protocol that has C structs, one directly after the
+            other.
 
     Returns:
         The array, and the number of structs. If this number is 0, the array has one element, so its pointer is not
         null.
 
     Raises:
-        TypeError: `given` is neither, or its elements are of another type.
-        ValueError: The number of octets is no multiple of the size of a struct.
+        TypeError: `given` is neither an iterable nor a buffer, or its elements are of another type.
+        ValueError: The length of the buffer in octets is no multiple of the size of a struct.
     """
     try:
         view = memoryview(given)  # type: ignore[arg-type]
@@ -421,7 +427,7 @@ def has_layout_of(element: type[ctypes.Structure], kind: type[Struct]) -> bool:
 
 
 def arguments_of(*sets: Pair) -> list[object]:
-    """Returns the arguments in C for some sets: the octets of each extension, and their number."""
+    """Returns the arguments in C for some sets: for each extension its octets, and their number."""
     return [argument for part in sets for octets in part for argument in (octets, len(octets))]
 
 
@@ -446,8 +452,8 @@ def load_library(file: str) -> ctypes.CDLL:
         file: The path of the library, or its name alone.
 
     Raises:
-        ImportError: The file is missing, is not the library, or has an earlier version of the calls. The text names the
-            file and says how to build it.
+        ImportError: The file is missing, is not the library, or has a version of the calls below `VERSION`. The text
+            names the file and says how to build it.
     """
 
     def import_error(why: str) -> ImportError:
@@ -469,8 +475,9 @@ def load_library(file: str) -> ctypes.CDLL:
 class Library:
     """The calls of the shared library.
 
-    A call makes its output buffers itself. The arguments `capacities` are the capacities of both buffers in octets. The
-    argument `capacity` is that of the only one. A set is a pair of `bytes`: AS identifiers and IP address blocks.
+    Each call makes its output buffers itself. A call with two buffers has the argument `capacities`: their capacities
+    in octets. A call with one buffer has the argument `capacity`. A set is a pair of `bytes`: AS identifiers and IP
+    address blocks.
 
     Every call except `table_free` raises `OverflowError` if an integer does not fit its C parameter.
 
@@ -600,7 +607,7 @@ class Library:
             capacities: The capacities of the buffers in octets.
 
         Returns:
-            The result. Its `number` is that of the verified certificates.
+            The result. Its `number` is the number of verified certificates.
         """
         count = len(certificates)
         array = (Certificate * max(count, 1))(*certificates)
@@ -653,9 +660,9 @@ class Library:
         Args:
             table: The handle, or None for null.
             announced: An array of VRPs.
-            announced_count: Their number.
+            announced_count: The number of announced VRPs.
             withdrawn: An array of VRPs.
-            withdrawn_count: Their number.
+            withdrawn_count: The number of withdrawn VRPs.
         """
         arguments = [table, announced, announced_count, withdrawn, withdrawn_count]
         return self._call_for_table("pigy_table_changed", arguments)
@@ -676,8 +683,8 @@ class Library:
 
         Args:
             table: The handle, or None for null.
-            routes: An array of routes.
-            count: Their number.
+            routes: An array of routes, as `array_of` returns it.
+            count: The number of routes.
             capacity: The capacity of the buffer in octets.
 
         Returns:
@@ -721,18 +728,19 @@ class Library:
         return status, contents[:capacity], length.value
 
     def table_free(self, table: int | None) -> None:
-        """Calls `pigy_table_free`. Frees a table; None does nothing.
+        """Calls `pigy_table_free`: frees a table.
 
         Args:
-            table: The handle. No other call may use it any more.
+            table: The handle, or None, for which the call does nothing. No other call may use the handle at the same
+                time or later.
         """
         self._library.pigy_table_free(table)
 
     def answer(self, line: bytes, capacity: int) -> CallResult:
-        """Calls `pigy_answer`: writes the answer of the program `respath` to a line. Neither has a line end.
+        """Calls `pigy_answer`: writes the answer of the program `respath` to a line, without a line end.
 
         Args:
-            line: The line in UTF-8.
+            line: The line in UTF-8, without its line end.
             capacity: The capacity of the buffer in octets.
         """
         return self._call_with_buffer("pigy_answer", [line, len(line)], capacity)

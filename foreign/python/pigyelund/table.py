@@ -68,19 +68,21 @@ class Table:
         ...     table.origin(Route.of(ip_network("10.0.0.0/8"), asn=64496))
         <Validity.VALID: 0>
 
-    Memory. `close` frees the table. The end of a `with`, and the end of the last reference to the object, do the same.
-    If another thread is in a call on the table, the memory is freed when that call returns. Calls on a closed table
-    raise `ValueError`. A table cannot be copied or pickled.
+    Memory. `close` frees the table. The end of a `with` does the same, and so does dropping the last reference. `close`
+    does not wait for calls of other threads: then the table is freed when these calls have returned. Calls on a closed
+    table raise `ValueError`. A table cannot be copied or pickled, so make it in each process.
 
     Threads. Any number of threads may query a table at once. ctypes releases Python's global lock during a call.
 
-    Arguments. Pass VRPs as an iterable of `Vrp`, and routes as an iterable of `Route`. You may also pass an object with
-    the buffer protocol that has C structs side by side: `bytes`, a `memoryview`, an `array.array`, a numpy array. Each
-    struct has 24 octets. The module `struct` makes the octets by these formats. The address is in network byte order,
-    and the family is 1 for IPv4 and 2 for IPv6:
+    Arguments. Pass VRPs as an iterable of `Vrp`, and routes as an iterable of `Route`. You may also pass a buffer of C
+    structs, one directly after the other. A buffer is any object with the buffer protocol, such as `bytes`, a
+    `memoryview`, an `array.array` or a numpy array. Each struct has 24 octets, which the module `struct` makes:
 
         struct.pack("16sIBBBx", address, asn, family, len, max_len)    a VRP
         struct.pack("16sIBBxx", address, asn, family, len)             a route
+
+    The address is in network byte order, and an IPv4 address is its first four octets. The family is 1 for IPv4 and 2
+    for IPv6. Lengths are in bits.
 
     Calls that return validities, VRPs or a table may raise `OutOfMemoryError`. This error says nothing about the input.
     """
@@ -121,8 +123,8 @@ class Table:
     def close(self) -> None:
         """Closes the table. A second call does nothing.
 
-        The memory of the table is freed at once. If other threads are in calls on the table, it is freed when these
-        calls have returned.
+        This call does not wait for calls of other threads. If such calls use the table, its memory is freed when they
+        have returned. Otherwise the memory is freed at once.
         """
         self._owner = None
 
@@ -153,11 +155,11 @@ class Table:
             The new table. Close it too.
 
         Raises:
-            OriginError: A VRP of `announced`, or else of `withdrawn`, is malformed. The attribute `index` counts in
-                `withdrawn` if the status has `Status.SECOND`, else in `announced`.
-            ChangeError: A VRP of `withdrawn`, or else of `announced`, is not as its argument requires. The attribute
-                `index` counts in `withdrawn` if the status is `Status.UNKNOWN_WITHDRAWAL`, else in `announced`. This
-                class is a subclass of `OriginError`.
+            OriginError: A VRP is malformed. The call checks `announced` first, and then `withdrawn`. The attribute
+                `index` counts in `withdrawn` if the status is at least `Status.SECOND`, and otherwise in `announced`.
+            ChangeError: All VRPs are well-formed, and one breaks the rules above. The call checks `withdrawn` first,
+                and then `announced`. The attribute `index` counts in `withdrawn` if the status is
+                `Status.UNKNOWN_WITHDRAWAL`, and otherwise in `announced`. Catch this class before `OriginError`.
             TypeError: An argument is neither an iterable nor a buffer, or an item of it is no `Vrp`.
             ValueError: The table is closed, or the length of a buffer is no multiple of 24 octets.
         """
@@ -182,7 +184,7 @@ class Table:
         return [_VALIDITIES[octet] for octet in self.origin_octets(routes)]
 
     def origin_octets(self, routes: object) -> bytes:
-        """Validates routes like `origins`, but returns one octet for each route. Use it for millions of routes.
+        """Validates routes like `origins`, and returns one octet for each route. Use it for millions of routes.
 
         Args:
             routes: The routes: a buffer of C structs, or an iterable of `Route`.
@@ -229,8 +231,8 @@ class Table:
 
         Raises:
             OriginError: The route is malformed.
-            TypeError: `route` is no object of ctypes.
-            ctypes.ArgumentError: `route` is another object of ctypes, for example a `Vrp`.
+            TypeError: `route` is not an object of ctypes.
+            ctypes.ArgumentError: `route` is an object of ctypes but no `Route`, for example a `Vrp`.
             ValueError: The table is closed.
         """
         status, contents, length = self._with_handle(lambda handle: self._library.table_covering(handle, route, 8))

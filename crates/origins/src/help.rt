@@ -36,8 +36,8 @@ Options:
                option the status is 0 in these cases too
   --table      print the VRPs, sorted and each once: 192.0.2.0/23-24 AS64496
   --of ASN     with --table: print only the VRPs of this AS
-  --diff       compare two files: print withdraw VRP for each VRP that only OLD has, and then
-               announce VRP for each VRP that only NEW has
+  --diff       compare two files: print a line that begins with withdraw for each VRP that only OLD
+               has, and then a line that begins with announce for each VRP that only NEW has
   -h, --help   print the help
   --version    print the version
 

@@ -24,13 +24,16 @@ DOCS = TOP / "docs"
 PATHS = TOP / "crates" / "test_paths" / "src" / "lib.rt"
 HEAD = """# API reference
 
-This page is the index of the libraries. The page of a library lists its public types and its calls. It shows the
-signature and the contract of each call, as the source has them. The pages are for programmers who write Rattle.
+This page is the index of the libraries. Each library has a page, which lists its public types and calls. For each call
+the page shows the signature and the contract, as the source has them. The pages are for programmers who write Rattle,
+which is Rust with contracts.
+
+Contents: [How to read a page](#how-to-read-a-page) · [Libraries](#libraries)
 
 | you look for | see |
 |---|---|
 | a task and an example of it | [CALLING.md](CALLING.md) |
-| a type of the Rust crate `rpki` | [PATHS.md](PATHS.md) |
+| a type of the Rust crate `rpki` by its name, as `AsBlocks` | [PATHS.md](PATHS.md); its links lead to the pages here |
 | sets, blocks, claims and prefixes, under one crate | [rpki_resources](api/rpki_resources.md#re-exports), "Re-exports" |
 | the resource extensions of a certificate | [rpki_extensions](api/rpki_extensions.md) |
 | route origin validation | [roa_origin](api/roa_origin.md), [roa_check](api/roa_check.md) |
@@ -46,25 +49,32 @@ This is the signature of a call with its contract:
 {example}
 ```
 
-`requires` is a precondition, and `ensures` a postcondition. `self.now` is the value of `self` at the call; for an
-argument of type `&mut`, `.old` and `.new` are its values before and after the call. The clause says: if the result is
-Ok, it is the union of `self` and `other`. `IsUnion` is one of the words in [DEFINITIONS.md](DEFINITIONS.md).
+The clause says: if the result is Ok, the result is the union of `self` and `other`. Contracts have these words:
+
+| in a contract | meaning |
+|---|---|
+| `requires` | begins a precondition |
+| `ensures` | begins a postcondition |
+| `self.now`, `other.now` | the value of `self` and of `other` at the call |
+| `.old`, `.new` | the values of an argument of type `&mut` before and after the call |
+| `IfOk`, `IsUnion` | words that [DEFINITIONS.md](DEFINITIONS.md) explains |
+| other signs | [TRUSTED.md](TRUSTED.md#signs-of-a-contract) explains them |
 
 A page has up to four parts:
 
-- **Types and calls** are for users.
-- **Re-exports** are the items of other libraries that this library offers too.
-- **Internal API** is public because other crates of this repository call it. A user has a call that does the same with
-  a whole value.
-- **Lemmas** are functions that do nothing when they run ([CALLING.md](CALLING.md#lemmas)). They are in the modules
-  called `laws`.
+| part | has |
+|---|---|
+| Types and calls | what users need |
+| Re-exports | the items of other libraries that this library offers too |
+| Internal API | Items that are public only because other crates of this repository call them. Users call an item of the first part instead, which does the same with a whole value. |
+| Lemmas | functions that do nothing when they run ([CALLING.md](CALLING.md#lemmas)), in the modules called `laws` |
 
 `tests/api_page.py --write` makes this page and those below from the sources. `./check` fails if one of them isn't
 current.
 
 ## Libraries
 
-The last three columns count the items of the parts.
+The last three columns count the items of three parts of the library's page. Re-exports aren't counted.
 
 | subject | library | what it has | types and calls | internal API | lemmas |
 |---|---|---|---|---|---|"""

@@ -142,8 +142,9 @@ extern "C" {
  * - 14: The encoding is not canonical. Only PIGY_STRICT returns this. */
 #define PIGY_FAULT(s) ((s) & 0xffu)
 
-/* Encodings. PIGY_LENIENT accepts any DER that the syntax allows: blocks in any order, also overlapping ones.
- * PIGY_STRICT accepts canonical DER only (RFC 3779, 2.2.3.6 and 3.2.3.4). */
+/* Encodings. PIGY_STRICT accepts canonical DER only (RFC 3779, 2.2.3.3, 2.2.3.6, 2.2.3.9 and 3.2.3.4). PIGY_LENIENT
+ * also accepts other encodings of the same resources, for example blocks in any order, and blocks that overlap or
+ * touch. */
 #define PIGY_LENIENT 0u
 #define PIGY_STRICT 1u
 

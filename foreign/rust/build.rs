@@ -1,9 +1,9 @@
 //! Finds the static library `libpigyelund.a` and has it linked.
 //!
-//! - If `PIGYELUND_LIB` is set and not empty, the library is in the folder that it names.
+//! - If `PIGYELUND_LIB` is set and not empty, it is the absolute path of the library's folder.
 //! - Otherwise the library is in the first folder of `USUAL` that has it.
 //!
-//! The build fails with the reason if the library is not there, or if the variable is no absolute path.
+//! The build fails and prints the reason if the library is not there, or if the variable is no absolute path.
 use std::env::var;
 use std::path::Path;
 
@@ -15,8 +15,9 @@ fn has_library(folder: &str) -> bool {
     Path::new(folder).join("libpigyelund.a").exists()
 }
 
-/// Returns the folder of the library: the one that is named, or else the first of `usual` that has the library. Returns
-/// the reason if there is none.
+/// Returns the folder of the library: `named`, or the first folder of `usual` that has the library if `named` is empty.
+///
+/// Returns the reason as `Err` if `named` is a relative path, or if the library is not in these folders.
 pub(crate) fn folder_of(named: &str, usual: &[&str]) -> Result<String, String> {
     if named.is_empty() {
         let found = usual.iter().find(|folder| has_library(folder));

@@ -2,13 +2,15 @@
 //!
 //! The crate is for programs that check the resources of certificates (RFC 3779), operate on sets of resources, or
 //! validate route origins (RFC 6811). It is a safe wrapper around the proved static library. The wrapper itself is
-//! tested, not proved. `docs/FOREIGN.md` is the guide: installation, programs, arguments, errors, threads.
+//! tested, not proved. `docs/FOREIGN.md` in the repository is the guide: installation, programs, arguments, errors,
+//! threads.
 //!
 //! - [`verify`] computes the resources of a certificate. [`verify_path`] computes those of the last certificate of a
 //!   path.
 //! - [`union`], [`intersection`], [`difference`], [`contains`] and [`equal`] operate on two sets.
 //! - [`cover`] returns the shortest list of prefixes of a set.
-//! - [`origins`] and [`Table`] validate routes against VRPs (validated ROA payloads, [`Vrp`]).
+//! - [`origins`] and [`Table`] validate routes against VRPs (validated ROA payloads, [`Vrp`]). The page of [`Table`]
+//!   has an example.
 //! - [`answer`] returns the answer of the program `respath` to a line.
 //!
 //! # Sets and extensions
@@ -16,14 +18,14 @@
 //! The calls take and return the DER of two certificate extensions: AS identifiers (RFC 3779, 3.2.3) and IP address
 //! blocks (RFC 3779, 2.2.3). This DER is the content of the OCTET STRING `extnValue` (RFC 5280, 4.1).
 //!
-//! | type | is | if nothing is listed |
+//! | type | is | a field is |
 //! |---|---|---|
-//! | [`Octets`] | a set that you pass, as borrowed DER | `&[]` |
-//! | [`Resources`] | a set that a call returns, as owned canonical DER | an empty `Vec` |
-//! | [`Extensions`] | the extensions of a certificate, as borrowed DER | `None` for an absent extension |
+//! | [`Octets`] | a set that you pass, as borrowed DER | `&[]` if the set has no AS numbers, or no addresses |
+//! | [`Resources`] | a set that a call returns, as owned canonical DER | an empty `Vec` in the same case |
+//! | [`Extensions`] | the extensions of a certificate, as borrowed DER | `None` if the extension is absent |
 //!
-//! [`Resources::octets`] makes an argument of a result. Two sets that calls returned are equal if and only if their
-//! octets are equal.
+//! [`Resources::octets`] borrows a result, so that you can pass it to another call. Two sets that calls returned are
+//! equal if and only if their octets are equal.
 //!
 //! # Errors
 //!
@@ -35,6 +37,8 @@
 //! [`raw`] has the same calls with the statuses and numbers of `pigyelund.h`.
 //!
 //! # Example
+//!
+//! This program computes the difference of two sets, and its prefixes:
 //!
 //! ```
 //! use pigyelund::{cover, difference, Encoding, Family, Octets};
@@ -83,7 +87,7 @@ pub struct Extensions<'a> {
 }
 
 impl<'a> Extensions<'a> {
-    /// Returns the number that says which extensions are present: 0, [`HAS_AS`], [`HAS_IP`], or their sum.
+    /// Returns the bit mask of the extensions that are present: 0, [`HAS_AS`], [`HAS_IP`], or their sum.
     fn present(&self) -> u32 {
         HAS_AS * u32::from(self.asn.is_some()) + HAS_IP * u32::from(self.ip.is_some())
     }
@@ -116,7 +120,7 @@ pub struct Resources {
 }
 
 impl Resources {
-    /// Borrows the set, as an argument of another call.
+    /// Borrows the set. Pass the result to another call.
     pub fn octets(&self) -> Octets<'_> {
         Octets {
             asn: &self.asn,
@@ -137,9 +141,10 @@ pub enum Encoding {
 /// The policy for overclaimed resources: those that a certificate claims and its issuer does not have.
 #[derive(Clone, Copy, Debug, PartialEq, Eq)]
 pub enum Overclaim {
-    /// The certificate is refused (RFC 6487, 7.2).
+    /// A certificate that overclaims is refused (RFC 6487, 7.2).
     Refuse = raw::REFUSE as isize,
-    /// The claim is reduced to what the issuer has of it (RFC 8360, 4).
+    /// The claim of a certificate is reduced to the resources that its issuer has (RFC 8360, 4). This is the mode for
+    /// certificates with the policy id-cp-ipAddr-asNumber-v2.
     Trim = raw::TRIM as isize,
 }
 
@@ -155,7 +160,7 @@ pub enum Family {
 /// An address prefix.
 #[derive(Clone, Copy, Debug, PartialEq, Eq, Hash)]
 pub struct Prefix {
-    /// The first address.
+    /// The first address of the prefix.
     pub address: IpAddr,
     /// The length in bits: 0 to 32 for IPv4, 0 to 128 for IPv6.
     pub len: u8,
@@ -219,13 +224,14 @@ fn with_buffer(call: impl Fn(&mut [u8]) -> (u32, usize)) -> (u32, Vec<u8>) {
 ///
 /// The result for AS numbers, for IPv4 and for IPv6 is:
 ///
-/// - nothing, if the certificate does not have the extension, or the extension does not have the family;
+/// - no resources, if the certificate does not have the extension, or the extension does not have the family;
 /// - all that the issuer has, if the certificate has `inherit`;
-/// - otherwise what the certificate lists and the issuer has.
+/// - otherwise the resources that the certificate lists and the issuer has.
 ///
 /// # Parameters
 ///
-/// - `issuer`: the issuer's set. It must list its resources, without `inherit`.
+/// - `issuer`: the issuer's set, without `inherit`. For a trust anchor pass the extensions of its certificate. For any
+///   other issuer pass what `verify` returned for its certificate.
 /// - `certificate`: the extensions of the certificate. They may have `inherit`.
 /// - `encoding`: the encodings that are accepted, for the issuer and for the certificate.
 /// - `mode`: the policy for overclaimed resources.
@@ -286,16 +292,15 @@ fn concatenate(certificates: &[Certificate<'_>]) -> (Vec<u8>, Vec<raw::Certifica
 
 /// Computes the resources of the last certificate of a path.
 ///
-/// The first certificate is verified against the anchor's set, as by [`verify`]. Each other one is verified against
-/// what the certificates before it leave.
+/// The first certificate is verified against the anchor's set, as by [`verify`]. Each other certificate is verified
+/// against the result for the certificate before it. The result for an empty path is the anchor's set, as canonical
+/// DER.
 ///
 /// # Parameters
 ///
-/// - `anchor`: the trust anchor's set. It must list its resources, without `inherit`.
+/// - `anchor`: the trust anchor's set, without `inherit`.
 /// - `certificates`: the certificates in the order of the path, the one under the anchor first.
 /// - `encoding`: the encodings that are accepted, for the anchor and for all certificates.
-///
-/// The result for an empty path is the anchor's set.
 ///
 /// # Errors
 ///
@@ -348,7 +353,8 @@ fn address_of(octets: &[u8]) -> IpAddr {
 /// The first of these, in this order:
 ///
 /// - [`Reason::BadIp`] with [`Side::First`]: `ip` is invalid.
-/// - [`Reason::Inherited`] with [`Side::First`]: `ip` has `inherit` for a family, also if this is not `family`.
+/// - [`Reason::Inherited`] with [`Side::First`]: `ip` has `inherit` for a family, which may be another one than
+///   `family`.
 ///
 /// The call may return [`Reason::Memory`] instead of any other result.
 pub fn cover(ip: &[u8], encoding: Encoding, family: Family) -> Result<Vec<Prefix>, ResourceError> {
@@ -385,11 +391,12 @@ fn validity_of(octet: u8) -> Validity {
 ///
 /// # Errors
 ///
-/// [`OriginError::index`] is the index, from 0, of the first malformed VRP in `vrps`, or else of the first malformed
-/// route in `routes`:
+/// The call checks all VRPs, and then all routes. It reports the first malformed one:
 ///
-/// - [`Reason::BadFamily`], [`Reason::BadPrefix`] with [`Side::First`], [`Reason::BadMaxLen`]: the VRP is malformed.
-/// - [`Reason::BadFamily`], [`Reason::BadPrefix`] with [`Side::Second`]: the route is malformed.
+/// - [`Reason::BadFamily`], [`Reason::BadPrefix`] with [`Side::First`], [`Reason::BadMaxLen`]: a VRP is malformed.
+///   [`OriginError::index`] is its index in `vrps`, from 0.
+/// - [`Reason::BadFamily`], [`Reason::BadPrefix`] with [`Side::Second`]: a route is malformed. [`OriginError::index`]
+///   is its index in `routes`, from 0.
 ///
 /// The call may return [`Reason::Memory`] instead of any other result.
 pub fn origins(vrps: &[Vrp], routes: &[Route]) -> Result<Vec<Validity>, OriginError> {
@@ -402,10 +409,10 @@ pub fn origins(vrps: &[Vrp], routes: &[Route]) -> Result<Vec<Validity>, OriginEr
     Ok(octets.into_iter().map(validity_of).collect())
 }
 
-/// Returns the answer of the program `respath` to a line. Errors in the line are part of the answer.
+/// Returns the answer of the program `respath` to a line.
 ///
-/// `der v4 LIST` converts text to DER in hexadecimal, and `read v4 HEX` converts DER to text. `README.md` has all
-/// commands. A wrong line is no `Err`: its answer begins with `error: `.
+/// `der v4 LIST` converts text to DER in hexadecimal, and `read v4 HEX` converts DER to text. The README of the
+/// repository has all commands. A wrong line returns `Ok`: its answer begins with `error: `.
 ///
 /// # Parameters
 ///
@@ -437,7 +444,7 @@ pub fn answer(line: &[u8]) -> Result<String, Reason> {
 ///
 /// - [`Reason::BadAs`]: the AS identifiers of the set are invalid.
 /// - [`Reason::BadIp`]: the IP address blocks of the set are invalid.
-/// - [`Reason::Inherited`]: the set has `inherit`, and does not list its resources.
+/// - [`Reason::Inherited`]: the set has `inherit` in place of a list of resources.
 ///
 /// The call may return [`Reason::Memory`] instead of any other result.
 pub fn combine(
@@ -484,7 +491,13 @@ pub fn difference(
     combine(Operation::Difference, a, b, encoding)
 }
 
-/// Evaluates a predicate on two sets. Returns whether it holds.
+/// Evaluates a predicate on two sets. Returns whether the predicate holds.
+///
+/// # Parameters
+///
+/// - `comparison`: the predicate.
+/// - `a`, `b`: the first and the second set.
+/// - `encoding`: the encodings that are accepted, for both sets.
 ///
 /// # Errors
 ///

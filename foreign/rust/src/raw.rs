@@ -1,8 +1,8 @@
 //! The calls of `pigyelund.h`, with slices in place of pointers and lengths.
 //!
 //! This module is for callers that provide their own buffers, or that need the statuses of C. All others use the calls
-//! of the [crate root](crate). Each function here is one call of the library. It takes the numbers of the header, and
-//! returns the status.
+//! of the [crate root](crate). Each function here is one call of the library. The function takes the numbers of the
+//! header, and returns the status.
 //!
 //! # Outputs
 //!
@@ -19,7 +19,7 @@
 //!
 //! # Preconditions
 //!
-//! You may pass any values: the library checks them, and this module does not. The library also has preconditions on
+//! You may pass any values. The library checks them, and this module does not. The library also has preconditions on
 //! pointers. Rust's references meet these: a `&[u8]` is never null, and a `&mut` buffer overlaps no other argument.
 use core::net::IpAddr;
 
@@ -49,7 +49,7 @@ pub const BAD_ENCODING: u32 = 9;
 pub const ABSENT: u32 = 10;
 /// A certificate of a path has an extension that is not within the array `run` of [`verify_path`].
 pub const OUTSIDE: u32 = 11;
-/// The number that says which extensions are present is greater than [`HAS_BOTH`].
+/// The bit mask of the extensions that are present is greater than [`HAS_BOTH`].
 pub const BAD_PRESENT: u32 = 12;
 /// The family is neither [`IPV4`] nor [`IPV6`].
 pub const BAD_FAMILY: u32 = 13;
@@ -293,30 +293,32 @@ pub struct Octets<'a> {
     pub ip: &'a [u8],
 }
 
-/// A certificate of a path, as `pigy_certificate` of `pigyelund.h`.
+/// A certificate of a path: the struct `pigy_certificate` of `pigyelund.h`.
 ///
-/// The octets of all certificates are in one array, the `run` of [`verify_path`]. Both ranges must lie within it. For
-/// an absent extension use index 0 and length 0.
+/// An array, the `run` of [`verify_path`], has the DER of the extensions of all certificates, one after the other. This
+/// struct says in which ranges of the array the two extensions of the certificate are. Both ranges must lie within the
+/// array. For an absent extension use index 0 and length 0.
 #[repr(C)]
 #[derive(Clone, Copy, Debug, Default, PartialEq, Eq)]
 pub struct Certificate {
-    /// The index in `run` of the first octet of the AS identifiers.
+    /// The index in `run`, from 0, of the first octet of the AS identifiers.
     pub as_start: usize,
     /// The length of the AS identifiers in octets.
     pub as_len: usize,
-    /// The index in `run` of the first octet of the IP address blocks.
+    /// The index in `run`, from 0, of the first octet of the IP address blocks.
     pub ip_start: usize,
     /// The length of the IP address blocks in octets.
     pub ip_len: usize,
-    /// The number that says which extensions are present: [`HAS_AS`], [`HAS_IP`], [`HAS_BOTH`], or 0.
+    /// The bit mask of the extensions that are present: [`HAS_AS`], [`HAS_IP`], [`HAS_BOTH`], or 0.
     pub present: u32,
     /// The policy for overclaimed resources: [`REFUSE`] or [`TRIM`].
     pub mode: u32,
 }
 
-/// A VRP (validated ROA payload, RFC 6811, 2), as `pigy_vrp` of `pigyelund.h`.
+/// A VRP (validated ROA payload, RFC 6811, 2): the struct `pigy_vrp` of `pigyelund.h`.
 ///
-/// The fields are not checked until a call reads them. Comparisons and hashes read all 16 octets of the address.
+/// The fields are not checked until a call reads them. Comparisons and hashes read all 16 octets of the address, also
+/// for IPv4. `Vrp::new` sets the other 12 octets of an IPv4 address to 0.
 #[repr(C)]
 #[derive(Clone, Copy, Debug, Default, PartialEq, Eq, Hash)]
 pub struct Vrp {
@@ -328,18 +330,18 @@ pub struct Vrp {
     pub family: u8,
     /// The prefix length in bits: 0 to 32 for IPv4, 0 to 128 for IPv6.
     pub len: u8,
-    /// The maximum length (maxLength, RFC 9582, 4.3.2) in bits: `len` to 32 or 128.
+    /// The maximum length (maxLength, RFC 9582, 4.3.2) in bits: `len` to 32 for IPv4, `len` to 128 for IPv6.
     pub max_len: u8,
 }
 
 impl Vrp {
-    /// Returns a VRP. The values are not checked here.
+    /// Returns a VRP. This function does not check the values. A call that reads the VRP does.
     ///
     /// # Parameters
     ///
-    /// - `address`: the first address of the prefix.
+    /// - `address`: the first address of the prefix. All bits after `len` (host bits) are 0.
     /// - `len`: the prefix length in bits, 0 to 32 for IPv4, 0 to 128 for IPv6.
-    /// - `max_len`: the maximum length in bits, `len` to 32 or 128.
+    /// - `max_len`: the maximum length in bits, `len` to 32 for IPv4, `len` to 128 for IPv6.
     /// - `asn`: the AS that may originate the prefix.
     pub fn new(address: IpAddr, len: u8, max_len: u8, asn: u32) -> Vrp {
         let (address, family) = octets_and_family(address);
@@ -353,9 +355,10 @@ impl Vrp {
     }
 }
 
-/// A route: a prefix and the AS that originates it (RFC 6811, 2), as `pigy_route` of `pigyelund.h`.
+/// A route (RFC 6811, 2): a prefix and the AS that originates it. This is the struct `pigy_route` of `pigyelund.h`.
 ///
-/// The fields are not checked until a call reads them. Comparisons and hashes read all 16 octets of the address.
+/// The fields are not checked until a call reads them. Comparisons and hashes read all 16 octets of the address, also
+/// for IPv4. `Route::new` sets the other 12 octets of an IPv4 address to 0.
 #[repr(C)]
 #[derive(Clone, Copy, Debug, PartialEq, Eq, Hash)]
 pub struct Route {
@@ -370,11 +373,11 @@ pub struct Route {
 }
 
 impl Route {
-    /// Returns a route. The values are not checked here.
+    /// Returns a route. This function does not check the values. A call that reads the route does.
     ///
     /// # Parameters
     ///
-    /// - `address`: the first address of the prefix.
+    /// - `address`: the first address of the prefix. All bits after `len` (host bits) are 0.
     /// - `len`: the prefix length in bits, 0 to 32 for IPv4, 0 to 128 for IPv6.
     /// - `asn`: the AS that originates the route, or 0 if the path ends in an AS_SET.
     pub fn new(address: IpAddr, len: u8, asn: u32) -> Route {
@@ -388,7 +391,7 @@ impl Route {
     }
 }
 
-/// A VRP that covers a route, and why it does not match the route, as `pigy_covering` of `pigyelund.h`.
+/// A VRP that covers a route, and why it does not match the route: the struct `pigy_covering` of `pigyelund.h`.
 #[repr(C)]
 #[derive(Clone, Copy, Debug, Default, PartialEq, Eq, Hash)]
 pub struct Covering {
@@ -442,8 +445,8 @@ impl Table {
 
     /// Calls `pigy_table_new`: builds a table of VRPs.
     ///
-    /// Returns the status, the table, and an index. The table is null unless the status is [`OK`]. The index, from 0,
-    /// is that of the first malformed VRP, or 0.
+    /// Returns the status, the table, and an index. The table is null unless the status is [`OK`]. The index is that of
+    /// the first malformed VRP, from 0. If no VRP is malformed, it is 0.
     pub fn new(vrps: &[Vrp]) -> (u32, Table, usize) {
         let (mut table, mut index) = (Table::null(), 0);
         // SAFETY: as in `origins`. The call overwrites a null handle, so no table is lost.
@@ -453,9 +456,9 @@ impl Table {
 
     /// Calls `pigy_table_changed`: makes a table without the withdrawn VRPs, and then with the announced ones.
     ///
-    /// Returns the status, the new table, and an index. The table is null unless the status is [`OK`]. The index, from
-    /// 0, is that of the refused VRP, or 0 if none is refused. It counts in `withdrawn` if the status has [`SECOND`] or
-    /// is [`UNKNOWN_WITHDRAWAL`], else in `announced`.
+    /// Returns the status, the new table, and an index. The table is null unless the status is [`OK`]. The index is
+    /// that of the refused VRP, from 0. If no VRP is refused, it is 0. The index counts in `withdrawn` if the status is
+    /// [`UNKNOWN_WITHDRAWAL`] or at least [`SECOND`], and otherwise in `announced`.
     pub fn changed(&self, announced: &[Vrp], withdrawn: &[Vrp]) -> (u32, Table, usize) {
         let (mut next, mut index) = (Table::null(), 0);
         // SAFETY: as in `new`; this table is borrowed for the call.
@@ -475,7 +478,8 @@ impl Table {
 
     /// Calls `pigy_table_origins`: writes the validity of each route to `out`, one octet each.
     ///
-    /// Returns the status, the output length, and the index, from 0, of the first malformed route, or 0.
+    /// Returns the status, the output length in octets, and an index. The index is that of the first malformed route,
+    /// from 0. If no route is malformed, it is 0.
     pub fn origins(&self, routes: &[Route], out: &mut [u8]) -> (u32, usize, usize) {
         let (mut len, mut index) = (0, 0);
         // SAFETY: as in `changed`; `Route` has the layout of C.
@@ -523,7 +527,7 @@ impl Table {
     }
 }
 
-/// Returns the octets of an address, in network byte order, and its family. IPv4 has the first four octets.
+/// Returns the octets of an address in network byte order, and its family. An IPv4 address is the first four octets.
 fn octets_and_family(address: IpAddr) -> ([u8; 16], Family) {
     match address {
         IpAddr::V4(v4) => {
@@ -587,7 +591,7 @@ pub fn version() -> u32 {
 /// # Parameters
 ///
 /// - `issuer`: the issuer's set.
-/// - `present`: which extensions the certificate has: [`HAS_AS`], [`HAS_IP`], [`HAS_BOTH`], or 0.
+/// - `present`: the bit mask of the extensions that the certificate has: [`HAS_AS`], [`HAS_IP`], [`HAS_BOTH`], or 0.
 /// - `certificate`: the certificate's extensions. The octets of an absent extension are ignored.
 /// - `encoding`: [`LENIENT`] or [`STRICT`].
 /// - `mode`: [`REFUSE`] or [`TRIM`].
@@ -701,8 +705,11 @@ pub fn cover(ip: &[u8], encoding: u32, family: u32, out: &mut [u8]) -> (u32, usi
 
 /// Calls `pigy_origins`: writes the validity of each route by the VRPs to `out`, one octet each.
 ///
-/// Returns the status, the output length, and an index. The index, from 0, is that of the first malformed VRP, or else
-/// of the first malformed route, or 0.
+/// Returns the status, the output length in octets, and an index:
+///
+/// - If a VRP is malformed, the index of the first such VRP, from 0.
+/// - Otherwise, if a route is malformed, the index of the first such route, from 0.
+/// - Otherwise 0.
 pub fn origins(vrps: &[Vrp], routes: &[Route], out: &mut [u8]) -> (u32, usize, usize) {
     let (mut len, mut index) = (0, 0);
     // SAFETY: as in `verify`; `Vrp` and `Route` have the layout of C.
@@ -721,9 +728,9 @@ pub fn origins(vrps: &[Vrp], routes: &[Route], out: &mut [u8]) -> (u32, usize, u
     (status, len, index)
 }
 
-/// Calls `pigy_answer`: writes the answer of the program `respath` to a line to `out`. Neither has a line end.
+/// Calls `pigy_answer`: writes the answer of the program `respath` for a line into `out`.
 ///
-/// Returns the status, and the output length in octets.
+/// Neither the line nor the answer has a line end. Returns the status, and the output length in octets.
 pub fn answer(line: &[u8], out: &mut [u8]) -> (u32, usize) {
     let mut len = 0;
     // SAFETY: as in `verify`.

@@ -120,7 +120,7 @@ impl Fault {
 pub enum Reason {
     /// Out of memory. This reason says nothing about the input.
     Memory,
-    /// The operand has `inherit`, and does not list its resources. A certificate may have `inherit`; a set may not.
+    /// The operand has `inherit` in place of a list of resources. A certificate may have `inherit`, and a set may not.
     Inherited(Side),
     /// The certificate claims AS numbers that its issuer does not have (RFC 6487, 7.2).
     OverclaimedAs,
@@ -130,9 +130,9 @@ pub enum Reason {
     OverclaimedV6,
     /// The certificate has neither extension (RFC 6487, 4.8.10 and 4.8.11).
     Absent,
-    /// The AS identifiers are invalid; the field is the first error found.
+    /// The AS identifiers are invalid DER. The fields are the operand and the first error in it.
     BadAs(Side, Fault),
-    /// The IP address blocks are invalid; the field is the first error found.
+    /// The IP address blocks are invalid DER. The fields are the operand and the first error in it.
     BadIp(Side, Fault),
     /// The family of a VRP or of a route is neither IPv4 nor IPv6. `Vrp::new` and `Route::new` always set one of these.
     BadFamily(Side),
@@ -217,7 +217,7 @@ fn other_text(status: u32) -> &'static str {
     }
 }
 
-/// Writes the text of an error in the DER of an extension, which `octets` names.
+/// Writes the text of an error in the DER of an extension. `octets` is the name of the extension's value.
 fn write_fault(out: &mut Formatter<'_>, octets: &str, side: Side, fault: Fault) -> Result {
     let of = match side {
         Side::First => "",
@@ -286,9 +286,9 @@ impl Error for ResourceError {}
 /// The reason why a path is not verified, and the number of verified certificates.
 #[derive(Clone, Debug, PartialEq, Eq)]
 pub struct PathError {
-    /// The number of verified certificates. This is also the index, from 0, of the certificate that is not verified.
+    /// The number of verified certificates. This is also the index, from 0, of the refused certificate.
     ///
-    /// It is 0 if the anchor's set is refused. It has no meaning if the reason is [`Reason::Memory`].
+    /// The number is 0 if the anchor's set is refused. It has no meaning if the reason is [`Reason::Memory`].
     pub verified: usize,
     /// The reason, and the overclaimed resources if there are any.
     pub error: ResourceError,
@@ -309,10 +309,10 @@ pub struct OriginError {
     pub reason: Reason,
     /// The index, from 0, of the refused VRP or route.
     ///
-    /// - With [`Side::Second`], [`Reason::BadWithdrawnMaxLen`] and [`Reason::UnknownWithdrawal`] it counts in the list
-    ///   of routes, or of withdrawn VRPs.
-    /// - With [`Reason::Memory`] it is 0.
-    /// - With any other reason it counts in the list of VRPs, or of announced VRPs.
+    /// - With [`Side::Second`], [`Reason::BadWithdrawnMaxLen`] and [`Reason::UnknownWithdrawal`] the index counts in
+    ///   the list of routes, or of withdrawn VRPs.
+    /// - With [`Reason::Memory`] the index is 0 and has no meaning.
+    /// - With any other reason the index counts in the list of VRPs, or of announced VRPs.
     pub index: usize,
 }
 

@@ -9,7 +9,9 @@ use crate::{address_of, validity_of, OriginError, Prefix, Reason, Route, Validit
 /// A table of VRPs (validated ROA payloads) for route origin validation (RFC 6811, 2).
 ///
 /// A table can be queried any number of times. It never changes: [`Table::changed`] makes the next table from withdrawn
-/// and announced VRPs (RFC 8210, 5.6). A table is `Send` and `Sync`: any number of threads may query it at once.
+/// and announced VRPs (RFC 8210, 5.6).
+///
+/// A table is `Send` and `Sync`: any number of threads may query it at once.
 ///
 /// # Example
 ///

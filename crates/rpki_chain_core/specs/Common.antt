@@ -6,7 +6,7 @@ use Rattle.rpki_chain_core.specs.Sets.{IsNew}
 abbrev pub AreApart : ℕ × ℕ → ℕ × ℕ → Type 0
 AreApart b c = (b.1 < c.0) ⊎ (c.1 < b.0)
 
--- the numbers from the beginning of the block that begins later to the end of the block that ends earlier
+-- the common part of b and c: from the beginning of the one that begins later to the end of the one that ends earlier
 pub record IsCommon (b c common : ℕ × ℕ) : Type 0 where
   pub begins : (b.0 ≤ common.0) × (c.0 ≤ common.0) × ((common.0 ≡ b.0) ⊎ (common.0 ≡ c.0))
   pub ordered : common.0 ≤ common.1

@@ -1,4 +1,4 @@
--- How often a pass that goes on after a block reads its chain.
+-- The number of reads of a pass that continues after a block.
 use Rattle.std.specs.Prelude.{◌≡◌, ℕ, ◌+◌, ◌-◌, ◌≤◌, List, length}
 
 -- the blocks after an index were read at most once each, and all blocks are unchanged

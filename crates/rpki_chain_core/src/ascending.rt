@@ -7,9 +7,14 @@ use crate::union::take_in;
 use rpki_block::block::Block;
 use std::alloc::{AllocError, Allocator};
 
-/// Fills the empty `chain` with the chain of the numbers that `blocks` cover, and returns true. It returns false if a
-/// block begins before the last run of the blocks before it. This can't happen if the blocks ascend by their minima.
-/// After false the blocks of `chain` are unspecified.
+/// Fills the empty `chain` with the chain of the numbers that `blocks` cover, and returns true.
+///
+/// The call returns false if a block begins before the last run of the blocks before it. This can't happen if the
+/// blocks ascend by their minima. After false or an error, the blocks of `chain` are unspecified.
+///
+/// # Errors
+///
+/// [`AllocError`]: out of memory.
 pub fn join_ascending_into<T: Block, A: Allocator>(
     chain: &mut Vec<T, A>,
     blocks: &[T],

@@ -1,4 +1,4 @@
-//! The overhang of a chain over a much longer one. A binary search looks for each of its blocks there.
+//! The overhang of a chain over a much longer one, by a binary search for each block.
 ghost use Rattle.std.specs.Prelude.{◌≡◌, ℕ, ◌+◌, ◌*◌, ◌^◌, ◌<◌, ◌≤◌, ◌↔◌, length, IsTrue, MatchOption};
 ghost use Rattle.rpki_chain_core.specs.Sets.{IsInside};
 ghost use Rattle.rpki_chain_core.specs.Overhang.{IsOverhang};
@@ -16,9 +16,10 @@ pub fn is_far_longer(many: usize, few: usize) -> bool
     few <= many / 64
 }
 
-/// Returns the first block of `own` that doesn't lie in `other`, or None if each block does. A binary search looks for
-/// each block in `other`, from the index of the one before it on. For each block it reads at most as many blocks of
-/// `other` as their number has binary digits.
+/// Returns the first block of `own` that doesn't lie in `other`, or None if each block does.
+///
+/// A binary search looks for each block in `other`, from the index on that the search before it found. Each search
+/// reads at most as many blocks of `other` as their number has binary digits.
 #[tactic(auto, using(crate::proofs::ReadCounts::searched_within))]
 pub fn overhang_by_binary_search<T: Block, X: Reads<T>, Y: Reads<T>>(
     own: &mut X,

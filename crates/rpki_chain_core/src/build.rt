@@ -8,7 +8,7 @@ use rpki_block::block::Block;
 use std::alloc::Allocator;
 use std::cmp::Ordering;
 
-/// Replaces the blocks by the chain of the numbers that they cover. It neither takes nor returns memory.
+/// Replaces the blocks by the chain of the numbers that they cover. The call neither allocates nor frees memory.
 pub fn join<T: Block, A: Allocator>(blocks: &mut Vec<T, A>)
     ensures chain { IsChain T.bounds T.form blocks.new.items }
     ensures covers { (n : ℕ) →
@@ -19,7 +19,7 @@ pub fn join<T: Block, A: Allocator>(blocks: &mut Vec<T, A>)
     join_ascending(blocks);
 }
 
-/// Sorts the blocks by their minima. If they are sorted already, it looks at each once and moves none.
+/// Sorts the blocks by their minima. If they are sorted already, the call passes over them once and moves none.
 fn sort<T: Block, A: Allocator>(blocks: &mut Vec<T, A>)
     ensures covers { (n : ℕ) →
         Covers T.bounds blocks.new.items n ↔ Covers T.bounds blocks.old.items n }
@@ -36,7 +36,7 @@ fn sort<T: Block, A: Allocator>(blocks: &mut Vec<T, A>)
 ///
 /// The blocks below the index `closed` are those of the closed runs, which end before the current run and don't touch
 /// it. Each iteration takes the next block, which begins no earlier than the current run. No later block can therefore
-/// reach a closed run. A run covers at least one block, so its block has an index among those that were passed.
+/// reach a closed run. A run covers at least one block, so the index of its block is among those that were passed.
 fn join_ascending<T: Block, A: Allocator>(blocks: &mut Vec<T, A>)
     requires { IsNonDecreasingBy (λ b. (T.bounds b).0) blocks.old.items }
     ensures chain { IsChain T.bounds T.form blocks.new.items }
@@ -63,7 +63,12 @@ fn join_ascending<T: Block, A: Allocator>(blocks: &mut Vec<T, A>)
     blocks.truncate(closed + 1);
 }
 
-/// Returns the run that covers `run` and `next` if they overlap or touch. `next` begins no earlier than `run`.
+/// Returns the run that covers `run` and `next`, or None if they neither overlap nor touch.
+///
+/// # Preconditions
+///
+/// - `next` begins no earlier than `run`.
+/// - `next` does not end before it begins, or after the kind's last item.
 pub fn run_over<T: Block>(
     run: (T::Item, T::Item),
     next: (T::Item, T::Item),

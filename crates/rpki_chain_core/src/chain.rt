@@ -18,8 +18,9 @@ use std::alloc::{AllocError, Allocator};
 use std::fmt;
 use std::slice::Iter;
 
-/// Ascending blocks that neither overlap nor touch, each in the form that `new` gives. They are the only list of the
-/// maximal runs of the numbers that they cover (RFC 3779, 2.2.3.6 and 3.2.3.4).
+/// A view of ascending blocks that neither overlap nor touch, each in the form that `new` gives.
+///
+/// The blocks are the only list of the maximal runs of the numbers that they cover (RFC 3779, 2.2.3.6 and 3.2.3.4).
 pub struct Chain<'a, T: Block> {
     blocks: &'a [T],
     pub ghost is_chain: { IsChain T.bounds T.form blocks.now } by { IsChain-prop (Coded-set T.code) },
@@ -46,8 +47,9 @@ impl<'a, T: Block> Chain<'a, T> {
         Chain { blocks }
     }
 
-    /// Returns the blocks in ascending order. They are exactly the runs of the numbers that they cover. No other list
-    /// is the chain of these numbers, and no shorter list of blocks covers the same numbers.
+    /// Returns the blocks in ascending order. They are exactly the runs of the numbers that they cover.
+    ///
+    /// No other list is the chain of these numbers, and no shorter list of blocks covers the same numbers.
     pub fn as_slice(self) -> &'a [T]
         ensures value { result.now ≡ chain_blocks self.entry }
         ensures chain { IsChainOf T.bounds T.form (Covers T.bounds result.now) result.now }
@@ -75,7 +77,7 @@ impl<'a, T: Block> Chain<'a, T> {
         self.blocks.is_empty()
     }
 
-    /// Iterates over the blocks, ascending.
+    /// Returns an iterator over the blocks, ascending.
     pub fn iter(self) -> Iter<'a, T>
         ensures { iter_rest result ≡ chain_blocks self.entry }
     {
@@ -121,8 +123,10 @@ impl<T: Block> Chain<'_, T> {
         self.overhang(other).is_none()
     }
 
-    /// Returns the first block of `self` that doesn't lie in `other`, or None if each block does. The call takes no
-    /// memory. If `other` has many more blocks, a binary search looks for each block of `self` there.
+    /// Returns the first block of `self` that doesn't lie in `other`, or None if each block does.
+    ///
+    /// The call allocates nothing. If `other` has at least 64 times as many blocks, the call does a binary search for
+    /// each block of `self`.
     pub(crate) fn overhang(self, other: Chain<'_, T>) -> Option<Overhang<T::Item>>
         ensures { MatchOption result
             (IsInside T.bounds (chain_blocks self.entry) (chain_blocks other.entry))
@@ -135,7 +139,7 @@ impl<T: Block> Chain<'_, T> {
         overhang_of(self.blocks, other.blocks)
     }
 
-    /// Checks that `other` has each number of `self`. If it has, the call takes no memory.
+    /// Checks that `other` has each number of `self`. If it has, the call allocates nothing.
     ///
     /// The chain in `Refused` is an owned one. [`crate::shared::SharedChain::trim_shared`] returns a shared one.
     ///
@@ -143,7 +147,7 @@ impl<T: Block> Chain<'_, T> {
     ///
     /// - `Refused`: `other` doesn't have each number. The variant holds the chain of the numbers that both have. This
     ///   chain has at most as many blocks as both together.
-    /// - `Memory`: there is no memory for this chain.
+    /// - `Memory`: out of memory for this chain.
     pub fn trim<A: Allocator>(
         self,
         alloc: A,
@@ -160,12 +164,13 @@ impl<T: Block> Chain<'_, T> {
         trim_counted(alloc, &mut Counted::new(self), &mut Counted::new(other))
     }
 
-    /// Returns the chain of the numbers of `self` that `other` doesn't have. The result has at most as many blocks as
-    /// both together.
+    /// Returns the chain of the numbers of `self` that `other` doesn't have.
+    ///
+    /// The result has at most as many blocks as both together.
     ///
     /// # Errors
     ///
-    /// [`AllocError`] if an allocation fails.
+    /// [`AllocError`]: out of memory.
     pub fn difference<A: Allocator>(
         self,
         alloc: A,
@@ -180,12 +185,13 @@ impl<T: Block> Chain<'_, T> {
         difference_counted(alloc, &mut Counted::new(self), &mut Counted::new(other))
     }
 
-    /// Returns the chain of the numbers that `self` or `other` has. The result has at most as many blocks as both
-    /// together.
+    /// Returns the chain of the numbers that `self` or `other` has.
+    ///
+    /// The result has at most as many blocks as both together.
     ///
     /// # Errors
     ///
-    /// [`AllocError`] if an allocation fails.
+    /// [`AllocError`]: out of memory.
     pub fn union<A: Allocator>(
         self,
         alloc: A,

@@ -8,7 +8,7 @@ use crate::tally::Tally;
 use rpki_block::block::Block;
 use std::fmt;
 
-/// A view of a chain whose reads are counted. Only contracts see the count: it takes no bytes.
+/// A view of a chain whose reads are counted. The count is only in contracts: it takes no bytes.
 #[derive(Drop)]
 pub struct Counted<'a, T: Block> {
     chain: Chain<'a, T>,
@@ -16,7 +16,7 @@ pub struct Counted<'a, T: Block> {
 }
 
 impl<'a, T: Block> Counted<'a, T> {
-    /// Creates a view of a chain with a count of 0.
+    /// Returns a view of `chain` with a count of 0.
     pub fn new(chain: Chain<'a, T>) -> Self
         ensures blocks { counted_blocks result ≡ chain_blocks chain.entry }
         ensures count { reads_of result ≡ 0 }

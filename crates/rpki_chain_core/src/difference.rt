@@ -1,4 +1,4 @@
-//! The difference of two chains: the numbers of one that aren't in the other.
+//! The difference of two chains: the numbers of the first that aren't in the second.
 ghost use Rattle.std.specs.Prelude.{◌≡◌, ◌+◌, ◌-◌, ◌<◌, ◌≤◌, length, IfOk, IfSome};
 ghost use Rattle.rpki_chain_core.specs.Sets.{Covers, IsChainOf};
 ghost use Rattle.rpki_chain_core.specs.Cut.{IsCut, IsCutBy};
@@ -26,7 +26,7 @@ pub enum Cut<I> {
     Advance { next: I, max: I },
 }
 
-/// Examines the next cut.
+/// Returns the effect of the next cut on the rest.
 fn next_cut<T: Block>(
     rest: Option<(T::Item, T::Item)>,
     cut: Option<(T::Item, T::Item)>,
@@ -41,7 +41,7 @@ fn next_cut<T: Block>(
     }
 }
 
-/// Cuts the rest from `min` to `max` by the block from `low` to `high`.
+/// Returns the effect of the block from `low` to `high` on the rest from `min` to `max`.
 fn cut_by<T: Block>(min: T::Item, max: T::Item, low: T::Item, high: T::Item) -> Cut<T::Item>
     requires from_first { T.first ≤ T.number min }
     requires to_last { T.number max ≤ T.last }
@@ -75,7 +75,7 @@ fn cut_by<T: Block>(min: T::Item, max: T::Item, low: T::Item, high: T::Item) -> 
     }
 }
 
-/// Returns the item before one that isn't the first.
+/// Returns the item before `item`, which isn't the first.
 fn item_before<T: Block>(item: T::Item) -> T::Item
     requires { T.first < T.number item }
     ensures { T.number result + 1 ≡ T.number item }
@@ -86,7 +86,7 @@ fn item_before<T: Block>(item: T::Item) -> T::Item
     }
 }
 
-/// Returns the item after one that isn't the last.
+/// Returns the item after `item`, which isn't the last.
 fn item_after<T: Block>(item: T::Item) -> T::Item
     requires { T.number item < T.last }
     ensures { T.number result ≡ T.number item + 1 }
@@ -98,11 +98,12 @@ fn item_after<T: Block>(item: T::Item) -> T::Item
 }
 
 /// Returns the chain of the numbers of `own` that `other` doesn't have, as [`crate::chain::Chain::difference`] does.
+///
 /// The number of reads of both chains together is at most the number of their blocks.
 ///
 /// # Errors
 ///
-/// [`AllocError`] if an allocation fails.
+/// [`AllocError`]: out of memory.
 pub fn difference_counted<T: Block, A: Allocator, X: Reads<T>, Y: Reads<T>>(
     alloc: A,
     own: &mut X,
@@ -124,8 +125,15 @@ pub fn difference_counted<T: Block, A: Allocator, X: Reads<T>, Y: Reads<T>>(
     }
 }
 
-/// Does the same if the first overhang is known. Nothing before the overhang is left, and the pass starts there. Each
-/// iteration finishes one block, and keeps at most one piece.
+/// Returns the chain of the numbers of `own` that `other` doesn't have. `overhang` is the first overhang of `own` over
+/// `other`.
+///
+/// The result has no number before the overhang, so the pass starts there. Each iteration finishes one block, and keeps
+/// at most one piece.
+///
+/// # Errors
+///
+/// [`AllocError`]: out of memory.
 pub fn difference_from<T: Block, A: Allocator, X: Reads<T>, Y: Reads<T>>(
     alloc: A,
     own: &mut X,

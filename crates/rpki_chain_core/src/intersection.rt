@@ -20,8 +20,9 @@ fn later<T: Block>(item: T::Item, other: T::Item) -> T::Item
     if item <= other { other } else { item }
 }
 
-/// Appends the common part of `block` and `other` to a chain; `other` ends no earlier than `block`. Without a common
-/// item it appends nothing.
+/// Appends the common part of `block` and `other` to a chain, or nothing if they have no common item.
+///
+/// `other` ends no earlier than `block`.
 #[inline(always)]
 fn push_common<T: Block, A: Allocator>(
     chain: &mut Vec<T, A>,
@@ -63,8 +64,14 @@ fn first_blocks<T: Block, A: Allocator, X: Reads<T>>(
 }
 
 /// Returns the chain of the numbers that two chains have in common. `overhang` is the first overhang of `own` over
-/// `other`. The result has the blocks before the overhang, and then what a pass from there on finds. Each iteration of
-/// the pass finishes one block.
+/// `other`.
+///
+/// The result has the blocks before the overhang, and then the common numbers that a pass from the overhang on finds.
+/// Each iteration of the pass finishes one block.
+///
+/// # Errors
+///
+/// [`AllocError`]: out of memory.
 pub fn common_from<T: Block, A: Allocator, X: Reads<T>, Y: Reads<T>>(
     alloc: A,
     own: &mut X,
@@ -111,8 +118,9 @@ pub fn common_from<T: Block, A: Allocator, X: Reads<T>, Y: Reads<T>>(
     Ok(OwnedChain::from_vec_unchecked(chain))
 }
 
-/// Appends what two chains have in common from the first overhang on. `chain` has the blocks before the overhang, and
-/// the other chain has a block left.
+/// Appends the numbers that two chains have in common from the first overhang on.
+///
+/// `chain` has the blocks before the overhang, and the other chain has a block left.
 fn push_behind<T: Block, A: Allocator, X: Reads<T>, Y: Reads<T>>(
     chain: &mut Vec<T, A>,
     own: &mut X,

@@ -1,7 +1,8 @@
-//! Blocks of whole numbers and chains of them. A chain is the ascending list of a set's runs. The crate also has the
-//! passes over one or two such lists.
+//! Chains of blocks of whole numbers: the ascending lists of the runs of a set. The crate also has the passes over one
+//! or two such lists.
 //!
-//! Blocks in any order become the chain of their runs, here of 1 to 4 and 23 to 48, as in `test_chains::chains`:
+//! Blocks in any order become the chain of their runs, here of 1 to 4 and 23 to 48. This example is in
+//! `test_chains::chains`:
 //!
 //! ```rust
 //! OwnedChain::from_blocks(alloc, &[block(23, 48), block(1, 2), block(3, 4)])

@@ -1,12 +1,12 @@
-//! Membership of an item, or of the items of a block, in a chain. The calls find the first block of the chain that
-//! doesn't end before the item.
+//! Membership of an item, or of the items of a block, in a chain. The calls search for the first block of the chain
+//! that doesn't end before the item.
 ghost use Rattle.std.specs.Prelude.{◌≡◌, ℕ, ◌+◌, ◌-◌, ◌*◌, ◌^◌, ◌<◌, ◌≤◌, ◌↔◌, length, slice_index_or, IsTrue, IfSome, MatchOption};
 ghost use Rattle.rpki_chain_core.specs.Sets.{IsWithin, Covers, IsChain, IsRunFrom, HoldsBlock, numbers};
 
 use crate::reads::Reads;
 use rpki_block::block::Block;
 
-/// Returns the index in the middle of a range of indexes. It leaves at most half of them on each side.
+/// Returns the index in the middle of a range of indexes. At most half of them are on each side.
 fn middle_of(low: usize, high: usize) -> usize
     requires { low < high }
     ensures from_low { low ≤ result }
@@ -57,8 +57,9 @@ pub fn seek<T: Block, R: Reads<T>>(
     found
 }
 
-/// Returns the bounds of the first block that doesn't end before `item`, or None if all blocks do. It reads at most as
-/// many blocks as their number has binary digits. This also holds for its callers below.
+/// Returns the bounds of the first block that doesn't end before `item`, or None if all blocks do.
+///
+/// The call reads at most as many blocks as their number has binary digits. This also holds for its callers below.
 pub fn first_from<T: Block, R: Reads<T>>(chain: &mut R, item: T::Item) -> Option<(T::Item, T::Item)>
     ensures block { MatchOption result
         ((n : ℕ) → T.number item ≤ n → Covers T.bounds (R.blocks chain.old) n → ⊥)
@@ -72,8 +73,9 @@ pub fn first_from<T: Block, R: Reads<T>>(chain: &mut R, item: T::Item) -> Option
     seek(chain, &mut at, item)
 }
 
-/// Returns whether the chain has `item`, as [`crate::chain::Chain::contains_item`] does. It reads at most as many
-/// blocks as their number has binary digits, and none if the chain is empty.
+/// Returns whether the chain has `item`, as [`crate::chain::Chain::contains_item`] does.
+///
+/// The call reads at most as many blocks as their number has binary digits, so it reads no block of an empty chain.
 pub fn contains_item_counted<T: Block, R: Reads<T>>(chain: &mut R, item: T::Item) -> bool
     ensures value { IsTrue result ↔ Covers T.bounds (R.blocks chain.old) (T.number item) }
     ensures kept { R.blocks chain.new ≡ R.blocks chain.old }

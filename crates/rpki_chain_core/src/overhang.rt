@@ -7,7 +7,7 @@ ghost use Rattle.rpki_chain_core.specs.Overhang.{IsOverhang};
 use crate::reads::{Reads, read_at};
 use rpki_block::block::Block;
 
-/// The position of a chain's next block relative to the next block of another chain.
+/// The position of a chain's current block relative to the current block of another chain.
 pub enum Fit {
     /// The other's block ends before this block, so the other's next block is examined.
     Skip,
@@ -17,13 +17,18 @@ pub enum Fit {
     Beyond,
 }
 
-/// The first block of a chain that doesn't lie in another, and the current block of the other.
+/// The first block of a chain that doesn't lie in another chain, and the current block of the other chain.
 #[derive(Drop)]
 pub struct Overhang<I> {
+    /// The index of the block, counted from 0.
     pub own_at: usize,
+    /// The smallest item of the block.
     pub min: I,
+    /// The largest item of the block.
     pub max: I,
+    /// The index of the current block of the other chain, or the other chain's length.
     pub other_at: usize,
+    /// The bounds of the current block of the other chain, or None at its end.
     pub other: Option<(I, I)>,
 }
 
@@ -43,8 +48,9 @@ fn fit_in<T: Block>(min: T::Item, max: T::Item, low: T::Item, high: T::Item) -> 
     Fit::Inside
 }
 
-/// Returns the first block of `own` that doesn't lie in `other`, or None if each block does. Each iteration finishes
-/// one block.
+/// Returns the first block of `own` that doesn't lie in `other`, or None if each block does.
+///
+/// Each iteration finishes one block.
 pub fn first_overhang<T: Block, X: Reads<T>, Y: Reads<T>>(
     own: &mut X,
     other: &mut Y,
@@ -115,7 +121,9 @@ pub fn first_overhang<T: Block, X: Reads<T>, Y: Reads<T>>(
     }
 }
 
-/// Does the same for two lists. It counts nothing, and reads each block at most once.
+/// Returns the first block of `own` that doesn't lie in `other`, as [`first_overhang`] does, for two lists.
+///
+/// The reads are not counted.
 pub fn overhang_of<T: Block>(own: &[T], other: &[T]) -> Option<Overhang<T::Item>>
     requires own_chain { IsChain T.bounds T.form own.now }
     requires other_chain { IsChain T.bounds T.form other.now }

@@ -36,12 +36,13 @@ impl<T: Block, A: Allocator> OwnedChain<T, A> {
         OwnedChain { blocks: None }
     }
 
-    /// Returns the chain of the numbers that the blocks cover. The blocks may be in any order and may overlap. They are
-    /// not sorted if they ascend already.
+    /// Returns the chain of the numbers that the blocks cover. The blocks may be in any order and may overlap.
+    ///
+    /// The call doesn't sort the blocks if they ascend by their minima already.
     ///
     /// # Errors
     ///
-    /// [`AllocError`] if there is no memory for as many blocks as `blocks` has.
+    /// [`AllocError`]: out of memory for as many blocks as `blocks` has.
     pub fn from_blocks(alloc: A, blocks: &[T]) -> Result<Self, AllocError>
         ensures chain { IfOk result (λ chain.
             IsChainOf T.bounds T.form (Covers T.bounds blocks.now) chain) }
@@ -58,8 +59,8 @@ impl<T: Block, A: Allocator> OwnedChain<T, A> {
 
     /// Returns the chain of the numbers that the blocks cover. The blocks may be in any order and may overlap.
     ///
-    /// The chain is made in the memory of `blocks`. It takes no other memory, and keeps all of this memory. An empty
-    /// chain keeps none.
+    /// The chain is made in the memory of `blocks`. The call allocates nothing, and the chain keeps all of this memory.
+    /// An empty chain keeps none.
     pub fn from_vec(mut blocks: Vec<T, A>) -> Self
         ensures chain { IsChainOf T.bounds T.form (Covers T.bounds blocks.items) result }
         ensures kind { IsOfKind T.bounds T.first T.last blocks.items }
@@ -68,7 +69,7 @@ impl<T: Block, A: Allocator> OwnedChain<T, A> {
         Self::from_vec_unchecked(blocks)
     }
 
-    /// Returns the chain of blocks that are a chain already. It returns the memory of an empty vector to its allocator.
+    /// Returns the chain of blocks that are a chain already. The call frees the memory of an empty vector.
     ///
     /// # Preconditions
     ///
@@ -96,11 +97,11 @@ impl<T: Block, A: Allocator> OwnedChain<T, A> {
         Chain::from_slice_unchecked(blocks.as_slice())
     }
 
-    /// Returns the same chain in memory of its own.
+    /// Returns the same chain in memory of its own, allocated in `alloc`.
     ///
     /// # Errors
     ///
-    /// [`AllocError`] if an allocation fails.
+    /// [`AllocError`]: out of memory.
     pub fn clone(&self, alloc: A) -> Result<Self, AllocError>
         ensures { IfOk result (λ chain. chain ≡ self.now) }
     {

@@ -1,5 +1,5 @@
-//! The interface between chains and the passes over them. Blocks are read by their index, one at a time, and the reads
-//! are counted.
+//! The interface between chains and the passes over them. A pass reads blocks by their index, one at a time, and the
+//! reads are counted.
 ghost use Rattle.std.specs.Prelude.{◌≡◌, ℕ, ◌+◌, ◌^◌, ◌<◌, ◌≤◌, List, length, slice_index_or, IfSome, is_some, if◌then◌else◌};
 ghost use Rattle.rpki_chain_core.specs.Sets.{IsChain, HoldsBlock, numbers};
 
@@ -8,12 +8,12 @@ use rpki_block::block::Block;
 /// A chain with a count of the reads of its blocks.
 ///
 /// Code that is generic over this trait reads a block with [`Reads::read`] only, which counts each read. It can neither
-/// make nor copy what it reads. A bound on the count of such code is therefore a bound on all its reads.
+/// create nor copy such a chain. A bound on the count of such code is therefore a bound on all its reads.
 pub trait Reads<T: Block> {
     /// The chain's blocks.
     ghost blocks: { Self → List T };
 
-    /// How many reads of blocks there were.
+    /// The number of reads of blocks.
     ghost count: { Self → ℕ };
 
     /// Returns the number of blocks.
@@ -21,7 +21,7 @@ pub trait Reads<T: Block> {
         ensures value { result ≡ length (blocks self.now) }
         ensures chain { IsChain T.bounds T.form (blocks self.now) };
 
-    /// Returns the bounds of the block at an index, counted from 0, and counts the read. The blocks don't change.
+    /// Returns the bounds of the block at index `at`, counted from 0, and counts the read. The blocks don't change.
     ///
     /// # Preconditions
     ///
@@ -36,7 +36,7 @@ pub trait Reads<T: Block> {
         ensures counted { count self.new ≡ count self.old + 1 };
 }
 
-/// Returns the bounds of the block at an index, or None at the end of the chain.
+/// Returns the bounds of the block at index `at`, or None at the end of the chain. The blocks don't change.
 ///
 /// # Preconditions
 ///

@@ -45,7 +45,7 @@ impl<T: Block, A: Allocator> SharedChain<T, A> {
     ///
     /// # Errors
     ///
-    /// [`AllocError`] if there is no memory for the reference count.
+    /// [`AllocError`]: out of memory for the reference count.
     pub fn from_owned(alloc: A, chain: OwnedChain<T, A>) -> Result<Self, AllocError>
         ensures { IfOk result (λ shared. shared ≡ chain) }
     {
@@ -60,7 +60,7 @@ impl<T: Block, A: Allocator> SharedChain<T, A> {
     ///
     /// # Errors
     ///
-    /// [`AllocError`] if an allocation fails.
+    /// [`AllocError`]: out of memory.
     pub fn from_blocks(alloc: A, blocks: &[T]) -> Result<Self, AllocError>
     where
         A: Copy,
@@ -76,7 +76,7 @@ impl<T: Block, A: Allocator> SharedChain<T, A> {
     ///
     /// # Errors
     ///
-    /// [`AllocError`] if there is no memory for the reference count.
+    /// [`AllocError`]: out of memory for the reference count.
     pub fn from_vec(alloc: A, blocks: Vec<T, A>) -> Result<Self, AllocError>
         ensures chain { IfOk result (λ chain.
             IsChainOf T.bounds T.form (Covers T.bounds blocks.items) chain) }
@@ -95,14 +95,14 @@ impl<T: Block, A: Allocator> SharedChain<T, A> {
         chain.as_chain()
     }
 
-    /// Checks in one pass over both chains that `other` has each number of `self`. If it has, the call takes no memory.
+    /// Checks that `other` has each number of `self`. If it has, the call allocates nothing.
     ///
     /// The chain in `Refused` is a shared one. [`Chain::trim`] returns an owned one.
     ///
     /// # Errors
     ///
     /// - `Refused`: `other` doesn't have each number. The variant holds the chain of the numbers that both have.
-    /// - `Memory`: there is no memory for this chain.
+    /// - `Memory`: out of memory for this chain.
     pub fn trim_shared(
         &self,
         alloc: A,
@@ -125,13 +125,13 @@ impl<T: Block, A: Allocator> SharedChain<T, A> {
         Err(refused_with(alloc, chain))
     }
 
-    /// Checks in one pass over both chains that `other` has each number of `self`. If it has, the call takes no memory.
+    /// Checks that `other` has each number of `self`. If it has, the call allocates nothing.
     ///
     /// # Errors
     ///
-    /// - `Refused`: `other` doesn't have each number. The variant holds the chain of the numbers that `other` doesn't
-    ///   have.
-    /// - `Memory`: there is no memory for this chain.
+    /// - `Refused`: `other` doesn't have each number. The variant holds the chain of the numbers of `self` that `other`
+    ///   doesn't have.
+    /// - `Memory`: out of memory for this chain.
     pub fn covered_by(
         &self,
         alloc: A,
@@ -155,8 +155,8 @@ impl<T: Block, A: Allocator> SharedChain<T, A> {
     }
 }
 
-/// Returns `Refused` with the chain, ready to be shared. Returns `Memory` if the chain or its reference count could not
-/// be allocated.
+/// Returns `Refused` with the chain, ready to be shared, or `Memory` if the chain or its reference count could not be
+/// allocated.
 fn refused_with<T: Block, A: Allocator>(
     alloc: A,
     chain: Result<OwnedChain<T, A>, AllocError>,
@@ -177,6 +177,10 @@ impl<T: Block, A: Allocator> Clone for SharedChain<T, A> {
     ghost is_clone = { λ chain copy. copy ≡ chain };
 
     /// Returns the same chain, which shares the memory of `self`.
+    ///
+    /// # Errors
+    ///
+    /// [`AllocError`]: the reference count is at its maximum.
     fn clone(&self) -> Result<Self, AllocError> {
         let Some(chain) = &self.chain else {
             return Ok(Self::empty());

@@ -1,4 +1,4 @@
-//! The check that a chain lies in another, and their intersection if it doesn't.
+//! The check that a chain lies in another chain, and the intersection of both if it doesn't.
 ghost use Rattle.std.specs.Prelude.{◌≡◌, ◌+◌, ◌*◌, ◌≤◌, ◌↔◌, length, IsOk, IfErr};
 ghost use Rattle.rpki_text.specs.Memory.{IfRefused};
 ghost use Rattle.rpki_chain_core.specs.Sets.{Covers, IsInside, IsChainOf};
@@ -11,11 +11,15 @@ use rpki_block::block::Block;
 use rpki_text::memory::OrMemory;
 use std::alloc::{AllocError, Allocator};
 
-/// Returns Ok if `own` lies in `other`, and otherwise `Refused` with the chain of what both have, as
-/// [`crate::chain::Chain::trim`] does. Returns `Memory` if an allocation fails.
+/// Checks that `other` has each number of `own`, as [`crate::chain::Chain::trim`] does.
 ///
-/// Both chains together are read at most `2 * own.len() + other.len()` times. An Ok takes no memory: `test_chains`
-/// shows this, and no clause says it.
+/// Both chains together are read at most `2 * own.len() + other.len()` times. If the call returns Ok, it has allocated
+/// nothing. `test_chains` tests this, and no clause states it.
+///
+/// # Errors
+///
+/// - `Refused`: `other` doesn't have each number. The variant holds the chain of the numbers that both have.
+/// - `Memory`: out of memory for this chain.
 pub fn trim_counted<T: Block, A: Allocator, X: Reads<T>, Y: Reads<T>>(
     alloc: A,
     own: &mut X,

@@ -10,8 +10,14 @@ use crate::reads::{Reads, read_at};
 use rpki_block::block::Block;
 use std::alloc::{AllocError, Allocator};
 
-/// Adds the next bounds to the current run. If they overlap or touch, the run becomes the one that covers both.
-/// Otherwise the block of the run is appended to the chain, and the next bounds are the current run.
+/// Adds the next bounds to the current run.
+///
+/// If both overlap or touch, the run becomes the one that covers both. Otherwise the block of the run is appended to
+/// `chain`, and the next bounds become the current run.
+///
+/// # Errors
+///
+/// [`AllocError`]: out of memory.
 #[inline(always)]
 pub fn take_in<T: Block, A: Allocator>(
     chain: &mut Vec<T, A>,
@@ -82,13 +88,14 @@ fn close_with<T: Block, A: Allocator, R: Reads<T>>(
     Ok(OwnedChain::from_vec_unchecked(chain))
 }
 
-/// Returns the chain of the numbers that at least one of both chains has, as [`crate::chain::Chain::union`] does. The
-/// number of reads of both chains together is at most the number of their blocks. Each iteration finishes one block,
-/// the one that begins first.
+/// Returns the chain of the numbers that `own` or `other` has, as [`crate::chain::Chain::union`] does.
+///
+/// The number of reads of both chains together is at most the number of their blocks. Each iteration finishes one
+/// block, the one that begins first.
 ///
 /// # Errors
 ///
-/// [`AllocError`] if an allocation fails.
+/// [`AllocError`]: out of memory.
 pub fn union_counted<T: Block, A: Allocator, X: Reads<T>, Y: Reads<T>>(
     alloc: A,
     own: &mut X,
@@ -117,8 +124,9 @@ pub fn union_counted<T: Block, A: Allocator, X: Reads<T>, Y: Reads<T>>(
     union_behind(chain, own, own_block, other, other_block)
 }
 
-/// Returns the chain of the numbers that at least one of both chains has. The first block of each was read. The blocks
-/// after these are read at most once each.
+/// Returns the chain of the numbers that at least one of both chains has, after the first block of each was read.
+///
+/// The call reads each block after these at most once.
 fn union_behind<T: Block, A: Allocator, X: Reads<T>, Y: Reads<T>>(
     mut chain: Vec<T, A>,
     own: &mut X,

@@ -1,4 +1,4 @@
--- The laws of equality of resources.
+-- Lemmas: equality of resources is an equivalence if equality of what they list is one.
 use Rattle.std.specs.Prelude.{◌≡◌, Bool, true}
 use Rattle.std.proofs.Common.{refl}
 use Rattle.std.specs.Cmp.{IsEquivalence, IsPartialEquivalence}
@@ -51,8 +51,10 @@ module _ {X : Type 0} (eq : X → X → Bool) where
   alike same (Blocks x) (Blocks y) Inherit p = refl
   alike same (Blocks x) (Blocks y) (Blocks z) p = same x y z p
 
+  -- if equality of what is listed is a partial equivalence, so is equality of resources
   pub choice_per : IsPartialEquivalence eq → IsPartialEquivalence (choice_eq eq)
   choice_per laws = record { symm = symmetric laws.symm; trans = transitive laws.trans }
 
+  -- if equality of what is listed is an equivalence, so is equality of resources
   pub choice_equiv : IsEquivalence eq → IsEquivalence (choice_eq eq)
   choice_equiv laws = record { refl = itself laws.refl; symm = symmetric laws.symm; congr = alike laws.congr }

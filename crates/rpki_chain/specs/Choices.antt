@@ -15,7 +15,7 @@ MatchChoice (Blocks x) M I B = B x
 abbrev pub ListsBy : {X Y : Type 0} → (X → Y → Type 0) → ResourcesChoice X → ResourcesChoice Y → Type 0
 ListsBy {X} {Y} R x y = MatchChoice x (y ≡ Missing) (y ≡ Inherit) (λ listed. (other : Y) × R listed other × (y ≡ Blocks other))
 
--- resources that aren't missing
+-- the resources, or None if they are missing
 abbrev pub if_present : {X : Type 0} → ResourcesChoice X → Option (ResourcesChoice X)
 if_present Missing = None
 if_present Inherit = Some Inherit

@@ -4,7 +4,7 @@ use Rattle.rpki_chain.specs.Runs.{Runs, Holds, IsRunsOf}
 use Rattle.rpki_chain.specs.declared.choice.ResourcesChoice.{ResourcesChoice}
 use Rattle.rpki_chain.specs.declared.choice.ResourcesChoice.TheVariants.{Missing, Inherit, Blocks}
 
--- missing, inherited, or the runs of a set
+-- a claim: missing, inherited, or the runs of a set
 abbrev pub Claim : Type 0
 Claim = ResourcesChoice Runs
 

@@ -2,6 +2,7 @@
 use Rattle.std.specs.Prelude.{ℕ, ◌+◌, ◌<◌, ◌≤◌, ◌↔◌, List, All, Any, AllPairs}
 use Rattle.rpki_chain_core.specs.Sets.{IsWithin, Covers}
 
+-- a list of runs, each as its least and its greatest number
 abbrev pub Runs : Type 0
 Runs = List (ℕ × ℕ)
 
@@ -19,7 +20,7 @@ pub record IsRunsOf (S : ℕ → Type 0) (runs : Runs) : Type 0 where
 abbrev pub IsRunsOfBlocks : {B : Type 0} → (B → ℕ × ℕ) → List B → Runs → Type 0
 IsRunsOfBlocks bounds blocks runs = IsRunsOf (Covers bounds blocks) runs
 
--- the set is that of the numbers that the blocks of a list cover, and Has holds for the list
+-- for some list of blocks, Has holds, and the set is that of the numbers that the blocks cover
 pub record IsSetOfBlocks {B : Type 0} (bounds : B → ℕ × ℕ) (Has : List B → Type 0) (set : Runs) : Type 0 where
   pub blocks : List B
   pub are_written : Has blocks

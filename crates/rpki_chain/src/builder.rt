@@ -8,9 +8,9 @@ use std::alloc::{AllocError, Allocator, Global};
 use std::fmt;
 use std::marker::Model;
 
-/// Collects blocks, in any order, for a set of their items. It keeps the allocator that it is given.
+/// A builder that collects blocks, in any order, for a set of their items.
 ///
-/// Its model is the list of the blocks' least and greatest numbers, in the order in which they were added.
+/// The model of a builder is the list of the blocks' least and greatest numbers, in the order in which they were added.
 #[derive(Drop)]
 pub struct BlockSetBuilder<T: Block, A: Allocator = Global> {
     blocks: Vec<T, A>,
@@ -25,7 +25,7 @@ impl<T: Block, A: Allocator> Model for BlockSetBuilder<T, A> {
 }
 
 impl<T: Block, A: Allocator> BlockSetBuilder<T, A> {
-    /// Creates a builder without blocks.
+    /// Returns a builder without blocks. It keeps `alloc` for its later allocations.
     pub fn new(alloc: A) -> Self
         ensures { result ≡ [] }
     {
@@ -38,7 +38,7 @@ impl<T: Block, A: Allocator> BlockSetBuilder<T, A> {
     ///
     /// # Errors
     ///
-    /// [`AllocError`] if an allocation fails. The builder is unchanged then.
+    /// [`AllocError`]: out of memory. The builder is unchanged then, and `block` is dropped.
     pub fn push(&mut self, block: T) -> Result<(), AllocError>
         ensures ok { OnOk result (self.new ≡ self.old ++ T.bounds block ∷ []) }
         ensures err { OnErr result (self.new ≡ self.old) }
@@ -47,11 +47,11 @@ impl<T: Block, A: Allocator> BlockSetBuilder<T, A> {
         Ok(())
     }
 
-    /// Adds several blocks.
+    /// Adds several blocks, in order.
     ///
     /// # Errors
     ///
-    /// [`AllocError`] if an allocation fails. The builder is unchanged then.
+    /// [`AllocError`]: out of memory. The builder is unchanged then.
     pub fn extend_from(&mut self, blocks: &[T]) -> Result<(), AllocError>
         ensures ok { OnOk result (self.new ≡ self.old ++ map T.bounds blocks.now) }
         ensures err { OnErr result (self.new ≡ self.old) }
@@ -68,7 +68,7 @@ impl<T: Block, A: Allocator> BlockSetBuilder<T, A> {
     ///
     /// # Errors
     ///
-    /// [`AllocError`] if there is no memory for the reference count.
+    /// [`AllocError`]: out of memory for the reference count.
     pub fn finalize(self) -> Result<BlockSet<T, A>, AllocError>
     where
         A: Copy,

@@ -17,11 +17,11 @@ pub enum ResourcesChoice<T> {
     Missing,
     /// The resources are those of the issuer.
     Inherit,
-    /// The resources are these.
+    /// The resources are listed.
     Blocks(T),
 }
 
-/// Sets that resources list.
+/// A type of sets that resources can list.
 pub trait Listed: Drop {
     // The empty set.
     ghost nothing: { Self };
@@ -34,12 +34,12 @@ pub trait Listed: Drop {
     ///
     /// # Errors
     ///
-    /// [`AllocError`] if there is no memory for it.
+    /// [`AllocError`]: out of memory.
     fn copy(&self) -> Result<Self, AllocError>
         ensures { IfOk result (λ copy. copy ≡ self.now) };
 }
 
-/// The resources are inherited, so they are not a set by themselves.
+/// The error for inherited resources, which are not a set by themselves.
 #[derive(Clone, Copy, Debug, PartialEq, Eq)]
 pub struct InheritedResources;
 
@@ -58,7 +58,8 @@ impl<T> ResourcesChoice<T> {
         !matches!(self, ResourcesChoice::Missing)
     }
 
-    /// Returns the same choice, with the result of `f` for what is listed. `f` is called only if something is listed.
+    /// Returns the same choice, with what `f` returns in place of what is listed. `f` is called only if something is
+    /// listed.
     ///
     /// # Preconditions
     ///
@@ -81,7 +82,7 @@ impl<T: Listed> ResourcesChoice<T> {
     /// # Errors
     ///
     /// - `Refused`: the resources are inherited.
-    /// - `Memory`: there is no memory for a copy of the listed set.
+    /// - `Memory`: [`Listed::copy`] of the listed set failed.
     pub fn to_blocks(&self) -> Result<T, OrMemory<InheritedResources>>
         ensures { MatchChoice self.now (result ≡ Ok T.nothing) (IsRefused result)
             (λ listed. MatchResult result (λ set. set ≡ listed) IsMemory) }
@@ -97,7 +98,7 @@ impl<T: Listed> ResourcesChoice<T> {
     ///
     /// # Errors
     ///
-    /// [`AllocError`] if [`Listed::copy`] of the listed set fails.
+    /// [`AllocError`]: [`Listed::copy`] of the listed set failed.
     pub fn clone(&self) -> Result<Self, AllocError>
         ensures { IfOk result (λ choice. choice ≡ self.now) }
     {

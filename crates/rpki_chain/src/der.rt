@@ -21,8 +21,10 @@ use rpki_der::{Cursor, DerError, append_null, header_len, null_len, put_null, ta
 use rpki_text::memory::OrMemory;
 use std::alloc::{AllocError, Allocator};
 
-/// Takes resources: a NULL, or a SEQUENCE of blocks in any order, which may overlap. Returns the listed blocks as they
-/// are in the SEQUENCE. [`make_set`] makes their set.
+/// Takes resources: a NULL, or a SEQUENCE of blocks (RFC 3779, 2.2.3.4 and 3.2.3.2).
+///
+/// `reader` decides which blocks may follow one another. The call returns the listed blocks as they are in the
+/// SEQUENCE. [`make_set`] makes their set.
 ///
 /// # Errors
 ///
@@ -61,17 +63,16 @@ pub fn take_listed<R: ReadNext, A: Allocator + Copy>(
     Ok(listed)
 }
 
-/// Returns the set of at least one block. If `are_chain` is true, the blocks are taken as they are; otherwise they are
-/// joined.
+/// Returns the set of the items that `blocks` cover. If `are_chain` is false, the blocks are sorted and joined first.
 ///
 /// # Preconditions
 ///
-/// There is at least one block. If `are_chain` is true, the blocks are the runs of a set, ascending, each in the form
-/// that `new` gives.
+/// - There is at least one block.
+/// - If `are_chain` is true, the blocks are the runs of a set, ascending, each in the form that `new` gives.
 ///
 /// # Errors
 ///
-/// [`AllocError`] if there is no memory for the reference count.
+/// [`AllocError`]: out of memory for the reference count.
 pub fn make_set<T: Block, A: Allocator>(
     alloc: A,
     blocks: Vec<T, A>,
@@ -89,8 +90,10 @@ pub fn make_set<T: Block, A: Allocator>(
     BlockSet::from_vec(alloc, blocks)
 }
 
-/// Returns how many octets the listed blocks take, without the header of their SEQUENCE. For missing and inherited
-/// resources it returns the length of the whole encoding. It returns None if no vector can hold these octets.
+/// Returns the number of octets of the listed blocks, without the header of their SEQUENCE.
+///
+/// For missing and inherited resources, the call returns the length of the whole encoding. It returns None if the
+/// number is 2^63 or more: no vector can hold so many octets.
 pub fn content_len<V: Encode>(choice: &ResourcesChoice<&[V]>) -> Option<usize>
     ensures some { IfSome result (λ n. n
         ≡ length (choice_octets (λ blocks. octets_of_all V.octets blocks.now) choice.now)) }
@@ -109,7 +112,7 @@ pub fn content_len<V: Encode>(choice: &ResourcesChoice<&[V]>) -> Option<usize>
     Some(content_len)
 }
 
-/// Returns how many octets [`encode_choice`] appends for `choice`.
+/// Returns the number of octets that [`encode_choice`] appends for `choice`.
 ///
 /// # Preconditions
 ///
@@ -130,10 +133,12 @@ pub fn choice_len<V: Encode>(choice: &ResourcesChoice<&[V]>, content_len: usize)
 
 /// Appends resources to `out`: nothing for missing ones, a NULL for inherited ones, or else the SEQUENCE of the blocks.
 ///
+/// The call succeeds if the capacity of `out` suffices.
+///
 /// # Errors
 ///
-/// [`AllocError`] if there is no memory for the whole encoding, or if its length doesn't fit in a `usize`. The octets
-/// of `out` are unchanged then.
+/// [`AllocError`]: out of memory for the whole encoding, or the encoding has 2^64 octets or more. The octets in `out`
+/// are unchanged then.
 pub fn encode_choice<V: Encode, A: Allocator>(
     choice: &ResourcesChoice<&[V]>,
     out: &mut Vec<u8, A>,
@@ -154,7 +159,7 @@ pub fn encode_choice<V: Encode, A: Allocator>(
     }
 }
 
-/// Appends to `out` what [`encode_choice`] appends.
+/// Appends the octets of [`encode_choice`] to `out`, without allocation.
 ///
 /// # Preconditions
 ///

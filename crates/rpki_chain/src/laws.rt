@@ -1,4 +1,5 @@
-//! Lemmas about the results of the calls on sets. Each holds for all results that meet the calls' contracts.
+//! Lemmas about the results of the calls on sets. Each is the contract of a function that does nothing when it runs. It
+//! holds for all results that meet the calls' contracts.
 ghost use Rattle.std.specs.Prelude.{◌≡◌, ℕ, ◌<◌, ◌↔◌, List, [], map, take, length, slice_index_or, All, Contains};
 ghost use Rattle.rpki_chain.specs.BlockSets.{IsBlockSet};
 ghost use Rattle.rpki_chain.specs.Runs.{Runs, Holds, IsRunsOf, IsRunsOfBlocks};
@@ -19,7 +20,7 @@ pub fn blocks_of_runs<T: Block>()
         IsRunsOfBlocks T.bounds (map T.form set) set }
 {}
 
-/// Blocks cover one list of runs, and sets with the same numbers are one list.
+/// The numbers that blocks cover have only one list of runs. Sets with the same numbers are the same list.
 pub fn laws_of_runs<T: Block>()
     ensures one_list { (blocks : List T) (a b : Runs) → IsRunsOfBlocks T.bounds blocks a
         → IsRunsOfBlocks T.bounds blocks b → a ≡ b }

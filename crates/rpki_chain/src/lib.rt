@@ -1,10 +1,10 @@
-//! Sets over any lawful block, resources that list them, and their DER (RFC 3779, 2 and 3). It also computes what
-//! remains of a set after claims and paths of claims. The crate re-exports the blocks and chains of `rpki_chain_core`.
+//! Sets of numbers of any kind, resources that list them, and their DER (RFC 3779, 2 and 3). The crate also computes
+//! what remains of a set after claims and paths of claims. It re-exports the blocks and chains of `rpki_chain_core`.
 //!
-//! A lawful [`block::Block`] is all that a kind of number must provide. The contracts of this crate are proved once,
-//! for every such kind.
+//! A kind of number must provide only a type that implements [`block::Block`]. The contracts of this crate are proved
+//! once, for every such kind.
 //!
-//! A claim is checked against the set of its issuer, as in `rpki_extensions::issued`:
+//! A claim is checked against the set of its issuer. This example is in `rpki_extensions::issued`:
 //!
 //! ```rust
 //! match issuer.verify_issued(alloc, claim, mode) {

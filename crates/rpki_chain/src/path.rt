@@ -15,7 +15,7 @@ use std::fmt;
 pub enum Overclaim {
     /// The claim is refused (RFC 6487, 7.2).
     Refuse,
-    /// The claim counts as its intersection with what the issuer has (RFC 8360, 4).
+    /// The claim is replaced by its intersection with the issuer's resources (RFC 8360, 4).
     Trim,
 }
 
@@ -28,7 +28,7 @@ pub struct Step<R> {
     pub mode: Overclaim,
 }
 
-/// The first refused step of a path. Prints one line: the step's index and its fault.
+/// The first refused step of a path. Prints the step's index and its fault.
 #[derive(Debug, Drop)]
 pub struct PathRefusal<F> {
     /// The index of the step, counted from 0.
@@ -54,7 +54,7 @@ impl<F: Error> Error for PathRefusal<F> {}
 ///
 /// This trait is about one kind of block. `rpki_extensions::Claims` is a struct with the claims of all three kinds.
 pub trait BlockClaim<T: Block, A: Allocator> {
-    // The claim.
+    // The claim that the resources make.
     ghost claim: { Self → Claim };
 
     /// Returns the claim, with the set that it lists.

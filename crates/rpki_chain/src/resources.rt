@@ -22,15 +22,15 @@ pub trait CollectBlocks: Drop {
     // The claim of resources.
     ghost claim: { Self.Resources → Claim };
 
-    /// Creates a collector without blocks.
+    /// Returns a collector without blocks.
     fn start(alloc: Self::Memory) -> Self
         ensures { blocks result ≡ [] };
 
-    /// Returns the resources that list the numbers of the blocks. They are missing if no block was collected.
+    /// Returns the resources that list the numbers of the blocks, or missing resources if no block was collected.
     ///
     /// # Errors
     ///
-    /// [`AllocError`] if an allocation fails.
+    /// [`AllocError`]: out of memory.
     fn finish(self) -> Result<Self::Resources, AllocError>
         ensures { IfOk result (λ resources. IsBuilt (Some (blocks self)) (claim resources)) };
 
@@ -39,10 +39,10 @@ pub trait CollectBlocks: Drop {
         ensures { claim result ≡ Inherit };
 }
 
-/// Builds resources: inherited ones, or a list, which begins without blocks.
+/// A builder of resources: inherited ones, or a list, which begins without blocks.
 ///
-/// Its model is the list of the blocks' least and greatest numbers, in the order in which they were added, or None if
-/// the resources are inherited.
+/// The model of a builder is the list of the blocks' least and greatest numbers, in the order in which they were added.
+/// It is None if the resources are inherited.
 #[derive(Drop)]
 pub struct ResourcesBuilder<B: CollectBlocks> {
     alloc: B::Memory,
@@ -59,7 +59,7 @@ impl<B: CollectBlocks> Model for ResourcesBuilder<B> {
 }
 
 impl<B: CollectBlocks> ResourcesBuilder<B> {
-    /// Creates a builder of a list without blocks. It keeps the allocator that it is given.
+    /// Returns a builder of a list without blocks. It keeps `alloc` for its later allocations.
     pub fn new(alloc: B::Memory) -> Self
         ensures { result ≡ Some [] }
     {
@@ -76,8 +76,10 @@ impl<B: CollectBlocks> ResourcesBuilder<B> {
         self.listed = None;
     }
 
-    /// Calls `build` with the list so far, or with a list without blocks if the resources were inherited. The resources
-    /// are listed afterwards, with the blocks that `build` left in the list, even if `build` fails.
+    /// Calls `build` with the list so far, or with a list without blocks if the resources were inherited.
+    ///
+    /// Afterwards the resources are listed, with the blocks that `build` left in the list. This holds even if `build`
+    /// fails.
     ///
     /// # Preconditions
     ///
@@ -109,7 +111,7 @@ impl<B: CollectBlocks> ResourcesBuilder<B> {
     ///
     /// # Errors
     ///
-    /// [`AllocError`] if an allocation fails.
+    /// [`AllocError`]: out of memory.
     pub fn finalize(self) -> Result<B::Resources, AllocError>
         ensures { IfOk result (λ resources. IsBuilt self (B.claim resources)) }
     {

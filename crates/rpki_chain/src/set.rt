@@ -20,10 +20,11 @@ use std::fmt;
 use std::marker::Model;
 use std::slice::Iter;
 
-/// A set of items of one kind. Sets of the same items are equal. Several sets may share the same memory. The empty set
-/// takes no memory.
+/// A set of items of one kind.
 ///
-/// Its model is the ascending list of its runs, each as its least and its greatest number.
+/// Sets of the same items are equal. Several sets may share the same memory. The empty set takes no memory.
+///
+/// The model of a set is the ascending list of its runs, each as its least and its greatest number.
 #[derive(Drop)]
 pub struct BlockSet<T: Block, A: Allocator = Global> {
     chain: SharedChain<T, A>,
@@ -51,7 +52,7 @@ impl<T: Block, A: Allocator> BlockSet<T, A> {
     ///
     /// # Errors
     ///
-    /// [`AllocError`] if an allocation fails.
+    /// [`AllocError`]: out of memory.
     pub fn from_block(alloc: A, block: T) -> Result<Self, AllocError>
     where
         A: Copy,
@@ -67,7 +68,7 @@ impl<T: Block, A: Allocator> BlockSet<T, A> {
     ///
     /// # Errors
     ///
-    /// [`AllocError`] if an allocation fails.
+    /// [`AllocError`]: out of memory.
     pub fn from_blocks(alloc: A, blocks: &[T]) -> Result<Self, AllocError>
     where
         A: Copy,
@@ -77,12 +78,13 @@ impl<T: Block, A: Allocator> BlockSet<T, A> {
         Ok(BlockSet { chain })
     }
 
-    /// Returns the set of the items that at least one block has, in the memory of `blocks`. The blocks may be in any
-    /// order and may overlap.
+    /// Returns the set of the items that at least one block has, in the memory of `blocks`.
+    ///
+    /// The blocks may be in any order and may overlap.
     ///
     /// # Errors
     ///
-    /// [`AllocError`] if there is no memory for the reference count.
+    /// [`AllocError`]: out of memory for the reference count. The blocks are dropped then.
     pub fn from_vec(alloc: A, blocks: Vec<T, A>) -> Result<Self, AllocError>
         ensures { IfOk result (IsRunsOfBlocks T.bounds blocks.items) }
     {
@@ -90,7 +92,7 @@ impl<T: Block, A: Allocator> BlockSet<T, A> {
         Ok(BlockSet { chain })
     }
 
-    /// Returns the set whose runs are `blocks` as they are, in the memory of `blocks`.
+    /// Returns the set whose runs are `blocks`, without a check, in the memory of `blocks`.
     ///
     /// # Preconditions
     ///
@@ -98,7 +100,7 @@ impl<T: Block, A: Allocator> BlockSet<T, A> {
     ///
     /// # Errors
     ///
-    /// [`AllocError`] if there is no memory for the reference count.
+    /// [`AllocError`]: out of memory for the reference count. The blocks are dropped then.
     pub fn from_vec_unchecked(alloc: A, blocks: Vec<T, A>) -> Result<Self, AllocError>
         requires { IsChain T.bounds T.form blocks.items }
         ensures { IfOk result (IsRunsOfBlocks T.bounds blocks.items) }
@@ -108,8 +110,8 @@ impl<T: Block, A: Allocator> BlockSet<T, A> {
         Ok(BlockSet { chain })
     }
 
-    /// Returns the set of the items of a chain of this kind, ready to be shared. It fails if there is no memory for
-    /// that.
+    /// Returns the set of the items of a chain of this kind, ready to be shared. The error is out of memory for the
+    /// reference count.
     fn from_owned(alloc: A, chain: OwnedChain<T, A>) -> Result<Self, AllocError>
         requires { IsBlockChain T.bounds T.form T.first T.last chain }
         ensures { IfOk result (λ set. set ≡ map T.bounds chain) }
@@ -122,7 +124,7 @@ impl<T: Block, A: Allocator> BlockSet<T, A> {
     ///
     /// # Errors
     ///
-    /// [`AllocError`] if std refuses one more reference.
+    /// [`AllocError`]: the reference count is at its maximum.
     pub fn clone(&self) -> Result<Self, AllocError>
         ensures same { IfOk result (λ set. set ≡ self.now) }
         ensures set { IsBlockSet T.first T.last self.now }
@@ -159,7 +161,7 @@ impl<T: Block, A: Allocator> BlockSet<T, A> {
         self.as_chain().as_slice()
     }
 
-    /// Iterates over the blocks of the set, ascending. They are its runs, each in the form that `new` gives.
+    /// Returns an iterator over the blocks of the set, ascending. They are its runs, each in the form that `new` gives.
     pub fn iter(&self) -> Iter<'_, T>
         ensures blocks { map T.bounds (iter_rest result) ≡ self.now }
         ensures made { iter_rest result ≡ map T.form self.now }
@@ -207,7 +209,7 @@ impl<T: Block, A: Allocator> BlockSet<T, A> {
     ///
     /// # Errors
     ///
-    /// [`AllocError`] if there is no memory for the result.
+    /// [`AllocError`]: out of memory for the result.
     pub fn intersection(&self, alloc: A, other: &BlockSet<T, A>) -> Result<Self, AllocError>
     where
         A: Copy,
@@ -224,7 +226,7 @@ impl<T: Block, A: Allocator> BlockSet<T, A> {
     ///
     /// # Errors
     ///
-    /// [`AllocError`] if there is no memory for the result. The set is unchanged then.
+    /// [`AllocError`]: out of memory for the result. The set is unchanged then.
     pub fn intersection_assign(
         &mut self,
         alloc: A,
@@ -244,7 +246,7 @@ impl<T: Block, A: Allocator> BlockSet<T, A> {
     ///
     /// # Errors
     ///
-    /// [`AllocError`] if an allocation fails.
+    /// [`AllocError`]: out of memory.
     pub fn difference(&self, alloc: A, other: &BlockSet<T, A>) -> Result<Self, AllocError>
     where
         A: Copy,
@@ -254,8 +256,12 @@ impl<T: Block, A: Allocator> BlockSet<T, A> {
         Self::from_owned(alloc, chain)
     }
 
-    /// Checks in one pass over both sets that `other` has every item. If it has, the call takes no memory. `Refused`
-    /// holds the items that it doesn't have, and `Memory` means that there is no memory for these.
+    /// Checks that `other` has every item of `self`. If it has, the call allocates nothing.
+    ///
+    /// # Errors
+    ///
+    /// - `Refused`: `other` doesn't have every item. The variant holds the items of `self` that it doesn't have.
+    /// - `Memory`: out of memory for these items.
     pub(crate) fn covered_by(
         &self,
         alloc: A,
@@ -273,8 +279,12 @@ impl<T: Block, A: Allocator> BlockSet<T, A> {
         }
     }
 
-    /// Checks in one pass over both sets that `other` has every item. If it has, the call takes no memory. Otherwise
-    /// `Refused` holds the intersection, and `Memory` means that there is no memory for it.
+    /// Checks that `other` has every item of `self`. If it has, the call allocates nothing.
+    ///
+    /// # Errors
+    ///
+    /// - `Refused`: `other` doesn't have every item. The variant holds the intersection.
+    /// - `Memory`: out of memory for the intersection.
     pub(crate) fn trim(
         &self,
         alloc: A,
@@ -296,7 +306,7 @@ impl<T: Block, A: Allocator> BlockSet<T, A> {
     ///
     /// # Errors
     ///
-    /// [`AllocError`] if there is no memory for the result.
+    /// [`AllocError`]: out of memory for the result.
     pub fn union(&self, alloc: A, other: &BlockSet<T, A>) -> Result<Self, AllocError>
     where
         A: Copy,
@@ -338,7 +348,7 @@ impl<T: Block + fmt::Debug, A: Allocator> fmt::Debug for BlockSet<T, A> {
     }
 }
 
-/// The default is the empty set.
+/// Returns the empty set as the default.
 impl<T: Block, A: Allocator> Default for BlockSet<T, A> {
     ghost is_default = { λ set. set ≡ [] };
 

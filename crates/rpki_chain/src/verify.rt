@@ -16,7 +16,7 @@ use rpki_text::memory::OrMemory;
 use std::alloc::{AllocError, Allocator};
 
 impl<T: Block, A: Allocator> BlockSet<T, A> {
-    /// Returns what remains of the set after a claim (RFC 3779, 3.3; RFC 6487, 7.2; RFC 8360, 4).
+    /// Returns what remains of the set after a claim (RFC 3779, 2.3 and 3.3; RFC 6487, 7.2; RFC 8360, 4).
     ///
     /// - A missing claim leaves nothing.
     /// - An inherited claim leaves the whole set.
@@ -26,7 +26,7 @@ impl<T: Block, A: Allocator> BlockSet<T, A> {
     ///
     /// - `Refused`: the mode is [`Overclaim::Refuse`] and the claim lists more than the set has. The variant holds the
     ///   overclaimed items.
-    /// - `Memory`: there is no memory for the result or for these items.
+    /// - `Memory`: out of memory for the result or for these items.
     pub fn verify_issued(
         &self,
         alloc: A,
@@ -42,16 +42,16 @@ impl<T: Block, A: Allocator> BlockSet<T, A> {
         verify_issued_matched(self, alloc, claim, mode)
     }
 
-    /// Checks that the claim of an issuer covers the whole set. The check itself takes no memory.
+    /// Checks that the claim of an issuer covers the whole set. If it does, the call allocates nothing.
     ///
-    /// - A missing claim covers the empty set alone.
+    /// - A missing claim covers only the empty set.
     /// - An inherited claim covers every set.
     /// - A claim that lists a set covers the subsets of that set.
     ///
     /// # Errors
     ///
     /// - `Refused`: the claim doesn't cover the set. The variant holds the items that the issuer doesn't have.
-    /// - `Memory`: there is no memory for these items.
+    /// - `Memory`: out of memory for these items.
     pub fn verify_covered(
         &self,
         alloc: A,
@@ -78,7 +78,7 @@ impl<T: Block, A: Allocator> BlockSet<T, A> {
     ///
     /// - `Refused`: a step is refused. The variant holds the index of the first such step, counted from 0, and the
     ///   overclaimed items.
-    /// - `Memory`: there is no memory for a set on the path.
+    /// - `Memory`: out of memory for a set on the path.
     pub fn verify_path<R: BlockClaim<T, A>>(
         &self,
         alloc: A,
@@ -147,7 +147,7 @@ fn none_left<T: Block, A: Allocator>(set: &BlockSet<T, A>) -> Result<(), OrMemor
     Err(OrMemory::Refused(set.clone()?))
 }
 
-/// Returns what remains of a root after a path, or its first refusal.
+/// Returns what remains of the set `root` after a path, or its first refusal.
 fn verify_path_matched<T: Block, A: Allocator + Copy, R: BlockClaim<T, A>>(
     root: &BlockSet<T, A>,
     alloc: A,

@@ -20,11 +20,11 @@ numbers_each (V6 n) = 1
 abbrev pub prefix_numbers : FamilyPrefix → ℕ × ℕ
 prefix_numbers p = ((interval p).first * numbers_each p.addr, (last_of (width p.addr) (interval p) + 1) * numbers_each p.addr - 1)
 
--- the set of the prefix's family has each of its addresses
+-- the set's addresses of the prefix's family include each address of the prefix
 abbrev pub IsPrefixInside : Triple → FamilyPrefix → Type 0
 IsPrefixInside set p = (n : ℕ) → IsWithin (prefix_numbers p) n → Holds (set_of_family (family_of p.addr) set) n
 
--- the lowest index whose prefix isn't inside, or None if all are inside
+-- the lowest index whose prefix isn't inside the set, or None if all prefixes are inside
 abbrev pub IsFirstOutside : Triple → List MaxLenValue → Option ℕ → Type 0
 IsFirstOutside set prefixes found =
     MatchOption found (All (λ e. IsPrefixInside set e.prefix) prefixes)

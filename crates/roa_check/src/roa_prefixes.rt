@@ -8,7 +8,7 @@ use rpki_prefix::{MaxLenPrefix, Prefix};
 use rpki_resources::repository::resources::{Addr, ResourceSet};
 use std::alloc::Allocator;
 
-/// Returns the addresses of a prefix, as the numbers in sets of resources.
+/// Returns the addresses of a prefix as numbers of 128 bits, as sets of resources have them.
 fn addresses(prefix: Prefix) -> AddressRange
     ensures { range_bounds result ≡ prefix_numbers prefix }
 {
@@ -21,7 +21,7 @@ fn addresses(prefix: Prefix) -> AddressRange
     }
 }
 
-/// Returns whether the set of the prefix's family has each of its addresses.
+/// Returns whether the set's addresses of the prefix's family include each address of the prefix.
 fn is_inside<A: Allocator>(set: &ResourceSet<A>, prefix: Prefix) -> bool
     ensures { IsTrue result ↔ IsPrefixInside set.now prefix }
 {
@@ -33,7 +33,7 @@ fn is_inside<A: Allocator>(set: &ResourceSet<A>, prefix: Prefix) -> bool
     set.contains_roa_address(family, addresses(prefix))
 }
 
-/// Returns the index of the first prefix that isn't inside the set of its family (RFC 9582, 5).
+/// Returns the index of the first prefix that isn't inside the set's addresses of its family (RFC 9582, 5).
 ///
 /// Indices are counted from 0. The call returns None if each prefix is inside. It ignores maximum lengths, because they
 /// add no addresses. It allocates nothing.

@@ -7,12 +7,12 @@ use Rattle.rpki_extensions.specs.declared.error.VerifyError.{VerifyError}
 use Rattle.rpki_extensions.specs.declared.error.VerifyError.TheVariants.{Absent, AsOctets, AddressOctets, Inherited, Asn, Ipv4, Ipv6}
 use Rattle.rpki_extensions.specs.declared.extensions.Extensions.{Extensions}
 
--- the extensions list the set
+-- the extensions claim resources, and list this set
 abbrev pub IsAnchorSet : Extensions → Triple → Type 0
 IsAnchorSet certificate set =
     (asn : Claim) × (v4 : Claim) × (v6 : Claim) × AreClaims certificate asn v4 v6 × AreListed asn v4 v6 set
 
--- the extensions inherit some resources, and this is the reason
+-- the extensions inherit some resources, and the reason is Inherited
 abbrev pub InheritsSome : {A : Type 0} → Extensions → VerifyError A → Type 0
 InheritsSome certificate Inherited =
     (asn : Claim) × (v4 : Claim) × (v6 : Claim) × AreClaims certificate asn v4 v6 × IsOneInherited asn v4 v6
@@ -23,6 +23,6 @@ InheritsSome certificate (Asn excess) = ⊥
 InheritsSome certificate (Ipv4 excess) = ⊥
 InheritsSome certificate (Ipv6 excess) = ⊥
 
--- the reason is that there are no claims, or that some resources are inherited
+-- the extensions list no set for this reason: there are no claims, or some resources are inherited
 abbrev pub IsNoAnchor : {A : Type 0} → Extensions → VerifyError A → Type 0
 IsNoAnchor certificate reason = AreNoClaims certificate reason ⊎ InheritsSome certificate reason

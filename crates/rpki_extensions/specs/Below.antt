@@ -15,7 +15,7 @@ IsLeftBelow anchor certificates set = (root : Triple) × IsAnchorSet anchor root
 abbrev pub LiesInAnchor : Extensions → Triple → Type 0
 LiesInAnchor anchor set = (root : Triple) × IsAnchorSet anchor root × HasEachOf root set
 
--- the certificate is the first that isn't verified by the part of the root that the ones before it leave
+-- the certificate is the first that isn't verified by the part of the root that the certificates before it leave
 abbrev pub IsVerifyBelowErrorOfRoot : {A : Type 0} → Triple → List Extensions → VerifyBelowError A → Type 0
 IsVerifyBelowErrorOfRoot root certificates (Anchor reason) = ⊥
 IsVerifyBelowErrorOfRoot root certificates (Certificate refusal) = IsFirstVerifyError root certificates refusal

@@ -10,57 +10,59 @@ use Rattle.rpki_extensions.specs.declared.error.VerifyError.{VerifyError}
 use Rattle.rpki_extensions.specs.declared.error.VerifyError.TheVariants.{Absent, AsOctets, AddressOctets, Inherited, Asn, Ipv4, Ipv6}
 use Rattle.rpki_extensions.specs.declared.extensions.Extensions.{Extensions}
 
--- the claim of a family, missing if the family isn't there
+-- the claim of a family, or a missing claim if the value has no such family
 abbrev pub claim_or_missing : Option Claim → Claim
 claim_or_missing None = Missing
 claim_or_missing (Some claim) = claim
 
--- the claims are those of octets on IPv4 and on IPv6
+-- the octets of IP address blocks make these claims on IPv4 and on IPv6
 abbrev pub AreClaimed : Encoding → List ℕ → Claim × Claim → Type 0
 AreClaimed encoding octets claims = (families : ByFamily Claim) × IsAddressValue encoding octets families × (claims ≡ (claim_or_missing families.0, claim_or_missing families.1))
 
 -- ---- an extension that may be absent
 
--- the claim on AS numbers
+-- the AS identifiers make this claim; an absent extension makes a missing claim
 abbrev pub IsNumbersClaim : Encoding → Option (List ℕ) → Claim → Type 0
 IsNumbersClaim encoding None claim = claim ≡ Missing
 IsNumbersClaim encoding (Some octets) claim = IsAsValue encoding octets claim
 
--- the extension is present and invalid, and this is its first fault
+-- the AS identifiers are present and invalid, and this is their first fault
 abbrev pub HasNumbersFault : Encoding → Option (List ℕ) → DerError → Type 0
 HasNumbersFault encoding None fault = ⊥
 HasNumbersFault encoding (Some octets) fault = HasAsFault encoding octets fault
 
--- the claims on addresses
+-- the IP address blocks make these claims on IPv4 and on IPv6; an absent extension makes missing claims
 abbrev pub AreAddressClaims : Encoding → Option (List ℕ) → Claim × Claim → Type 0
 AreAddressClaims encoding None claims = claims ≡ (Missing, Missing)
 AreAddressClaims encoding (Some octets) claims = AreClaimed encoding octets claims
 
+-- the IP address blocks are present and invalid, and this is their first fault
 abbrev pub HasAddressesFault : Encoding → Option (List ℕ) → DerError → Type 0
 HasAddressesFault encoding None fault = ⊥
 HasAddressesFault encoding (Some octets) fault = HasAddressValueFault encoding octets fault
 
 -- ---- both of them
 
--- the octets of AS identifiers and of IP address blocks
+-- the octets of the AS identifiers of a certificate, None if the extension is absent
 abbrev pub octets_of_numbers : Extensions → Option (List ℕ)
 octets_of_numbers certificate = option_map (λ octets. octets.now) certificate.numbers
 
+-- the octets of the IP address blocks of a certificate, None if the extension is absent
 abbrev pub octets_of_addresses : Extensions → Option (List ℕ)
 octets_of_addresses certificate = option_map (λ octets. octets.now) certificate.addresses
 
--- neither is there
+-- both extensions are absent
 abbrev pub AreAbsent : Extensions → Type 0
 AreAbsent certificate = (octets_of_numbers certificate ≡ None) × (octets_of_addresses certificate ≡ None)
 
--- at least one is there, and these are the claims on AS numbers, IPv4 and IPv6
+-- at least one extension is present, and these are the claims on AS numbers, IPv4 and IPv6
 abbrev pub AreClaims : Extensions → Claim → Claim → Claim → Type 0
 AreClaims certificate asn v4 v6 =
     (¬ AreAbsent certificate)
     × IsNumbersClaim certificate.encoding (octets_of_numbers certificate) asn
     × AreAddressClaims certificate.encoding (octets_of_addresses certificate) (v4, v6)
 
--- the reason why there are no claims: neither extension is there, or the AS identifiers are invalid, or else the IP
+-- the reason why there are no claims: both extensions are absent, or the AS identifiers are invalid, or else the IP
 -- address blocks are
 abbrev pub AreNoClaims : {A : Type 0} → Extensions → VerifyError A → Type 0
 AreNoClaims certificate Absent = AreAbsent certificate

@@ -10,7 +10,7 @@ use Rattle.rpki_extensions.specs.declared.error.VerifyError.{VerifyError}
 use Rattle.rpki_extensions.specs.declared.error.VerifyError.TheVariants.{Absent, AsOctets, AddressOctets, Inherited, Asn, Ipv4, Ipv6}
 use Rattle.rpki_extensions.specs.declared.extensions.Extensions.{Extensions}
 
--- the reason is the overclaimed resources, and they are of this kind
+-- the reason is the overclaimed AS numbers
 abbrev pub IsAsExcess : {A : Type 0} → Runs → Claim → Overclaim → VerifyError A → Type 0
 IsAsExcess issuer claim mode (Asn excess) = IsExcess (Holds issuer) claim mode excess
 IsAsExcess issuer claim mode Absent = ⊥
@@ -20,6 +20,7 @@ IsAsExcess issuer claim mode Inherited = ⊥
 IsAsExcess issuer claim mode (Ipv4 excess) = ⊥
 IsAsExcess issuer claim mode (Ipv6 excess) = ⊥
 
+-- the reason is the overclaimed IPv4 addresses
 abbrev pub IsV4Excess : {A : Type 0} → Runs → Claim → Overclaim → VerifyError A → Type 0
 IsV4Excess issuer claim mode (Ipv4 excess) = IsExcess (Holds issuer) claim mode excess
 IsV4Excess issuer claim mode Absent = ⊥
@@ -29,6 +30,7 @@ IsV4Excess issuer claim mode Inherited = ⊥
 IsV4Excess issuer claim mode (Asn excess) = ⊥
 IsV4Excess issuer claim mode (Ipv6 excess) = ⊥
 
+-- the reason is the overclaimed IPv6 addresses
 abbrev pub IsV6Excess : {A : Type 0} → Runs → Claim → Overclaim → VerifyError A → Type 0
 IsV6Excess issuer claim mode (Ipv6 excess) = IsExcess (Holds issuer) claim mode excess
 IsV6Excess issuer claim mode Absent = ⊥
@@ -68,7 +70,7 @@ abbrev pub IsVerified : Triple → Extensions → Triple → Type 0
 IsVerified issuer certificate set =
     (asn : Claim) × (v4 : Claim) × (v6 : Claim) × AreClaims certificate asn v4 v6 × IsIssuedOfEach issuer asn v4 v6 certificate.mode set
 
--- the reason is that there are no claims, or that they are refused
+-- the reason is that there are no claims, or that a claim is refused
 abbrev pub HasVerifyError : {A : Type 0} → Triple → Extensions → VerifyError A → Type 0
 HasVerifyError issuer certificate reason =
     AreNoClaims certificate reason

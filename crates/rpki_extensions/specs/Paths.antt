@@ -6,12 +6,13 @@ use Rattle.rpki_extensions.specs.Issued.{HasVerifyError, IsVerified}
 use Rattle.rpki_extensions.specs.declared.error.VerifyPathError.{VerifyPathError}
 use Rattle.rpki_extensions.specs.declared.extensions.Extensions.{Extensions}
 
--- the set is the part of the anchor's that the certificates leave, each verified by what the ones before it leave
+-- The set is the part of the anchor's that the certificates leave. Each is verified by the part that the certificates
+-- before it leave.
 abbrev pub IsVerifiedPath : Triple → List Extensions → Triple → Type 0
 IsVerifiedPath anchor [] set = set ≡ anchor
 IsVerifiedPath anchor (certificate ∷ certificates) set = (next : Triple) × IsVerified anchor certificate next × IsVerifiedPath next certificates set
 
--- the certificate at the index isn't verified, for the reason, by what the ones before it leave
+-- the certificate at the index isn't verified, for the reason, by the part that the certificates before it leave
 abbrev pub IsFirstVerifyError : {A : Type 0} → Triple → List Extensions → VerifyPathError A → Type 0
 IsFirstVerifyError anchor certificates refusal =
     (certificate : Extensions) × (refusal.step < length certificates) × (slice_index_or certificates refusal.step certificate ≡ certificate)

@@ -10,7 +10,8 @@ use Rattle.rpki_extensions.specs.declared.error.VerifyError.{VerifyError}
 use Rattle.rpki_extensions.specs.declared.error.VerifyError.TheVariants.{Absent, AsOctets, AddressOctets, Inherited, Asn, Ipv4, Ipv6}
 use Rattle.rpki_extensions.specs.declared.error.VerifyPathError.{VerifyPathError}
 
--- the reason in one line: the extension and the first fault of its octets, or the kind and its overclaimed resources
+-- the printed text of a reason: the extension and the first fault of its octets, or the kind and its overclaimed
+-- resources
 abbrev pub verify_error_text : {A : Type 0} → VerifyError A → List ℕ
 verify_error_text Absent = codes "neither AS identifiers nor IP address blocks"
 verify_error_text (AsOctets fault) = codes "AS identifiers: " ++ fault_text fault
@@ -20,11 +21,11 @@ verify_error_text (Asn excess) = overclaimed_as_text excess
 verify_error_text (Ipv4 excess) = overclaimed_ip_text v4 excess
 verify_error_text (Ipv6 excess) = overclaimed_ip_text v6 excess
 
--- the index of the certificate on its path, and the reason
+-- the printed text of an error on a path: the index of the certificate, and the reason
 abbrev pub certificate_text : {A : Type 0} → VerifyPathError A → List ℕ
 certificate_text refusal = codes "certificate " ++ decimal refusal.step ++ codes ": " ++ verify_error_text refusal.reason
 
--- the reason of the anchor, or the certificate with its reason
+-- the printed text of an error below an anchor: the reason of the anchor, or the certificate with its reason
 abbrev pub below_text : {A : Type 0} → VerifyBelowError A → List ℕ
 below_text (Anchor reason) = verify_error_text reason
 below_text (Certificate refusal) = certificate_text refusal

@@ -8,11 +8,11 @@ use Rattle.rpki_as.specs.AsDer.{as_resources_octets}
 use Rattle.rpki_chain.specs.Choices.{if_present}
 use Rattle.rpki_ipres.specs.ResourcesDer.{ip_families_der}
 
--- AS identifiers that make a claim
+-- the value of the AS identifiers extension that makes a claim, None for a missing claim
 abbrev pub claimed_numbers : Claim → Option (List ℕ)
 claimed_numbers claim = option_map as_resources_octets (if_present claim)
 
--- IP address blocks that make the claims on IPv4 and on IPv6: a missing family isn't in them
+-- the value of the IP address blocks extension that makes the claims on IPv4 and IPv6, None if both are missing
 abbrev pub claimed_addresses : Claim → Claim → Option (List ℕ)
 claimed_addresses Missing Missing = None
 claimed_addresses Missing Inherit = Some (ip_families_der Missing Inherit)
@@ -20,12 +20,12 @@ claimed_addresses Missing (Blocks set) = Some (ip_families_der Missing (Blocks s
 claimed_addresses Inherit v6 = Some (ip_families_der Inherit v6)
 claimed_addresses (Blocks set) v6 = Some (ip_families_der (Blocks set) v6)
 
--- ---- that list a set
+-- ---- extensions that list a set
 
--- AS identifiers
+-- the value of the AS identifiers extension that lists a set, None for the empty set
 abbrev pub written_numbers : Runs → Option (List ℕ)
 written_numbers set = claimed_numbers (claim_of set)
 
--- IP address blocks: a family without addresses isn't in them
+-- the value of the IP address blocks extension that lists a set of each family, None if both sets are empty
 abbrev pub written_addresses : Runs → Runs → Option (List ℕ)
 written_addresses v4 v6 = claimed_addresses (claim_of v4) (claim_of v6)

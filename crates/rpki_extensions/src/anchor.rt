@@ -14,8 +14,8 @@ use std::alloc::Allocator;
 
 /// Returns the set that the extensions of a trust anchor list (RFC 6487, 4.8.10 and 4.8.11; RFC 8630, 2.3).
 ///
-/// Missing resources of a kind give an empty set. The call ignores the certificate's mode, because an anchor has no
-/// issuer.
+/// Missing resources of a kind give an empty set. The call ignores the mode of `certificate`, because a trust anchor
+/// has no issuer.
 ///
 /// # Errors
 ///

@@ -1,11 +1,11 @@
-//! The encodings that a reader of a certificate's extensions accepts.
+//! The encodings of extensions that a reader accepts.
 ghost use Rattle.std.specs.Prelude.{◌≡◌};
 ghost use Rattle.rpki_der.specs.Views.{is_strict, left};
 ghost use Rattle.rpki_extensions.specs.Encodings.{is_canonical};
 
 use rpki_der::Cursor;
 
-/// The encodings of an extension's value that are accepted.
+/// The accepted encodings of an extension's value.
 #[derive(Clone, Copy, Debug, PartialEq, Eq)]
 pub enum Encoding {
     /// Every encoding that the syntax allows: blocks in any order, overlapping or not (RFC 3779, 2.2.3 and 3.2.3).
@@ -17,7 +17,9 @@ pub enum Encoding {
 }
 
 impl Encoding {
-    /// Returns a cursor at the first of the octets. It accepts values in this encoding.
+    /// Returns a cursor at the start of `octets`, which accepts values in this encoding.
+    ///
+    /// The cursor is lenient for [`Encoding::Any`] and strict for [`Encoding::Canonical`].
     pub fn cursor(self, octets: &[u8]) -> Cursor<'_>
         ensures octets { left result ≡ octets.now }
         ensures mode { is_strict result ≡ is_canonical self }

@@ -12,7 +12,7 @@ use std::fmt;
 
 /// The reason why an issuer doesn't verify a certificate's extensions, or why they aren't those of a trust anchor.
 ///
-/// It prints one line.
+/// It is printed as one line.
 #[derive(Drop)]
 pub enum VerifyError<A: Allocator = Global> {
     /// The certificate has neither extension. At least one is required (RFC 6487, 4.8.10 and 4.8.11).
@@ -21,13 +21,13 @@ pub enum VerifyError<A: Allocator = Global> {
     AsOctets(DerError),
     /// The value of the IP address blocks extension is invalid. The field is its first fault.
     AddressOctets(DerError),
-    /// A trust anchor inherits resources, and has no issuer.
+    /// A trust anchor inherits resources, although it has no issuer.
     Inherited,
-    /// The overclaimed AS numbers: exactly those that the issuer doesn't have.
+    /// The certificate overclaims AS numbers. The field has exactly those that the issuer doesn't have.
     Asn(OverclaimedAsResources<A>),
-    /// The overclaimed IPv4 addresses: exactly those that the issuer doesn't have.
+    /// The certificate overclaims IPv4 addresses. The field has exactly those that the issuer doesn't have.
     Ipv4(OverclaimedIpv4Resources<A>),
-    /// The overclaimed IPv6 addresses: exactly those that the issuer doesn't have.
+    /// The certificate overclaims IPv6 addresses. The field has exactly those that the issuer doesn't have.
     Ipv6(OverclaimedIpv6Resources<A>),
 }
 
@@ -56,12 +56,12 @@ impl<A: Allocator> fmt::Debug for VerifyError<A> {
 
 impl<A: Allocator> Error for VerifyError<A> {}
 
-/// The first certificate of a path that isn't verified. It prints one line: the index and the reason.
+/// The first certificate of a path that isn't verified. It is printed as one line: the index and the reason.
 #[derive(Drop)]
 pub struct VerifyPathError<A: Allocator = Global> {
     /// The index of the certificate on the path, counted from 0 below the trust anchor.
     pub step: usize,
-    /// The reason why the certificate isn't verified by the resources that the ones before it leave.
+    /// The reason why the certificate isn't verified by the resources that the certificates before it leave.
     pub reason: VerifyError<A>,
 }
 
@@ -84,12 +84,12 @@ impl<A: Allocator> fmt::Debug for VerifyPathError<A> {
 
 impl<A: Allocator> Error for VerifyPathError<A> {}
 
-/// The reason why nothing is verified below a trust anchor. It prints one line.
+/// The reason why nothing is verified below a trust anchor. It is printed as one line.
 #[derive(Drop)]
 pub enum VerifyBelowError<A: Allocator = Global> {
-    /// The extensions of the anchor list no set.
+    /// The extensions of the trust anchor list no set. The field is the reason.
     Anchor(VerifyError<A>),
-    /// A certificate on the path isn't verified.
+    /// A certificate on the path isn't verified. The field has its index and the reason.
     Certificate(VerifyPathError<A>),
 }
 

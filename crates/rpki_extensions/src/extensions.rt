@@ -20,7 +20,7 @@ pub struct Extensions<'a> {
     pub numbers: Option<&'a [u8]>,
     /// The value of the IP address blocks extension (RFC 3779, 2.2.3), or None if the extension is absent.
     pub addresses: Option<&'a [u8]>,
-    /// The encodings that are accepted.
+    /// The accepted encodings of both values.
     pub encoding: Encoding,
     /// The mode for overclaims, from the certificate's policy (RFC 8360, 4).
     pub mode: Overclaim,
@@ -48,7 +48,7 @@ impl Extensions<'_> {
     /// - `Refused` with [`VerifyError::Absent`] if both extensions are absent. It is returned even if out of memory.
     /// - `Refused` with [`VerifyError::AsOctets`] and the first fault of the AS identifiers extension.
     /// - `Refused` with [`VerifyError::AddressOctets`] and the first fault of the IP address blocks extension, if the
-    /// AS identifiers have no fault.
+    ///   AS identifiers have no fault.
     /// - `Memory` if an allocation fails.
     pub fn claims<A: Allocator + Copy>(
         &self,

@@ -16,12 +16,13 @@ use std::alloc::Allocator;
 
 /// Returns the part of a trust anchor's resources that the certificates on a path leave.
 ///
-/// Each certificate is verified by the resources that the ones before it leave, and the first one by the anchor's.
+/// The anchor's resources verify the first certificate. The resources that the certificates before it leave verify each
+/// other certificate. Without certificates the result is the anchor's resources.
 ///
 /// # Errors
 ///
 /// - `Refused` with the index, counted from 0, of the first certificate that isn't verified, and the reason.
-/// - `Memory` if an allocation on the way fails.
+/// - `Memory` if an allocation fails, or if `std` refuses an additional reference to the anchor's sets.
 pub fn verified_path<A: Allocator + Copy>(
     alloc: A,
     anchor: &ResourceSet<A>,
@@ -41,7 +42,7 @@ pub fn verified_path<A: Allocator + Copy>(
     Ok(issuer)
 }
 
-/// Returns the part of an issuer's resources that a certificate leaves, or its index on the path and the reason.
+/// Returns the part of an issuer's resources that a certificate leaves, or its index `step` and the reason.
 fn verified_at<A: Allocator + Copy>(
     alloc: A,
     issuer: &ResourceSet<A>,
@@ -63,14 +64,14 @@ fn verified_at<A: Allocator + Copy>(
 
 /// Returns the part of a trust anchor's set that the certificates on a path leave.
 ///
-/// The anchor's set is the one that its extensions list. Each certificate is verified by the resources that the ones
-/// before it leave, and the first one by the anchor's set.
+/// The anchor's set is the one that its extensions list. [`verified_path`] says how the certificates are verified.
 ///
 /// # Errors
 ///
 /// - `Refused` with [`VerifyBelowError::Anchor`] and the reason if the anchor lists no set.
-/// - `Refused` with [`VerifyBelowError::Certificate`] and the first certificate that isn't verified.
-/// - `Memory` if an allocation on the way fails.
+/// - `Refused` with [`VerifyBelowError::Certificate`], and the index and reason of the first certificate that isn't
+///   verified.
+/// - `Memory` if an allocation fails.
 pub fn verified_below<A: Allocator + Copy>(
     alloc: A,
     anchor: &Extensions<'_>,

@@ -14,7 +14,7 @@ use std::alloc::Allocator;
 
 /// Reads the AS resources from the value of the AS identifiers extension (RFC 3779, 3.2).
 ///
-/// The value has to be read to its end. [`read_optional_as_claim`] also accepts an absent extension.
+/// No octets may follow them. [`read_optional_as_claim`] also accepts an absent extension.
 ///
 /// # Errors
 ///
@@ -36,7 +36,8 @@ pub fn read_as_claim<A: Allocator + Copy>(
 
 /// Reads the IPv4 and the IPv6 resources from the value of the IP address blocks extension (RFC 3779, 2.2).
 ///
-/// The call returns None for a family that isn't in the value. [`read_ip_claims`] returns missing resources instead.
+/// No octets may follow them. The call returns None for a family that isn't in the value. [`read_ip_claims`] returns
+/// missing resources instead.
 ///
 /// # Errors
 ///
@@ -59,8 +60,8 @@ pub fn read_ip_families<A: Allocator + Copy>(
 
 /// Reads the claims on IPv4 and on IPv6 from the value of the IP address blocks extension (RFC 3779, 2.2).
 ///
-/// A family that isn't in the value claims missing resources. [`read_ip_families`] returns None instead, and
-/// [`read_optional_ip_claims`] also accepts an absent extension.
+/// No octets may follow them. A family that isn't in the value claims missing resources. [`read_ip_families`] returns
+/// None instead, and [`read_optional_ip_claims`] also accepts an absent extension.
 ///
 /// # Errors
 ///
@@ -83,7 +84,8 @@ pub fn read_ip_claims<A: Allocator + Copy>(
 
 /// Reads the claim on AS numbers from the AS identifiers extension, which may be absent (RFC 3779, 3.2).
 ///
-/// An absent extension, None, claims missing resources. [`read_as_claim`] reads one that is present.
+/// `octets` is None for an absent extension, which claims missing resources. [`read_as_claim`] reads one that is
+/// present.
 ///
 /// # Errors
 ///
@@ -106,7 +108,8 @@ pub fn read_optional_as_claim<A: Allocator + Copy>(
 
 /// Reads the claims on IPv4 and on IPv6 from the IP address blocks extension, which may be absent (RFC 3779, 2.2).
 ///
-/// An absent extension, None, claims missing resources of both families. [`read_ip_claims`] reads one that is present.
+/// `octets` is None for an absent extension, which claims missing resources of both families. [`read_ip_claims`] reads
+/// one that is present.
 ///
 /// # Errors
 ///

@@ -68,7 +68,7 @@ pub fn write_ip_claims<A: Allocator>(
 ///
 /// # Errors
 ///
-/// [`AllocError`] if an allocation fails.
+/// [`AllocError`] if an allocation fails, or if `std` refuses an additional reference to the set.
 pub fn write_as_extension<A: Allocator + Copy>(
     alloc: A,
     set: &ResourceSet<A>,
@@ -89,7 +89,7 @@ pub fn write_as_extension<A: Allocator + Copy>(
 ///
 /// # Errors
 ///
-/// [`AllocError`] if an allocation fails.
+/// [`AllocError`] if an allocation fails, or if `std` refuses an additional reference to the set.
 pub fn write_ip_extension<A: Allocator + Copy>(
     alloc: A,
     set: &ResourceSet<A>,

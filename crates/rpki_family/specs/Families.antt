@@ -1,5 +1,5 @@
--- The values of a family: in IPv6 all bounds, in IPv4 those of whole addresses; and covers by the family's own
--- addresses.
+-- The blocks and sets of a family: any bounds in IPv6, and those of whole addresses in IPv4. Also covers of an IPv4 set
+-- by prefixes of its own 32 bits.
 use Rattle.std.specs.Prelude.{ℕ, ◌*◌, ◌^◌, List, ⊤}
 use Rattle.rpki_cover.specs.Prefixes.{PrefixValue}
 use Rattle.rpki_chain.specs.Runs.{Runs, Holds}
@@ -8,12 +8,12 @@ use Rattle.rpki_ip.specs.Whole.{HasWholeBounds}
 use Rattle.rpki_der.specs.declared.family.AddressFamily.{AddressFamily}
 use Rattle.rpki_der.specs.declared.family.AddressFamily.TheVariants.{Ipv4, Ipv6}
 
--- the bounds are those of a block of the family
+-- the bounds are those of a block of the family: in IPv4 of a block of whole addresses, and in IPv6 any bounds
 abbrev pub HasBoundsIn : AddressFamily → ℕ × ℕ → Type 0
 HasBoundsIn Ipv4 b = HasWholeBounds b
 HasBoundsIn Ipv6 b = ⊤
 
--- the IPv4 addresses of a set of whole addresses
+-- a is the number of an IPv4 address in a set of whole addresses
 abbrev pub Ipv4Of : Runs → ℕ → Type 0
 Ipv4Of set a = Holds set (a * 2 ^ 96)
 

@@ -22,7 +22,7 @@ use std::str::FromStr;
 
 /// The addresses of a prefix or of a range of one family (RFC 3779, 2.2.3.7).
 ///
-/// Its value in contracts is a block of addresses of either family. In IPv4 it consists of whole addresses.
+/// In contracts its value is a block of addresses of 128 bits. In IPv4 the block consists of whole addresses.
 #[derive_where(Clone, Copy)]
 pub struct FamilyBlock<F: Family> {
     block: IpBlock,
@@ -67,7 +67,7 @@ impl<F: Family> FamilyBlock<F> {
         }
     }
 
-    /// Returns whether the block is the prefix of length 0. For a range of all addresses this is false.
+    /// Returns whether the block is the prefix of length 0. The result for a range of all addresses is false.
     pub fn is_slash_zero(&self) -> bool
         ensures { IsTrue result ↔ (self.now ≡ Prefix (record { first = 0; len = 0 })) }
     {
@@ -104,7 +104,7 @@ impl<F: Family> fmt::Debug for FamilyBlock<F> {
     }
 }
 
-/// Blocks are equal if and only if their bounds are, whether they are prefixes or ranges.
+/// Blocks are equal if and only if their bounds are equal. A prefix and a range can be equal.
 impl<F: Family> PartialEq for FamilyBlock<F> {
     ghost eq = { have_same_bounds ip_bounds };
 
@@ -130,6 +130,7 @@ impl<F: Family> From<FamilyBlock<F>> for IpBlock {
     }
 }
 
+/// A block of the family is made from a block of addresses that consists of addresses of the family.
 impl<F: Family> BlockOfSet for FamilyBlock<F> {
     ghost of = { λ block. block };
 
@@ -140,7 +141,7 @@ impl<F: Family> BlockOfSet for FamilyBlock<F> {
     }
 }
 
-/// Reads a block of the family from its text.
+/// Parses a block of a family.
 fn read_block(family: AddressFamily, text: &str) -> Result<IpBlock, FromStrError>
     ensures { ReadsFamilyBlock family text.now result }
 {
@@ -150,10 +151,10 @@ fn read_block(family: AddressFamily, text: &str) -> Result<IpBlock, FromStrError
     }
 }
 
-/// Reads a block as [`IpBlock::from_v4_str`] and [`IpBlock::from_v6_str`] do.
+/// Parses a block as [`IpBlock::from_v4_str`] and [`IpBlock::from_v6_str`] do, with the same errors.
 ///
-/// A text with a slash is read as a prefix, split at the first slash. Without a slash, a text with a dash is read as a
-/// range, split at the first dash. Any other text is read as one address.
+/// A text with a slash is a prefix, separated by the first slash. Without a slash, a text with a dash is a range,
+/// separated by the first dash. Any other text is one address.
 impl<F: Family> FromStr for FamilyBlock<F> {
     type Err = FromStrError;
 
@@ -170,7 +171,7 @@ impl<F: Family> FromStr for FamilyBlock<F> {
 
 /// Prints a prefix as its address, a slash and its length. The slash and the length are omitted for one address.
 ///
-/// A range is printed as its bounds with a dash between them, or as one address if the bounds are equal.
+/// A range is printed as its bounds with a dash between them, or as one address if its bounds are the same address.
 impl<F: Family> fmt::Display for FamilyBlock<F> {
     ghost output = { λ block. Some (ip_block_text F.FAMILY block) };
 

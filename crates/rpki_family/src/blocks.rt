@@ -30,7 +30,7 @@ use std::marker::{Model, PhantomData};
 /// Sets with the same addresses are equal and print alike. Several sets may share their memory. The empty set has no
 /// allocated memory.
 ///
-/// The value in contracts is the ascending list of the runs of its addresses as numbers of 128 bits. Each run is a pair
+/// In contracts its value is the ascending list of the runs of its addresses as numbers of 128 bits. Each run is a pair
 /// of its lowest and its highest number. In IPv4 the set consists of whole addresses.
 #[derive(Drop)]
 pub struct FamilyBlocks<F: Family, A: Allocator = Global> {
@@ -71,7 +71,7 @@ impl<F: Family, A: Allocator> FamilyBlocks<F, A> {
         Ok(FamilyBlocks::of(blocks))
     }
 
-    /// Returns the set of the addresses of the blocks, which may come in any order and may overlap.
+    /// Returns the set of the addresses of the blocks, which may be in any order and may overlap.
     ///
     /// # Errors
     ///
@@ -105,7 +105,7 @@ impl<F: Family, A: Allocator> FamilyBlocks<F, A> {
 
     /// States an invariant for the proofs of callers: the set is one of addresses of the family.
     ///
-    /// This call is no test. It does nothing and returns nothing.
+    /// The call checks nothing when it runs, and returns nothing.
     #[doc(hidden)]
     #[tactic(auto, using(crate::proofs::FamilyLemmas::is_family_set))]
     pub fn recall_invariant(&self)
@@ -125,7 +125,7 @@ impl<F: Family, A: Allocator> FamilyBlocks<F, A> {
         &self.blocks
     }
 
-    /// Converts the set into one of addresses of either family. The number of shares of its memory stays.
+    /// Converts the set into one of addresses of either family. The reference count of its memory doesn't change.
     pub fn into_ip_blocks(self) -> IpBlocks<A>
         ensures value { result ≡ self }
         ensures whole { IsWholeIn F.FAMILY self }
@@ -139,7 +139,7 @@ impl<F: Family, A: Allocator> FamilyBlocks<F, A> {
     ///
     /// # Errors
     ///
-    /// [`AllocError`] if `std` refuses a further share of the memory.
+    /// [`AllocError`] if `std` refuses the additional reference.
     #[tactic(auto, using(crate::proofs::FamilyLemmas::is_family_set))]
     pub fn to_ip_resources(&self) -> Result<IpResources<A>, AllocError>
         ensures claim { IfOk result (λ resources. resources ≡ claim_of self.now) }
@@ -153,7 +153,7 @@ impl<F: Family, A: Allocator> FamilyBlocks<F, A> {
     ///
     /// # Errors
     ///
-    /// [`AllocError`] if `std` refuses a further share of the memory.
+    /// [`AllocError`] if `std` refuses the additional reference.
     pub fn clone(&self) -> Result<FamilyBlocks<F, A>, AllocError>
         ensures { IfOk result (λ set. set ≡ self.now) }
     {
@@ -168,8 +168,8 @@ impl<F: Family, A: Allocator> FamilyBlocks<F, A> {
         self.blocks.is_empty()
     }
 
-    /// Returns an iterator over the blocks of the set, ascending: its runs, each as a prefix if it is one, or else as a
-    /// range.
+    /// Returns an iterator over the blocks of the set, ascending: its runs, each as a prefix if possible, and otherwise
+    /// as a range.
     #[tactic(auto, using(crate::proofs::FamilyLemmas::is_family_set, crate::proofs::FamilyLemmas::blocks_in))]
     pub fn iter(&self) -> BlockIter<'_, FamilyBlock<F>>
         ensures blocks { map ip_bounds result ≡ self.now }
@@ -200,7 +200,7 @@ impl<F: Family, A: Allocator> FamilyBlocks<F, A> {
         self.blocks.intersects_block(block.to_block())
     }
 
-    /// Returns the intersection of `self` and `other`.
+    /// Returns the intersection of `self` and `other`: the addresses that are in both.
     ///
     /// # Errors
     ///
@@ -218,7 +218,7 @@ impl<F: Family, A: Allocator> FamilyBlocks<F, A> {
         Ok(FamilyBlocks::of(blocks))
     }
 
-    /// Returns the set of the addresses of `self` that `other` doesn't have.
+    /// Returns the difference: the addresses of `self` that aren't in `other`.
     ///
     /// # Errors
     ///
@@ -236,7 +236,7 @@ impl<F: Family, A: Allocator> FamilyBlocks<F, A> {
         Ok(FamilyBlocks::of(blocks))
     }
 
-    /// Returns the union of `self` and `other`.
+    /// Returns the union of `self` and `other`: the addresses that are in at least one of them.
     ///
     /// # Errors
     ///
@@ -254,9 +254,10 @@ impl<F: Family, A: Allocator> FamilyBlocks<F, A> {
         Ok(FamilyBlocks::of(blocks))
     }
 
-    /// Reads a set from a list of blocks of the family.
+    /// Parses a list of blocks of the family and returns the set of their addresses.
     ///
-    /// The text is split at commas. White space around an element is dropped, and so is an element that is then empty.
+    /// The call splits the text at commas and trims white space from each element. It ignores elements that are then
+    /// empty.
     ///
     /// # Errors
     ///
@@ -269,7 +270,7 @@ impl<F: Family, A: Allocator> FamilyBlocks<F, A> {
         A: Copy,
         ensures exact { AnswersOrMemory (λ set. set) (IsSetOf (HasBlocks F.FAMILY text.now))
             (HasBlocksFault F.FAMILY text.now) result }
-        // The printed text of a set is read back as that set.
+        // The printed text of a set parses back to that set.
         ensures reads_back { (set : Runs) → IsFamilySet F.FAMILY set
             → text.now ≡ set_text F.FAMILY set
             → MatchResult result (λ read. read ≡ set) IsMemory }
@@ -286,7 +287,7 @@ impl<'a, F: Family, A: Allocator> IntoIterator for &'a FamilyBlocks<F, A> {
 
     type IntoIter = BlockIter<'a, FamilyBlock<F>>;
 
-    // the postconditions of `iter`
+    // The postconditions of `iter`.
     ghost into_iter_gives = { λ set blocks. (map ip_bounds blocks ≡ set.now)
         × (blocks ≡ map new_ip_block set.now)
         × IsFamilySet F.FAMILY set.now };

@@ -10,21 +10,26 @@ use std::fmt;
 use std::marker::{Model, PhantomData};
 use std::slice::Iter;
 
-/// A block of one family that an iterator makes from a block of addresses.
+/// A block of one family that an iterator makes from a block of addresses of 128 bits.
 pub trait BlockOfSet: Copy {
     // The block of the family for a block of addresses.
     ghost of: { IpBlock → Self };
 
-    // The condition on the bounds of a block of the family.
+    // The precondition on the bounds of a block of the family.
     ghost fits: { ℕ × ℕ → Type 0 };
 
     /// Returns the block of the family for a block of addresses.
+    ///
+    /// # Preconditions
+    ///
+    /// The block consists of addresses of the family.
     fn from_block(ip: IpBlock) -> Self
         requires { fits (ip_bounds ip) }
         ensures { result ≡ of ip };
 }
 
-/// An iterator over the blocks of a set of one family. Its value in contracts is the list of the blocks that are left.
+/// An iterator over the blocks of a set of one family, ascending. In contracts its value is the list of the blocks that
+/// are left.
 #[derive(Drop)]
 pub struct BlockIter<'a, B: BlockOfSet> {
     left: Iter<'a, IpBlock>,

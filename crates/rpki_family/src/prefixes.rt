@@ -15,17 +15,17 @@ use std::marker::{Model, PhantomData};
 
 /// An iterator over the prefixes of the shortest cover of a set of addresses of one family, ascending.
 ///
-/// Its value in contracts is the list of the prefixes that are left.
+/// In contracts its value is the list of the prefixes that are left.
 #[derive(Drop)]
 pub struct FamilySetPrefixes<'a, F: Family> {
     left: SetPrefixes<'a>,
     family: PhantomData<F>,
 }
 
-/// An iterator over the prefixes of the shortest cover of a set of IPv4 addresses.
+/// An iterator over the prefixes of the shortest cover of a set of IPv4 addresses, ascending.
 pub type V4SetPrefixes<'a> = FamilySetPrefixes<'a, Ipv4Family>;
 
-/// An iterator over the prefixes of the shortest cover of a set of IPv6 addresses.
+/// An iterator over the prefixes of the shortest cover of a set of IPv6 addresses, ascending.
 pub type V6SetPrefixes<'a> = FamilySetPrefixes<'a, Ipv6Family>;
 
 impl<'a, F: Family> Model for FamilySetPrefixes<'a, F> {
@@ -61,7 +61,7 @@ impl<F: Family, A: Allocator> FamilyBlocks<F, A> {
     /// Returns an iterator over the shortest list of prefixes that covers the set, ascending.
     ///
     /// The list has each prefix inside the set that has length 0, or whose parent isn't inside the set. The parent is
-    /// the prefix that is one bit shorter. In IPv4 the lengths are at most 32.
+    /// the prefix that is one bit shorter. In IPv4 the lengths are at most 32. The call allocates nothing.
     #[tactic(auto, using(crate::proofs::FamilyLemmas::covered_in))]
     pub fn prefixes(&self) -> FamilySetPrefixes<'_, F>
         ensures cover { IsShortestCover 128 (Holds self.now) result }

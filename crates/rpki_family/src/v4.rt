@@ -38,7 +38,7 @@ impl FamilyBlock<Ipv4Family> {
 }
 
 impl<A: Allocator> FamilyBlocks<Ipv4Family, A> {
-    /// Returns a set of addresses of either family as one of IPv4.
+    /// Returns a set of addresses of either family as one of IPv4. It is the same set, with the same memory.
     ///
     /// # Preconditions
     ///

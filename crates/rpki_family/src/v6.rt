@@ -35,7 +35,7 @@ impl FamilyBlock<Ipv6Family> {
 }
 
 impl<A: Allocator> FamilyBlocks<Ipv6Family, A> {
-    /// Returns a set of addresses of either family as one of IPv6.
+    /// Returns a set of addresses of either family as one of IPv6. It is the same set, with the same memory.
     pub fn from_ip_blocks(blocks: IpBlocks<A>) -> Ipv6Blocks<A>
         ensures { result ≡ blocks }
     {

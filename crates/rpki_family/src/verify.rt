@@ -19,7 +19,7 @@ use std::alloc::{AllocError, Allocator};
 ///
 /// A claim that was read for IPv4, or made by a set of IPv4, meets this precondition.
 impl<F: Family, A: Allocator> FamilyBlocks<F, A> {
-    /// Returns the part of the set that a claim leaves.
+    /// Returns the part of the set that a claim leaves (RFC 3779, 2.3).
     ///
     /// A missing claim leaves nothing, an inherited claim leaves the whole set, and a listed claim leaves its
     /// intersection with the set.
@@ -52,7 +52,8 @@ impl<F: Family, A: Allocator> FamilyBlocks<F, A> {
         }
     }
 
-    /// Checks that an issuer's claim has each address of the set. A check that succeeds allocates nothing.
+    /// Returns Ok if and only if an issuer's claim has each address of the set. A call that returns Ok allocates
+    /// nothing.
     ///
     /// A missing claim covers only the empty set. An inherited claim covers each set. A listed claim covers the sets
     /// inside it.
@@ -85,7 +86,7 @@ impl<F: Family, A: Allocator> FamilyBlocks<F, A> {
 
     /// Returns the part of the set that a path of claims leaves. Without steps this is the whole set.
     ///
-    /// Each claim is checked against what the steps before it leave.
+    /// Each claim is checked against the part that the steps before it leave.
     ///
     /// # Preconditions
     ///
@@ -93,8 +94,8 @@ impl<F: Family, A: Allocator> FamilyBlocks<F, A> {
     ///
     /// # Errors
     ///
-    /// - `Refused` with the first refused step, counted from 0, and its overclaimed resources.
-    /// - `Memory` if an allocation on the way fails.
+    /// - `Refused` with the index of the first refused step, counted from 0, and its overclaimed resources.
+    /// - `Memory` if an allocation fails.
     pub fn verify_path(
         &self,
         alloc: A,
@@ -121,7 +122,7 @@ impl<F: Family, A: Allocator> FamilyBlocks<F, A> {
     ///
     /// # Errors
     ///
-    /// [`AllocError`] if `std` refuses a further share of the memory.
+    /// [`AllocError`] if `std` refuses the additional reference.
     pub fn from_excess(
         fault: &OverclaimedFamilyResources<F, A>,
     ) -> Result<FamilyBlocks<F, A>, AllocError>

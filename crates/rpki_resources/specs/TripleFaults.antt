@@ -10,13 +10,13 @@ use Rattle.rpki_resources.specs.TripleText.{IsIpv4ListText, HasIpv4ListFault, Ha
 use Rattle.rpki_resources.specs.declared.error.FromStrError.{FromStrError}
 use Rattle.rpki_resources.specs.declared.error.FromStrError.TheVariants.{Asn, Ipv4, Ipv6}
 
--- the first list that is not the text of a set of its kind has this fault
+-- the fault is that of the first of three lists that isn't the text of a set of its kind
 abbrev pub HasTripleFault : List ℕ → List ℕ → List ℕ → FromStrError → Type 0
 HasTripleFault asn ipv4 ipv6 (Asn fault) = HasAsListFault asn fault
 HasTripleFault asn ipv4 ipv6 (Ipv4 fault) = ((set : Runs) × IsAsListText asn set) × HasIpv4ListFault ipv4 fault
 HasTripleFault asn ipv4 ipv6 (Ipv6 fault) = ((set : Runs) × IsAsListText asn set) × ((set : Runs) × IsIpv4ListText ipv4 set) × HasIpv6ListFault ipv6 fault
 
--- the refusal of one of the lists; an out-of-memory error is the same for each
+-- the refusal of one of the lists as that of three lists; an out-of-memory error stays the same
 abbrev pub refusal_of : {E : Type 0} → (E → FromStrError) → OrMemory E → OrMemory FromStrError
 refusal_of kind (Refused fault) = Refused (kind fault)
 refusal_of kind (Memory error) = Memory error
@@ -27,5 +27,6 @@ triple_fault_text (Asn fault) = codes "cannot parse ASN resources: " ++ as_from_
 triple_fault_text (Ipv4 fault) = codes "cannot parse IPv4 resources: " ++ ip_from_str_error_text fault
 triple_fault_text (Ipv6 fault) = codes "cannot parse IPv6 resources: " ++ ip_from_str_error_text fault
 
+-- the printed text of `InheritError`
 abbrev pub inherit_text : List ℕ
 inherit_text = codes "cannot determine resources for certificate using inherit"

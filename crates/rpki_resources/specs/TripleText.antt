@@ -8,17 +8,19 @@ use Rattle.rpki_ip_block.specs.ListText.{HasBlocks, HasBlocksFault}
 use Rattle.rpki_ipres.specs.SetText.{IsSetOf, set_text}
 use Rattle.rpki_resources.specs.Triples.{Triple, Changes, is_none, is_no_triple}
 
--- the list of a family is a text of the set
+-- the text is a list of IPv4 blocks that denotes the set
 abbrev pub IsIpv4ListText : List ℕ → Runs → Type 0
 IsIpv4ListText text = IsSetOf (HasBlocks Ipv4 text)
 
+-- the text is a list of IPv6 blocks that denotes the set
 abbrev pub IsIpv6ListText : List ℕ → Runs → Type 0
 IsIpv6ListText text = IsSetOf (HasBlocks Ipv6 text)
 
--- the list of a family has this fault
+-- the text has this fault as a list of IPv4 blocks
 abbrev pub HasIpv4ListFault : List ℕ → FromStrError → Type 0
 HasIpv4ListFault = HasBlocksFault Ipv4
 
+-- the text has this fault as a list of IPv6 blocks
 abbrev pub HasIpv6ListFault : List ℕ → FromStrError → Type 0
 HasIpv6ListFault = HasBlocksFault Ipv6
 
@@ -30,13 +32,15 @@ pub record IsTripleText (a b c : List ℕ) (t : Triple) : Type 0 where
 
 -- ---- printed texts
 
+-- the printed list of a set of IPv4 addresses
 abbrev pub ipv4_list_text : Runs → List ℕ
 ipv4_list_text = set_text Ipv4
 
+-- the printed list of a set of IPv6 addresses
 abbrev pub ipv6_list_text : Runs → List ℕ
 ipv6_list_text = set_text Ipv6
 
--- of a set: each kind with its list in quotes
+-- the printed text of a set: each kind with its list in quotes
 abbrev pub triple_text : Triple → List ℕ
 triple_text t = codes "asn: '" ++ as_list_text t.asn ++ codes "', ipv4: '" ++ ipv4_list_text t.ipv4 ++ codes "', ipv6: '" ++ ipv6_list_text t.ipv6 ++ codes "'"
 
@@ -44,11 +48,11 @@ triple_text t = codes "asn: '" ++ as_list_text t.asn ++ codes "', ipv4: '" ++ ip
 abbrev pub kind_text : List ℕ → (Runs → List ℕ) → Runs → List ℕ
 kind_text kind text set = if is_none set then [] else kind ++ text set
 
--- a word, and each kind that is not empty with its list
+-- a word, and then each kind that is not empty with its list
 abbrev pub change_text : List ℕ → Triple → List ℕ
 change_text word t = word ++ kind_text (codes " asn: ") as_list_text t.asn ++ kind_text (codes " ipv4: ") ipv4_list_text t.ipv4 ++ kind_text (codes " ipv6: ") ipv6_list_text t.ipv6
 
--- of changes: the added and the removed resources, each if there are any, with a space between them
+-- the printed text of changes: the added and the removed resources, each if there are any, with a space between them
 abbrev pub changes_text : Changes → List ℕ
 changes_text d =
     if is_no_triple d.added

@@ -10,7 +10,7 @@ use Rattle.rpki_der.specs.declared.family.AddressFamily.{AddressFamily}
 use Rattle.rpki_der.specs.declared.family.AddressFamily.TheVariants.{Ipv4, Ipv6}
 use Rattle.rpki_ipres.specs.SetText.{IsFamilySet}
 
--- one set of each kind, as runs
+-- a set of AS numbers, a set of IPv4 addresses and a set of IPv6 addresses, as runs
 pub record Triple : Type 0 where
   pub asn : Runs
   pub ipv4 : Runs
@@ -28,7 +28,7 @@ pub record IsTriple (t : Triple) : Type 0 where
   pub ipv4 : IsFamilySet Ipv4 t.ipv4
   pub ipv6 : IsFamilySet Ipv6 t.ipv6
 
--- no resources
+-- the set without resources of any kind
 abbrev pub no_resources : Triple
 no_resources = record { asn = []; ipv4 = []; ipv6 = [] }
 
@@ -45,57 +45,64 @@ abbrev pub set_of_family : AddressFamily → Triple → Runs
 set_of_family Ipv4 t = t.ipv4
 set_of_family Ipv6 t = t.ipv6
 
--- whether a set is empty, and whether all three are empty
+-- whether a set of one kind is empty
 abbrev pub is_none : Runs → Bool
 is_none [] = true
 is_none (run ∷ runs) = false
 
+-- whether the sets of all three kinds are empty
 abbrev pub is_no_triple : Triple → Bool
 is_no_triple t = is_none t.asn && (is_none t.ipv4 && is_none t.ipv6)
 
 -- ---- kind by kind
 
+-- t is the union of a and b, kind by kind
 abbrev pub IsUnionOf : Triple → Triple → Triple → Type 0
 IsUnionOf a b t = InEach (λ kind. IsUnion (kind a) (kind b) (kind t))
 
+-- t is the intersection of a and b, kind by kind
 abbrev pub IsIntersectionOf : Triple → Triple → Triple → Type 0
 IsIntersectionOf a b t = InEach (λ kind. IsIntersection (kind a) (kind b) (kind t))
 
+-- t has the resources of a that b doesn't have, kind by kind
 abbrev pub IsDifferenceOf : Triple → Triple → Triple → Type 0
 IsDifferenceOf a b t = InEach (λ kind. IsDifference (kind a) (kind b) (kind t))
 
--- the first has each number of the second
+-- a has each number of b, kind by kind
 abbrev pub HasEachOf : Triple → Triple → Type 0
 HasEachOf a b = InEach (λ kind. (n : ℕ) → Holds (kind b) n → Holds (kind a) n)
 
--- both have the same numbers
+-- a and b have the same numbers, kind by kind
 abbrev pub HaveSameNumbers : Triple → Triple → Type 0
 HaveSameNumbers a b = InEach (λ kind. (n : ℕ) → Holds (kind a) n ↔ Holds (kind b) n)
 
--- whether they are the same
+-- whether two sets have the same runs of each kind
 abbrev pub is_same_triple : Triple → Triple → Bool
 is_same_triple a b = same_runs a.asn b.asn && (same_runs a.ipv4 b.ipv4 && same_runs a.ipv6 b.ipv6)
 
 -- ---- changes
 
+-- the resources that are added and those that are removed
 pub record Changes : Type 0 where
   pub added : Triple
   pub removed : Triple
 
--- added: the first set without the second; removed: the second set without the first
+-- d is the changes from b to a: added is a without b, and removed is b without a
 pub record AreChanges (a b : Triple) (d : Changes) : Type 0 where
   pub added : IsDifferenceOf a b d.added
   pub removed : IsDifferenceOf b a d.removed
 
+-- nothing is added and nothing is removed
 abbrev pub no_changes : Changes
 no_changes = record { added = no_resources; removed = no_resources }
 
+-- whether two changes add the same resources and remove the same resources
 abbrev pub are_same_changes : Changes → Changes → Bool
 are_same_changes d e = is_same_triple d.added e.added && is_same_triple d.removed e.removed
 
 -- ---- claims
 
--- the claim lists the set; the set is empty if the claim is missing
+-- the set is the one that the claim lists, or the empty set if the claim is missing; an inherited claim lists none
 abbrev pub ListsRuns : Claim → Runs → Type 0
 ListsRuns Missing set = set ≡ []
 ListsRuns Inherit set = ⊥

@@ -19,14 +19,16 @@ use std::alloc::{AllocError, Allocator};
 impl<A: Allocator> ResourceSet<A> {
     /// Returns the set of the listed resources. Missing resources give an empty set.
     ///
+    /// The set shares the memory of the lists (reference count + 1 for each list).
+    ///
     /// # Preconditions
     ///
     /// A list in `ipv4` consists of whole IPv4 addresses.
     ///
     /// # Errors
     ///
-    /// - `Refused` with [`InheritError`] if a claim is inherited. It is returned even if an allocation fails.
-    /// - `Memory` if an allocation fails.
+    /// - `Refused` with [`InheritError`] if a claim is inherited. This error comes before `Memory`.
+    /// - `Memory` if `std` refuses an additional reference.
     #[tactic(auto, using(crate::proofs::ListedClaimLemmas::lists))]
     pub fn from_resources(
         asn: &AsResources<A>,
@@ -38,8 +40,8 @@ impl<A: Allocator> ResourceSet<A> {
             (IfRefused (λ _. IsOneInherited asn.now ipv4.now ipv6.now)) }
         ensures inherited { IsOneInherited asn.now ipv4.now ipv6.now → IsRefused result }
     {
-        // All three are read before any error is returned. An inherited claim is reported even if an allocation for
-        // another failed.
+        // All three are read before any error is returned. An inherited claim is reported even if the reference for
+        // another was refused.
         match (asn.to_blocks(), ipv4.to_blocks(), ipv6.to_blocks()) {
             (Ok(asn), Ok(ipv4), Ok(ipv6)) => Ok(ResourceSet::new(
                 asn,
@@ -55,9 +57,11 @@ impl<A: Allocator> ResourceSet<A> {
 
     /// Returns a claim that lists the AS numbers, or a missing claim if the set has no AS numbers.
     ///
+    /// The claim shares the memory of the set (reference count + 1).
+    ///
     /// # Errors
     ///
-    /// [`AllocError`] if out of memory.
+    /// [`AllocError`] if `std` refuses the additional reference.
     pub fn to_as_resources(&self) -> Result<AsResources<A>, AllocError>
         ensures claim { IfOk result (λ resources. resources ≡ claim_of self.now.asn) }
         ensures set { IfOk result (IsClaim IsAsSet) }
@@ -68,9 +72,11 @@ impl<A: Allocator> ResourceSet<A> {
 
     /// Returns a claim that lists the IPv4 addresses, or a missing claim if the set has no IPv4 addresses.
     ///
+    /// The claim shares the memory of the set (reference count + 1).
+    ///
     /// # Errors
     ///
-    /// [`AllocError`] if out of memory.
+    /// [`AllocError`] if `std` refuses the additional reference.
     pub fn to_ip_resources_v4(&self) -> Result<IpResources<A>, AllocError>
         ensures claim { IfOk result (λ resources. resources ≡ claim_of self.now.ipv4) }
         ensures family { IfOk result (IsFamilyClaim Ipv4) }
@@ -80,9 +86,11 @@ impl<A: Allocator> ResourceSet<A> {
 
     /// Returns a claim that lists the IPv6 addresses, or a missing claim if the set has no IPv6 addresses.
     ///
+    /// The claim shares the memory of the set (reference count + 1).
+    ///
     /// # Errors
     ///
-    /// [`AllocError`] if out of memory.
+    /// [`AllocError`] if `std` refuses the additional reference.
     pub fn to_ip_resources_v6(&self) -> Result<IpResources<A>, AllocError>
         ensures claim { IfOk result (λ resources. resources ≡ claim_of self.now.ipv6) }
         ensures family { IfOk result (IsFamilyClaim Ipv6) }

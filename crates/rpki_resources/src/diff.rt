@@ -24,7 +24,7 @@ impl<A: Allocator> Model for ResourceDiff<A> {
 }
 
 impl<A: Allocator> ResourceDiff<A> {
-    /// Returns the changes, or the error of `removed`.
+    /// Returns the changes of added and removed resources, or the error of `removed`.
     pub(crate) fn of_two(
         added: ResourceSet<A>,
         removed: Result<ResourceSet<A>, AllocError>,
@@ -63,7 +63,7 @@ impl<A: Allocator> ResourceDiff<A> {
     ///
     /// # Errors
     ///
-    /// [`AllocError`] if `std` refuses a further share of a set's memory.
+    /// [`AllocError`] if `std` refuses an additional reference.
     pub fn clone(&self) -> Result<ResourceDiff<A>, AllocError>
         ensures { IfOk result (λ diff. diff ≡ self.now) }
     {

@@ -1,18 +1,18 @@
-//! The errors of reading the lists of a set, and of making a set of claims.
+//! Errors of parsing the lists of a set, and of making a set of claims.
 ghost use Rattle.std.specs.Prelude.{Some};
 ghost use Rattle.rpki_resources.specs.TripleFaults.{triple_fault_text, inherit_text};
 
 use std::error::Error;
 use std::fmt;
 
-/// The reason why the three lists of a set can't be read: the first faulty list, and its fault.
+/// The reason why the three lists of a set can't be parsed: the first invalid list, and its fault.
 #[derive(Clone, Copy, Debug, PartialEq, Eq)]
 pub enum FromStrError {
-    /// The list of AS numbers is faulty.
+    /// The list of AS numbers is invalid. The field is its fault.
     Asn(rpki_as::error::FromStrError),
-    /// The list of IPv4 addresses is faulty.
+    /// The list of IPv4 addresses is invalid. The field is its fault.
     Ipv4(rpki_ip::error::FromStrError),
-    /// The list of IPv6 addresses is faulty.
+    /// The list of IPv6 addresses is invalid. The field is its fault.
     Ipv6(rpki_ip::error::FromStrError),
 }
 
@@ -30,7 +30,7 @@ impl fmt::Display for FromStrError {
 
 impl Error for FromStrError {}
 
-/// A claim is inherited, so it gives no set without its issuer.
+/// The error for an inherited claim, which gives no set without its issuer.
 #[derive(Clone, Copy, Debug, PartialEq, Eq)]
 pub struct InheritError;
 

@@ -1,4 +1,4 @@
-//! Sets of the three kinds of resources of RFC 3779, and the public paths of the whole layer.
+//! Sets of the three kinds of resources of RFC 3779, and public paths for the types of the crates that it depends on.
 //!
 //! [`resources::addr`], [`resources::asn`] and [`repository::resources`] have each type where a user of the Rust crate
 //! `rpki` looks for it.
@@ -25,5 +25,5 @@ pub use diff::ResourceDiff;
 pub use error::{FromStrError, InheritError};
 pub use set::ResourceSet;
 
-/// The error of a call that allocates, and the call that maps its refusals.
+/// The error type of calls that allocate, and a call that maps its refusals.
 pub use rpki_base::memory::{OrMemory, refused_as};

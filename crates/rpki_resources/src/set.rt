@@ -23,7 +23,7 @@ use std::marker::Model;
 /// Sets with the same numbers and addresses are equal and print alike. Several sets may share their memory. Empty sets
 /// have no allocated memory.
 ///
-/// The value in contracts is the three ascending lists of runs. The IPv4 list consists of whole addresses.
+/// In contracts its value is the three ascending lists of runs. The IPv4 list consists of whole addresses.
 #[derive(Drop)]
 pub struct ResourceSet<A: Allocator = Global> {
     pub(crate) asn: AsBlocks<A>,
@@ -47,7 +47,7 @@ impl<A: Allocator> ResourceSet<A> {
         ResourceSet { asn, ipv4, ipv6 }
     }
 
-    /// Returns the set of the three, or the error of `ipv6`.
+    /// Returns the set of the three sets, or the error of `ipv6`.
     fn of_three(
         asn: AsBlocks<A>,
         ipv4: Ipv4Blocks<A>,
@@ -84,11 +84,11 @@ impl<A: Allocator> ResourceSet<A> {
         ResourceSet::of_three(asn, ipv4, Ipv6Blocks::all(alloc))
     }
 
-    /// Returns the same set, which shares the memory of `self` (reference count + 1).
+    /// Returns the same set, which shares the memory of `self` (reference count + 1 for each kind).
     ///
     /// # Errors
     ///
-    /// [`AllocError`] if `std` refuses a further share of the memory.
+    /// [`AllocError`] if `std` refuses an additional reference.
     pub fn clone(&self) -> Result<ResourceSet<A>, AllocError>
         ensures { IfOk result (λ set. set ≡ self.now) }
     {
@@ -99,7 +99,7 @@ impl<A: Allocator> ResourceSet<A> {
 
     /// States an invariant for the proofs of callers: there is a set of each kind.
     ///
-    /// This call is no test. It does nothing and returns nothing.
+    /// The call checks nothing when it runs, and returns nothing.
     #[doc(hidden)]
     pub fn recall_invariant(&self)
         ensures { IsTriple self.now }
@@ -119,21 +119,21 @@ impl<A: Allocator> ResourceSet<A> {
         self.asn.is_empty() && self.ipv4.is_empty() && self.ipv6.is_empty()
     }
 
-    /// Replaces the AS numbers of the set. The addresses stay.
+    /// Replaces the AS numbers of the set. The addresses don't change.
     pub fn set_asn(&mut self, asn: AsBlocks<A>)
         ensures { self.new ≡ record { asn = asn; ipv4 = self.old.ipv4; ipv6 = self.old.ipv6 } }
     {
         self.asn = asn;
     }
 
-    /// Replaces the IPv4 addresses of the set. The AS numbers and the IPv6 addresses stay.
+    /// Replaces the IPv4 addresses of the set. The AS numbers and the IPv6 addresses don't change.
     pub fn set_ipv4(&mut self, ipv4: Ipv4Blocks<A>)
         ensures { self.new ≡ record { asn = self.old.asn; ipv4 = ipv4; ipv6 = self.old.ipv6 } }
     {
         self.ipv4 = ipv4;
     }
 
-    /// Replaces the IPv6 addresses of the set. The AS numbers and the IPv4 addresses stay.
+    /// Replaces the IPv6 addresses of the set. The AS numbers and the IPv4 addresses don't change.
     pub fn set_ipv6(&mut self, ipv6: Ipv6Blocks<A>)
         ensures { self.new ≡ record { asn = self.old.asn; ipv4 = self.old.ipv4; ipv6 = ipv6 } }
     {
@@ -216,9 +216,9 @@ impl<A: Allocator> ResourceSet<A> {
         self.asn.contains_asn(asn)
     }
 
-    /// Returns whether the set has each address of a range, by its addresses of the given family.
+    /// Returns whether the set's addresses of `family` include each address of a range.
     ///
-    /// Use it for the addresses of a ROA's prefixes (RFC 9582, 4.3).
+    /// Use it for the addresses of a ROA's prefixes (RFC 9582, 4.3 and 5).
     pub fn contains_roa_address(&self, family: AddressFamily, addresses: AddressRange) -> bool
         ensures { IsTrue result ↔ ((n : ℕ) → IsWithin (range_bounds addresses) n
             → Holds (set_of_family family self.now) n) }
@@ -229,7 +229,7 @@ impl<A: Allocator> ResourceSet<A> {
         }
     }
 
-    /// Returns the union of `self` and `other`.
+    /// Returns the union of `self` and `other`: the resources that are in at least one of them.
     ///
     /// # Errors
     ///
@@ -245,7 +245,7 @@ impl<A: Allocator> ResourceSet<A> {
         ResourceSet::of_three(asn, ipv4, self.ipv6.union(alloc, &other.ipv6))
     }
 
-    /// Returns the intersection of `self` and `other`.
+    /// Returns the intersection of `self` and `other`: the resources that are in both.
     ///
     /// # Errors
     ///
@@ -283,7 +283,8 @@ impl<A: Allocator> ResourceSet<A> {
 
     /// Returns the changes from `other` to `self`.
     ///
-    /// Added resources are those that only `self` has. Removed resources are those that only `other` has.
+    /// Added resources are those that only `self` has. Removed resources are those that only `other` has. For the set
+    /// of the former alone use [`ResourceSet::minus`].
     ///
     /// # Errors
     ///

@@ -18,7 +18,7 @@ use rpki_family::{Ipv4Blocks, Ipv6Blocks};
 use std::alloc::Allocator;
 use std::fmt;
 
-/// Maps a fault of the list of AS numbers.
+/// Returns a fault of the list of AS numbers as a fault of three lists. An out-of-memory error stays the same.
 fn of_asn(fault: OrMemory<rpki_as::error::FromStrError>) -> OrMemory<FromStrError>
     ensures { result ≡ refusal_of Asn fault }
 {
@@ -28,7 +28,7 @@ fn of_asn(fault: OrMemory<rpki_as::error::FromStrError>) -> OrMemory<FromStrErro
     }
 }
 
-/// Maps a fault of the list of IPv4 addresses.
+/// Returns a fault of the list of IPv4 addresses as a fault of three lists. An out-of-memory error stays the same.
 fn of_ipv4(fault: OrMemory<rpki_ip::error::FromStrError>) -> OrMemory<FromStrError>
     ensures { result ≡ refusal_of Ipv4 fault }
 {
@@ -38,7 +38,7 @@ fn of_ipv4(fault: OrMemory<rpki_ip::error::FromStrError>) -> OrMemory<FromStrErr
     }
 }
 
-/// Maps a fault of the list of IPv6 addresses.
+/// Returns a fault of the list of IPv6 addresses as a fault of three lists. An out-of-memory error stays the same.
 fn of_ipv6(fault: OrMemory<rpki_ip::error::FromStrError>) -> OrMemory<FromStrError>
     ensures { result ≡ refusal_of Ipv6 fault }
 {
@@ -49,13 +49,13 @@ fn of_ipv6(fault: OrMemory<rpki_ip::error::FromStrError>) -> OrMemory<FromStrErr
 }
 
 impl<A: Allocator> ResourceSet<A> {
-    /// Reads a set from three lists of blocks, in this order.
+    /// Parses three lists of blocks, in this order, and returns the set of their resources.
     ///
-    /// Each list is read as by [`AsBlocks::from_str`], [`Ipv4Blocks::from_str`] and [`Ipv6Blocks::from_str`].
+    /// Each list is parsed as by [`AsBlocks::from_str`], [`Ipv4Blocks::from_str`] and [`Ipv6Blocks::from_str`].
     ///
     /// # Errors
     ///
-    /// - `Refused` with the fault of the first list that can't be read.
+    /// - `Refused` with the fault of the first invalid list.
     /// - `Memory` if an allocation fails.
     pub fn from_strs(
         alloc: A,
@@ -67,7 +67,7 @@ impl<A: Allocator> ResourceSet<A> {
         A: Copy,
         ensures exact { AnswersOrMemory (λ set. set) (IsTripleText asn.now ipv4.now ipv6.now)
             (HasTripleFault asn.now ipv4.now ipv6.now) result }
-        // The printed lists of a set are read back as that set.
+        // The printed lists of a set parse back to that set.
         ensures reads_back { (set : Triple) → IsTriple set → asn.now ≡ as_list_text set.asn
             → ipv4.now ≡ ipv4_list_text set.ipv4 → ipv6.now ≡ ipv6_list_text set.ipv6
             → MatchResult result (λ read. read ≡ set) IsMemory }
@@ -87,7 +87,7 @@ impl<A: Allocator> ResourceSet<A> {
     }
 }
 
-/// Prints each kind with its list in quotes.
+/// Prints the set as `asn: '..', ipv4: '..', ipv6: '..'`, with the list of each kind in quotes.
 impl<A: Allocator> fmt::Display for ResourceSet<A> {
     ghost output = { λ set. Some (triple_text set) };
 
@@ -99,7 +99,7 @@ impl<A: Allocator> fmt::Display for ResourceSet<A> {
     }
 }
 
-/// Writes a kind and its list, or nothing if the list is empty.
+/// Prints a kind and its list, or nothing if the list is empty.
 fn fmt_kind<T: fmt::Display, W: fmt::Write>(
     kind: &str,
     is_empty: bool,
@@ -117,7 +117,7 @@ fn fmt_kind<T: fmt::Display, W: fmt::Write>(
     list.fmt(f)
 }
 
-/// Writes a word, and each kind that is not empty with its list.
+/// Prints a word, and each kind that is not empty with its list.
 fn fmt_change<A: Allocator, W: fmt::Write>(
     word: &str,
     set: &ResourceSet<A>,
@@ -131,7 +131,7 @@ fn fmt_change<A: Allocator, W: fmt::Write>(
     fmt_kind(" ipv6: ", set.ipv6.is_empty(), &set.ipv6, f)
 }
 
-/// Writes the added resources and the removed ones, with a space between them.
+/// Prints the added resources and the removed ones, with a space between them.
 fn fmt_both<A: Allocator, W: fmt::Write>(
     added: &ResourceSet<A>,
     removed: &ResourceSet<A>,
@@ -145,7 +145,9 @@ fn fmt_both<A: Allocator, W: fmt::Write>(
     fmt_change("Removed:", removed, f)
 }
 
-/// Prints the added and the removed resources, each if there are any.
+/// Prints the added resources after `Added:` and the removed ones after `Removed:`, each if there are any.
+///
+/// Without changes it prints `<no changes in resources>`.
 impl<A: Allocator> fmt::Display for ResourceDiff<A> {
     ghost output = { λ diff. Some (changes_text diff) };
 

@@ -90,7 +90,8 @@ class Encoding(IntEnum):
     """The encodings that a call accepts. The choice applies to all DER that the call reads, the issuer's too.
 
     Attributes:
-        LENIENT: Any DER that the grammar allows. Blocks may come in any order.
+        LENIENT: Canonical DER, and also other encodings, for example blocks in any order. `docs/FOREIGN.md`, "The
+            encoding", lists them.
         STRICT: Canonical DER only (RFC 3779, 2.2.3.6 and 3.2.3.4).
     """
 

@@ -132,7 +132,8 @@ impl Resources {
 /// The encodings that a call accepts. The choice applies to all DER that the call reads, the issuer's too.
 #[derive(Clone, Copy, Debug, PartialEq, Eq)]
 pub enum Encoding {
-    /// Any DER that the grammar allows: blocks in any order, which may overlap.
+    /// Canonical DER, and also other encodings, for example blocks in any order, which may overlap. `docs/FOREIGN.md`,
+    /// "The encoding", lists them.
     Lenient = raw::LENIENT as isize,
     /// Canonical DER only (RFC 3779, 2.2.3.6 and 3.2.3.4).
     Strict = raw::STRICT as isize,

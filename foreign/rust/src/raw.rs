@@ -70,7 +70,7 @@ pub const BAD_IP: u32 = 0x200;
 /// Added to another status if the error is in the certificate, the second set, a route, or a withdrawn VRP.
 pub const SECOND: u32 = 0x1000;
 
-/// Encoding: any DER that the grammar allows, with blocks in any order.
+/// Encoding: canonical DER, and also other encodings, for example blocks in any order.
 pub const LENIENT: u32 = 0;
 /// Encoding: canonical DER only (RFC 3779, 2.2.3.6 and 3.2.3.4).
 pub const STRICT: u32 = 1;

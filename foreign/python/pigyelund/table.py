@@ -69,8 +69,8 @@ class Table:
         <Validity.VALID: 0>
 
     Memory. `close` frees the table. The end of a `with` does the same, and so does dropping the last reference. `close`
-    does not wait for calls of other threads: then the table is freed when these calls have returned. Calls on a closed
-    table raise `ValueError`. A table cannot be copied or pickled, so make it in each process.
+    does not wait for calls of other threads. A table that such calls use is freed when they have returned. Calls on a
+    closed table raise `ValueError`. A table cannot be copied or pickled, so make it in each process.
 
     Threads. Any number of threads may query a table at once. ctypes releases Python's global lock during a call.
 

@@ -51,8 +51,8 @@
  * it takes from malloc before it returns. PIGY_MEMORY means that malloc failed. It says nothing about the arguments.
  *
  * TABLES. pigy_table_new and pigy_table_changed return the handle of a table of VRPs. The caller owns the table until
- * pigy_table_free. A table never changes. If the call returns an error, the handle is NULL. For a NULL handle the calls
- * return PIGY_NO_TABLE, and pigy_table_free does nothing. The obligations for any other handle are below.
+ * pigy_table_free. A table never changes. With an error these two calls store NULL as the handle. For a NULL handle the
+ * calls return PIGY_NO_TABLE, and pigy_table_free does nothing. The obligations for any other handle are below.
  *
  * CHECKS. Each call checks its arguments in the order that its comment lists, and returns the first error.
  * PIGY_TOO_SMALL comes after all checks. PIGY_MEMORY can come instead of any other status, with two exceptions:
@@ -81,9 +81,8 @@
  * no proof that they may run at the same time.
  *
  * - Any number of threads may use one table, and may make the next table from it at the same time.
- * - If a thread passes a handle to another thread, order the two by a lock, by the start or join of a thread, or by a
- *   seq_cst atomic.
- * - Order the last call with a handle before pigy_table_free in the same way.
+ * - Pass a handle from one thread to another by a lock, by the start or join of a thread, or by a seq_cst atomic.
+ * - Order the last call with a handle before pigy_table_free by one of these too.
  */
 #ifndef PIGYELUND_H
 #define PIGYELUND_H

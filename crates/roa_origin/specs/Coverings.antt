@@ -7,22 +7,22 @@ use Rattle.roa_origin.specs.Links.{AreUpTo, IsTable}
 use Rattle.roa_origin.specs.Vrps.{Vrp}
 use Rattle.roa_origin.specs.declared.links.Link.{Link}
 
--- ys are the elements of xs for which P holds, in their order, each as often as it is there
+-- ys are the elements of xs for which P holds, in their order, each as often as it is in xs
 abbrev pub AreThose : {X : Type 0} → (X → Type 0) → List X → List X → Type 0
 AreThose P [] ys = ys ≡ []
 AreThose {X} P (x ∷ xs) ys = (P x × (zs : List X) × (ys ≡ x ∷ zs) × AreThose P xs zs) ⊎ ((¬ P x) × AreThose P xs ys)
 
--- whether a VRP covers the route: it is of the route's family, and its addresses include the route's
+-- whether a VRP covers the route: both are of one family, and the addresses of the VRP's prefix include the route's
 abbrev pub covers_route : FamilyPrefix → Vrp → Bool
 covers_route route vrp =
     (width vrp.0.prefix.addr == width route.addr)
     && (nat_le (address_number vrp.0.prefix.addr) (address_number route.addr) && nat_le (last_bits route) (last_bits vrp.0.prefix))
 
--- those of the first n VRPs that cover the route, the last first
+-- the VRPs among the first n that cover the route, the last first
 abbrev pub covering_before : FamilyPrefix → List Vrp → ℕ → List Vrp
 covering_before route xs n = reverse (filter (covers_route route) (take n xs))
 
--- a traversal of a table from its first n VRPs on, which come no later than the route
+-- a pass over a table, from its first n VRPs back, which come no later than the route
 pub record IsWalk (xs : List Vrp) (links : List Link) (n : ℕ) (route : FamilyPrefix) : Type 0 where
   pub table : IsTable xs links
   pub within : n ≤ length xs

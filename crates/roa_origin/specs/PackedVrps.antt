@@ -5,7 +5,7 @@ use Rattle.rpki_addr.specs.declared.addr.IpAddr.TheVariants.{V4, V6}
 use Rattle.rpki_prefix.specs.Values.{address_number, is_v6}
 use Rattle.roa_origin.specs.Vrps.{Vrp}
 
--- the address of IPv4 or IPv6 that the bits of a number write
+-- the address of IPv4 (false) or IPv6 (true) whose bits write the number
 abbrev pub addr_of : Bool → ℕ → IpAddr
 addr_of false n = V4 n
 addr_of true n = V6 n

@@ -5,7 +5,7 @@ use Rattle.roa_origin.specs.Vrps.{Vrp}
 use Rattle.roa_origin.specs.Validities.{IsValidity}
 use Rattle.roa_origin.specs.declared.validation.Validity.{Validity}
 
--- the route of an AS has different validities by two lists of VRPs
+-- the route that the AS originates has different validities by the two lists of VRPs
 pub record HasChanged (old new : List Vrp) (route : FamilyPrefix) (asn : ℕ) : Type 0 where
   pub before : Validity
   pub after : Validity
@@ -13,13 +13,13 @@ pub record HasChanged (old new : List Vrp) (route : FamilyPrefix) (asn : ℕ) : 
   pub is : IsValidity route asn new after
   pub differ : before ≢ after
 
--- the route at this index is such a route
+-- the route at this index has different validities by the two lists
 pub record IsChangedAt (old new : List Vrp) (routes : List (FamilyPrefix × ℕ)) (place : ℕ) : Type 0 where
   pub within : place < length routes
   pub changed : (d : FamilyPrefix × ℕ)
       → HasChanged old new (slice_index_or routes place d).0 (slice_index_or routes place d).1
 
--- the indices of these routes, ascending
+-- the indices of the routes with different validities, ascending
 pub record AreChanged (old new : List Vrp) (routes : List (FamilyPrefix × ℕ)) (places : List ℕ) : Type 0 where
   pub ascending : AllPairs (λ i j. i < j) places
   pub members : (place : ℕ) → Contains places place ↔ IsChangedAt old new routes place

@@ -27,17 +27,17 @@ pub record IsDuplicateAnnouncement (table announced withdrawn : List Vrp) (n : �
       → (IsSentIn table (slice_index_or announced n d) × ¬ IsSentIn withdrawn (slice_index_or announced n d))
       ⊎ IsSentIn (take n announced) (slice_index_or announced n d)
 
--- P holds at a number, and at no lower one
+-- P holds for n, and for no lower number
 pub record IsFirst (P : ℕ → Type 0) (n : ℕ) : Type 0 where
   pub here : P n
   pub none : (k : ℕ) → k < n → ¬ P k
 
--- the first fault of changes: withdrawals come first, each list in its order
+-- the first fault of changes: withdrawals are checked first, each list in its order
 abbrev pub HasChangeFault : List Vrp → List Vrp → List Vrp → ChangeFault → Type 0
 HasChangeFault table announced withdrawn (UnknownWithdrawal n) = IsFirst (IsUnknownWithdrawal table withdrawn) n
 HasChangeFault table announced withdrawn (DuplicateAnnouncement n) = ((k : ℕ) → ¬ IsUnknownWithdrawal table withdrawn k) × IsFirst (IsDuplicateAnnouncement table announced withdrawn) n
 
--- changes without a fault
+-- the changes have no fault: each withdrawal is known, and no announcement is a duplicate
 pub record AreUpdates (table announced withdrawn : List Vrp) : Type 0 where
   pub known : (n : ℕ) → ¬ IsUnknownWithdrawal table withdrawn n
   pub fresh : (n : ℕ) → ¬ IsDuplicateAnnouncement table announced withdrawn n
@@ -51,17 +51,17 @@ pub record IsUpdated (table announced withdrawn next : List Vrp) : Type 0 where
 
 -- ---- changes in order
 
--- a VRP as it is sent, and an index of a list
+-- the VRP of a change is lawful and has a maximum length, as it is sent, and the index has 64 bits
 pub record IsLawfulChange (change : Change) : Type 0 where
   pub vrp : IsLawfulVrp change.vrp
   pub sent : max_len_flag change.vrp.0.max_len ≡ 1
   pub number : change.place < 2 ^ 64
 
--- a sort key: by the VRP, then by the index
+-- the sort key of a change: by the VRP, then by the index
 abbrev pub change_place : Change → ℕ
 change_place change = sent_place change.vrp * 2 ^ 64 + change.place
 
--- changes of the VRPs of a list, each with its index there
+-- the changes are the VRPs of a list as they are sent, each with its index in the list
 pub record AreChangesOf (vrps : List Vrp) (changes : List Change) : Type 0 where
   pub lawful : All IsLawfulChange changes
   pub permutation : IsPermutation (map as_sent vrps) (map (λ change. change.vrp) changes)
@@ -71,7 +71,7 @@ pub record AreChangesOf (vrps : List Vrp) (changes : List Change) : Type 0 where
   pub each : (n : ℕ) (d : Vrp) → n < length vrps
       → Any (λ change. (change.vrp ≡ as_sent (slice_index_or vrps n d)) × (change.place ≡ n)) changes
 
--- changes in order
+-- the changes are lawful, and in the order of their sort keys
 pub record AreSorted (changes : List Change) : Type 0 where
   pub lawful : All IsLawfulChange changes
   pub ordered : IsNonDecreasingBy change_place changes
@@ -80,24 +80,26 @@ pub record AreSorted (changes : List Change) : Type 0 where
 abbrev pub sent_change : Change → ℕ
 sent_change change = sent_place change.vrp
 
--- a search in a list for a number stops at an index: before it the numbers are less, and from it on they aren't
+-- a search for the number t stops at an index: before it the keys of the list are less than t, and from it on they
+-- aren't
 pub record IsSearched {X : Type 0} (f : X → ℕ) (xs : List X) (t at : ℕ) : Type 0 where
   pub before : (k : ℕ) (d : X) → k < at → k < length xs → f (slice_index_or xs k d) < t
   pub from : (k : ℕ) (d : X) → at ≤ k → k < length xs → t ≤ f (slice_index_or xs k d)
 
--- a change is one of the VRP; the second also requires that its index is lower than n
+-- the change is one of the VRP p, compared as VRPs are sent
 abbrev pub IsOf : Vrp → Change → Type 0
 IsOf p change = sent_place change.vrp ≡ sent_place p
 
+-- the change is one of the VRP p, and its index is lower than n
 abbrev pub IsOfBefore : Vrp → ℕ → Change → Type 0
 IsOfBefore p n change = IsOf p change × (change.place < n)
 
--- the lowest index of a change of a VRP
+-- n is the lowest index of a change of the VRP p
 pub record IsFirstPlace (changes : List Change) (p : Vrp) (n : ℕ) : Type 0 where
   pub there : Any (λ change. IsOf p change × (change.place ≡ n)) changes
   pub first : All (λ change. IsOf p change → n ≤ change.place) changes
 
--- the list has the VRPs of the table that no withdrawn change is of, and the VRPs of the announced changes
+-- the list has the VRPs of the table that no withdrawn change is one of, and the VRPs of the announced changes
 pub record IsMergedOf (table : List Vrp) (withdrawn announced : List Change) (next : List Vrp) : Type 0 where
   pub kept : List Vrp
   pub stays : AreThose (λ p. ¬ Any (IsOf p) withdrawn) table kept

@@ -3,11 +3,12 @@ use Rattle.std.specs.Prelude.{◌≡◌, ◌≢◌, ℕ, ◌≤◌, ◌<◌, ◌
 use Rattle.rpki_prefix.specs.MaxLen.{IsMaxLenPrefix, MaxLenValue, resolved}
 use Rattle.rpki_prefix.specs.Values.{FamilyPrefix, CoversPrefix}
 
--- a VRP in contracts: a prefix with a maximum length, and the number of the AS that may originate it
+-- the value of a VRP in contracts: a prefix with a maximum length, and the number of the AS that may originate routes
+-- to it
 abbrev pub Vrp : Type 0
 Vrp = MaxLenValue × ℕ
 
--- the prefix with its maximum length is a lawful one, and the number is that of an AS
+-- the prefix and its maximum length are lawful, and the number has 32 bits
 pub record IsLawfulVrp (vrp : Vrp) : Type 0 where
   pub prefix : IsMaxLenPrefix vrp.0
   pub number : vrp.1 < 2 ^ 32
@@ -16,7 +17,7 @@ pub record IsLawfulVrp (vrp : Vrp) : Type 0 where
 abbrev pub longest : Vrp → ℕ
 longest vrp = resolved vrp.0.prefix vrp.0.max_len
 
--- how many bits the VRP's prefix fixes
+-- the length of the VRP's prefix
 abbrev pub prefix_len : Vrp → ℕ
 prefix_len vrp = vrp.0.prefix.len
 

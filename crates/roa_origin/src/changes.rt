@@ -9,7 +9,8 @@ use crate::vrp::Vrp;
 use crate::vrp_table::VrpTable;
 use std::alloc::{AllocError, Allocator, Global};
 
-/// The changes that a cache sends to a router, so that the router gets from one table to the next.
+/// The VRPs that a cache announces and withdraws, so that a router gets from one table to the next (RFC 8210, 5.6 and
+/// 8.2).
 #[derive(Drop)]
 #[derive_where(Debug)]
 pub struct VrpChanges<A: Allocator = Global> {
@@ -22,7 +23,7 @@ pub struct VrpChanges<A: Allocator = Global> {
 impl<A: Allocator> VrpTable<A> {
     /// Returns the VRPs to announce and to withdraw from this table to `next`, both ascending (RFC 8210, 5.6 and 8.2).
     ///
-    /// The call goes through each table twice. It finds the changes between two tables, as a cache does.
+    /// The call makes two passes over each table. It finds the changes between two tables, as a cache does.
     /// [`crate::OriginTable::with_changes`] applies changes to a table, as a router does. [`crate::changed_routes`]
     /// finds the routes whose validity differs.
     ///
@@ -55,8 +56,9 @@ fn without<A: Allocator>(
     Ok(VrpTable::of(left))
 }
 
-/// Returns the VRPs of `one` that `other` doesn't have, in one pass over both. VRPs of `other` that are less than a VRP
-/// of `one` are less than all later VRPs of `one`.
+/// Returns the VRPs of `one` that `other` doesn't have, in one pass over both. Both are ascending.
+///
+/// A VRP of `other` that is less than a VRP of `one` is less than all later VRPs of `one`.
 fn left_of<A: Allocator>(alloc: A, one: &[Vrp], other: &[Vrp]) -> Result<Vec<Vrp, A>, AllocError>
     requires one { IsAscending one.now }
     requires other { IsAscending other.now }

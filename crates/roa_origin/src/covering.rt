@@ -11,7 +11,7 @@ use std::marker::Model;
 
 /// An iterator over the VRPs of a table that cover a route, the longest prefix first.
 ///
-/// Its value in contracts is the list of the VRPs that are left. `pigyelund_routes::route::Covering` is one such VRP
+/// In contracts its value is the list of the VRPs that are left. `pigyelund_routes::route::Covering` is one such VRP
 /// for C.
 #[derive(Drop)]
 pub struct Covering<'a> {
@@ -53,7 +53,7 @@ impl<'a> Covering<'a> {
     }
 }
 
-/// Shows the route's prefix. It doesn't show the VRPs that are left.
+/// Prints the route's prefix, and not the VRPs that are left.
 impl fmt::Debug for Covering<'_> {
     fn fmt<W: fmt::Write>(&self, f: &mut fmt::Formatter<W>) -> fmt::Result {
         f.debug_struct("Covering")

@@ -1,7 +1,7 @@
 //! Route origin validation (RFC 6811, RFC 9582), and the tables of VRPs that caches and routers exchange (RFC 8210).
 //!
 //! [`origin`] returns the validity of one route by a list of VRPs. An [`OriginTable`] does so for many routes, and
-//! follows the changes that a cache sends. A [`VrpTable`] holds what a cache sends to routers.
+//! applies the changes that a cache sends. A [`VrpTable`] has the VRPs that a cache sends to routers.
 //! [`VrpTable::changes_to`] finds the VRPs to announce and to withdraw from one table to the next.
 //!
 //! Use [`origin`] for a list that you already have. For many routes make a table once and look them up in it, as in
@@ -15,7 +15,7 @@
 //! }
 //! ```
 //!
-//! A cache that has sent one table, and then makes another, sends what changes, as in the program `rows_calls`:
+//! A cache that has sent one table, and then makes another, sends the changes, as in the program `rows_calls`:
 //!
 //! ```rust
 //! let changes = sent.changes_to(alloc, next)?;

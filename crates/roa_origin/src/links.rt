@@ -7,7 +7,7 @@ ghost use Rattle.roa_origin.specs.Vrps.{CoversRoute, Vrp};
 use crate::packed_vrp::PackedVrp;
 use std::alloc::{AllocError, Allocator};
 
-/// The most VRPs that a table can have. With this limit its links and starts take half the memory.
+/// The maximum number of VRPs in a table. With this limit its links and starts take half the memory.
 const MOST: usize = 0xffff_ffff;
 
 /// The link of a VRP to shorter prefixes.
@@ -21,8 +21,10 @@ pub(crate) struct Link {
 }
 
 impl Link {
-    /// Returns how many VRPs a lookup has left before index `at`, whose link this is. It passes over those that can't
-    /// cover what this one covers. If the VRP before has the same prefix, all are left.
+    /// Returns how many VRPs before index `at` are left to a lookup. The link is that of the VRP at `at`.
+    ///
+    /// All are left if the VRP before has the same prefix. Otherwise the VRPs that can't cover what this one covers are
+    /// passed over.
     pub(crate) fn left(self, at: usize) -> usize
         ensures { ((result ≡ at) × (self.first < at))
             ⊎ ((result ≡ self.back) × (at ≤ self.first)) }
@@ -32,9 +34,9 @@ impl Link {
     }
 }
 
-/// Returns how many of the first `from` VRPs are left when the last ones that don't cover the route are dropped.
+/// Returns how many of the first `from` VRPs are left after the last ones that don't cover the route are dropped.
 ///
-/// Each step gets to a shorter prefix, so there are at most 129.
+/// Each step gets to a shorter prefix, so there are at most 129 steps.
 pub(crate) fn nearest(vrps: &[PackedVrp], links: &[Link], from: usize, route: &PackedVrp) -> usize
     requires in_order { IsInOrder vrps.now }
     requires is_prefix { IsFamilyPrefix route.now.0.prefix }
@@ -80,7 +82,11 @@ fn next_link(vrps: &[PackedVrp], links: &[Link], at: usize) -> Link
     }
 }
 
-/// Returns the link of each VRP, or `AllocError` if an allocation fails or there are more than [`MOST`] VRPs.
+/// Returns the link of each VRP.
+///
+/// # Errors
+///
+/// [`AllocError`] if an allocation fails, or if there are more than [`MOST`] VRPs.
 pub(crate) fn links<A: Allocator>(alloc: A, vrps: &[PackedVrp]) -> Result<Vec<Link, A>, AllocError>
     requires { IsInOrder vrps.now }
     ensures links { IfOk result (λ links. IsTable vrps.now links.items) }

@@ -7,10 +7,10 @@ use crate::vrp::Vrp;
 use std::fmt;
 use std::marker::Model;
 
-/// An iterator over the VRPs of a table, in its order. Its value in contracts is the list of the VRPs that are left.
+/// An iterator over the VRPs of a table, in its order. In contracts its value is the list of the VRPs that are left.
 ///
-/// This iterator borrows an [`crate::OriginTable`]. A [`crate::VrpTable`] owns its VRPs, each once, as a cache
-/// sends them.
+/// This iterator borrows the VRPs of an [`crate::OriginTable`]. A [`crate::VrpTable`] owns its VRPs, each once, as a
+/// cache sends them.
 #[derive(Drop)]
 pub struct TableVrps<'a> {
     vrps: &'a [PackedVrp],
@@ -26,6 +26,7 @@ impl<'a> Model for TableVrps<'a> {
 }
 
 impl<'a> TableVrps<'a> {
+    /// Returns an iterator over VRPs.
     pub(crate) fn of(vrps: &'a [PackedVrp]) -> TableVrps<'a>
         ensures { result ≡ vrps.now }
     {
@@ -33,7 +34,7 @@ impl<'a> TableVrps<'a> {
     }
 }
 
-/// Lists the VRPs that are left.
+/// Prints the VRPs that are left.
 impl fmt::Debug for TableVrps<'_> {
     fn fmt<W: fmt::Write>(&self, f: &mut fmt::Formatter<W>) -> fmt::Result {
         f.debug_list().entries(TableVrps::of(self.vrps)).finish()

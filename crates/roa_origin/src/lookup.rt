@@ -17,8 +17,8 @@ use std::marker::Model;
 
 /// A lookup of a route in a table.
 ///
-/// Each step reads another element of the table. With many routes, take a step for several of them before the next step
-/// for the first one. Then the reads for one route don't wait for those for another. The value in contracts is the
+/// Each step reads one more VRP of the table. For many routes, take a step for several of them before the next step for
+/// the first one. Then the reads for one route don't wait for the reads for another. In contracts its value is the
 /// table's VRPs, the route's prefix and its AS.
 #[derive(Drop)]
 pub struct Lookup<'a> {
@@ -44,7 +44,11 @@ impl<'a> Model for Lookup<'a> {
 }
 
 impl<'a> Lookup<'a> {
-    /// Starts a lookup: the starts give the two indices between which it searches.
+    /// Starts a lookup. The starts give the two indices between which it searches.
+    ///
+    /// # Preconditions
+    ///
+    /// `links` and `starts` are those of `vrps`, for the first `bits` bits.
     #[tactic(auto, using(crate::proofs::FirstBits::between_starts))]
     pub(crate) fn of(
         vrps: &'a [PackedVrp],
@@ -72,8 +76,9 @@ impl<'a> Lookup<'a> {
         }
     }
 
-    /// Takes the next step: the VRP in the middle halves the range that is left. The result of the lookup stays the
-    /// same.
+    /// Takes the next step: reads the VRP in the middle of the range that is left, and halves the range.
+    ///
+    /// The step changes only how much a later call has to read. The results of the lookup stay the same.
     pub fn advance(&mut self)
         ensures { self.new ≡ self.old }
     {
@@ -97,7 +102,7 @@ impl<'a> Lookup<'a> {
         count_between(self.vrps, self.from, self.to, &self.route)
     }
 
-    /// Returns the validity of the route by the VRPs of the table.
+    /// Returns the validity of the route by the VRPs of the table (RFC 6811, 2).
     pub fn validity(&self) -> Validity
         ensures { IsValidity self.now.route self.now.asn self.now.vrps result }
     {
@@ -111,7 +116,7 @@ impl<'a> Lookup<'a> {
         has_covering_asn_in(self.vrps, self.links, self.count(), &self.route)
     }
 
-    /// Returns the VRPs of the table that cover the route, the last first.
+    /// Returns the VRPs of the table that cover the route, the last VRP in the table's order first.
     #[tactic(auto, using(crate::proofs::CoveringVrps::all_before))]
     pub(crate) fn covering(self) -> Covering<'a>
         ensures covering { reverse result
@@ -124,7 +129,7 @@ impl<'a> Lookup<'a> {
     }
 }
 
-/// Shows the route. It doesn't show the table's VRPs.
+/// Prints the route, and not the table's VRPs.
 impl fmt::Debug for Lookup<'_> {
     fn fmt<W: fmt::Write>(&self, f: &mut fmt::Formatter<W>) -> fmt::Result {
         let (prefix, asn) = self.route.vrp();

@@ -13,7 +13,7 @@ use rpki_prefix::{MaxLenPrefix, Prefix};
 use std::cmp::Ordering;
 use std::marker::Model;
 
-/// The fields of a VRP, without the padding of their types. Its value in contracts is the VRP.
+/// The fields of a VRP, without the padding of their types. In contracts its value is the VRP.
 #[derive(Clone, Copy)]
 pub(crate) struct PackedVrp {
     bits: u128,

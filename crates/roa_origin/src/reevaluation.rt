@@ -1,4 +1,4 @@
-//! The routes that a router evaluates anew when its table changes (RFC 6811, 4).
+//! The routes that a router evaluates again after its table changes (RFC 6811, 4).
 ghost use Rattle.std.specs.Prelude.{◌≢◌, ◌↔◌, IfOk, IsTrue};
 ghost use Rattle.roa_origin.specs.Reevaluations.{AreChanged};
 
@@ -10,7 +10,7 @@ use std::alloc::{AllocError, Allocator};
 
 /// Returns the indices of the routes whose validity differs between `old` and `new`, ascending and counted from 0.
 ///
-/// `routes` has a prefix and an origin AS for each route. A router evaluates the returned routes anew when it replaces
+/// `routes` has a prefix and an origin AS for each route. A router evaluates the returned routes again when it replaces
 /// `old` by `new`. All other routes keep their validity (RFC 6811, 4).
 ///
 /// This call compares the validity of routes. [`crate::VrpTable::changes_to`] compares the VRPs of two tables.

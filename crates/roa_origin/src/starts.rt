@@ -1,4 +1,4 @@
-//! The indices in a table at which VRPs begin whose addresses have the same first bits. A search begins there.
+//! Indices at which a search in a table begins: those of the first VRPs whose addresses have the same first bits.
 ghost use Rattle.std.specs.Prelude.{◌^◌, ◌<◌, ◌≤◌, IfOk, length, slice_index_or};
 ghost use Rattle.std.specs.List.Sorted.{IsNonDecreasingBy};
 ghost use Rattle.roa_origin.specs.Links.{AreFamilyPrefixes};
@@ -9,8 +9,9 @@ ghost use Rattle.roa_origin.specs.Starts.{AreStarts, IsStart, first_bits};
 use crate::packed_vrp::PackedVrp;
 use std::alloc::{AllocError, Allocator};
 
-/// Returns how many first bits the starts for this many VRPs use: about one start for two or three VRPs, and at most a
-/// million starts for each family.
+/// Returns how many first bits the starts for this many VRPs use, 1 to 20.
+///
+/// There is about one start for two or three VRPs, and there are at most a million starts for each family.
 pub(crate) fn bits_for(vrps: usize) -> u8
     ensures some { 1 ≤ result }
     ensures few { result ≤ 20 }
@@ -22,7 +23,11 @@ pub(crate) fn bits_for(vrps: usize) -> u8
     bits
 }
 
-/// Returns the index up to which the first bits of VRPs write less than `number`. They do so before index `from`.
+/// Returns the index of the first VRP whose first `bits` bits write `number` or more, or the length of the list.
+///
+/// # Preconditions
+///
+/// `bits` is 1 to 20. The bits of the VRPs before index `from` write less than `number`.
 fn start_from(vrps: &[PackedVrp], bits: u8, number: usize, from: usize) -> usize
     requires ordered { IsNonDecreasingBy vrp_place vrps.now }
     requires prefixes { AreFamilyPrefixes vrps.now (length vrps.now) }
@@ -41,6 +46,10 @@ fn start_from(vrps: &[PackedVrp], bits: u8, number: usize, from: usize) -> usize
 }
 
 /// Returns the starts of all numbers that the first bits of an address write, and the end, in one pass over the VRPs.
+///
+/// # Errors
+///
+/// [`AllocError`] if an allocation fails.
 pub(crate) fn starts<A: Allocator>(
     alloc: A,
     vrps: &[PackedVrp],

@@ -23,10 +23,11 @@ use thiserror::Error;
 /// counted from 0.
 #[derive(Clone, Copy, Debug, PartialEq, Eq, Error)]
 pub enum ChangeFault {
-    /// A withdrawn VRP isn't in the table, or is withdrawn before in the same list (error 6).
+    /// A withdrawn VRP isn't in the table, or is withdrawn before in the same list (RFC 8210, 12: error 6).
     #[error("withdrawal of unknown record at {0}")]
     UnknownWithdrawal(usize),
-    /// An announced VRP is in the table and isn't withdrawn, or is announced before in the same list (error 7).
+    /// An announced VRP is in the table and isn't withdrawn, or is announced before in the same list (RFC 8210, 12:
+    /// error 7).
     #[error("duplicate announcement received at {0}")]
     DuplicateAnnouncement(usize),
 }
@@ -60,7 +61,7 @@ impl Change {
     }
 }
 
-/// Compares indices.
+/// Compares two indices.
 fn cmp_numbers(one: usize, other: usize) -> Ordering
     ensures order { result ≡ nat_cmp one other }
     ensures one { one < 2 ^ 64 }
@@ -103,7 +104,7 @@ fn sort_changes<A: Allocator>(changes: &mut Vec<Change, A>)
     );
 }
 
-/// Returns whether the change at an index is one of the VRP.
+/// Returns whether the change at index `at` is one of the VRP, compared as VRPs are sent.
 fn stands_at(changes: &[Change], at: usize, vrp: &PackedVrp) -> bool
     ensures { IsTrue result ↔ ((at < length changes.now)
         × ((d : Change) → IsOf vrp.now (slice_index_or changes.now at d))) }
@@ -111,7 +112,7 @@ fn stands_at(changes: &[Change], at: usize, vrp: &PackedVrp) -> bool
     at < changes.len() && changes[at].vrp.is_sent_as(vrp)
 }
 
-/// Returns the index up to which changes are of VRPs that come earlier, by a binary search.
+/// Returns the index of the first change whose VRP doesn't come before `vrp`, by a binary search.
 fn place_of(changes: &[Change], vrp: &PackedVrp) -> usize
     requires { AreSorted changes.now }
     ensures within { result ≤ length changes.now }
@@ -124,7 +125,8 @@ fn place_of(changes: &[Change], vrp: &PackedVrp) -> usize
     )
 }
 
-/// Returns the lowest index at which a list has the VRP, by the changes of the list.
+/// Returns the lowest index at which a list has the VRP, or None if the list doesn't have it, by the changes of the
+/// list.
 #[tactic(auto, using(crate::proofs::ChangesAsListed::first_of, crate::proofs::ChangesAsListed::none_of))]
 fn first_place(changes: &[Change], vrp: &PackedVrp) -> Option<usize>
     requires { AreSorted changes.now }
@@ -157,7 +159,7 @@ fn is_listed(changes: &[Change], vrp: &PackedVrp) -> bool
     first_place(changes, vrp).is_some()
 }
 
-/// Returns the index up to which a table's VRPs, as they are sent, come earlier, by a binary search.
+/// Returns the index of the first VRP of a table that, as it is sent, doesn't come before `vrp`, by a binary search.
 fn place_in(table: &[PackedVrp], vrp: &PackedVrp) -> usize
     requires { IsInOrder table.now }
     ensures within { result ≤ length table.now }
@@ -180,7 +182,7 @@ fn has(table: &[PackedVrp], vrp: &PackedVrp) -> bool
     at < table.len() && table[at].is_sent_as(vrp)
 }
 
-/// Returns whether a table doesn't have the VRP, or a list has it before an index.
+/// Returns whether a table doesn't have the VRP, or the list of the changes has it before index `place`.
 fn is_unknown(table: &[PackedVrp], changes: &[Change], vrp: &PackedVrp, place: usize) -> bool
     requires table { IsInOrder table.now }
     requires changes { AreSorted changes.now }
@@ -193,7 +195,7 @@ fn is_unknown(table: &[PackedVrp], changes: &[Change], vrp: &PackedVrp, place: u
     true
 }
 
-/// Returns whether a table has the VRP and it isn't withdrawn, or a list has it before an index.
+/// Returns whether a table has the VRP and it isn't withdrawn, or the list of the changes has it before index `place`.
 fn is_duplicate(
     table: &[PackedVrp],
     withdrawn: &[Change],
@@ -255,8 +257,8 @@ fn first_duplicate(
     None
 }
 
-/// Returns whether the next VRP to list is an announced one: it comes before the table's next one, or none is left
-/// there.
+/// Returns whether the next VRP to list is an announced one: it comes before the table's next VRP, or the table has no
+/// VRP left.
 fn announced_is_next(table: &[PackedVrp], at: usize, announced: &[Change], come: usize) -> bool
     requires at { at ≤ length table.now }
     requires come { come ≤ length announced.now }
@@ -275,7 +277,7 @@ fn announced_is_next(table: &[PackedVrp], at: usize, announced: &[Change], come:
     announced[come].vrp.cmp_place(&table[at]).is_lt()
 }
 
-/// Returns the first index, from `from` on, at which no change is of a VRP that comes earlier.
+/// Returns the first index, from `from` on, whose change is not of a VRP that comes before `vrp`.
 fn passed(changes: &[Change], from: usize, vrp: &PackedVrp) -> usize
     requires from { from ≤ length changes.now }
     requires in_order { AreSorted changes.now }
@@ -291,7 +293,9 @@ fn passed(changes: &[Change], from: usize, vrp: &PackedVrp) -> usize
     at
 }
 
-/// Returns the index up to which a table's VRPs, as they are sent, come before the VRP of the next change.
+/// Returns the index up to which a table's VRPs, as they are sent, come before the VRP of the change at `next`.
+///
+/// Without such a change it is the length of the table.
 fn end_before(table: &[PackedVrp], changes: &[Change], next: usize) -> usize
     requires { IsInOrder table.now }
     ensures within { result ≤ length table.now }
@@ -323,7 +327,9 @@ fn count_up_to(table: &[PackedVrp], vrp: &PackedVrp) -> usize
     )
 }
 
-/// Returns the index up to which a table's VRPs come no later than the VRP of the next change.
+/// Returns the index up to which a table's VRPs come no later than the VRP of the change at `next`.
+///
+/// Without such a change it is the length of the table.
 fn end_up_to(table: &[PackedVrp], changes: &[Change], next: usize) -> usize
     requires { IsInOrder table.now }
     ensures within { result ≤ length table.now }
@@ -367,8 +373,9 @@ fn run_end(
     before.min(up_to)
 }
 
-/// Returns the VRPs of a table that aren't withdrawn, and those announced, in a table's order. The call makes one pass
-/// over the changes, and lists the VRPs between them run by run.
+/// Returns the VRPs of a table that aren't withdrawn, and the announced VRPs, in a table's order.
+///
+/// The call makes one pass over the changes, and copies the VRPs between them as whole runs.
 fn updated<A: Allocator>(
     alloc: A,
     table: &[PackedVrp],

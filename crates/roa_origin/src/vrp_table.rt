@@ -11,11 +11,10 @@ use std::marker::Model;
 /// VRPs as routers get them, ascending and without duplicates (RFC 9582, 4.3.2; RFC 8210, 5.6 and 5.7).
 ///
 /// Each VRP has a maximum length. It is the prefix length if the ROA has no maximum length. VRPs are in the order of
-/// their prefixes, then the longer maximum length first, then by the AS number. The value of a table in contracts is
+/// their prefixes, then the longer maximum length first, then by the AS number. In contracts the value of a table is
 /// the list of its VRPs.
 ///
-/// A `VrpTable` owns its VRPs. [`crate::TableVrps`] is an iterator that borrows those of an
-/// [`crate::OriginTable`].
+/// A `VrpTable` owns its VRPs. [`crate::TableVrps`] is an iterator that borrows those of an [`crate::OriginTable`].
 #[derive(Drop)]
 pub struct VrpTable<A: Allocator = Global> {
     vrps: Vec<Vrp, A>,
@@ -60,7 +59,7 @@ impl<A: Allocator> VrpTable<A> {
         self.vrps.as_slice()
     }
 
-    /// Returns the table of VRPs that are in order.
+    /// Returns the table of VRPs that are ascending already.
     pub(crate) fn of(vrps: Vec<Vrp, A>) -> VrpTable<A>
         requires { IsAscending vrps.items }
         ensures { result ≡ vrps.items }
@@ -69,14 +68,18 @@ impl<A: Allocator> VrpTable<A> {
     }
 }
 
-/// Lists the VRPs, ascending.
+/// Prints the VRPs, ascending.
 impl<A: Allocator> fmt::Debug for VrpTable<A> {
     fn fmt<W: fmt::Write>(&self, f: &mut fmt::Formatter<W>) -> fmt::Result {
         f.debug_list().entries(self.as_slice()).finish()
     }
 }
 
-/// Returns the VRPs as they are sent, or `AllocError` if an allocation fails.
+/// Returns the VRPs as they are sent.
+///
+/// # Errors
+///
+/// [`AllocError`] if an allocation fails.
 #[tactic(auto, using(std::proofs::lemmas::Grind::common_steps))]
 fn sent<A: Allocator>(alloc: A, vrps: &[Vrp]) -> Result<Vec<Vrp, A>, AllocError>
     ensures { IfOk result (λ list. list.items ≡ map as_sent vrps.now) }

@@ -1,4 +1,4 @@
--- The files for which a reader may run out of memory: those with something to keep.
+-- The files for which a reader may run out of memory: JSON objects in UTF-8, and CSV files with a VRP before any fault.
 use Rattle.std.specs.Prelude.{◌≢◌, ◌⊎◌, ℕ, List, [], ◌∷◌}
 use Rattle.std.specs.Str.{IsUtf8}
 use Rattle.rpki_text.specs.Lines.{lines_of}
@@ -9,16 +9,16 @@ use Rattle.roa_vrps.specs.Rows.{IsRow}
 use Rattle.roa_vrps.specs.declared.columns.Columns.{Columns}
 use Rattle.roa_vrps.specs.declared.row.Row.{Row}
 
--- one of these lines is a VRP, and no line before it is wrong
+-- one of these lines is a VRP, and no line before it is invalid
 abbrev pub BeginVrps : Columns → List (List ℕ) → Type 0
 BeginVrps columns [] = ⊥
 BeginVrps columns (line ∷ lines) =
     (row : Row) × IsRow columns line row × ((vrps_of row ≢ []) ⊎ BeginVrps (columns_after columns row) lines)
 
--- a CSV file has a VRP before its first wrong line
+-- a CSV file has a VRP before its first invalid line
 abbrev pub HasCsvVrp : List ℕ → Type 0
 HasCsvVrp text = BeginVrps usual (lines_of text)
 
--- the file is UTF-8 that opens an object, or CSV with a VRP before the first wrong line
+-- the file is UTF-8 and opens an object, or it is CSV with a VRP before its first invalid line
 abbrev pub MayWantMemory : List ℕ → Type 0
 MayWantMemory text = (IsObjectText text × IsUtf8 text) ⊎ (IsCsvText text × HasCsvVrp text)

@@ -16,7 +16,7 @@ pub record IsColumn (column : Column) (line : List ℕ) (n : ℕ) : Type 0 where
   pub named : Names column (field n line)
   pub first : (m : ℕ) → m < n → ¬ Names column (field m line)
 
--- the line names each of the columns, and each of its fields is a column
+-- the line names each of the three columns, and each of its fields is a column
 pub record IsHeader (line : List ℕ) (columns : Columns) : Type 0 where
   pub asn : IsColumn Asn line columns.asn
   pub prefix : IsColumn Prefix line columns.prefix
@@ -24,6 +24,6 @@ pub record IsHeader (line : List ℕ) (columns : Columns) : Type 0 where
   pub count : columns.count ≡ field_count line
   pub is_named : columns.is_named ≡ true
 
--- the columns until a line names them
+-- the columns of a file until one of its lines names them
 abbrev pub usual : Columns
 usual = record { asn = 0; prefix = 1; max_len = 2; count = 3; is_named = false }

@@ -11,7 +11,7 @@ use Rattle.roa_vrps.specs.declared.fault.VrpFault.{VrpFault}
 use Rattle.roa_vrps.specs.declared.row.Row.{Row}
 use Rattle.roa_vrps.specs.declared.row.Row.TheVariants.{Blank, Header, Vrp}
 
--- the VRP of a line, if it has one
+-- the VRP of a line, as a list that is empty if the line has none
 abbrev pub vrps_of : Row → List (MaxLenValue × ℕ)
 vrps_of Blank = []
 vrps_of (Header next) = []
@@ -23,24 +23,24 @@ columns_after columns Blank = columns
 columns_after columns (Header next) = next
 columns_after columns (Vrp vrp) = columns
 
--- lines with these columns, until one of them names others, have these VRPs
+-- lines have these VRPs; the columns are those that are given, until a line names others
 abbrev pub AreRows : Columns → List (List ℕ) → List (MaxLenValue × ℕ) → Type 0
 AreRows columns [] vrps = vrps ≡ []
 AreRows columns (line ∷ lines) vrps =
     (row : Row) × IsRow columns line row × (more : List (MaxLenValue × ℕ)) × (vrps ≡ vrps_of row ++ more) × AreRows (columns_after columns row) lines more
 
--- the first of these lines that is wrong, and its fault; number is that of the first line
+-- the first invalid line and its fault; number is that of the first line
 abbrev pub HaveFirstFault : ℕ → Columns → List (List ℕ) → FileFault → Type 0
 HaveFirstFault number columns [] fault = ⊥
 HaveFirstFault number columns (line ∷ lines) fault =
     ((wrong : VrpFault) × HasRowFault columns line wrong × (fault ≡ Line number wrong))
     ⊎ ((row : Row) × IsRow columns line row × HaveFirstFault (number + 1) (columns_after columns row) lines fault)
 
--- the lines of a text have these VRPs, at least one
+-- the lines of the text have these VRPs, and there is at least one
 abbrev pub IsCsvFile : List ℕ → List (MaxLenValue × ℕ) → Type 0
 IsCsvFile text vrps = AreRows usual (lines_of text) vrps × (vrps ≢ [])
 
--- one of the lines is wrong (the first has number 1), or no line has a VRP
+-- a line is invalid (the first line has number 1), or no line has a VRP
 abbrev pub HasCsvFault : List ℕ → FileFault → Type 0
 HasCsvFault text (Line number wrong) = HaveFirstFault 1 usual (lines_of text) (Line number wrong)
 HasCsvFault text NoVrp = AreRows usual (lines_of text) []

@@ -25,7 +25,7 @@ pub record IsCsvText (text : List ℕ) : Type 0 where
 abbrev pub IsVrpFile : List ℕ → List (MaxLenValue × ℕ) → Type 0
 IsVrpFile text vrps = (IsObjectText text × IsJsonFile text vrps) ⊎ (IsCsvText text × IsCsvFile text vrps)
 
--- this is the fault of the text
+-- the fault of the text as JSON, as an array, or as CSV
 abbrev pub HasFileFault : List ℕ → FileFault → Type 0
 HasFileFault text fault =
     (IsObjectText text × HasJsonFault text fault)

@@ -10,7 +10,7 @@ use Rattle.roa_vrps.specs.declared.fault.ItemFault.{ItemFault}
 use Rattle.roa_vrps.specs.declared.fault.ItemFault.TheVariants.{Member, Vrp}
 use Rattle.roa_vrps.specs.declared.member.Member.TheVariants.{Asn, Prefix, MaxLength}
 
--- the members that an item must have have these texts
+-- the three required members of an item have these texts
 pub record HasTexts (value : Json) (asn_text prefix_text max_text : List ℕ) : Type 0 where
   pub asn : HasText Asn value asn_text
   pub prefix : HasText Prefix value prefix_text
@@ -21,7 +21,7 @@ abbrev pub IsItem : Json → MaxLenValue × ℕ → Type 0
 IsItem value vrp =
     (asn : List ℕ) × (prefix : List ℕ) × (max : List ℕ) × HasTexts value asn prefix max × AreVrpTexts asn prefix max vrp.0 vrp.1
 
--- this is the first fault of an item: of the members, in their order, and then of the VRP that they give
+-- the first fault of an item: of its members, in their order, and then of the VRP that they give
 abbrev pub HasItemFault : Json → ItemFault → Type 0
 HasItemFault value (Member Asn f) = HasMemberFault Asn value f
 HasItemFault value (Member Prefix f) = ((asn : List ℕ) × HasText Asn value asn) × HasMemberFault Prefix value f
@@ -36,7 +36,7 @@ AreItems no_items vrps = vrps ≡ []
 AreItems (item value items) vrps =
     (vrp : MaxLenValue × ℕ) × IsItem value vrp × (more : List (MaxLenValue × ℕ)) × (vrps ≡ vrp ∷ more) × AreItems items more
 
--- the first of these items that is wrong, and its fault; place is the number of the first item
+-- the first invalid item and its fault; place is the number of the first item
 abbrev pub HaveWrongItem : ℕ → Items → FileFault → Type 0
 HaveWrongItem place no_items fault = ⊥
 HaveWrongItem place (item value items) fault =

@@ -8,7 +8,7 @@ use Rattle.roa_vrps.specs.Members.{values_in, AreWrong}
 use Rattle.roa_vrps.specs.declared.fault.FileFault.{FileFault}
 use Rattle.roa_vrps.specs.declared.fault.FileFault.TheVariants.{Line, NoVrp, JsonArray, NotObject, Roas, Item}
 
--- the text is a JSON text, and its value is an object of these members
+-- the text is UTF-8 and a JSON text, and its value is an object of these members (RFC 8259, 2 and 4)
 abbrev pub IsJsonObject : List ℕ → Members → Type 0
 IsJsonObject text members = IsUtf8 text × (document text ≡ Some (object members))
 
@@ -20,7 +20,7 @@ roas = codes "roas"
 abbrev pub WriteRoas : List Json → List (MaxLenValue × ℕ) → Type 0
 WriteRoas values vrps = (items : Items) × (values ≡ array items ∷ []) × AreItems items vrps
 
--- the values of `roas` are not a single array, or one of its items is wrong (the first has number 1)
+-- the values of `roas` are not a single array, or one of its items is invalid (the first item has number 1)
 abbrev pub HaveRoasFault : List Json → FileFault → Type 0
 HaveRoasFault values (Line number wrong) = ⊥
 HaveRoasFault values NoVrp = ⊥
@@ -29,15 +29,15 @@ HaveRoasFault values NotObject = ⊥
 HaveRoasFault values (Roas wrong) = AreWrong (λ value. (items : Items) × (value ≡ array items)) values wrong
 HaveRoasFault values (Item place wrong) = (items : Items) × (values ≡ array items ∷ []) × HaveWrongItem 1 items (Item place wrong)
 
--- the values give these VRPs, or this fault
+-- the values of `roas` give these VRPs, or this fault
 abbrev pub IsRoasResult : {A : Type 0} → List Json → Result (Vec (MaxLenValue × ℕ) A) FileFault → Type 0
 IsRoasResult values outcome = MatchResult outcome (λ vrps. WriteRoas values vrps.items) (HaveRoasFault values)
 
--- the text has these VRPs, at least one
+-- the member `roas` of the text has these VRPs, and there is at least one
 abbrev pub IsJsonFile : List ℕ → List (MaxLenValue × ℕ) → Type 0
 IsJsonFile text vrps = ((members : Members) × IsJsonObject text members × WriteRoas (values_in roas members) vrps) × (vrps ≢ [])
 
--- the text is no JSON object, its member `roas` is wrong, or it has no items
+-- the text is no JSON object, or its member `roas` is invalid or has no items
 abbrev pub HasJsonFault : List ℕ → FileFault → Type 0
 HasJsonFault text (Line number wrong) = ⊥
 HasJsonFault text NoVrp = (members : Members) × IsJsonObject text members × WriteRoas (values_in roas members) []

@@ -1,5 +1,5 @@
--- Members of JSON objects (RFC 8259, 4). Of two members of one name, some readers take the first and some the last. So
--- each required member must occur exactly once.
+-- Members of JSON objects (RFC 8259, 4). Some readers take the first of two members of one name, and some the last.
+-- Therefore each required member must occur exactly once.
 use Rattle.std.specs.Prelude.{◌≡◌, ◌⊎◌, ℕ, ◌<◌, List, [], ◌∷◌, MatchResult, Result, codes, length, if◌then◌else◌}
 use Rattle.std.specs.Borrow.{Bor}
 use Rattle.std.specs.Str.{bytes_eq}
@@ -16,7 +16,7 @@ abbrev pub values_in : List ℕ → Members → List Json
 values_in name no_members = []
 values_in name (member key value more) = if bytes_eq key name then value ∷ values_in name more else values_in name more
 
--- the same for any value; a value that is not an object has no member
+-- the values of the members of this name of any value; a value that is not an object has no members
 abbrev pub named_values : List ℕ → Json → List Json
 named_values name null = []
 named_values name (boolean b) = []
@@ -25,13 +25,13 @@ named_values name (string s) = []
 named_values name (array js) = []
 named_values name (object ms) = values_in name ms
 
--- the fault of the values of a member that must occur exactly once, and be of a kind
+-- the fault of the values of a member that must occur exactly once and be of a kind
 abbrev pub AreWrong : (Json → Type 0) → List Json → MemberFault → Type 0
 AreWrong IsKind values Missing = values ≡ []
 AreWrong IsKind values Repeated = 1 < length values
 AreWrong IsKind values Kind = (value : Json) × (values ≡ value ∷ []) × ¬ IsKind value
 
--- the result for the values of a member: the only value, or the fault
+-- the result of a search for a member: its only value, or Missing or Repeated
 abbrev pub IsFound : {A : Type 0} → List Json → Result (Bor (Value A)) MemberFault → Type 0
 IsFound values found = MatchResult found (λ value. values ≡ value_view value.now ∷ []) (AreWrong (λ value. Unit {0}) values)
 
@@ -41,7 +41,8 @@ name_of Asn = codes "asn"
 name_of Prefix = codes "prefix"
 name_of MaxLength = codes "maxLength"
 
--- the value of a member has this text: that of an AS number is a number or a string
+-- the value of a member has this text: an AS number is a number or a string, a prefix a string, a maximum length a
+-- number
 abbrev pub Writes : Member → List ℕ → Json → Type 0
 Writes Asn text value = (value ≡ number text) ⊎ (value ≡ string text)
 Writes Prefix text value = value ≡ string text

@@ -14,7 +14,7 @@ use Rattle.roa_vrps.specs.declared.fault.VrpFault.TheVariants.{NotUtf8, TooManyF
 use Rattle.roa_vrps.specs.declared.row.Row.{Row}
 use Rattle.roa_vrps.specs.declared.row.Row.TheVariants.{Blank, Header, Vrp}
 
--- three texts give an AS number, a prefix and a maximum length of the prefix
+-- three texts denote an AS number, a prefix and a maximum length of this prefix
 pub record AreVrpTexts (asn_text prefix_text max_text : List ℕ) (prefix : MaxLenValue) (asn : ℕ) : Type 0 where
   pub asn_is : IsAsnText asn_text asn
   pub prefix_is : IsPrefixText prefix_text prefix.prefix
@@ -23,14 +23,15 @@ pub record AreVrpTexts (asn_text prefix_text max_text : List ℕ) (prefix : MaxL
   pub len_is : IsNumberText (2 ^ 8 - 1) max_text len
   pub within : IsMaxLenOf prefix.prefix (Some len)
 
--- the text is an AS number; a prefix
+-- the text is an AS number
 abbrev pub WritesAsn : List ℕ → Type 0
 WritesAsn text = (n : ℕ) × IsAsnText text n
 
+-- the text is a prefix
 abbrev pub WritesPrefix : List ℕ → Type 0
 WritesPrefix text = (p : FamilyPrefix) × IsPrefixText text p
 
--- this is the first fault of three texts
+-- the first fault of the texts of an AS number, a prefix and a maximum length
 abbrev pub HaveFault : List ℕ → List ℕ → List ℕ → VrpFault → Type 0
 HaveFault asn_text prefix_text max_text NotUtf8 = ⊥
 HaveFault asn_text prefix_text max_text (TooManyFields found named) = ⊥
@@ -41,7 +42,7 @@ HaveFault asn_text prefix_text max_text (MaxLenFormat f) = WritesAsn asn_text ×
 HaveFault asn_text prefix_text max_text (MaxLen f) =
     WritesAsn asn_text × ((p : FamilyPrefix) × (len : ℕ) × IsPrefixText prefix_text p × IsNumberText (2 ^ 8 - 1) max_text len × HasMaxLenError p (Some len) f)
 
--- the line must be a VRP: it is not blank, and doesn't name the columns
+-- the line must be a VRP: it is UTF-8 and not blank, and doesn't name the columns
 pub record IsBody (line : List ℕ) : Type 0 where
   pub utf8 : IsUtf8 line
   pub some_text : trim line ≢ []
@@ -57,11 +58,11 @@ pub record HasColumns (columns : Columns) (line : List ℕ) : Type 0 where
   pub prefix : columns.prefix < field_count line
   pub max_len : columns.max_len < field_count line
 
--- a line has as many fields as its columns allow and need
+-- a line has at most as many fields as its columns allow, and a field in each of the three columns
 abbrev pub FitsColumns : Columns → List ℕ → Type 0
 FitsColumns columns line = (¬ IsTooLong columns line) × HasColumns columns line
 
--- this is the fault of the number of its fields: how many it has, and how many columns there are
+-- the fault of the number of a line's fields, with its number of fields and the number of columns
 abbrev pub HasCountFault : Columns → List ℕ → VrpFault → Type 0
 HasCountFault columns line NotUtf8 = ⊥
 HasCountFault columns line (TooManyFields found named) = IsTooLong columns line × (found ≡ field_count line) × (named ≡ columns.count)
@@ -72,21 +73,21 @@ HasCountFault columns line (Prefix f) = ⊥
 HasCountFault columns line (MaxLenFormat f) = ⊥
 HasCountFault columns line (MaxLen f) = ⊥
 
--- the texts in the three columns of a line give this VRP
+-- the texts in the three columns of a line denote this VRP
 abbrev pub AreColumns : Columns → List ℕ → MaxLenValue × ℕ → Type 0
 AreColumns columns line vrp = AreVrpTexts (field columns.asn line) (field columns.prefix line) (field columns.max_len line) vrp.0 vrp.1
 
--- this is the first fault of these texts
+-- the first fault of the texts in the three columns of a line
 abbrev pub HaveColumnsFault : Columns → List ℕ → VrpFault → Type 0
 HaveColumnsFault columns line fault = HaveFault (field columns.asn line) (field columns.prefix line) (field columns.max_len line) fault
 
--- the content of a line
+-- the content of a line: blank, the names of columns, or a VRP
 abbrev pub IsRow : Columns → List ℕ → Row → Type 0
 IsRow columns line Blank = IsUtf8 line × (trim line ≡ [])
 IsRow columns line (Header next) = IsUtf8 line × (trim line ≢ []) × IsHeader line next
 IsRow columns line (Vrp vrp) = IsBody line × FitsColumns columns line × AreColumns columns line vrp
 
--- this is the fault of a line
+-- the first fault of a line
 abbrev pub HasRowFault : Columns → List ℕ → VrpFault → Type 0
 HasRowFault columns line NotUtf8 = ¬ IsUtf8 line
 HasRowFault columns line (TooManyFields found named) = IsBody line × HasCountFault columns line (TooManyFields found named)

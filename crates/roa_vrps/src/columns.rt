@@ -5,7 +5,7 @@ ghost use Rattle.roa_vrps.specs.Fields.{field};
 
 use crate::field::{cut_at_comma, field_count, value_of};
 
-/// A column that a VRP needs.
+/// A column that a line with a VRP must have.
 #[derive(Clone, Copy, Debug, PartialEq, Eq)]
 pub enum Column {
     /// The AS number. The column's name is `ASN`.
@@ -28,7 +28,7 @@ impl Column {
         }
     }
 
-    /// Returns the index of the first field of `line` that is a name of the column.
+    /// Returns the index of the first field of `line` that is a name of the column, or None if no field is.
     #[tactic(auto, using(crate::proofs::ColumnLemmas::looked_none, crate::proofs::ColumnLemmas::looked_more, crate::proofs::ColumnLemmas::looked_found))]
     fn place(self, line: &str) -> Option<usize>
         ensures { MatchOption result ((n : ℕ) → ¬ Names self (field n line.now))
@@ -48,7 +48,7 @@ impl Column {
     }
 }
 
-/// The index of each column in a line, and the number of columns. An index counts the commas before the field.
+/// The index of each column in a line, and the number of columns. An index is the number of commas before the field.
 #[derive(Clone, Copy, Debug, PartialEq, Eq)]
 pub struct Columns {
     /// The index of the AS number.
@@ -59,7 +59,7 @@ pub struct Columns {
     pub max_len: usize,
     /// The number of columns.
     pub count: usize,
-    /// Whether a line has named the columns. A later line that is a VRP then has at most `count` fields.
+    /// Whether a line has named the columns. A later line with a VRP then has at most `count` fields.
     pub is_named: bool,
 }
 
@@ -73,7 +73,7 @@ impl Columns {
         is_named: false,
     };
 
-    /// Returns the columns that `line` names, if it names all three.
+    /// Returns the columns that `line` names, or None if it doesn't name all three.
     pub(crate) fn named_by(line: &str) -> Option<Columns>
         ensures { MatchOption result ((columns : Columns) → ¬ IsHeader line.now columns)
             (IsHeader line.now) }

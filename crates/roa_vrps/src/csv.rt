@@ -12,7 +12,12 @@ use rpki_base::memory::OrMemory;
 use rpki_text::line::cut_at_line_end;
 use std::alloc::Allocator;
 
-/// Returns the VRPs of the lines, in their order, or the first fault. Memory is requested only for VRPs.
+/// Returns the VRPs of the lines, in their order. Memory is requested only for VRPs.
+///
+/// # Errors
+///
+/// - `Refused` with [`FileFault::Line`] for the first invalid line, or with [`FileFault::NoVrp`] if no line has a VRP.
+/// - `Memory` if an allocation fails.
 #[tactic(auto, using(crate::proofs::CsvLemmas::read_none, crate::proofs::CsvLemmas::read_more, crate::proofs::CsvLemmas::read_no_vrp, crate::proofs::CsvLemmas::read_wrong, crate::proofs::CsvLemmas::read_wanting))]
 pub(crate) fn read_csv<A: Allocator>(
     alloc: A,

@@ -7,16 +7,18 @@ use rpki_base::number::ParseIntError;
 use rpki_prefix::{MaxLenError, ParsePrefixError};
 use thiserror::Error;
 
-/// A fault of a VRP. A call returns the first fault in this order. Only lines have the first three.
+/// A fault of a VRP. A call returns the first fault in the order of the variants. Only lines of CSV have the first
+/// three.
 #[derive(Clone, Copy, Debug, PartialEq, Eq, Error)]
 pub enum VrpFault {
     /// The line isn't UTF-8.
     #[error("not UTF-8")]
     NotUtf8,
-    /// The line has more fields than the line that names the columns: the number of fields of each.
+    /// The line has more fields than the line that names the columns. The fields are the number of fields of each.
     #[error("too many fields: {0}, but the header names {1}")]
     TooManyFields(usize, usize),
-    /// The line lacks a field in one of the three columns: its number of fields, and the number of columns.
+    /// The line lacks a field in one of the three columns. The fields are its number of fields, and the number of
+    /// columns.
     #[error("too few fields: {0} of {1}")]
     TooFewFields(usize, usize),
     /// The text of the AS number is not an AS number.
@@ -28,7 +30,8 @@ pub enum VrpFault {
     /// The text of the maximum length is not a number of 8 bits.
     #[error("invalid max length: {0}")]
     MaxLenFormat(ParseIntError),
-    /// The number is not a maximum length of the prefix.
+    /// The number is not a maximum length of the prefix: it is below the prefix length, or above the family's number of
+    /// bits.
     #[error("{0}")]
     MaxLen(MaxLenError),
 }
@@ -87,10 +90,10 @@ pub enum MemberFault {
     Kind,
 }
 
-/// A fault of an item of a list. A call returns the first fault in this order, and of members the first.
+/// A fault of an item of a list. The members come first, in the order of [`Member`], and then the VRP.
 #[derive(Clone, Copy, Debug, PartialEq, Eq, Error)]
 pub enum ItemFault {
-    /// A fault of one of its members. An item that is not an object has no members.
+    /// A fault of a required member. An item that is not an object has no members.
     #[error("{0}: {1}")]
     Member(Member, MemberFault),
     /// A fault of the VRP that its members give.
@@ -101,19 +104,19 @@ pub enum ItemFault {
 /// A fault of a file.
 #[derive(Clone, Copy, Debug, PartialEq, Eq, Error)]
 pub enum FileFault {
-    /// The first wrong line: its number, counted from 1, and its first fault.
+    /// The first invalid line of a CSV file: its number, counted from 1, and its first fault.
     #[error("line {0}: {1}")]
     Line(usize, VrpFault),
     /// The text opens a JSON array.
     #[error("a JSON array, where an object with the member roas is expected")]
     JsonArray,
-    /// The text opens an object, but it is not a JSON object or nests deeper than 128.
+    /// The text opens an object, but it is not a JSON object, or nests deeper than 128.
     #[error("not a JSON object")]
     NotObject,
     /// A fault of the object's member `roas`, which must be an array.
     #[error("roas: {0}")]
     Roas(MemberFault),
-    /// The first wrong item of `roas`: its number, counted from 1, and its first fault.
+    /// The first invalid item of `roas`: its number, counted from 1, and its first fault.
     #[error("item {0}: {1}")]
     Item(usize, ItemFault),
     /// The file has no other fault, and it has no VRP.

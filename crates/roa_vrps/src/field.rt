@@ -16,7 +16,7 @@ pub(crate) fn cut_at_comma(text: &str) -> (&str, &str)
     }
 }
 
-/// Returns `text` without the quotes round it, if there are any.
+/// Returns `text` without the quotes at both its ends, if it has them.
 fn without_quotes(text: &str) -> &str
     ensures { result.now ≡ unquoted text.now }
 {
@@ -27,14 +27,14 @@ fn without_quotes(text: &str) -> &str
     }
 }
 
-/// Returns the value of a field: `part` without white space round it, and then without quotes.
+/// Returns the value of a field: `part` without white space at its ends, and then without quotes at its ends.
 pub(crate) fn value_of(part: &str) -> &str
     ensures { result.now ≡ unquoted (trim part.now) }
 {
     without_quotes(part.trim())
 }
 
-/// Returns the value of the field at index `commas`. It is empty if the line has fewer commas.
+/// Returns the value of the field after `commas` commas. It is empty if the line has fewer commas.
 #[tactic(auto, using(crate::proofs::FieldLemmas::after_commas_next))]
 pub(crate) fn field_at(line: &str, commas: usize) -> &str
     ensures { result.now ≡ field commas line.now }

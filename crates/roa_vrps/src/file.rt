@@ -18,21 +18,22 @@ use std::alloc::Allocator;
 /// - `text`: the whole file.
 ///
 /// A file whose first octet that is not white space is `{` is JSON (RFC 8259). Its VRPs are the items of the member
-/// `roas`, an array. An item is an object with the members `asn` (a number or a text), `prefix` (a text) and
+/// `roas`, an array. An item is an object with the members `asn` (a number or a string), `prefix` (a string) and
 /// `maxLength` (a number), each exactly once. Other members are ignored. The text nests at most 128 deep.
 ///
-/// Any other file is CSV. A line is blank, or names the columns, or is a VRP: an AS number, a prefix and a maxLength.
-/// These are the first three fields of a line. If an earlier line names the columns, they are the fields in the columns
-/// that the last such line names. A line then has no more fields than that line.
+/// Any other file is CSV, except one whose first such octet is `[`. A line is blank, or names the columns, or is a VRP:
+/// an AS number, a prefix and a maximum length. These are the first three fields of a line. If an earlier line names
+/// the columns, they are the fields in the columns that the last such line names. A line then has no more fields than
+/// that line.
 ///
 /// # Errors
 ///
-/// - [`FileFault::Line`]: the first line that is wrong, by its number, from 1, and its first fault.
-/// - [`FileFault::Item`]: the first item of `roas` that is wrong, by its number, from 1, and its first fault.
+/// - [`FileFault::Line`]: the first invalid line, by its number, from 1, and its first fault.
+/// - [`FileFault::Item`]: the first invalid item of `roas`, by its number, from 1, and its first fault.
 /// - [`FileFault::JsonArray`]: the text opens an array.
 /// - [`FileFault::NotObject`]: the text opens an object, and is not valid JSON or nests deeper than 128.
 /// - [`FileFault::Roas`]: the object has no member `roas`, or several, or one that is not an array.
-/// - [`FileFault::NoVrp`]: the file has no VRP.
+/// - [`FileFault::NoVrp`]: the file has no VRP, and no other fault.
 /// - [`OrMemory::Memory`]: an allocation failed.
 pub fn read_vrps<A: Allocator + Copy>(
     alloc: A,

@@ -10,7 +10,7 @@ use crate::vrp::Vrp;
 use json::Value;
 use std::alloc::Allocator;
 
-/// Returns the VRP that `item` gives. Members of other names are ignored.
+/// Returns the VRP that `item` gives, or its first fault. Members of other names are ignored.
 pub(crate) fn read_item<A: Allocator>(item: &Value<'_, A>) -> Result<Vrp, ItemFault>
     ensures { MatchResult result (IsItem (value_view item.now))
         (HasItemFault (value_view item.now)) }

@@ -38,7 +38,7 @@ pub(crate) fn read_json<A: Allocator + Copy>(
     }
 }
 
-/// Reads the member `roas` of the object that `text` is.
+/// Reads the member `roas` of the object in `text`. [`Error::Invalid`] means that `text` is no JSON object.
 fn read_object<A: Allocator + Copy>(alloc: A, text: &str) -> Result<Roas<A>, Error>
     ensures outcome { IfOk result (λ outcome. (ms : Members)
         × (document text.now ≡ Some (object ms)) × IsRoasResult (values_in roas ms) outcome) }

@@ -12,9 +12,9 @@ use std::fmt;
 /// A member that an item must have.
 #[derive(Clone, Copy, Debug, PartialEq, Eq)]
 pub enum Member {
-    /// The AS number, `asn`: a number, or a text.
+    /// The AS number, `asn`: a number or a string.
     Asn,
-    /// The prefix, `prefix`: a text.
+    /// The prefix, `prefix`: a string.
     Prefix,
     /// The maximum length, `maxLength`: a number.
     MaxLength,
@@ -32,7 +32,7 @@ impl Member {
         }
     }
 
-    /// Returns the text of the member's value, if the value has the right kind.
+    /// Returns the text of the member's value, or None if the value has another kind.
     fn text<'a, A: Allocator>(self, value: &Value<'a, A>) -> Option<&'a str>
         ensures { MatchOption result
             ((text : List ℕ) → ¬ Writes self text (value_view value.now))
@@ -60,7 +60,7 @@ impl fmt::Display for Member {
     }
 }
 
-/// Returns the value of the only member of this name.
+/// Returns the value of the only member of this name, or Missing or Repeated.
 fn only<'v, 'a, A: Allocator>(
     members: &'v Vec<(&'a str, Value<'a, A>), A>,
     name: &str,
@@ -77,7 +77,7 @@ fn only<'v, 'a, A: Allocator>(
     found
 }
 
-/// Returns the result of the search after another value of this name, from the result before it.
+/// Returns the result of the search after one more value of this name. `found` is the result before it.
 #[tactic(auto, using(crate::proofs::MemberLemmas::more_wrong, crate::proofs::MemberLemmas::two_values))]
 fn another<'v, 'a, A: Allocator>(
     found: Result<&'v Value<'a, A>, MemberFault>,
@@ -93,7 +93,7 @@ fn another<'v, 'a, A: Allocator>(
     }
 }
 
-/// Returns the text of a member of an item.
+/// Returns the text of a member of an item. An item that is not an object lacks the member.
 pub(crate) fn text_of<'a, A: Allocator>(
     member: Member,
     item: &Value<'a, A>,

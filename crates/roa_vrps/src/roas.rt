@@ -16,7 +16,7 @@ use std::alloc::Allocator;
 /// The VRPs of the member `roas`, or its fault.
 pub(crate) type Roas<A> = Result<Vec<Vrp, A>, FileFault>;
 
-/// Reads the members of an object up to its end, and returns the VRPs of `roas` or its fault.
+/// Reads the members of an object up to its end, and returns the VRPs of `roas` or their fault.
 pub(crate) fn read_members<A: Allocator + Copy>(
     alloc: A,
     reader: &mut Reader<'_>,
@@ -35,7 +35,8 @@ pub(crate) fn read_members<A: Allocator + Copy>(
     Ok(outcome)
 }
 
-/// Reads the value of the member `key`, and returns the VRPs of `roas` or its fault, from the result before it.
+/// Reads the value of the member `key`, and returns the VRPs of `roas` or their fault. `outcome` is the result before
+/// it.
 fn read_member<A: Allocator + Copy>(
     alloc: A,
     reader: &mut Reader<'_>,

@@ -20,18 +20,18 @@ pub enum Row {
     Blank,
     /// The names of the columns, for the lines after it.
     Header(Columns),
-    /// A prefix with its maximum length, and the AS that may originate it.
+    /// A VRP: a prefix with its maximum length, and the AS that may originate routes to it.
     Vrp(Vrp),
 }
 
-/// Reads a line.
+/// Reads a line of a CSV file.
 ///
 /// - `columns`: the columns of its fields.
-/// - `line`: the line. White space and quotes round a field are not part of it. Each comma ends a field, even one
-///   between quotes.
+/// - `line`: the line. White space and quotes at the ends of a field are not part of it. Each comma ends a field, even
+///   one between quotes.
 ///
-/// A line that is a VRP has a field in each of the three columns, and no more fields than the line that names the
-/// columns. Fields in other columns are ignored.
+/// A line with a VRP has a field in each of the three columns. It has no more fields than the line that names the
+/// columns, if there is one. Fields in other columns are ignored.
 ///
 /// # Errors
 ///
@@ -96,7 +96,7 @@ fn is_blank(line: &str) -> bool
     line.trim().is_empty()
 }
 
-/// Returns the VRP that three texts give, or the first fault.
+/// Returns the VRP that three texts give, or the first fault of an AS number, a prefix and a maximum length.
 pub(crate) fn read_fields(asn: &str, prefix: &str, max_len: &str) -> Result<Vrp, VrpFault>
     ensures { MatchResult result (λ x. AreVrpTexts asn.now prefix.now max_len.now x.0 x.1)
         (HaveFault asn.now prefix.now max_len.now) }

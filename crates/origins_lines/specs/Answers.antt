@@ -10,12 +10,12 @@ use Rattle.origins_lines.specs.declared.fault.RouteFault.{RouteFault}
 use Rattle.origins_lines.specs.declared.outcome.Outcome.{Outcome}
 use Rattle.origins_lines.specs.declared.route.Route.{Route}
 
--- the explanation of a route if it is requested, and else nothing
+-- the text is the explanation of a route if it is requested, and otherwise empty
 abbrev pub IsExplanationIf : Bool → List Vrp → FamilyPrefix → ℕ → List ℕ → Type 0
 IsExplanationIf false vrps route asn text = text ≡ []
 IsExplanationIf true vrps route asn text = IsExplanationText route asn vrps text
 
--- the text is the word for the outcome of a route that an AS originates, with its explanation if that is requested
+-- the text is the word for the outcome of the route that the AS originates, with its explanation if that is requested
 abbrev pub IsRouteAnswer : Bool → List Vrp → FamilyPrefix → ℕ → List ℕ → Type 0
 IsRouteAnswer why vrps route asn text =
     (outcome : Outcome) × IsOutcomeOf route asn vrps outcome × (behind : List ℕ) × IsExplanationIf why vrps route asn behind × (text ≡ outcome_text outcome ++ behind)

@@ -6,36 +6,39 @@ use Rattle.origins_lines.specs.declared.check.Seen.{Seen}
 abbrev pub BeginsLine : List ℕ → ℕ → Type 0
 BeginsLine octets at = (at ≡ 0) ⊎ (slice_index_or octets (at - 1) 0 ≡ 10)
 
--- 'i' or 'e'
+-- the octet is 'i' or 'e'
 abbrev pub IsFaultInitial : ℕ → Type 0
 IsFaultInitial octet = (octet ≡ 105) ⊎ (octet ≡ 101)
 
--- such a line begins in octets
+-- a line of the octets begins with 'i' or 'e'
 abbrev pub HasFound : List ℕ → Type 0
 HasFound octets = (at : ℕ) × (at < length octets) × BeginsLine octets at × IsFaultInitial (slice_index_or octets at 0)
 
--- the state of a check of octets: whether a line begins after them, and whether such a line begins in them
+-- the state of a check of octets: whether a line begins after them, and whether one of their lines begins with 'i' or
+-- 'e'
 pub record IsSeen (octets : List ℕ) (seen : Seen) : Type 0 where
   pub start : IsTrue seen.is_at_start ↔ BeginsLine octets (length octets)
   pub found : IsTrue seen.has_found ↔ HasFound octets
 
--- the state before any octet, and the state after one more
+-- the state before any octet
 abbrev pub seen_nothing : Seen
 seen_nothing = record { is_at_start = true; has_found = false }
 
+-- the state after one more octet
 abbrev pub seen_with : Seen → ℕ → Seen
 seen_with seen octet =
     record { is_at_start = octet == 10; has_found = seen.has_found || (seen.is_at_start && (octet == 105 || octet == 101)) }
 
--- the state after these octets more
+-- the state after more octets
 abbrev pub seen_behind : Seen → List ℕ → Seen
 seen_behind seen [] = seen
 seen_behind seen (octet ∷ octets) = seen_behind (seen_with seen octet) octets
 
+-- whether two booleans are equal
 abbrev pub is_same : Bool → Bool → Bool
 is_same a b = if a then b else not b
 
--- the known bytes, if this is the state of a check of them; else they are unknown
+-- the known octets if `seen` is the state of a check of them; otherwise they are unknown
 abbrev pub known_seen : Seen → Option (List ℕ) → Option (List ℕ)
 known_seen seen None = None
 known_seen seen (Some octets) =

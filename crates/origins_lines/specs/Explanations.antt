@@ -9,24 +9,26 @@ use Rattle.roa_origin.specs.Tables.{as_sent}
 use Rattle.origins_lines.specs.declared.explanation.Reason.{Reason}
 use Rattle.origins_lines.specs.declared.explanation.Reason.TheVariants.{Match, Length, As}
 
--- how a VRP that covers a route relates to it: a match, too short a maximum length, or not its AS, at any length
+-- The relation of a VRP that covers a route to the route. Match: it has the AS, and allows the length. Length: it has
+-- the AS, and its maximum length is too short. As: it doesn't have the AS, at any length.
 abbrev pub IsReason : FamilyPrefix → ℕ → Vrp → Reason → Type 0
 IsReason route asn vrp Match = HasAs asn vrp × (route.len ≤ longest vrp)
 IsReason route asn vrp Length = HasAs asn vrp × (longest vrp < route.len)
 IsReason route asn vrp As = ¬ HasAs asn vrp
 
+-- the text printed for a relation
 abbrev pub reason_text : Reason → List ℕ
 reason_text Match = codes "match"
 reason_text Length = codes "length"
 reason_text As = codes "as"
 
--- one VRP is listed before another: longer prefix first, then lesser AS number, then longer maximum length
+-- one VRP is listed before another: the longer prefix first, then the lesser AS number, then the longer maximum length
 abbrev pub IsExplainedBefore : Vrp → Vrp → Type 0
 IsExplainedBefore p q =
     (prefix_len q < prefix_len p)
     ⊎ ((prefix_len q ≡ prefix_len p) × ((p.1 < q.1) ⊎ ((p.1 ≡ q.1) × (longest q < longest p))))
 
--- the VRPs of a list that cover a route, as they are sent, in that order, and so each once
+-- the VRPs of a list that cover a route, as they are sent, in the order of explanations and therefore each once
 pub record IsExplanation (route : FamilyPrefix) (vrps explained : List Vrp) : Type 0 where
   pub ordered : AllPairs IsExplainedBefore explained
   pub members : (p : Vrp) → Contains explained p ↔ (CoversRoute route p × Contains (map as_sent vrps) p)
@@ -36,7 +38,7 @@ pub record IsExplanation (route : FamilyPrefix) (vrps explained : List Vrp) : Ty
 abbrev pub reason_and_vrp_text : Reason → Vrp → List ℕ
 reason_and_vrp_text reason p = codes " " ++ reason_text reason ++ codes ":" ++ prefix_text p.0.prefix ++ dash ∷ decimal (longest p) ++ codes ":" ++ asn_text p.1
 
--- the text printed for a list of VRPs, one after the other
+-- the text printed for the VRPs of a list, one after the other
 abbrev pub AreReasonTexts : FamilyPrefix → ℕ → List Vrp → List ℕ → Type 0
 AreReasonTexts route asn [] text = text ≡ []
 AreReasonTexts route asn (p ∷ explained) text =
@@ -47,11 +49,11 @@ abbrev pub IsSentAgain : Option Vrp → Vrp → Type 0
 IsSentAgain None p = ⊥
 IsSentAgain (Some before) p = as_sent before ≡ as_sent p
 
--- the text printed for a VRP after the one before it: empty, if it is the same
+-- the text printed for a VRP after the one before it; it is empty if both are sent alike
 abbrev pub IsNextReasonText : FamilyPrefix → ℕ → Option Vrp → Vrp → List ℕ → Type 0
 IsNextReasonText route asn last p text =
     (IsSentAgain last p × (text ≡ [])) ⊎ ((¬ IsSentAgain last p) × ((reason : Reason) × IsReason route asn p reason × (text ≡ reason_and_vrp_text reason p)))
 
--- the explanation of a route
+-- the text is the explanation of a route
 abbrev pub IsExplanationText : FamilyPrefix → ℕ → List Vrp → List ℕ → Type 0
 IsExplanationText route asn vrps text = (explained : List Vrp) × IsExplanation route vrps explained × AreReasonTexts route asn explained text

@@ -4,7 +4,7 @@ use Rattle.rpki_text.specs.declared.memory.OrMemory.{OrMemory}
 use Rattle.roa_vrps.specs.declared.fault.FileFault.{FileFault}
 use Rattle.origins_lines.specs.declared.error.ReadVrpsError.{ReadVrpsError}
 
--- the VRPs, the fault of the file, or the out-of-memory error, each as it is
+-- the VRPs, the fault of the file, or the out-of-memory error, as the result for a file
 abbrev pub file_result : {V : Type 0} → Result V (OrMemory FileFault) → Result V ReadVrpsError
 file_result (Ok listed) = Ok listed
 file_result (Err (OrMemory.Refused fault)) = Err (ReadVrpsError.File fault)

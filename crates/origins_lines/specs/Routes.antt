@@ -12,12 +12,12 @@ use Rattle.origins_lines.specs.declared.fault.RouteFault.{RouteFault}
 use Rattle.origins_lines.specs.declared.fault.RouteFault.TheVariants.{NotUtf8, TooFewFields, CommaForSpace, Prefix, Asn}
 use Rattle.origins_lines.specs.declared.route.Route.{Route}
 
--- a text is the prefix of a route, and Origin holds of its origin
+-- a text is the prefix of the route, and Origin holds for its origin
 pub record IsRouteBy (Origin : Option ℕ → Type 0) (prefix_text : List ℕ) (route : Route) : Type 0 where
   pub prefix : IsPrefixText prefix_text route.prefix
   pub origin : Origin route.origin
 
--- the first fault of both: the text is not a prefix, or it is one and the origin is wrong
+-- the first fault of a prefix and an origin: the text is not a prefix, or it is one and NoOrigin holds for the origin
 abbrev pub HasFaultBy : Type 0 → List ℕ → RouteFault → Type 0
 HasFaultBy NoOrigin prefix_text NotUtf8 = ⊥
 HasFaultBy NoOrigin prefix_text TooFewFields = ⊥
@@ -31,10 +31,11 @@ IsNoAsnText text = (n : ℕ) → ¬ IsAsnText text n
 
 -- ---- a prefix and an AS number
 
--- the text of a line up to its first space, and the text after that, without white space round them
+-- the text of a line up to its first space, without white space at its ends
 abbrev pub prefix_word : List ℕ → List ℕ
 prefix_word line = trim (before_first is_space line)
 
+-- the text of a line after its first space, without white space at its ends
 abbrev pub origin_word : List ℕ → List ℕ
 origin_word line = trim (after_first is_space line)
 
@@ -43,23 +44,25 @@ abbrev pub IsAsnOrigin : List ℕ → Option ℕ → Type 0
 IsAsnOrigin text None = ⊥
 IsAsnOrigin text (Some n) = IsAsnText text n
 
+-- the two words of a line are the prefix and the AS number of the route
 abbrev pub AreRouteWords : List ℕ → Route → Type 0
 AreRouteWords line = IsRouteBy (IsAsnOrigin (origin_word line)) (prefix_word line)
 
--- the text of a line up to its first comma, and the text after that, without white space round them
+-- the text of a line up to its first comma, without white space at its ends
 abbrev pub prefix_part : List ℕ → List ℕ
 prefix_part line = trim (before_first is_comma_byte line)
 
+-- the text of a line after its first comma, without white space at its ends
 abbrev pub origin_part : List ℕ → List ℕ
 origin_part line = trim (after_first is_comma_byte line)
 
--- the line has no space, and would give a route with a space in place of its first comma
+-- the line has no space, and would give a route if its first comma were a space
 pub record HasCommaForSpace (line : List ℕ) : Type 0 where
   pub no_space : position_or_len is_space line ≡ length line
   pub route : Route
   pub writes : IsRouteBy (IsAsnOrigin (origin_part line)) (prefix_part line) route
 
--- that comma, or else the first fault of both words
+-- the fault of the words of a line: a comma in place of the space, or else the first fault of both words
 abbrev pub HaveWordsFault : List ℕ → RouteFault → Type 0
 HaveWordsFault line fault =
     (HasCommaForSpace line × (fault ≡ CommaForSpace))
@@ -67,10 +70,11 @@ HaveWordsFault line fault =
 
 -- ---- a line of a dump
 
--- `b'|'`, which separates two fields
+-- whether a byte is `|`, which separates two fields
 abbrev pub is_bar : ℕ → Bool
 is_bar byte = byte == 124
 
+-- the fields of a line
 abbrev pub fields_of : List ℕ → List (List ℕ)
 fields_of line = slice_split is_bar line
 
@@ -78,16 +82,17 @@ fields_of line = slice_split is_bar line
 abbrev pub IsFieldAt : ℕ → List ℕ → List ℕ → Type 0
 IsFieldAt n line text = slice_get (fields_of line) n ≡ Some text
 
+-- the line has no field at this index
 abbrev pub IsNoFieldAt : ℕ → List ℕ → Type 0
 IsNoFieldAt n line = slice_get (fields_of line) n ≡ None
 
--- the index of the path in a dump's line; the first field says whether an identifier precedes it
+-- The index of the path in a dump's line. The first field says whether an identifier precedes the path (RFC 8050, 4).
 abbrev pub IsPathPlace : List ℕ → ℕ → Type 0
 IsPathPlace line n =
     (IsFieldAt 0 line (codes "TABLE_DUMP2") × (n ≡ 6))
     ⊎ (IsFieldAt 0 line (codes "TABLE_DUMP2_AP") × (n ≡ 7))
 
--- the sixth field, and the one of the path
+-- the texts of the sixth field, which is the prefix, and of the field of the path
 pub record AreDumpTexts (n : ℕ) (line prefix path : List ℕ) : Type 0 where
   pub prefix_is : IsFieldAt 5 line prefix
   pub path_is : IsFieldAt n line path
@@ -96,7 +101,7 @@ pub record AreDumpTexts (n : ℕ) (line prefix path : List ℕ) : Type 0 where
 abbrev pub last_word : List ℕ → List ℕ
 last_word path = after_last is_space (trim path)
 
--- a set of AS numbers: the word begins with `{` and ends with `}`
+-- the word is a set of AS numbers: it begins with `{` and ends with `}`
 pub record IsSetWord (word : List ℕ) : Type 0 where
   pub begins : slice_index word 0 ≡ 123
   pub ends : slice_index word (length word - 1) ≡ 125
@@ -112,11 +117,12 @@ IsConfedWord word = (slice_index word (length word - 1) ≡ 41) ⊎ (slice_index
 abbrev pub HasNoOrigin : List ℕ → Type 0
 HasNoOrigin word = (word ≡ []) ⊎ IsSetWord word ⊎ IsConfedWord word
 
--- the origin that the last word of a path gives: of any other path this word
+-- the origin that the last word of a path gives: unknown for a word without an origin, and else the word's AS number
 abbrev pub IsWordOrigin : List ℕ → Option ℕ → Type 0
 IsWordOrigin word None = HasNoOrigin word
 IsWordOrigin word (Some n) = (¬ HasNoOrigin word) × IsAsnText word n
 
+-- the last word of a path should give an origin, and is not an AS number
 abbrev pub HasWordFault : List ℕ → Type 0
 HasWordFault word = (¬ HasNoOrigin word) × IsNoAsnText word
 
@@ -124,7 +130,7 @@ HasWordFault word = (¬ HasNoOrigin word) × IsNoAsnText word
 abbrev pub IsDumpRoute : ℕ → List ℕ → Route → Type 0
 IsDumpRoute n line route = (prefix : List ℕ) × (path : List ℕ) × AreDumpTexts n line prefix path × IsRouteBy (IsWordOrigin (last_word path)) prefix route
 
--- a field is missing, or both have a fault
+-- the fault of a dump's line: a field is missing, or the prefix or the origin has a fault
 abbrev pub HasDumpFault : ℕ → List ℕ → RouteFault → Type 0
 HasDumpFault n line fault =
     ((IsNoFieldAt 5 line ⊎ IsNoFieldAt n line) × (fault ≡ TooFewFields))
@@ -136,10 +142,11 @@ HasDumpFault n line fault =
 abbrev pub IsNoDump : List ℕ → Type 0
 IsNoDump line = (n : ℕ) → ¬ IsPathPlace line n
 
--- the route of a line without white space round it
+-- the route of a line without white space at its ends
 abbrev pub IsLineOf : List ℕ → Route → Type 0
 IsLineOf line route = (IsNoDump line × AreRouteWords line route) ⊎ ((n : ℕ) × IsPathPlace line n × IsDumpRoute n line route)
 
+-- the first fault of a line without white space at its ends
 abbrev pub HasLineFault : List ℕ → RouteFault → Type 0
 HasLineFault line fault = (IsNoDump line × HaveWordsFault line fault) ⊎ ((n : ℕ) × IsPathPlace line n × HasDumpFault n line fault)
 
@@ -147,11 +154,11 @@ HasLineFault line fault = (IsNoDump line × HaveWordsFault line fault) ⊎ ((n :
 abbrev pub IsRouteLine : List ℕ → Route → Type 0
 IsRouteLine line route = IsUtf8 line × IsLineOf (trim line) route
 
--- this is the first fault of a line
+-- the first fault of a line
 abbrev pub HasRouteFault : List ℕ → RouteFault → Type 0
 HasRouteFault line fault = ((¬ IsUtf8 line) × (fault ≡ NotUtf8)) ⊎ (IsUtf8 line × HasLineFault (trim line) fault)
 
--- the text printed for it
+-- the text printed for a fault
 abbrev pub route_fault_text : RouteFault → List ℕ
 route_fault_text NotUtf8 = codes "not UTF-8"
 route_fault_text TooFewFields = codes "too few fields"

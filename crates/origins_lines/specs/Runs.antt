@@ -8,7 +8,7 @@ use Rattle.roa_origin.specs.Tables.{IsTableOf, IsWithout}
 use Rattle.rpki_base.specs.AsnText.{asn_text}
 use Rattle.rpki_prefix.specs.MaxLen.{max_len_text}
 
--- the text has VRPs of which P holds
+-- the text is a VRP file, and P holds for its VRPs
 pub record ByFile (P : List Vrp → Type 0) (text : List ℕ) : Type 0 where
   pub listed : List Vrp
   pub file_is : IsVrpFile text listed
@@ -23,25 +23,26 @@ abbrev pub is_of : Option ℕ → Vrp → Bool
 is_of None vrp = true
 is_of (Some asn) vrp = vrp.1 == asn
 
--- a line for each VRP of the AS, after a word
+-- the line of a VRP after a word; it is empty if another AS is requested
 abbrev pub vrp_line : Option ℕ → List ℕ → Vrp → List ℕ
 vrp_line of word vrp = if is_of of vrp then as_line (word ++ vrp_text vrp) else []
 
+-- the lines of the VRPs of a list, one after the other
 abbrev pub vrp_lines : Option ℕ → List ℕ → List Vrp → List ℕ
 vrp_lines of word vrps = flat_map (vrp_line of word) vrps
 
--- of the lines for the VRPs of the table, all but `unwritten`, at their end, was written, and nothing else
+-- the lines for the VRPs of the table were written, except `unwritten` at their end, and nothing else
 abbrev pub WritesTable : Option ℕ → Option (List ℕ) → Option (List ℕ) → List ℕ → List Vrp → Type 0
 WritesTable of old new unwritten listed =
     (table : List Vrp) × IsTableOf listed table × HasWritten old new (vrp_lines of [] table) unwritten
 
--- a line for each withdrawn VRP, and then for each announced one
+-- the lines for changes: one for each withdrawn VRP, and then one for each announced VRP
 abbrev pub change_lines : List Vrp → List Vrp → List ℕ
 change_lines withdrawn announced =
     vrp_lines None (codes "withdraw ") withdrawn ++ vrp_lines None (codes "announce ") announced
 
--- of the lines for the VRPs that only the old table has, and then for those that only the new table has, all but
--- `unwritten` was written, and nothing else
+-- The lines for the changes between two tables were written, except `unwritten` at their end, and nothing else. First
+-- come the VRPs that only the old table has, and then those that only the new table has.
 pub record WritesBetween (old new : Option (List ℕ)) (unwritten : List ℕ) (old_table new_table : List Vrp)
     : Type 0 where
   pub withdrawn : List Vrp
@@ -50,7 +51,7 @@ pub record WritesBetween (old new : Option (List ℕ)) (unwritten : List ℕ) (o
   pub announced_are : IsWithout new_table old_table announced
   pub wrote : HasWritten old new (change_lines withdrawn announced) unwritten
 
--- the same for the tables of two lists
+-- the lines for the changes between the tables of two lists were written, except `unwritten`, and nothing else
 abbrev pub WritesChanges : Option (List ℕ) → Option (List ℕ) → List ℕ → List Vrp → List Vrp → Type 0
 WritesChanges old new unwritten before after =
     (old_table : List Vrp) × (new_table : List Vrp) × IsTableOf before old_table × IsTableOf after new_table

@@ -1,4 +1,4 @@
-//! The answer to the line of a route.
+//! The answer to a line with a route.
 ghost use Rattle.std.specs.Prelude.{◌≡◌, [], OnOk};
 ghost use Rattle.std.specs.String.{string_bytes};
 ghost use Rattle.origins_lines.specs.Answers.{IsRouteAnswer};
@@ -14,15 +14,18 @@ use std::alloc::{AllocError, Allocator, Global};
 
 /// Answers lines of routes by a table of VRPs.
 ///
-/// The answer is `valid`, `invalid-length`, `invalid-as` or `not-found` ([`Outcome`](crate::Outcome)). For a faulty
+/// The answer is `valid`, `invalid-length`, `invalid-as` or `not-found` ([`Outcome`](crate::Outcome)). For an invalid
 /// line, which includes a blank one, it is `error: ` and the fault.
 #[derive(Drop)]
 pub struct Routes<'a, B: Allocator = Global> {
     /// The VRPs.
     pub table: &'a OriginTable<B>,
-    /// Whether the answer lists, after the word, each VRP that covers the route. It gives `match:`, `length:` or `as:`,
-    /// then the prefix, a dash and the maximum length, always, and after another colon the AS. Each VRP is listed once.
-    /// The longest prefix comes first, then the least AS number, then the longest maximum length.
+    /// Whether each VRP that covers the route follows the word.
+    ///
+    /// A VRP is written as a space, its reason, the prefix, a dash, the maximum length, a colon and the AS. An example
+    /// is ` match:192.0.2.0/23-24:AS64496`. The reason is `match:`, `length:` or `as:`. The maximum length is always
+    /// written. Each VRP is written once. The longest prefix comes first, then the least AS number, then the longest
+    /// maximum length.
     pub why: bool,
 }
 
@@ -48,8 +51,12 @@ impl<B: Allocator> Answers for Routes<'_, B> {
     }
 }
 
-/// Writes the outcome for the route to a prefix that an AS originates. If `why` is set, also writes its explanation.
-/// The text is empty before the call.
+/// Appends the outcome for the route to `route` that `asn` originates. If `why` is true, it also appends the
+/// explanation.
+///
+/// # Preconditions
+///
+/// `text` is empty.
 fn write_answer<A: Allocator, B: Allocator>(
     text: &mut String<A>,
     table: &OriginTable<B>,

@@ -1,18 +1,18 @@
-//! Looks in the answers to routes for invalid routes and faulty lines.
+//! Finds invalid routes and invalid lines in the answers to routes.
 ghost use Rattle.std.specs.Prelude.{◌≡◌, ◌++◌, ◌↔◌, ◌⊎◌, [], ℕ, IsTrue, List};
 ghost use Rattle.origins_lines.specs.Checks.{IsSeen, IsFaultInitial, seen_behind, seen_nothing, seen_with};
 
-/// The state of a check after some bytes. The check looks for lines that begin with `i` or `e`. These are the answers
-/// `invalid-as`, `invalid-length` and `error: ..`, and no other.
+/// The state of a check after some bytes. The check looks for lines that begin with `i` or `e`. The answers
+/// `invalid-as`, `invalid-length` and `error: ..` begin so, and no others.
 #[derive(Clone, Copy, Debug)]
 pub struct Seen {
     /// Whether a line begins after the bytes.
     pub is_at_start: bool,
-    /// Whether such a line begins in the bytes.
+    /// Whether a line with `i` or `e` at its start begins in the bytes.
     pub has_found: bool,
 }
 
-/// Whether a check looks for lines that begin with `byte`.
+/// Returns whether a check looks for lines that begin with `byte`.
 fn is_fault_initial(byte: u8) -> bool
     ensures { IsTrue result ↔ IsFaultInitial byte }
 {
@@ -31,7 +31,7 @@ impl Seen {
         }
     }
 
-    /// Whether such a line was found, counting one more byte.
+    /// Returns whether such a line begins in the bytes, `byte` included.
     fn has_found_with(self, byte: u8) -> bool
         ensures { IsTrue result ↔ (IsTrue self.has_found ⊎ (IsTrue self.is_at_start × IsFaultInitial byte)) }
     {

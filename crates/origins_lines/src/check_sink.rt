@@ -1,4 +1,4 @@
-//! A sink that records what a check looks for.
+//! A sink that checks the bytes that it takes.
 ghost use Rattle.std.specs.Prelude.{◌≡◌, ◌↔◌, [], IfSome, IsTrue, Some};
 
 use crate::check::Seen;
@@ -14,7 +14,7 @@ pub struct Watched<W> {
 impl<W: Sink> Watched<W> {
     ghost use Rattle.origins_lines.specs.Checks.{HasFound};
 
-    /// Wraps a sink that is at the start of a line.
+    /// Wraps a sink to which nothing was written yet.
     pub fn new(sink: W) -> Watched<W>
         ensures written { W.written sink ≡ Some [] → ⟦<Watched<W> as Sink>⟧.written result ≡ Some [] }
         ensures mark { ⟦<Watched<W> as Sink>⟧.mark result ≡ W.mark sink }
@@ -39,7 +39,7 @@ impl<W: Sink> Watched<W> {
 impl<W: Sink> Sink for Watched<W> {
     ghost use Rattle.origins_lines.specs.Checks.{known_seen};
 
-    /// The bytes of the sink, if `seen` is what was seen of them. Else they are unknown.
+    /// The bytes of the sink, if `seen` is the state of a check of them. Otherwise they are unknown.
     ghost written = { λ watched. known_seen watched.seen (W.written watched.sink) };
 
     ghost mark = { λ watched. W.mark watched.sink };

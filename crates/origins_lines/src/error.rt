@@ -3,13 +3,13 @@ use lines_engine::error::RunError;
 use roa_vrps::FileFault;
 use thiserror::Error;
 
-/// Why the VRPs of a file could not be read.
+/// The reason why the VRPs of a file could not be read.
 #[derive(Clone, Copy, Debug, PartialEq, Eq, Error)]
 pub enum ReadVrpsError {
     /// A read failed.
     #[error("read failed")]
     Read,
-    /// The file is invalid: its first fault.
+    /// The file is invalid. The field is its first fault.
     #[error("{0}")]
     File(FileFault),
     /// An allocation failed.
@@ -17,7 +17,7 @@ pub enum ReadVrpsError {
     Memory,
 }
 
-/// Why a run with one VRP file ended early.
+/// The reason why a run with one VRP file ended early.
 #[derive(Clone, Copy, Debug, PartialEq, Eq, Error)]
 pub enum OriginsError {
     /// The VRPs could not be read. Nothing was written.
@@ -28,7 +28,7 @@ pub enum OriginsError {
     Run(RunError),
 }
 
-/// Why a run with two VRP files ended early.
+/// The reason why a run with two VRP files ended early.
 #[derive(Clone, Copy, Debug, PartialEq, Eq, Error)]
 pub enum ChangesError {
     /// The old VRPs could not be read. Nothing was written.

@@ -19,10 +19,11 @@ pub enum Reason {
     Match,
     /// The VRP has the AS of the route, and the route's prefix is longer than its maximum length.
     Length,
-    /// The VRP has another AS, or AS0. The route's length is not considered.
+    /// The VRP has another AS, or AS0. The length of the route is not considered.
     As,
 }
 
+/// Prints `match`, `length` or `as`.
 impl fmt::Display for Reason {
     ghost use Rattle.std.specs.Prelude.{Some};
     ghost use Rattle.origins_lines.specs.Explanations.{reason_text};
@@ -52,7 +53,7 @@ fn reason_for(route: Prefix, asn: Asn, vrp: &Vrp) -> Reason
     }
 }
 
-/// Appends to a text each VRP that covers the route to a prefix, once, with its relation to the route.
+/// Appends each VRP that covers the route to `route`, once, with its relation to the route that `asn` originates.
 pub(crate) fn push_why<A: Allocator, B: Allocator>(
     text: &mut String<A>,
     table: &OriginTable<B>,
@@ -73,8 +74,8 @@ pub(crate) fn push_why<A: Allocator, B: Allocator>(
     Ok(())
 }
 
-/// Appends to a text a VRP that covers a route, with its relation to the route. Appends nothing if the VRP is the same,
-/// as it is sent, as the one before it.
+/// Appends a VRP that covers a route, with its relation to the route. Appends nothing if the VRP is the same, as it is
+/// sent, as `last`, the VRP before it.
 fn push_next<A: Allocator>(
     text: &mut String<A>,
     route: Prefix,
@@ -91,7 +92,7 @@ fn push_next<A: Allocator>(
     push_vrp(text, route, asn, vrp)
 }
 
-/// Whether a VRP is the same, as it is sent, as the one before it.
+/// Returns whether a VRP is the same, as it is sent, as the one before it.
 fn is_sent_again(last: &Option<Vrp>, vrp: &Vrp) -> bool
     ensures { IsTrue result ↔ IsSentAgain last.now vrp.now }
 {
@@ -101,7 +102,7 @@ fn is_sent_again(last: &Option<Vrp>, vrp: &Vrp) -> bool
     }
 }
 
-/// Whether two VRPs are the same, as they are sent.
+/// Returns whether two VRPs are the same, as they are sent.
 fn is_same(one: &Vrp, other: &Vrp) -> bool
     ensures { IsTrue result ↔ (as_sent one.now ≡ as_sent other.now) }
 {
@@ -110,7 +111,7 @@ fn is_same(one: &Vrp, other: &Vrp) -> bool
         && one.0.resolved_max_len() == other.0.resolved_max_len()
 }
 
-/// Appends to a text a VRP that covers a route, with its relation to the route.
+/// Appends a VRP that covers a route, with its relation to the route.
 fn push_vrp<A: Allocator>(
     text: &mut String<A>,
     route: Prefix,

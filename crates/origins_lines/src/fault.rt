@@ -6,14 +6,14 @@ use rpki_prefix::ParsePrefixError;
 use std::error::Error;
 use std::fmt;
 
-/// A fault of the line of a route. A call returns the first fault in this order.
+/// A fault of a line with a route. A call returns the first fault in the order of the variants.
 #[derive(Clone, Copy, Debug, PartialEq, Eq)]
 pub enum RouteFault {
     /// The line isn't UTF-8.
     NotUtf8,
-    /// The line is from a dump and lacks the field of the prefix or of the path.
+    /// The line is from a dump and lacks the field of the prefix or that of the path.
     TooFewFields,
-    /// The line has no space, and is a route with a space in place of its first comma.
+    /// The line has no space, and would be a route if its first comma were a space.
     CommaForSpace,
     /// The text of the prefix is not a prefix.
     Prefix(ParsePrefixError),
@@ -21,6 +21,7 @@ pub enum RouteFault {
     Asn(ParseAsnError),
 }
 
+/// Prints the fault without the line: `not UTF-8`, `too few fields` and so on.
 impl fmt::Display for RouteFault {
     ghost use Rattle.origins_lines.specs.Routes.{route_fault_text};
 

@@ -23,8 +23,8 @@ use std::alloc::Allocator;
 /// # Errors
 ///
 /// - [`ReadVrpsError::Read`]: a read failed.
-/// - [`ReadVrpsError::File`]: the file was read whole, and is invalid: its first fault.
-/// - [`ReadVrpsError::Memory`]: an allocation failed.
+/// - [`ReadVrpsError::File`]: the file was read to its end and is invalid. The field is its first fault.
+/// - [`ReadVrpsError::Memory`]: an allocation failed, and no read did.
 #[tactic(auto, using(crate::proofs::AnswerLemmas::file_result_found, crate::proofs::AnswerLemmas::file_result_wrong, crate::proofs::AnswerLemmas::file_result_not_read))]
 pub fn read_file<A: Allocator + Copy, P: Source>(
     alloc: A,
@@ -33,7 +33,7 @@ pub fn read_file<A: Allocator + Copy, P: Source>(
     // No call of the file has failed.
     requires clear { P.mark file.old ≡ false }
 
-    // Ok: no call failed, the file was read to its end, and these are its VRPs.
+    // Ok: no call failed, the file was read to its end, and the result is its VRPs.
     ensures unmarked { OnOk result (P.mark file.new ≡ P.mark file.old) }
     ensures read_whole { OnOk result (IsAtEnd (P.left file.new)) }
     ensures vrps { IfOk result (λ listed. IfSome (P.left file.old)
@@ -42,7 +42,7 @@ pub fn read_file<A: Allocator + Copy, P: Source>(
     // Read: a read failed.
     ensures read { IsErrOf result ReadVrpsError.Read → P.mark file.new ≡ true }
 
-    // File: no call failed, the file was read to its end, and this is its first fault.
+    // File: no call failed, the file was read to its end, and the field is its first fault.
     ensures wrong_unmarked { (fault : FileFault) → result ≡ Err (File fault) →
         (P.mark file.new ≡ P.mark file.old) × IsAtEnd (P.left file.new) }
     ensures wrong { (fault : FileFault) → result ≡ Err (File fault) →
@@ -59,7 +59,7 @@ pub fn read_file<A: Allocator + Copy, P: Source>(
     file_result(read_vrps(alloc, &text))
 }
 
-/// Returns the VRPs of a file that was read whole, or its fault as one of the file.
+/// Returns the VRPs of a file that was read whole, or its fault or out-of-memory error as a [`ReadVrpsError`].
 fn file_result<A: Allocator>(
     outcome: Result<Vec<Vrp, A>, OrMemory<FileFault>>,
 ) -> Result<Vec<Vrp, A>, ReadVrpsError>

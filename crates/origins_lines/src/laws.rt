@@ -1,10 +1,10 @@
-//! Lemmas on the answers of several calls.
+//! Lemmas about the answers of several calls.
 ghost use Rattle.std.specs.Prelude.{◌≡◌, ◌↔◌, ℕ, Bool, List};
 ghost use Rattle.std.specs.List.Sorted.{IsPermutation};
 ghost use Rattle.roa_origin.specs.Vrps.{Vrp};
 ghost use Rattle.origins_lines.specs.Answers.{IsOriginAnswer};
 
-/// Proves that a line has at most one answer by a list of VRPs, and that their order does not matter.
+/// States that a line has at most one answer by a list of VRPs, and that the order of the list does not matter.
 pub fn laws_of_answers()
     ensures one { (why : Bool) (vrps : List Vrp) (line text other : List ℕ)
         → IsOriginAnswer why vrps line text → IsOriginAnswer why vrps line other

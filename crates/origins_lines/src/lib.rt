@@ -3,7 +3,7 @@
 //! The crate validates routes by VRPs (RFC 6811, 2), lists the VRPs of a file, and compares the VRPs of two files. It
 //! reads a VRP file whole, and answers routes as it reads them.
 //!
-//! [`Routes`] answers a line. Pass it to the engine of lines to answer all lines of an input.
+//! [`Routes`] answers one line. Pass it to the crate `lines_engine` to answer all lines of an input.
 #![tactic(auto)]
 
 pub mod answers;

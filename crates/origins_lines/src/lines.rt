@@ -10,8 +10,9 @@ use roa_origin::{Vrp, VrpTable};
 use rpki_base::Asn;
 use std::alloc::Allocator;
 
-/// Writes a line for each VRP of `withdrawn`, and then for each of `announced`. A line has the word `withdraw` or
-/// `announce`, a space, the prefix with its maximum length, a space, and the AS.
+/// Writes a line for each VRP of `withdrawn`, and then for each of `announced`.
+///
+/// A line has the word `withdraw` or `announce`, a space, the prefix with its maximum length, a space, and the AS.
 ///
 /// # Preconditions
 ///
@@ -19,7 +20,7 @@ use std::alloc::Allocator;
 ///
 /// # Errors
 ///
-/// After an error a beginning of the lines was written.
+/// The beginning of the lines was written then. It may be empty.
 ///
 /// - [`RunError::Write`]: a write failed, or took nothing.
 /// - [`RunError::Memory`]: an allocation failed.
@@ -56,7 +57,7 @@ pub fn write_both<A: Allocator + Copy, W: Sink>(
 ///
 /// # Errors
 ///
-/// After an error a beginning of the lines was written.
+/// The beginning of the lines was written then. It may be empty.
 ///
 /// - [`RunError::Write`]: a write failed, or took nothing.
 /// - [`RunError::Memory`]: an allocation failed.
@@ -111,7 +112,7 @@ fn write_each<A: Allocator + Copy, W: Sink>(
     Ok(())
 }
 
-/// Makes the whole line of a VRP, if it has one, and then writes it.
+/// Writes the line of a VRP, if the VRP has the requested AS. The whole line is made before it is written.
 fn write_vrp<A: Allocator + Copy, W: Sink>(
     alloc: A,
     of: &Option<Asn>,
@@ -140,7 +141,7 @@ fn write_vrp<A: Allocator + Copy, W: Sink>(
     }
 }
 
-/// Whether a VRP has the requested AS, or no AS is requested.
+/// Returns whether a VRP has the requested AS, or no AS is requested.
 fn is_wanted(of: &Option<Asn>, vrp: &Vrp) -> bool
     ensures { result ≡ is_of of.now vrp.now }
 {

@@ -9,19 +9,21 @@ use rpki_prefix::Prefix;
 use std::alloc::Allocator;
 use std::fmt;
 
-/// The validity of a route (RFC 6811, 2). For an invalid route it says whether a VRP that covers it has its AS.
+/// The validity of a route (RFC 6811, 2). For an invalid route it also says whether a VRP that covers the route has its
+/// AS.
 #[derive(Clone, Copy, Debug, PartialEq, Eq)]
 pub enum Outcome {
     /// A VRP matches the route.
     Valid,
-    /// No VRP matches the route, but one that covers it has its AS.
+    /// VRPs cover the route, none matches it, and at least one of them has its AS.
     InvalidLength,
-    /// Some VRPs cover the route, and none of them has its AS.
+    /// VRPs cover the route, and none of them has its AS.
     InvalidAs,
     /// No VRP covers the route.
     NotFound,
 }
 
+/// Prints `valid`, `invalid-length`, `invalid-as` or `not-found`.
 impl fmt::Display for Outcome {
     ghost use Rattle.std.specs.Prelude.{Some};
     ghost use Rattle.origins_lines.specs.Outcomes.{outcome_text};
@@ -38,14 +40,14 @@ impl fmt::Display for Outcome {
     }
 }
 
-/// Returns the AS number to look up for `origin`. It is AS0, which no VRP matches, if the origin is unknown.
+/// Returns the AS number to look up for `origin`. If the origin is unknown, it is AS0, which no VRP matches.
 pub fn asked_asn(origin: Option<Asn>) -> Asn
     ensures { result ≡ asked_asn origin }
 {
     origin.unwrap_or(Asn::MIN)
 }
 
-/// Returns the outcome by the VRPs of `table` for the route to the prefix `route` with the origin `asn`.
+/// Returns the outcome by the VRPs of `table` for the route to `route` that `asn` originates.
 pub fn outcome_of<B: Allocator>(table: &OriginTable<B>, route: Prefix, asn: Asn) -> Outcome
     ensures { IsOutcomeOf route asn table.now result }
 {
@@ -62,7 +64,7 @@ pub fn outcome_of<B: Allocator>(table: &OriginTable<B>, route: Prefix, asn: Asn)
     }
 }
 
-/// Whether a VRP has the AS number `asn`, which isn't AS0.
+/// Returns whether a VRP has the AS number `asn`, which isn't AS0.
 pub(crate) fn has_as(vrp: &Vrp, asn: Asn) -> bool
     ensures { IsTrue result ↔ HasAs asn vrp.now }
 {

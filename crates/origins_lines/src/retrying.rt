@@ -7,8 +7,9 @@ ghost use Rattle.std.specs.IoError.{error_kind};
 use std::io;
 use std::io::{ErrorKind, Read};
 
-/// A reader of std that repeats a read as long as a signal interrupts it, as std's own loops do. Any other error is
-/// passed on. A program that is stopped and continued therefore goes on reading.
+/// A reader of std that repeats a read that a signal interrupts, as std's own loops do.
+///
+/// Any other error is passed on. Therefore a program that is stopped and continued goes on reading.
 #[derive(Debug, Drop)]
 pub struct Retrying<R> {
     reader: R,
@@ -26,7 +27,12 @@ impl<R: Read> Retrying<R> {
 impl<R: Read> Read for Retrying<R> {
     ghost remaining = { λ retrying. R.remaining retrying.reader };
 
-    /// Reads once. After 2^64 - 1 interrupted tries the error is of the kind `TimedOut`.
+    /// Reads once.
+    ///
+    /// # Errors
+    ///
+    /// The error of the reader, which is never of the kind `Interrupted`. After 2^64 - 1 interrupted tries the error is
+    /// of the kind `TimedOut`.
     fn read(&mut self, buffer: &mut [u8]) -> io::Result<usize>
         ensures bound { ReadsAtMost result buffer.new }
         ensures bytes { ReadConsumes (R.remaining self.old.reader) (R.remaining self.new.reader) result buffer.new }

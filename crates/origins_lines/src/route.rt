@@ -1,4 +1,4 @@
-//! The route in a line.
+//! The route that a line gives.
 ghost use Rattle.std.specs.Prelude.{◌≡◌, ◌↔◌, ◌∷◌, [], ◌<◌, IsTrue, MatchBool, MatchOption, MatchResult, length};
 ghost use Rattle.std.specs.List.{after_first, after_last, before_first, position_or_len};
 ghost use Rattle.rpki_text.specs.Cuts.{is_space};
@@ -29,8 +29,9 @@ pub struct Route {
 /// Reads the route of a line, which has one of two forms.
 ///
 /// - A prefix, a space and an AS number. White space may precede or follow each.
-/// - A line of `bgpdump -m`, whose fields are cut at each `|`. If the first field is `TABLE_DUMP2`, the sixth is the
-///   prefix and the seventh the path. If it is `TABLE_DUMP2_AP`, the eighth is the path, which follows its identifier.
+/// - A line of `bgpdump -m`, whose fields are separated by `|` (RFC 6396, 4.3; RFC 8050, 4). If the first field is
+///   `TABLE_DUMP2`, the sixth is the prefix and the seventh the path. If it is `TABLE_DUMP2_AP`, the eighth is the
+///   path, which follows its identifier.
 ///
 /// The last word of a path is the origin. The origin is unknown for three kinds of paths (RFC 6811, 2):
 ///
@@ -49,7 +50,7 @@ pub fn read_route(line: &[u8]) -> Result<Route, RouteFault>
     read_route_matched(line)
 }
 
-/// Returns the route of a line, or its fault.
+/// Returns the route of a line, or its first fault.
 #[tactic(auto, using(crate::proofs::RouteLineLemmas::text_found))]
 fn read_route_matched(line: &[u8]) -> Result<Route, RouteFault>
     ensures { MatchResult result (IsRouteLine line.now) (HasRouteFault line.now) }
@@ -60,7 +61,7 @@ fn read_route_matched(line: &[u8]) -> Result<Route, RouteFault>
     read_text(text.trim())
 }
 
-/// Returns the route of a text without white space round it, or its fault.
+/// Returns the route of a text without white space at its ends, or its first fault.
 fn read_text(text: &str) -> Result<Route, RouteFault>
     ensures { MatchResult result (IsLineOf text.now) (HasLineFault text.now) }
 {
@@ -70,7 +71,7 @@ fn read_text(text: &str) -> Result<Route, RouteFault>
     }
 }
 
-/// Returns the index of the path among the fields of a line, if the line is from a dump.
+/// Returns the index of the path among the fields of a line, or None if the line is not from a dump.
 fn path_place(line: &str) -> Option<usize>
     ensures { MatchOption result (IsNoDump line.now) (IsPathPlace line.now) }
 {
@@ -81,7 +82,7 @@ fn path_place(line: &str) -> Option<usize>
     }
 }
 
-/// Returns the field of a line at index `place`, if there is one.
+/// Returns the field of a line at index `place`, or None if the line has fewer fields.
 #[tactic(auto, using(crate::proofs::FieldLemmas::field_first, crate::proofs::FieldLemmas::field_next, crate::proofs::FieldLemmas::field_none))]
 fn field_at(line: &str, place: usize) -> Option<&str>
     ensures { MatchOption result (IsNoFieldAt place line.now) (λ field. IsFieldAt place line.now field.now) }
@@ -99,7 +100,7 @@ fn field_at(line: &str, place: usize) -> Option<&str>
     }
 }
 
-/// Returns the text before the first bar and the text after it, if there is a bar.
+/// Returns the text before the first `|` and the text after it, or None if there is no `|`.
 #[tactic(auto, using(crate::proofs::FieldLemmas::cut_some, crate::proofs::FieldLemmas::cut_none))]
 fn split_at_bar(text: &str) -> Option<(&str, &str)>
     ensures { MatchOption result (fields_of text.now ≡ text.now ∷ [])
@@ -108,7 +109,7 @@ fn split_at_bar(text: &str) -> Option<(&str, &str)>
     text.split_once('|')
 }
 
-/// Returns the route of a prefix and an AS number with a space between them.
+/// Returns the route of a prefix and an AS number with a space between them, or the first fault.
 #[tactic(auto, using(crate::proofs::RouteLineLemmas::words_found))]
 fn read_words(text: &str) -> Result<Route, RouteFault>
     ensures { MatchResult result (AreRouteWords text.now) (HaveWordsFault text.now) }
@@ -124,7 +125,7 @@ fn read_words(text: &str) -> Result<Route, RouteFault>
     }
 }
 
-/// Whether a line has no space, and is a route with a space in place of its first comma.
+/// Returns whether a line has no space, and would be a route if its first comma were a space.
 #[tactic(auto, using(crate::proofs::RouteLineLemmas::comma_route, crate::proofs::RouteLineLemmas::no_comma_route))]
 fn has_comma_for_space(line: &str) -> bool
     ensures { IsTrue result ↔ HasCommaForSpace line.now }
@@ -136,7 +137,7 @@ fn has_comma_for_space(line: &str) -> bool
     read_pair(prefix, origin).is_ok()
 }
 
-/// Whether a text has a space.
+/// Returns whether a text has a space.
 fn has_space(text: &str) -> bool
     ensures { MatchBool result (position_or_len is_space text.now < length text.now)
         (position_or_len is_space text.now ≡ length text.now) }
@@ -144,8 +145,8 @@ fn has_space(text: &str) -> bool
     text.split_once(' ').is_some()
 }
 
-/// Returns the text before the first comma of a line and the text after it, without white space round them. The second
-/// is empty if there is no comma.
+/// Returns the text before the first comma of a line and the text after it, both without white space at their ends. The
+/// second is empty if there is no comma.
 fn parts_of(line: &str) -> (&str, &str)
     ensures prefix { result.0.now ≡ prefix_part line.now }
     ensures origin { result.1.now ≡ origin_part line.now }
@@ -178,8 +179,8 @@ fn read_pair(prefix: &str, origin: &str) -> Result<Route, RouteFault>
     })
 }
 
-/// Returns the text before the first space of a line and the text after it, without white space round them. The second
-/// is empty if there is no space.
+/// Returns the text before the first space of a line and the text after it, both without white space at their ends. The
+/// second is empty if there is no space.
 fn words_of(line: &str) -> (&str, &str)
     ensures prefix { result.0.now ≡ prefix_word line.now }
     ensures origin { result.1.now ≡ origin_word line.now }
@@ -234,7 +235,7 @@ fn read_origin(word: &str) -> Result<Option<Asn>, ParseAsnError>
     Ok(Some(origin))
 }
 
-/// Whether the last word of a path gives no origin: it is empty, or ends a set of AS numbers or a segment of a
+/// Returns whether the last word of a path gives no origin: it is empty, or ends a set of AS numbers or a segment of a
 /// confederation.
 fn has_no_origin(word: &str) -> bool
     ensures { IsTrue result ↔ HasNoOrigin word.now }
@@ -252,14 +253,14 @@ fn last_word(text: &str) -> &str
     }
 }
 
-/// Whether a word is a set of AS numbers.
+/// Returns whether a word is a set of AS numbers: it begins with `{` and ends with `}`.
 fn is_set(word: &str) -> bool
     ensures { IsTrue result ↔ IsSetWord word.now }
 {
     word.starts_with('{') && word.ends_with('}')
 }
 
-/// Whether a word ends a segment of a confederation.
+/// Returns whether a word ends a segment of a confederation: its last character is `)` or `]`.
 fn ends_confed(word: &str) -> bool
     ensures { IsTrue result ↔ IsConfedWord word.now }
 {

@@ -19,7 +19,7 @@ use roa_origin::{OriginTable, Vrp};
 use roa_vrps::FileFault;
 use std::alloc::Allocator;
 
-/// Reads a file of VRPs whole, then answers each line of routes as it is read, in order, by one line (RFC 6811, 2).
+/// Reads a file of VRPs whole, then answers each line of routes by one line, in order and as it is read (RFC 6811, 2).
 ///
 /// - `alloc`: the allocator of the table and of the answers.
 /// - `vrps`: the file of VRPs.
@@ -27,7 +27,7 @@ use std::alloc::Allocator;
 /// - `routes`: the lines of routes. The last line may lack its end.
 /// - `writer`: the output. The call flushes it at the end.
 ///
-/// Returns how many VRPs the file has. No failed call of a device is repeated.
+/// Returns how many VRPs the file has. The call never repeats a failed call of a device.
 ///
 /// # Preconditions
 ///
@@ -35,7 +35,7 @@ use std::alloc::Allocator;
 ///
 /// # Errors
 ///
-/// - [`OriginsError::Vrps`]: the file could not be read, is wrong, or needs more memory. No route was read, and
+/// - [`OriginsError::Vrps`]: the file could not be read, is invalid, or needs more memory. No route was read, and
 ///   nothing was written.
 /// - [`OriginsError::Run`] with [`RunError::Read`]: a read of the routes failed. The lines whose ends were read are
 ///   answered.
@@ -118,7 +118,7 @@ pub fn answer_routes<A: Allocator + Copy, P: Source, R: Source, W: Sink>(
     }
 }
 
-/// Answers each line of routes by a list of VRPs, as it is read.
+/// Answers each line of routes by a list of VRPs, as the line is read.
 #[tactic(auto, using(lines_engine::proofs::RunLemmas::unanswered))]
 fn answer_by<A: Allocator + Copy, R: Source, W: Sink>(
     alloc: A,

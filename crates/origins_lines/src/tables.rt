@@ -26,7 +26,7 @@ use std::alloc::Allocator;
 /// - `of`: the AS whose VRPs alone are written; None for all.
 /// - `writer`: the output. The call flushes it at the end.
 ///
-/// Returns how many VRPs the file has. No failed call of a device is repeated.
+/// Returns how many VRPs the file has. The call never repeats a failed call of a device.
 ///
 /// # Preconditions
 ///
@@ -34,7 +34,7 @@ use std::alloc::Allocator;
 ///
 /// # Errors
 ///
-/// - [`OriginsError::Vrps`]: the file could not be read, is wrong, or needs more memory. Nothing was written.
+/// - [`OriginsError::Vrps`]: the file could not be read, is invalid, or needs more memory. Nothing was written.
 /// - [`OriginsError::Run`] with [`RunError::Write`]: a write or the flush failed, or a write took nothing. A beginning
 ///   of the lines was written.
 /// - [`OriginsError::Run`] with [`RunError::Memory`]: an allocation failed. Nothing was written, or a beginning of the
@@ -100,7 +100,7 @@ pub fn write_table<A: Allocator + Copy, P: Source, W: Sink>(
     }
 }
 
-/// Writes the table of VRPs.
+/// Writes the table of the VRPs of a list.
 fn write_listed<A: Allocator + Copy, W: Sink>(
     alloc: A,
     listed: &[Vrp],
@@ -126,14 +126,14 @@ fn write_listed<A: Allocator + Copy, W: Sink>(
 
 /// Reads two files of VRPs whole, then writes the changes from the old VRPs to the new ones.
 ///
-/// It writes a line `withdraw ..` for each VRP that only the old file has. Then it writes a line `announce ..` for each
-/// VRP that only the new file has. Both groups are sorted.
+/// The call writes a line `withdraw ..` for each VRP that only the old file has. Then it writes a line `announce ..`
+/// for each VRP that only the new file has. Both groups are sorted.
 ///
 /// - `alloc`: the allocator of the tables.
 /// - `old`, `new`: the files of VRPs. The old one is read first.
 /// - `writer`: the output. The call flushes it at the end.
 ///
-/// Returns how many VRPs each file has. No failed call of a device is repeated.
+/// Returns how many VRPs each file has. The call never repeats a failed call of a device.
 ///
 /// # Preconditions
 ///
@@ -141,8 +141,8 @@ fn write_listed<A: Allocator + Copy, W: Sink>(
 ///
 /// # Errors
 ///
-/// - [`ChangesError::Old`], [`ChangesError::New`]: this file could not be read, is wrong, or needs more memory. Nothing
-///   was written. The new file is not read if the old one is refused.
+/// - [`ChangesError::Old`], [`ChangesError::New`]: this file could not be read, is invalid, or needs more memory.
+///   Nothing was written. The new file is not read if the old one is refused.
 /// - [`ChangesError::Run`] with [`RunError::Write`]: a write or the flush failed, or a write took nothing. A beginning
 ///   of the lines was written.
 /// - [`ChangesError::Run`] with [`RunError::Memory`]: an allocation failed. Nothing was written, or a beginning of the

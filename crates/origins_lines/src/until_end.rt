@@ -4,8 +4,9 @@ ghost use Rattle.std.specs.Prelude.{◌≡◌, false};
 use lines_engine::device::{DeviceFault, Source};
 use std::io::Read;
 
-/// A reader of std as a source. The reader is dropped as soon as nothing is left of it. A file is closed then, so it is
-/// no longer open when something else is opened or read later.
+/// A reader of std as a source. The reader is dropped as soon as nothing is left of it.
+///
+/// A file is closed then. It is no longer open when something else is opened or read later.
 #[derive(Debug, Drop)]
 pub struct UntilEnd<R> {
     reader: Option<R>,
@@ -13,7 +14,7 @@ pub struct UntilEnd<R> {
 }
 
 impl<R: Read> UntilEnd<R> {
-    /// Wraps a reader, none of whose calls has failed.
+    /// Wraps a reader. No call of it has failed.
     pub fn new(reader: R) -> UntilEnd<R>
     where
         R: Drop,

@@ -14,10 +14,11 @@ pub enum VrpFault {
     /// The line isn't UTF-8.
     #[error("not UTF-8")]
     NotUtf8,
-    /// The line has more fields than the line that names the columns. The fields are the number of fields of each.
+    /// The line has more fields than the line that names the columns. The values are both numbers of fields, the line's
+    /// first.
     #[error("too many fields: {0}, but the header names {1}")]
     TooManyFields(usize, usize),
-    /// The line lacks a field in one of the three columns. The fields are its number of fields, and the number of
+    /// The line lacks a field in one of the three columns. The values are its number of fields, and the number of
     /// columns.
     #[error("too few fields: {0} of {1}")]
     TooFewFields(usize, usize),

@@ -3,10 +3,9 @@
 page's programs.
 
 Without arguments: foreign/numbers.txt has each number of crates/pigyelund_c, the header defines these names and no
-others, and each row of the table of statuses in docs/FOREIGN.md has the number of its name; the version of the package
-is the same in each file that has it. The package for Python requires the first Python that has all that its sources
-use, and pages and tests name the same Python. The header and the page state the stack on which foreign/c/test.c makes
-its calls.
+others, and each row of the table of statuses in docs/FOREIGN.md has the number of its name. The package for Python
+requires the first Python that has all that its sources use, and pages and tests name the same Python. The header and
+the page state the stack on which foreign/c/test.c makes its calls. tests/versions.py compares the versions.
 
 With SECTION PREFIX, as C or `A table in C`: the program of that section, in an empty folder, built by its commands with
 the library that is installed under PREFIX, prints what the page says. The status is 1 if something differs.
@@ -86,19 +85,6 @@ def of_page(numbers: dict[str, int]) -> list[str]:
     named = {name for _, names in rows for name in names.split(" + ")}
     missing = numbers.keys() - CHOICES.keys() - MISMATCHES.keys() - {"VERSION"} - named
     return faults + [f"{PAGE.name} has no status {name}" for name in sorted(missing)]
-
-
-def of_packages() -> list[str]:
-    """What differs in the version of the package."""
-    files = {
-        "foreign/pigyelund.pc": r"^Version: (.*)$",
-        "foreign/rust/Cargo.toml": r'^version = "(.*)"$',
-        "foreign/python/pyproject.toml": r'^version = "(.*)"$',
-        "CHANGELOG.md": r"^## ([\d.]+)",
-    }
-    found = {name: re.search(wanted, (TOP / name).read_text(), re.MULTILINE) for name, wanted in files.items()}
-    versions = {name: it[1] if it else "none" for name, it in found.items()}
-    return [] if len(set(versions.values())) == 1 else [f"versions differ: {versions}"]
 
 
 # The first minor version of Python 3 that has a name of the standard library, of those that the package may use.
@@ -193,7 +179,7 @@ def numbers_differ() -> list[str]:
         if own.get(name) != numbers.get(name)
     ]
     faults += [f"pigyelund.h and numbers.txt: {name} is in one alone" for name in sorted(of_header() ^ numbers.keys())]
-    return faults + of_page(numbers) + of_packages() + of_python() + of_stack()
+    return faults + of_page(numbers) + of_python() + of_stack()
 
 
 def section(title: str) -> list[tuple[str, str]]:

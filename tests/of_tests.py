@@ -22,6 +22,7 @@ from functools import partial
 from pathlib import Path
 from queue import SimpleQueue
 
+import versions
 import wrong_checks
 import wrong_programs
 import wrong_quick
@@ -146,12 +147,41 @@ PAGES = (
     Case(NUMBERS, "CONTRIBUTING.md", "20,000 random lines", "2,000 random lines", "CONTRIBUTING.md: 2000, and check"),
     Case(NUMBERS, "README.md", "commands and 20,000", "commands and 2,000", "README.md: 2000, and check asks"),
     Case(NUMBERS, "check", "tests/rows.py --random 1 20000", "tests/rows.py --random 1 200", "and check asks 200\n"),
-    Case(NUMBERS, "foreign/rust/Cargo.toml", '\nversion = "', '\nversion = "9', "foreign/rust/Cargo.toml: version"),
-    Case(NUMBERS, "foreign/pigyelund.pc", "Version: ", "Version: 9", "foreign/pigyelund.pc: version"),
     Case(MANUAL, "respath", "        exit 2\n", "        exit 3\n", "respath --help: names status 2 for 'usage'"),
     Case(MANUAL, "respath", "return 3", "return 2", "respath --help: names status 3 for 'check'"),
     Case(MANUAL, "respath", "= - ]; then\n            answer_input", "= + ]; then\n            answer_input",
          "is the standard input"),
+)
+# A version in each of its places: another one, or none.
+VERSIONS = "tests/versions.py"
+NONE = "no version at "
+OF_VERSIONS = (
+    Case(VERSIONS, "VERSION", "", "9", "CHANGELOG.md: version "),
+    Case(VERSIONS, "VERSION", ".", "-", "three numbers with dots"),
+    Case(VERSIONS, "VERSION", "\n", "", "and the end of the line"),
+    Case(VERSIONS, "CHANGELOG.md", "\n## ", "\n## 9", "CHANGELOG.md: version 9"),
+    Case(VERSIONS, "CHANGELOG.md", "\n## ", "\n## 0.9.0, unreleased\n\n## ", "CHANGELOG.md: version 0.9.0"),
+    Case(VERSIONS, "README.md", "| Version ", "| Version 9", "README.md: version 9"),
+    Case(VERSIONS, "README.md", "./release 0", "./release 90", "README.md: version 9"),
+    Case(VERSIONS, "README.md", "./release --deb ", "./release --deb 9", "README.md: version 9"),
+    Case(VERSIONS, "README.md", "pigyelund_", "pigyelund_9", "README.md: version 9"),
+    Case(VERSIONS, "README.md", "/pigyelund-0", "/pigyelund-90", "README.md: version 9"),
+    Case(VERSIONS, "crates/origins/src/help.rt", 'VERSION: &str = "', 'VERSION: &str = "9', "help.rt: version 9"),
+    Case(VERSIONS, "crates/origins/src/help.rt", "pub const VERSION", "const VERSION", f"help.rt: {NONE}"),
+    Case(VERSIONS, "foreign/rust/Cargo.toml", '\nversion = "', '\nversion = "9', "rust/Cargo.toml: version 9"),
+    Case(VERSIONS, "foreign/rust/Cargo.toml", "\nversion = ", "\nversions = ", f"rust/Cargo.toml: {NONE}"),
+    Case(VERSIONS, "foreign/python/pyproject.toml", '\nversion = "', '\nversion = "9', "pyproject.toml: version 9"),
+    Case(VERSIONS, "foreign/pigyelund.pc", "\nVersion: ", "\nVersion: 9", "foreign/pigyelund.pc: version 9"),
+    Case(VERSIONS, "docs/respath.1", "@VERSION@", "0.1.0", "docs/respath.1: version 0.1.0"),
+    Case(VERSIONS, "docs/origins.1", "@VERSION@", "0.1.0", "docs/origins.1: version 0.1.0"),
+    Case(VERSIONS, "vectors/text_as.json", '\n "version": "', '\n "version": "9', "vectors/text_as.json: version 9"),
+    Case(VERSIONS, "foreign/numbers.txt", "(VERSION, ", "(VERSION, 9", "foreign/pigyelund.h: version of the calls 4"),
+    Case(VERSIONS, "foreign/pigyelund.h", "PIGY_VERSION 4", "PIGY_VERSION 94", "pigyelund.h: version of the calls 94"),
+    Case(VERSIONS, "foreign/python/pigyelund/raw.py", "\nVERSION = ", "\nVERSION = 9", "raw.py: version of the calls"),
+    Case(VERSIONS, "crates/pigyelund_c/src/verify_exports.rt", "result ≡ ", "result ≡ 9", "verify_exports.rt: version"),
+    Case(VERSIONS, "docs/PROVED.md", "4: `pigy_version`", "5: `pigy_version`", "PROVED.md: version of the calls 5"),
+    Case(VERSIONS, "tests/foreign.sh", "package needs version ", "package needs version 9", "foreign.sh: version of the"),
+    Case(VERSIONS, "tests/release.sh", "{ return ", "{ return 9", "release.sh: version of the calls 9"),
 )
 OF_ORIGINS = (
     # The help is in the program, and is replaced by as many octets.
@@ -260,7 +290,7 @@ def of_cases(folder: Path) -> Iterator[tuple[str, str | None]]:
 def of_pages(folder: Path) -> Iterator[tuple[str, str | None]]:
     """The tests that compare pages with whole files and with the programs: they pass, and tell what is made wrong."""
     shutil.copytree(TOP, folder, symlinks=True, ignore=shutil.ignore_patterns(".git", "out", "__pycache__"))
-    cases = [it for it in PAGES if it.test == NUMBERS]
+    cases = [*OF_VERSIONS, *(it for it in PAGES if it.test == NUMBERS)]
     for program, more in ((RESPATH, [it for it in PAGES if it.test == MANUAL]), (ORIGINS, OF_ORIGINS)):
         if (TOP / program).is_file():
             (folder / program).parent.mkdir()
@@ -268,9 +298,14 @@ def of_pages(folder: Path) -> Iterator[tuple[str, str | None]]:
             cases += more
         else:
             print(f"left out: {MANUAL} needs {program}")
-    for test in (NUMBERS, MANUAL):
+    for test in (NUMBERS, VERSIONS, MANUAL):
         status, said = said_by((test,), folder)
         yield f"{test} passes", None if status == 0 else said
+    status, said = said_by((VERSIONS, "0.0.9"), folder)
+    there = "VERSION: version " in said and ", expected 0.0.9\n" in said
+    yield f"{VERSIONS} 0.0.9", None if status == 1 and there else said
+    untried = {*versions.PLACES, *versions.MADE, *versions.CALLS} - {it.file for it in OF_VERSIONS}
+    yield f"{VERSIONS}: each place is made wrong", f"not {sorted(untried)}" if untried else None
     for case in cases:
         yield f"{case.test}: {case.file}, {case.new[:60]!r}", fault_of(case, folder)
     if (TOP / ORIGINS).is_file():

@@ -3,8 +3,8 @@
 
 A number of rows may be exact or rounded down: the files have at least as many, and less than a tenth more. Each row of
 many elements that docs/TESTS.md quotes has to be in the rows. The numbers of random lines on the pages have to be those
-of `check`. The version is the same in each file that has one. tests/manual_pages.py compares exit statuses. The status
-is 1 if a number differs, or if no page has it.
+of `check`. tests/manual_pages.py compares exit statuses, and tests/versions.py versions. The status is 1 if a number
+differs, or if no page has it.
 """
 
 import re
@@ -72,14 +72,6 @@ EXACT: tuple[tuple[str, str, Callable[[], int]], ...] = tuple(
         (rf"\b{NUMBER} random routes", r"tests/random_origins\.py"),
     )
 )
-# The files that have the version, which is the first one of the changes.
-VERSIONS = {
-    "CHANGELOG.md": r"^## ([^,\n]*)",
-    "crates/origins/src/help.rt": r'^pub const VERSION: &str = "(.*)";',
-    "foreign/pigyelund.pc": r"^Version: (.*)",
-    "foreign/python/pyproject.toml": r'^version = "(.*)"',
-    "foreign/rust/Cargo.toml": r'^version = "(.*)"',
-}
 QUOTED_ROW = re.compile(r"`((?:long \w+|requests many) \d+)`")
 
 
@@ -113,18 +105,9 @@ def faults_of_quotes() -> Iterator[str]:
             yield f"docs/TESTS.md: no row `{row}`"
 
 
-def faults_of_versions() -> Iterator[str]:
-    """The files whose version is not that of the changes."""
-    found = {name: re.findall(pattern, text_of(name), re.MULTILINE)[:1] for name, pattern in VERSIONS.items()}
-    wanted = found["CHANGELOG.md"]
-    for name, version in found.items():
-        if version != wanted or not version:
-            yield f"{name}: version {version}, and CHANGELOG.md {wanted}"
-
-
 def main() -> int:
     """Prints what differs."""
-    faults = [*faults_of_counts(), *faults_of_quotes(), *faults_of_versions()]
+    faults = [*faults_of_counts(), *faults_of_quotes()]
     for fault in faults:
         print(fault)
     print(f"numbers on the pages: {len(faults)} differ")

@@ -9,7 +9,7 @@ unset LIB KIT MAINTAINER
 top=$PWD
 out=$(mktemp -d) || exit 1
 trap 'rm -rf "$out"' EXIT
-version=$(sed -n 's/^## \([^,]*\).*/\1/p' CHANGELOG.md | head -n 1)
+version=$(cat VERSION)
 failed=0
 
 has() {
@@ -65,9 +65,10 @@ make_copy() {
     rm -rf "$copy" "$out/made" "$kit/meanwhile" "$kit/tools"
     mkdir -p "$copy/crates/respath" "$copy/crates/origins" "$kit/tools"
     tar -cf - --exclude=out --exclude=rows.txt --exclude=__pycache__ .gitignore release program.sh respath origins \
-        README.md CHANGELOG.md LICENSE foreign tests/foreign_page.py tests/foreign.sh tests/logic.sh \
-        docs/FOREIGN.md docs/respath.1 docs/origins.1 crates/pigyelund_c/src crates/pigyelund_c/specs \
-        crates/pigyelund_routes/src crates/pigyelund_routes/specs vectors docs/CONFORMANCE.md | tar -xf - -C "$copy"
+        README.md CHANGELOG.md LICENSE VERSION foreign tests/foreign_page.py tests/foreign.sh tests/logic.sh \
+        tests/versions.py tests/release.sh crates/origins/src docs/PROVED.md docs/FOREIGN.md docs/CONFORMANCE.md \
+        docs/respath.1 docs/origins.1 crates/pigyelund_c/src crates/pigyelund_c/specs crates/pigyelund_routes/src \
+        crates/pigyelund_routes/specs vectors | tar -xf - -C "$copy"
     (
         cd "$copy" || exit
         printf 'respath:\norigins:\n' >crates.txt
@@ -143,6 +144,10 @@ refuses_what_is_not_committed() {
     refuses "a change while it is proved" "$changed" "echo 'echo >>\"$copy/README.md\"' >'$kit/meanwhile'"
     refuses "another commit while it is proved" "there is another commit" \
         "echo 'git -C \"$copy\" -c user.name=n -c user.email=e commit -q --allow-empty -m more' >'$kit/meanwhile'"
+    refuses "another version of the program origins" "versions differ" \
+        "sed -i 's/VERSION: &str = \"/&9/' crates/origins/src/help.rt"
+    refuses "another version in the changes" "versions differ" "sed -i 's/^## /&9/' CHANGELOG.md"
+    refuses "another number of a status" "numbers or names differ" "sed -i 's/(OK, 0)/(OK, 9)/' foreign/numbers.txt"
     refuses "no repository" "$copy is no git repository" 'rm -rf .git'
     refuses "a folder in another repository" "$copy is no git repository" \
         'rm -rf .git && git init -q .. && rm -rf "$copy/out"'
@@ -277,7 +282,10 @@ released_package() {
 
 if has "what a release refuses" git gcc make ar tar gzip python3; then
     make_kit || fail "a kit"
-    ./release "$version.1" "$out/made" 2>/dev/null && fail "another version is refused"
+    said=$(./release "$version.1" "$out/made" 2>&1) && fail "another version is made"
+    [ "$said" = "VERSION: version $version, expected $version.1
+versions: 1 differ
+release: versions differ" ] || fail "another version is refused: $said"
     makes_the_same
     refuses_what_is_not_proved
     refuses_what_is_not_committed

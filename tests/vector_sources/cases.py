@@ -9,7 +9,7 @@ from pathlib import Path
 from typing import Any
 
 TOP = Path(__file__).resolve().parent.parent.parent
-VERSION = "0.1.0"
+VERSION = (TOP / "VERSION").read_text().strip()
 LEAST = 10
 
 

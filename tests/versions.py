@@ -1,0 +1,89 @@
+#!/usr/bin/env python3
+"""versions.py [VERSION]: compares each place that has the version with the file VERSION.
+
+Each place in PLACES has the version itself. Each place in MADE has `@VERSION@`, which the build replaces. The files in
+vectors/ get the version from `tests/source_vectors.py --write`. The version of the calls, PIGY_VERSION, is another
+number. It is compared too: each place in CALLS has the number of foreign/numbers.txt.
+
+With an argument the file VERSION has to contain this version; ./release passes its own argument. The status is 1 if a
+place has another version or none.
+"""
+
+import re
+import sys
+from collections.abc import Iterator
+from pathlib import Path
+
+TOP = Path(__file__).resolve().parent.parent
+# The files with the version, and the pattern whose group is the version. Each pattern matches at least once.
+PLACES = {
+    "CHANGELOG.md": r"\A(?:(?!## ).*\n)*## ([^,\n]*)",
+    "README.md": r"(?:\bVersion |\./release (?:--deb )?|[a-z\d]_|pigyelund-)(\d+(?:\.\d+)+)",
+    "crates/origins/src/help.rt": r'^pub const VERSION: &str = "(.*)";$',
+    "foreign/pigyelund.pc": r"^Version: (.*)$",
+    "foreign/python/pyproject.toml": r'^version = "(.*)"$',
+    "foreign/rust/Cargo.toml": r'^version = "(.*)"$',
+}
+# The files that the build makes, and what they have in place of the version.
+MADE = {
+    "docs/origins.1": r'^\.TH ORIGINS 1 "@DATE@" "pigyelund (.*)" "User Commands"$',
+    "docs/respath.1": r'^\.TH RESPATH 1 "@DATE@" "pigyelund (.*)" "User Commands"$',
+}
+# The files with the version of the calls.
+CALLS = {
+    "crates/pigyelund_c/src/verify_exports.rt": r"fn pigy_version\(\) -> u32\n    ensures \{ result ≡ (\d+) \}",
+    "docs/PROVED.md": r"(\d+): `pigy_version`",
+    "foreign/numbers.txt": r"^NUMBER\(VERSION, (\d+)\)$",
+    "foreign/pigyelund.h": r"^#define PIGY_VERSION (\d+)u$",
+    "foreign/python/pigyelund/raw.py": r"^VERSION = (\d+)\b",
+    "tests/foreign.sh": r"this package needs version (\d+);",
+    "tests/release.sh": r"pigy_version\(void\) \{ return (\d+); \}",
+}
+
+
+def found(name: str, pattern: str) -> list[str]:
+    """Returns what a pattern finds in a file; nothing if there is no such file."""
+    file = TOP / name
+    return re.findall(pattern, file.read_text(), re.MULTILINE) if file.is_file() else []
+
+
+def differing(name: str, pattern: str, wanted: str, what: str) -> Iterator[str]:
+    """Says what a file has in place of what it should have."""
+    there = found(name, pattern)
+    if not there:
+        yield f"{name}: no {what} at {pattern}"
+    yield from (f"{name}: {what} {it}, expected {wanted}" for it in there if it != wanted)
+
+
+def faults(asked: list[str]) -> Iterator[str]:
+    """Says what differs in all places."""
+    text = (TOP / "VERSION").read_text()
+    version = text.removesuffix("\n")
+    if not re.fullmatch(r"\d+\.\d+\.\d+\n", text):
+        yield f"VERSION: {text!r}, expected three numbers with dots between them, and the end of the line"
+    yield from (f"VERSION: version {version}, expected {it}" for it in asked if it != version)
+    for name, pattern in PLACES.items():
+        yield from differing(name, pattern, version, "version")
+    for name, pattern in MADE.items():
+        yield from differing(name, pattern, "@VERSION@", "version")
+    for file in sorted((TOP / "vectors").glob("*.json")):
+        yield from differing(f"vectors/{file.name}", r'^ "version": "(.*)"$', version, "version")
+    (calls,) = found("foreign/numbers.txt", CALLS["foreign/numbers.txt"]) or ["a number"]
+    for name, pattern in CALLS.items():
+        yield from differing(name, pattern, calls, "version of the calls")
+
+
+def main(words: list[str]) -> int:
+    """Prints what differs."""
+    if len(words) > 1 or any(it.startswith("-") for it in words):
+        print("usage: versions.py [VERSION]", file=sys.stderr)
+        return 2
+    there = list(faults(words))
+    for fault in there:
+        print(fault)
+    print(f"versions: {len(there)} differ")
+    return 1 if there else 0
+
+
+if __name__ == "__main__":
+    sys.exit(main(sys.argv[1:]))

@@ -26,13 +26,15 @@ IsBlockInAnyOrder bytes u =
 
 -- ---- encodings
 
+-- the content of a range: the least number and the greatest (3.2.3.8)
 abbrev pub as_range_content : ℕ × ℕ → List ℕ
 as_range_content b = as_number_octets b.0 ++ as_number_octets b.1
 
+-- the octets of a range: a SEQUENCE of the least number and the greatest (3.2.3.8)
 abbrev pub as_range_octets : ℕ × ℕ → List ℕ
 as_range_octets b = sequence_value (as_range_content b)
 
--- a block in the form that it has
+-- the octets of a block: an INTEGER for an Id, and a SEQUENCE for a Range (3.2.3.5)
 abbrev pub as_block_octets : AsBlock → List ℕ
 as_block_octets (Id n) = as_number_octets n
 as_block_octets (Range r) = as_range_octets (range_bounds r)

@@ -1,4 +1,4 @@
--- The readings of blocks of AS numbers find exactly what the grammar says. Readers of lists depend on this.
+-- Lemmas: the readings of blocks of AS numbers find exactly the blocks of the grammar. Readers of lists depend on this.
 use Rattle.std.proofs.Common.{◌≡◌, ℕ, ◌≤◌, ltb, List, Result, Ok, Err, refl, sym, ap, subst, ◌∙◌, arith, inl, inr}
 use Rattle.std.proofs.lemmas.Bool.{ltb-false, le-ltb}
 use Rattle.rpki_block.specs.Ranges.{RangeValue}
@@ -32,7 +32,7 @@ range_says min max r e =
     let g = passed (ltb max min) ReversedRange (Ok made) r e in
     (ltb-false max min g.0, sym (ok_is made r g.1))
 
--- and are read as that range
+-- numbers in order are read as their range
 range_again : (min max : ℕ) (r : RangeValue) → IsBetween min max r → range_of min max ≡ Ok r
 unfolding range_of IsBetween
 range_again min max r (ordered, is) = rw (le-ltb max min ordered) (ap (λ (x : RangeValue). Ok x) (sym is))
@@ -62,13 +62,13 @@ unfolding SaysId SaysRange IsBetween
 block_to bytes b fits (v, is, inl (t, (n, says, e))) = subst (IsAsBlock bytes) (sym e) (number_spelled bytes v.content n fits (subst (λ (tag : ℕ). IsValue bytes tag v.content) t is) says)
 block_to bytes b fits (v, is, inr (t, (r, (min, max, both, (ordered, made)), e))) = subst (IsAsBlock bytes) (sym (e ∙ ap (λ (x : RangeValue). Range x) made)) (ordered, (v.content, subst (λ (tag : ℕ). IsValue bytes tag v.content) t is, both))
 
--- and back
+-- from the grammar to the tag and the content
 block_from : (bytes : List ℕ) (b : AsBlock) → IsAsBlock bytes b → Refines IsTlv (SaysByTag 2 SaysId SaysRange) bytes b
 unfolding SaysId SaysRange IsBetween
 block_from bytes (Id n) is = (record { tag = 2; content = integer n }, is.1, inl (refl, (n, spelled_unsigned n is.0, refl)))
 block_from bytes (Range r) (ordered, (content, is, both)) = (record { tag = 48; content = content }, is, inr (refl, (r, (r.min, r.max, both, (ordered, refl)), refl)))
 
--- a block
+-- the reading of a block finds exactly the blocks of the grammar
 pub as_block_reading : IsReading IsAsBlock as_block_at
 unfolding SaysId SaysRange
 as_block_reading =
@@ -78,7 +78,7 @@ as_block_reading =
     number_check : IsCheck IsBytes IsUnsigned unsigned
     number_check = record { takes = λ content n fits e. unsigned_check.takes content n tt e; again = unsigned_check.again }
 
--- a block has an octet
+-- a block has at least one octet
 pub as_block_has_octets : HasOctets IsAsBlock
 as_block_has_octets front (Id n) is = value_has_octets front 2 (integer n) is.1
 as_block_has_octets front (Range r) is = value_has_octets front 48 is.1.0 is.1.1
@@ -96,14 +96,14 @@ unfolding SaysTwo
 skip_to bytes u fits (v, is, inl (t, (n, says))) = inl (n, number_spelled bytes v.content n fits (subst (λ (tag : ℕ). IsValue bytes tag v.content) t is) says)
 skip_to bytes u fits (v, is, inr (t, (first, second, both, unit))) = inr (v.content, subst (λ (tag : ℕ). IsValue bytes tag v.content) t is, (first, second, both))
 
--- and back
+-- from the grammar to the tag and the content
 skip_from : (bytes : List ℕ) (u : Unit {0}) → IsBlockInAnyOrder bytes u
     → Refines IsTlv (SaysByTag 2 SaysAsNumber SaysTwo) bytes u
 unfolding SaysTwo
 skip_from bytes u (inl (n, is)) = (record { tag = 2; content = integer n }, is.1, inl (refl, (n, spelled_unsigned n is.0)))
 skip_from bytes u (inr (content, is, (first, second, both))) = (record { tag = 48; content = content }, is, inr (refl, (first, second, both, tt)))
 
--- a number that is not stored
+-- the check of a skipped number
 skip_check : IsCheck IsBytes SaysAsNumber skip_number
 skip_check = record { takes = λ content u fits e. number_of content u (unsigned content) refl e; again = λ content u (n, says). rw (unsigned_check.again content n says) refl }
   where
@@ -112,7 +112,7 @@ skip_check = record { takes = λ content u fits e. number_of content u (unsigned
     number_of content u (Ok n) is e = (n, unsigned_check.takes content n tt is)
     number_of content u (Err d) is e = absurd cc
 
--- a skipped block
+-- the reading of a skipped block finds exactly the blocks, with the numbers of a range in any order
 pub skip_reading : IsReading IsBlockInAnyOrder skip_block_at
 unfolding SaysTwo
 skip_reading =

@@ -1,4 +1,4 @@
--- The block of given bounds has these bounds.
+-- A lemma on the form of blocks.
 use Rattle.std.proofs.Common.{◌≡◌, ℕ, Bool, true, false, refl, ap}
 use Rattle.std.specs.Prelude.{◌==◌, if◌then◌else◌}
 use Rattle.std.proofs.lemmas.Bool.{eqb-true}
@@ -6,6 +6,7 @@ use Rattle.rpki_block.specs.Ranges.{new_range}
 use Rattle.rpki_as_block.specs.Blocks.{as_bounds, new_as_block}
 use Rattle.rpki_as_block.specs.declared.block.AsBlock.TheVariants.{Id, Range}
 
+-- the block of given bounds has these bounds
 pub new_as_block_bounds : (b : ℕ × ℕ) → as_bounds (new_as_block b) ≡ b
 new_as_block_bounds b = by_test (b.0 == b.1) refl
   where

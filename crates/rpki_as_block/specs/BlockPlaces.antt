@@ -1,4 +1,4 @@
--- Texts of AS blocks at an index in bytes.
+-- Texts of AS blocks at an index of a text.
 use Rattle.std.specs.Prelude.{◌≡◌, ℕ, ◌+◌, ◌-◌, ◌<◌, ◌≤◌, ◌⊎◌, List, [], ◌∷◌, length, take, drop, slice_index}
 use Rattle.std.specs.Int.{IsInRange}
 use Rattle.std.specs.List.{AllByRecursion}
@@ -19,15 +19,15 @@ pub record IsAsBlockBetween (start end : ℕ) (text : List ℕ) (b : AsBlock) : 
 abbrev pub StandsAt : ℕ → ℕ → List ℕ → Type 0
 StandsAt byte place text = (place < length text) × (slice_index text place ≡ byte)
 
--- At start there is a block in the usual form: one AS number with no dash (45) after it, or two around a dash, the
--- first at most the second. It ends at end.
+-- A block in the usual form is at start: one AS number with no dash (45) after it, or two around a dash, the first at
+-- most the second. end is the index after it.
 abbrev pub IsAsBlockAt : ℕ → ℕ → List ℕ → AsBlock → Type 0
 IsAsBlockAt start end text (Id n) = IsAsnAt start end text n × (¬ StandsAt 45 end text)
 IsAsBlockAt start end text (Range r) =
     (middle : ℕ) × IsAsnAt start middle text r.min × StandsAt 45 middle text × IsAsnAt (middle + 1) end text r.max
     × (r.min ≤ r.max)
 
--- after is the index after a space (32) if there is one at start, or else start
+-- after is the index after a space (32) if a space is at start, and start otherwise
 abbrev pub IsAfterSpace : ℕ → ℕ → List ℕ → Type 0
 IsAfterSpace start after text =
     ((after ≡ start) × (¬ StandsAt 32 start text)) ⊎ ((after ≡ start + 1) × StandsAt 32 start text)

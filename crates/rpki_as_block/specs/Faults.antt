@@ -3,7 +3,7 @@ use Rattle.std.specs.Prelude.{ℕ, List, codes}
 use Rattle.rpki_as_block.specs.declared.error.FromStrError.{FromStrError}
 use Rattle.rpki_as_block.specs.declared.error.FromStrError.TheVariants.{BadAsn, BadRange, BadBlocks}
 
--- the text of each error
+-- the printed text of an error
 abbrev pub as_from_str_error_text : FromStrError → List ℕ
 as_from_str_error_text BadAsn = codes "Bad AS number. Expected format: AS#"
 as_from_str_error_text BadRange = codes "Bad AS range. Expected format: AS#-AS#"

@@ -1,4 +1,4 @@
--- Sets of numbers as lists: all their numbers, ascending, and how many there are.
+-- Sets of numbers as lists: all their numbers, ascending, and their count.
 use Rattle.std.specs.Prelude.{◌≡◌, ℕ, zero, suc, ◌+◌, ◌-◌, ◌<◌, ◌↔◌, List, [], ◌∷◌, length, AllPairs, Option, Some, None}
 use Rattle.std.specs.List.{Contains, flat_map}
 use Rattle.rpki_block.specs.Ranges.{RangeValue, range_bounds}
@@ -25,7 +25,7 @@ numbers_from (suc k) a = a ∷ numbers_from k (a + 1)
 unfoldable pub numbers_within : ℕ × ℕ → List ℕ
 numbers_within b = numbers_from (b.1 + 1 - b.0) b.0
 
--- the numbers of a range, if there is one
+-- the numbers of a range, or no numbers if there is no range
 abbrev pub numbers_left : Option RangeValue → List ℕ
 numbers_left None = []
 numbers_left (Some r) = numbers_within (range_bounds r)

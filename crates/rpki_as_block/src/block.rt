@@ -9,7 +9,7 @@ use rpki_block::block::Block;
 pub enum AsBlock {
     /// One number.
     Id(Asn),
-    /// The numbers of a range, which may have only one.
+    /// The numbers of a range, which may have only one number.
     Range(AsRange),
 }
 
@@ -31,7 +31,7 @@ impl AsBlock {
     ///
     /// # Preconditions
     ///
-    /// The second number isn't below the first.
+    /// The second number is not below the first.
     pub fn from_pair(pair: (Asn, Asn)) -> AsBlock
         requires { pair.0 ≤ pair.1 }
         ensures { result ≡ AsBlock.Range (record { min = pair.0; max = pair.1 }) }
@@ -61,7 +61,7 @@ impl AsBlock {
         }
     }
 
-    /// Returns how many numbers the block has, 1 to 2^32.
+    /// Returns the count of the block's numbers, 1 to 2^32.
     #[tactic(auto, using(crate::proofs::IntervalNumberLemmas::interval_size))]
     pub fn asn_count(self) -> u64
         ensures from_bounds { result + (as_bounds self).0 ≡ (as_bounds self).1 + 1 }
@@ -106,7 +106,7 @@ impl AsBlock {
         AsBlock::min(self) == Asn::MIN && AsBlock::max(self) == Asn::MAX
     }
 
-    /// Iterates over the numbers, ascending.
+    /// Returns an iterator over the numbers, ascending.
     pub fn iter(self) -> AsBlockIter
         ensures numbers { IsListOf (IsWithin (as_bounds self)) result }
         ensures list { result ≡ numbers_within (as_bounds self) }
@@ -116,7 +116,7 @@ impl AsBlock {
     }
 }
 
-/// The form of `new` is an Id if both bounds are the same, and a Range otherwise.
+/// Defines the form of `new`: an Id if both bounds are the same, and a Range otherwise.
 impl Block for AsBlock {
     ghost use Rattle.std.specs.Prelude.{refl};
     ghost use Rattle.rpki_as_block.specs.Blocks.{as_bounds, new_as_block};
@@ -181,7 +181,7 @@ impl Block for AsBlock {
     }
 }
 
-/// Blocks are equal if and only if their bounds are, in any form.
+/// Blocks are equal if and only if their bounds are the same. Their forms may differ.
 impl PartialEq for AsBlock {
     ghost use Rattle.std.specs.Prelude.{◌≡◌, ◌↔◌, IsTrue};
     ghost use Rattle.rpki_block.specs.Equality.{have_same_bounds};

@@ -1,4 +1,4 @@
-//! Errors of a text of AS blocks.
+//! The error of a text of AS blocks.
 ghost use Rattle.std.specs.Prelude.{◌≡◌, Some};
 ghost use Rattle.rpki_as_block.specs.Faults.{as_from_str_error_text};
 ghost use Rattle.rpki_as_block.specs.declared.error.FromStrError.TheVariants.{BadAsn};
@@ -7,14 +7,14 @@ use rpki_base::asn::ParseAsnError;
 use std::error::Error;
 use std::fmt;
 
-/// Why a text isn't a block of AS numbers, or a list of such blocks.
+/// Why a text is not a block of AS numbers, or not a list of such blocks.
 #[derive(Clone, Copy, Debug, PartialEq, Eq)]
 pub enum FromStrError {
-    /// A text without a dash isn't an AS number.
+    /// A text without a dash is not an AS number.
     BadAsn,
-    /// A text with a dash isn't two AS numbers around its first dash, or the first number is above the second.
+    /// A text with a dash is not two AS numbers around its first dash, or the first number is above the second.
     BadRange,
-    /// Blocks that can't be read. No call returns this error.
+    /// The blocks cannot be parsed. No call returns this error.
     BadBlocks,
 }
 

@@ -1,4 +1,4 @@
-//! The iterator over the AS numbers of a block, ascending. It takes no memory.
+//! The iterator over the AS numbers of a block, ascending. It allocates nothing.
 ghost use Rattle.std.specs.Prelude.{◌≡◌, []};
 ghost use Rattle.std.specs.Iterator.{YieldsFirst, item_count};
 
@@ -7,7 +7,7 @@ use rpki_base::asn::Asn;
 use rpki_block::block::Block;
 use std::marker::Model;
 
-/// Iterates over the numbers of a block. Its model is the list of the numbers that are left.
+/// An iterator over the numbers of a block, ascending. Its model is the list of the numbers that are left.
 #[derive(Debug, Drop)]
 pub struct AsBlockIter {
     left: Option<AsRange>,

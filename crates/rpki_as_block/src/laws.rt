@@ -27,8 +27,9 @@ pub fn written()
     ensures { (block : AsBlock) → HasAsNumbers block → IsAsBlock (as_block_octets block) block }
 {}
 
-/// A range is reversed if and only if it begins with two numbers of which the second is less than the first. A block is
-/// reversed if and only if it is a SEQUENCE that begins so. The octets after the two numbers don't matter.
+/// The content of a range is refused by `ReversedRange` if and only if it begins with two numbers, the second of them
+/// below the first. A block is refused so if and only if it is a SEQUENCE with such a content. The octets after the two
+/// numbers don't matter.
 #[tactic(auto, using(crate::proofs::AsBlockDerFaults::block_fails, crate::proofs::AsBlockDerFaults::range_fails))]
 pub fn reversed()
     ensures range { (content : List ℕ) → (as_range_in content ≡ Err ReversedRange)
@@ -37,8 +38,8 @@ pub fn reversed()
         ↔ BeginsWithValue 48 (BeginsWithTwo as_number_at (λ first second. second < first)) bytes }
 {}
 
-/// Only a strict cursor refuses octets as not canonical, and only if a lenient cursor finds a block there: any other
-/// fault of a block comes first.
+/// Only a strict cursor refuses octets as not canonical, and only if a lenient cursor finds a block in them. Any other
+/// fault of a block is reported first.
 #[tactic(auto, using(crate::proofs::AsBlockDerFaults::comes_last, crate::proofs::AsBlockDerFaults::never_lenient))]
 pub fn not_canonical()
     ensures lenient { (bytes : List ℕ) → as_block_at bytes ≢ Err NotCanonical }

@@ -1,6 +1,6 @@
 //! Blocks of AS numbers (RFC 3779, 3.2.3.5 to 3.2.3.8): their bounds and numbers, their texts and their DER.
 //!
-//! This code reads a block from a text and counts its numbers, as in `test_values::as_blocks`:
+//! This example, in `test_values::as_blocks`, reads a block from a text and counts its numbers:
 //!
 //! ```rust
 //! match AsBlock::from_str(text) {

@@ -1,4 +1,4 @@
-//! Lists of AS blocks.
+//! Parses lists of AS blocks.
 ghost use Rattle.std.specs.Prelude.{◌≤◌, ◌↔◌, IsTrue, List, Ok, Err, IfOk, MatchOption, MatchResult, length};
 ghost use Rattle.rpki_text.specs.Memory.{IfRefused};
 ghost use Rattle.rpki_text.specs.Lists.{elements, HaveValues, HasFirstFault};
@@ -25,7 +25,7 @@ fn after_space(text: &[u8], start: usize) -> usize
     }
 }
 
-/// Returns whether a list ends at the index `end`, or after one space there.
+/// Returns whether the text ends at the index `end`, or after one space at that index.
 fn is_end(text: &[u8], end: usize) -> bool
     requires { end ≤ length text.now }
     ensures { IsTrue result ↔ IsEndAt end text.now }
@@ -33,8 +33,10 @@ fn is_end(text: &[u8], end: usize) -> bool
     after_space(text, end) == text.len()
 }
 
-/// Returns the blocks of a list in the usual form, or None for any other text. All elements of such a list have the
-/// usual form. Each may have one space before it, and the last may have one after it.
+/// Returns the blocks of a list in the usual form, or None for any other text.
+///
+/// All elements of such a list have the usual form. Each may have one space before it, and the last may have one after
+/// it.
 fn usual_blocks<A: Allocator>(alloc: A, text: &[u8]) -> Result<Option<Vec<AsBlock, A>>, AllocError>
     ensures { IfOk result (λ found. MatchOption found ((blocks : List AsBlock) → ¬ AreAsBlocksFrom 0 text.now blocks)
         (λ blocks. HaveValues (λ t b. ReadsAsBlock t (Ok b)) (elements text.now) blocks.items)) }
@@ -57,13 +59,14 @@ fn usual_blocks<A: Allocator>(alloc: A, text: &[u8]) -> Result<Option<Vec<AsBloc
     }
 }
 
-/// Returns the blocks that the elements of a list denote, as [`read_list`] does. A list in the usual form is read
-/// directly, with no search for its commas.
+/// Returns the blocks that the elements of a list denote, as [`read_list`] does.
+///
+/// A list in the usual form is read directly, with no search for its commas.
 ///
 /// # Errors
 ///
 /// - `Refused`: an element is not a block. The variant holds the fault of the first such element.
-/// - `Memory`: an allocation failed.
+/// - `Memory`: out of memory.
 pub fn read_blocks<A: Allocator + Copy>(
     alloc: A,
     text: &str,

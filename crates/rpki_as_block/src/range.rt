@@ -37,7 +37,7 @@ impl AsRange {
     ///
     /// # Preconditions
     ///
-    /// `max` isn't below `min`.
+    /// `max` is not below `min`.
     pub fn new(min: Asn, max: Asn) -> AsRange
         requires { min ≤ max }
         ensures { result ≡ record { min = min; max = max } }
@@ -68,7 +68,7 @@ impl AsRange {
         self.max
     }
 
-    /// Returns how many numbers the range has, 1 to 2^32.
+    /// Returns the count of the range's numbers, 1 to 2^32.
     #[tactic(auto, using(crate::proofs::IntervalNumberLemmas::interval_size))]
     pub fn asn_count(self) -> u64
         ensures from_bounds { result + self.min ≡ self.max + 1 }
@@ -78,7 +78,7 @@ impl AsRange {
     }
 }
 
-/// A range has only one form as a block.
+/// Defines the form of `new`, which is the only form of a range.
 impl Block for AsRange {
     ghost use Rattle.std.specs.Prelude.{refl};
     ghost use Rattle.rpki_block.specs.Ranges.{range_bounds, new_range};
@@ -133,7 +133,7 @@ impl Block for AsRange {
     }
 }
 
-/// Prints both numbers, even if they are the same, as `AS3-AS5`.
+/// Prints both numbers, even if they are the same, as in `AS3-AS5`.
 impl fmt::Display for AsRange {
     ghost use Rattle.std.specs.Prelude.{Some};
     ghost use Rattle.rpki_as_block.specs.BlockText.{as_range_text};

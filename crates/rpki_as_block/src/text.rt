@@ -1,4 +1,4 @@
-//! Texts of AS blocks.
+//! Parses and prints AS blocks.
 ghost use Rattle.std.specs.Prelude.{Some, MatchOption};
 ghost use Rattle.rpki_block.specs.Ranges.{range_bounds};
 ghost use Rattle.rpki_as_block.specs.BlockText.{ReadsAsBlock, as_block_text, IsAsRangeBetween, NoRange};
@@ -11,7 +11,7 @@ use rpki_base::asn::Asn;
 use std::fmt;
 use std::str::FromStr;
 
-/// Returns the range between two AS numbers, if both texts are AS numbers and the first is at most the second.
+/// Returns the range between two AS numbers, if both texts are AS numbers and the first number is at most the second.
 fn read_range(left: &str, right: &str) -> Option<AsRange>
     ensures { MatchOption result (NoRange left.now right.now)
         (λ r. IsAsRangeBetween left.now right.now (range_bounds r)) }
@@ -37,7 +37,7 @@ fn read_any(text: &str) -> Result<AsBlock, FromStrError>
     }
 }
 
-/// Reads `AS7` or `7` as an Id, and two such texts around the first dash as a Range.
+/// Parses a text such as `AS7` or `7` as an Id, and two such texts around the first dash as a Range.
 ///
 /// # Errors
 ///
@@ -58,7 +58,7 @@ impl FromStr for AsBlock {
     }
 }
 
-/// Prints an Id as its number and a Range as a range.
+/// Prints an Id as its number, as in `AS7`, and a Range as both its numbers, as in `AS3-AS5`.
 impl fmt::Display for AsBlock {
     ghost output = { λ b. Some (as_block_text b) };
 

@@ -25,18 +25,18 @@ impl AsBlock {
     ghost use Rattle.rpki_as_block.specs.AsDerReading.{as_block_at, as_block_by, skip_block_at};
     ghost use Rattle.rpki_as_block.specs.Blocks.{as_bounds, new_as_block};
 
-    /// Takes the next block. It returns None at the end, and only there.
+    /// Takes the next block. Returns None if and only if no octet is left.
     ///
     /// # Errors
     ///
     /// The cursor is unchanged after an error.
     ///
-    /// - a fault of [`Cursor::take_value`]
-    /// - `BadInteger`: an INTEGER isn't a number from 0 to 4294967295 in the fewest octets
-    /// - `BadTag`, also if the value is neither an INTEGER nor a SEQUENCE
+    /// - a fault of [`Cursor::take_value`], of the block or of a number of a range
+    /// - `BadTag`: the block is neither an INTEGER nor a SEQUENCE, or a value in the SEQUENCE is not an INTEGER
+    /// - `BadInteger`: an INTEGER is not a number from 0 to 4294967295 in the fewest octets
     /// - `ReversedRange`: the first number of a range is above the second
-    /// - `TrailingData`: a range has more than two numbers
-    /// - `NotCanonical`, from a strict cursor only: a range has only one number
+    /// - `TrailingData`: octets follow the two numbers of a range
+    /// - `NotCanonical`, from a strict cursor only: both numbers of a range are the same
     #[tactic(auto, using(crate::proofs::AsBlockDerLemmas::block_back, crate::proofs::AsBlockDerLemmas::set_block_reading, rpki_der::proofs::SequenceCursors::reads_optional_value_by))]
     pub fn take_opt_from(cursor: &mut Cursor<'_>) -> Result<Option<AsBlock>, DerError>
         ensures reads { Lenient cursor.old
@@ -62,7 +62,7 @@ impl AsBlock {
         AsBlock::take_opt_from_by_mode(cursor)
     }
 
-    /// Skips the next block. It returns None at the end, and only there.
+    /// Skips the next block. Returns None if and only if no octet is left.
     ///
     /// # Errors
     ///
@@ -77,7 +77,7 @@ impl AsBlock {
         AsBlock::skip_opt_in_exact(cursor)
     }
 
-    /// Returns how many octets `encode` appends, at most 16.
+    /// Returns the number of octets that `encode` appends: at most 16.
     #[tactic(auto, using(crate::proofs::AsBlockDerLemmas::header_lengths))]
     pub fn encoded_len(&self) -> usize
         ensures len { result ≡ length (as_block_octets self.now) }
@@ -92,11 +92,13 @@ impl AsBlock {
         }
     }
 
-    /// Appends the block to `out`, in the form that it has.
+    /// Appends the block to `out`: an Id as an INTEGER, and a Range as a SEQUENCE of its two numbers.
+    ///
+    /// The encoding is that of RFC 3779, 3.2.3.5. The call succeeds if the capacity of `out` suffices.
     ///
     /// # Errors
     ///
-    /// [`AllocError`] if an allocation fails. The octets of `out` are unchanged then.
+    /// [`AllocError`]: out of memory. The octets in `out` are unchanged then.
     #[tactic(auto, using(crate::proofs::AsBlockDerLemmas::read_again))]
     pub fn encode<A: Allocator>(&self, out: &mut Vec<u8, A>) -> Result<(), AllocError>
         ensures ok { OnOk result (out.new.items ≡ out.old.items ++ as_block_octets self.now) }
@@ -268,7 +270,7 @@ fn skip_pair_within(content: Cursor<'_>) -> Result<(), DerError>
     inside.finish()
 }
 
-/// Returns how many octets the content of a range has.
+/// Returns the number of octets in the content of a range.
 fn range_content_len(range: &AsRange) -> usize
     ensures len { result ≡ length (as_range_content (range_bounds range.now)) }
     ensures short { result ≤ 14 }
@@ -276,8 +278,10 @@ fn range_content_len(range: &AsRange) -> usize
     AsRange::min(*range).encoded_len() + AsRange::max(*range).encoded_len()
 }
 
-/// Reads blocks one after another. From a strict cursor each block begins more than one above the greatest number of
-/// the block before it.
+/// A reader of consecutive blocks.
+///
+/// From a strict cursor, it takes a block only if it begins more than one above the greatest number of the block before
+/// it (RFC 3779, 3.2.3.4).
 #[derive(Clone, Copy, Debug)]
 pub struct AsBlockReader;
 

@@ -24,25 +24,25 @@ IsAsBlockSequence = Refines (IsSequenceOf IsAsBlock) (IsRunsOfBlocks as_bounds)
 abbrev pub IsAsChoice : List ℕ → ResourcesChoice (List AsBlock) → Type 0
 IsAsChoice = Encloses 48 (Encloses 160 (IsChoiceOf (IsSequenceOf IsAsBlock)))
 
--- listed blocks denote the set of their numbers
+-- the octets are AS resources as a claim: listed blocks denote the set of their numbers (3.2.3)
 abbrev pub IsAsResources : List ℕ → Claim → Type 0
 IsAsResources = Refines IsAsChoice (ListsBy (IsRunsOfBlocks as_bounds))
 
 -- ---- encodings
 
--- a run: an AS number if it is one number, or else the SEQUENCE of its bounds (3.2.3.5)
+-- the octets of a run: an AS number if it is one number, or else the SEQUENCE of its bounds (3.2.3.5)
 abbrev pub as_run_octets : ℕ × ℕ → List ℕ
 as_run_octets run = as_block_octets (new_as_block run)
 
--- the runs of a set, one after another
+-- the octets of the runs of a set, one after another
 abbrev pub as_set_octets : Runs → List ℕ
 as_set_octets set = octets_of_all as_run_octets set
 
--- the same in one SEQUENCE (3.2.3.4)
+-- the octets of a set: the SEQUENCE of its runs (3.2.3.4)
 abbrev pub as_sequence_octets : Runs → List ℕ
 as_sequence_octets set = sequence_octets as_run_octets set
 
--- resources that aren't missing (3.2.3.1)
+-- the octets of resources that aren't missing: a SEQUENCE of one value of context tag 0 (3.2.3.1)
 abbrev pub as_resources_octets : Claim → List ℕ
 as_resources_octets claim = sequence_value (value 160 (choice_octets as_sequence_octets claim))
 

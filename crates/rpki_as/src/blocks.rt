@@ -29,10 +29,12 @@ use std::fmt;
 use std::marker::Model;
 use std::slice::Iter;
 
-/// A set of AS numbers. Sets of the same numbers are equal and print alike. Several sets may share the same memory. The
-/// empty set takes no memory.
+/// A set of AS numbers.
 ///
-/// Its model is the ascending list of its runs, each as its least and its greatest number.
+/// Sets of the same numbers are equal and print alike. Several sets may share the same memory. The empty set takes no
+/// memory.
+///
+/// The model of a set is the ascending list of its runs, each as its least and its greatest number.
 #[derive(Drop)]
 pub struct AsBlocks<A: Allocator = Global> {
     set: BlockSet<AsBlock, A>,
@@ -60,7 +62,7 @@ impl<A: Allocator> AsBlocks<A> {
     ///
     /// # Errors
     ///
-    /// [`AllocError`] if an allocation fails.
+    /// [`AllocError`]: out of memory.
     pub fn all(alloc: A) -> Result<AsBlocks<A>, AllocError>
     where
         A: Copy,
@@ -74,7 +76,7 @@ impl<A: Allocator> AsBlocks<A> {
     ///
     /// # Errors
     ///
-    /// [`AllocError`] if an allocation fails.
+    /// [`AllocError`]: out of memory.
     pub fn from_blocks(alloc: A, blocks: &[AsBlock]) -> Result<AsBlocks<A>, AllocError>
     where
         A: Copy,
@@ -84,12 +86,13 @@ impl<A: Allocator> AsBlocks<A> {
         Ok(Self::from_set(set))
     }
 
-    /// Returns the set of the numbers that at least one block has, in the memory of `blocks`. The blocks may be in any
-    /// order and may overlap.
+    /// Returns the set of the numbers that at least one block has, in the memory of `blocks`.
+    ///
+    /// The blocks may be in any order and may overlap.
     ///
     /// # Errors
     ///
-    /// [`AllocError`] if there is no memory for the reference count.
+    /// [`AllocError`]: out of memory for the reference count. The blocks are dropped then.
     pub fn from_vec(alloc: A, blocks: Vec<AsBlock, A>) -> Result<AsBlocks<A>, AllocError>
         ensures { IfOk result (IsRunsOfBlocks as_bounds blocks.items) }
     {
@@ -97,8 +100,10 @@ impl<A: Allocator> AsBlocks<A> {
         Ok(Self::from_set(set))
     }
 
-    /// Returns the set whose runs are `blocks` as they are. The call fails if there is no memory for the reference
-    /// count. The blocks must be the runs of a set, ascending, each in the form that sets have.
+    /// Returns the set whose runs are `blocks`, without a check.
+    ///
+    /// The blocks must be the runs of a set, ascending, each in the form that `new` gives. The error is out of memory
+    /// for the reference count.
     pub(crate) fn from_vec_unchecked(
         alloc: A,
         blocks: Vec<AsBlock, A>,
@@ -110,11 +115,11 @@ impl<A: Allocator> AsBlocks<A> {
         Ok(Self::from_set(set))
     }
 
-    /// Returns the set that `resources` list, and the empty set if they are missing.
+    /// Returns the set that `resources` list, or the empty set if they are missing.
     ///
     /// # Errors
     ///
-    /// [`InheritedAsResources`] if the resources are inherited.
+    /// [`InheritedAsResources`]: the resources are inherited.
     pub fn from_resources(resources: AsResources<A>) -> Result<AsBlocks<A>, InheritedAsResources>
         ensures { MatchChoice resources (result ≡ Ok []) (IsErr result)
             (λ listed. result ≡ Ok listed) }
@@ -144,7 +149,7 @@ impl<A: Allocator> AsBlocks<A> {
     ///
     /// # Errors
     ///
-    /// [`AllocError`] if std refuses one more reference.
+    /// [`AllocError`]: the reference count is at its maximum.
     pub fn clone(&self) -> Result<AsBlocks<A>, AllocError>
         ensures same { IfOk result (λ set. set ≡ self.now) }
         ensures set { IsAsSet self.now }
@@ -160,7 +165,7 @@ impl<A: Allocator> AsBlocks<A> {
         self.set.is_empty()
     }
 
-    /// Returns how many numbers the set has, 0 to 2^32.
+    /// Returns the count of the set's numbers, 0 to 2^32.
     #[tactic(auto, using(crate::proofs::AsCountLemmas::numbers_counted))]
     pub fn asn_count(&self) -> u64
         ensures { IsSizeOf (Holds self.now) result }
@@ -183,8 +188,8 @@ impl<A: Allocator> AsBlocks<A> {
         self.set.recall_invariant();
     }
 
-    /// Iterates over the blocks of the set, ascending. They are its runs: a run of one number is an Id, any other a
-    /// Range.
+    /// Returns an iterator over the blocks of the set, ascending. They are its runs: a run of one number is an Id, any
+    /// other a Range.
     pub fn iter(&self) -> Iter<'_, AsBlock>
         ensures blocks { map as_bounds (iter_rest result) ≡ self.now }
         ensures made { iter_rest result ≡ map new_as_block self.now }
@@ -193,7 +198,7 @@ impl<A: Allocator> AsBlocks<A> {
         self.set.iter()
     }
 
-    /// Iterates over the numbers of the set, ascending.
+    /// Returns an iterator over the numbers of the set, ascending.
     pub fn iter_asns(&self) -> AsnIter<'_>
         ensures { IsListOf (Holds self.now) result }
     {
@@ -218,7 +223,7 @@ impl<A: Allocator> AsBlocks<A> {
     ///
     /// # Errors
     ///
-    /// [`AllocError`] if there is no memory for the result.
+    /// [`AllocError`]: out of memory for the result.
     pub fn intersection(&self, alloc: A, other: &AsBlocks<A>) -> Result<AsBlocks<A>, AllocError>
     where
         A: Copy,
@@ -232,7 +237,7 @@ impl<A: Allocator> AsBlocks<A> {
     ///
     /// # Errors
     ///
-    /// [`AllocError`] if there is no memory for the result. The set is unchanged then.
+    /// [`AllocError`]: out of memory for the result. The set is unchanged then.
     pub fn intersection_assign(&mut self, alloc: A, other: &AsBlocks<A>) -> Result<(), AllocError>
     where
         A: Copy,
@@ -246,7 +251,7 @@ impl<A: Allocator> AsBlocks<A> {
     ///
     /// # Errors
     ///
-    /// [`AllocError`] if an allocation fails.
+    /// [`AllocError`]: out of memory.
     pub fn difference(&self, alloc: A, other: &AsBlocks<A>) -> Result<AsBlocks<A>, AllocError>
     where
         A: Copy,
@@ -260,7 +265,7 @@ impl<A: Allocator> AsBlocks<A> {
     ///
     /// # Errors
     ///
-    /// [`AllocError`] if there is no memory for the result.
+    /// [`AllocError`]: out of memory for the result.
     pub fn union(&self, alloc: A, other: &AsBlocks<A>) -> Result<AsBlocks<A>, AllocError>
     where
         A: Copy,
@@ -270,13 +275,15 @@ impl<A: Allocator> AsBlocks<A> {
         Ok(Self::from_set(set))
     }
 
-    /// Returns the set that a list of blocks denotes. The text is cut at commas. White space around an element is
-    /// dropped, and an element that is empty then is skipped.
+    /// Parses a list of blocks, and returns the set of their numbers. The blocks may be in any order and may overlap.
+    ///
+    /// The call splits `text` at its commas, trims white space from each part, and skips the parts that are then empty.
+    /// Each other part is a block as in the `FromStr` of [`AsBlock`].
     ///
     /// # Errors
     ///
     /// - `Refused`: an element is not a block. The variant holds the fault of the first such element.
-    /// - `Memory`: an allocation failed.
+    /// - `Memory`: out of memory.
     pub fn from_str(alloc: A, text: &str) -> Result<AsBlocks<A>, OrMemory<FromStrError>>
     where
         A: Copy,
@@ -313,7 +320,7 @@ impl<A: Allocator> fmt::Debug for AsBlocks<A> {
     }
 }
 
-/// The default is the empty set.
+/// Returns the empty set as the default.
 impl<A: Allocator> Default for AsBlocks<A> {
     ghost is_default = { λ set. set ≡ [] };
 

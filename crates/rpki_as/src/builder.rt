@@ -12,9 +12,9 @@ use std::alloc::{AllocError, Allocator, Global};
 use std::fmt;
 use std::marker::Model;
 
-/// Collects blocks of AS numbers, in any order, for a set of their numbers. It keeps the allocator that it is given.
+/// A builder that collects blocks of AS numbers, in any order, for a set of their numbers.
 ///
-/// Its model is the list of the blocks' least and greatest numbers, in the order in which they were added.
+/// The model of a builder is the list of the blocks' least and greatest numbers, in the order in which they were added.
 #[derive(Drop)]
 pub struct AsBlocksBuilder<A: Allocator = Global> {
     blocks: BlockSetBuilder<AsBlock, A>,
@@ -29,7 +29,7 @@ impl<A: Allocator> Model for AsBlocksBuilder<A> {
 }
 
 impl<A: Allocator> AsBlocksBuilder<A> {
-    /// Creates a builder without blocks.
+    /// Returns a builder without blocks. It keeps `alloc` for its later allocations.
     pub fn new(alloc: A) -> AsBlocksBuilder<A>
         ensures { result ≡ [] }
     {
@@ -42,7 +42,7 @@ impl<A: Allocator> AsBlocksBuilder<A> {
     ///
     /// # Errors
     ///
-    /// [`AllocError`] if an allocation fails. The builder is unchanged then.
+    /// [`AllocError`]: out of memory. The builder is unchanged then.
     pub fn push(&mut self, block: AsBlock) -> Result<(), AllocError>
         ensures ok { OnOk result (self.new ≡ self.old ++ as_bounds block ∷ []) }
         ensures err { OnErr result (self.new ≡ self.old) }
@@ -50,11 +50,11 @@ impl<A: Allocator> AsBlocksBuilder<A> {
         self.blocks.push(block)
     }
 
-    /// Adds several blocks.
+    /// Adds several blocks, in order.
     ///
     /// # Errors
     ///
-    /// [`AllocError`] if an allocation fails. The builder is unchanged then.
+    /// [`AllocError`]: out of memory. The builder is unchanged then.
     pub fn extend_from(&mut self, blocks: &[AsBlock]) -> Result<(), AllocError>
         ensures ok { OnOk result (self.new ≡ self.old ++ map as_bounds blocks.now) }
         ensures err { OnErr result (self.new ≡ self.old) }
@@ -66,7 +66,7 @@ impl<A: Allocator> AsBlocksBuilder<A> {
     ///
     /// # Errors
     ///
-    /// [`AllocError`] if an allocation fails.
+    /// [`AllocError`]: out of memory.
     pub fn finalize(self) -> Result<AsBlocks<A>, AllocError>
     where
         A: Copy,
@@ -106,5 +106,5 @@ impl<A: Allocator + Copy> CollectBlocks for AsBlocksBuilder<A> {
     }
 }
 
-/// Builds AS resources: inherited ones, or a list to which a function adds blocks of AS numbers.
+/// A builder of AS resources: inherited ones, or a list to which a function adds blocks of AS numbers.
 pub type AsResourcesBuilder<A = Global> = ResourcesBuilder<AsBlocksBuilder<A>>;

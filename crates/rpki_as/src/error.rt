@@ -1,4 +1,4 @@
-//! Errors of a text of AS blocks, and of resources that are not a set by themselves.
+//! The errors of a text of AS blocks, and of resources that are not a set by themselves.
 ghost use Rattle.std.specs.Prelude.{Some};
 ghost use Rattle.rpki_as.specs.Faults.{inherited_text};
 
@@ -7,7 +7,7 @@ use rpki_chain::choice::InheritedResources;
 use std::error::Error;
 use std::fmt;
 
-/// The AS resources are inherited, so they are not a set by themselves.
+/// The error for inherited AS resources, which are not a set by themselves.
 #[derive(Clone, Copy, Debug, PartialEq, Eq)]
 pub struct InheritedAsResources;
 

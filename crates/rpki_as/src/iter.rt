@@ -1,4 +1,4 @@
-//! Iterators over AS numbers, ascending. The iterators take no memory.
+//! Iterators over AS numbers, ascending. They allocate nothing.
 ghost use Rattle.std.specs.Prelude.{◌≡◌};
 ghost use Rattle.std.specs.Iterator.{YieldsFirst, item_count};
 
@@ -8,7 +8,7 @@ use rpki_base::asn::Asn;
 use std::marker::Model;
 use std::slice::Iter;
 
-/// Iterates over the numbers of a set. Its model is the list of the numbers that are left.
+/// An iterator over the numbers of a set, ascending. Its model is the list of the numbers that are left.
 #[derive(Debug, Drop)]
 pub struct AsnIter<'a> {
     current: AsBlockIter,

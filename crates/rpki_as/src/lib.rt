@@ -1,7 +1,7 @@
 //! Sets of AS numbers, AS resources, and what remains of a set after claims (RFC 3779, 3), with their texts and their
 //! DER.
 //!
-//! This code builds resources block by block, as in `example_calls::builders::listed_in_the_end`:
+//! This example, in `example_calls::builders::listed_in_the_end`, builds resources block by block:
 //!
 //! ```rust
 //! let mut builder: AsResourcesBuilder<A> = AsResourcesBuilder::new(alloc);

@@ -33,7 +33,7 @@ use std::marker::Model;
 
 /// AS resources that are missing, inherited from the issuer, or listed. A listed set isn't empty.
 ///
-/// Its model is missing, inherited, or the ascending list of the runs of the listed set, which isn't empty.
+/// The model of resources is missing, inherited, or the ascending list of the runs of the listed set.
 #[derive(Drop)]
 pub struct AsResources<A: Allocator = Global> {
     choice: ResourcesChoice<AsBlocks<A>>,
@@ -68,7 +68,7 @@ impl<A: Allocator> AsResources<A> {
         }
     }
 
-    /// Returns resources that list a set, and missing resources if the set is empty.
+    /// Returns resources that list a set, or missing resources if the set is empty.
     pub fn blocks(blocks: AsBlocks<A>) -> AsResources<A>
         ensures { result ≡ claim_of blocks }
     {
@@ -104,12 +104,12 @@ impl<A: Allocator> AsResources<A> {
         self.choice.is_present()
     }
 
-    /// Returns the set that is listed, and the empty set if the resources are missing.
+    /// Returns the set that is listed, or the empty set if the resources are missing.
     ///
     /// # Errors
     ///
     /// - `Refused`: the resources are inherited.
-    /// - `Memory`: out of memory. Only a listed set gives this error.
+    /// - `Memory`: [`AsBlocks::clone`] of the listed set failed.
     pub fn to_blocks(&self) -> Result<AsBlocks<A>, OrMemory<InheritedAsResources>>
         ensures { MatchChoice self.now (result ≡ Ok []) (IsRefused result)
             (λ listed. MatchResult result (λ set. set ≡ listed) IsMemory) }
@@ -125,7 +125,7 @@ impl<A: Allocator> AsResources<A> {
     ///
     /// # Errors
     ///
-    /// [`AllocError`] if std refuses one more reference.
+    /// [`AllocError`]: the reference count of the listed set is at its maximum.
     pub fn clone(&self) -> Result<AsResources<A>, AllocError>
         ensures { IfOk result (λ resources. resources ≡ self.now) }
     {
@@ -133,8 +133,8 @@ impl<A: Allocator> AsResources<A> {
         Ok(AsResources { choice })
     }
 
-    /// Returns the resources that were read, with the set of [`make_set`] for a list of blocks. It fails if that call
-    /// fails.
+    /// Returns the resources that were read, with the set of [`make_set`] for a list of blocks. The errors are those of
+    /// [`make_set`].
     pub(crate) fn from_listed(
         alloc: A,
         listed: ResourcesChoice<Vec<AsBlock, A>>,
@@ -171,20 +171,21 @@ impl<A: Allocator> AsResources<A> {
         }
     }
 
-    /// Returns the choice itself.
+    /// Returns the resources as a choice.
     pub(crate) fn into_choice(self) -> ResourcesChoice<AsBlocks<A>>
         ensures { result ≡ self }
     {
         self.choice
     }
 
-    /// Returns the resources that a text denotes: exactly `inherit`, or else a list of blocks as in
-    /// [`AsBlocks::from_str`]. They are missing if the list has no blocks.
+    /// Parses resources: the text `inherit`, or else a list of blocks as in [`AsBlocks::from_str`].
+    ///
+    /// The resources are missing if the list has no blocks.
     ///
     /// # Errors
     ///
     /// - `Refused`: an element of the list is not a block. The variant holds the fault of the first such element.
-    /// - `Memory`: an allocation failed.
+    /// - `Memory`: out of memory.
     pub fn from_str(alloc: A, text: &str) -> Result<AsResources<A>, OrMemory<FromStrError>>
     where
         A: Copy,

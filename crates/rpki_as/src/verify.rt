@@ -1,4 +1,4 @@
-//! The check of claims of AS numbers against a set (RFC 3779, 3.3; RFC 6487, 7.2; RFC 8360, 4).
+//! Checks claims of AS numbers against a set (RFC 3779, 3.3; RFC 6487, 7.2; RFC 8360, 4).
 ghost use Rattle.std.specs.Prelude.{◌≡◌, ◌↔◌, IsTrue, IsOk, IfOk, IfErr, Some};
 ghost use Rattle.rpki_text.specs.Memory.{IfRefused};
 ghost use Rattle.rpki_text.specs.Reading.{AnswersOrMemory};
@@ -19,12 +19,12 @@ use std::error::Error;
 use std::fmt;
 use std::marker::Model;
 
-/// A step of a path: the AS numbers that are claimed, and what happens to a claim that lists more than its issuer has.
+/// A step of a path: the claimed AS resources, and their treatment if they list more than remains after earlier steps.
 pub type AsStep<A = Global> = Step<AsResources<A>>;
 
-/// AS numbers are claimed that the issuer doesn't have.
+/// The error for claimed AS numbers that the issuer doesn't have. It holds these numbers.
 ///
-/// Its model is the runs of these numbers.
+/// The model of the error is the list of the runs of these numbers.
 #[derive(Drop)]
 pub struct OverclaimedAsResources<A: Allocator = Global> {
     excess: AsBlocks<A>,
@@ -39,7 +39,7 @@ impl<A: Allocator> Model for OverclaimedAsResources<A> {
 }
 
 impl<A: Allocator> OverclaimedAsResources<A> {
-    /// Returns the overclaimed numbers: they are claimed, and the issuer doesn't have them.
+    /// Returns the overclaimed numbers, which are claimed and which the issuer doesn't have.
     pub fn excess(&self) -> &AsBlocks<A>
         ensures { result.now ≡ self.now }
     {
@@ -50,7 +50,7 @@ impl<A: Allocator> OverclaimedAsResources<A> {
     ///
     /// # Errors
     ///
-    /// [`AllocError`] if std refuses one more reference.
+    /// [`AllocError`]: the reference count is at its maximum.
     pub fn clone(&self) -> Result<OverclaimedAsResources<A>, AllocError>
         ensures { IfOk result (λ fault. fault ≡ self.now) }
     {
@@ -70,7 +70,7 @@ impl<A: Allocator> AsBlocks<A> {
     ///
     /// - `Refused`: the mode is [`Overclaim::Refuse`] and the claim lists more than the set has. The variant holds the
     ///   overclaimed numbers.
-    /// - `Memory`: there is no memory for the result or for these numbers.
+    /// - `Memory`: out of memory for the result or for these numbers.
     pub fn verify_issued(
         &self,
         alloc: A,
@@ -92,16 +92,16 @@ impl<A: Allocator> AsBlocks<A> {
         }
     }
 
-    /// Checks that the claim of an issuer covers the whole set. The check itself takes no memory.
+    /// Checks that the claim of an issuer covers the whole set. If it does, the call allocates nothing.
     ///
-    /// - A missing claim covers the empty set alone.
+    /// - A missing claim covers only the empty set.
     /// - An inherited claim covers every set.
     /// - A claim that lists a set covers the subsets of that set.
     ///
     /// # Errors
     ///
     /// - `Refused`: the claim doesn't cover the set. The variant holds the numbers that the issuer doesn't have.
-    /// - `Memory`: there is no memory for these numbers.
+    /// - `Memory`: out of memory for these numbers.
     pub fn verify_covered(
         &self,
         alloc: A,
@@ -126,7 +126,7 @@ impl<A: Allocator> AsBlocks<A> {
     ///
     /// - `Refused`: a step is refused. The variant holds the index of the first such step, counted from 0, and the
     ///   overclaimed numbers.
-    /// - `Memory`: there is no memory for a set on the path.
+    /// - `Memory`: out of memory for a set on the path.
     pub fn verify_path(
         &self,
         alloc: A,
@@ -164,7 +164,7 @@ impl<A: Allocator> fmt::Debug for OverclaimedAsResources<A> {
     }
 }
 
-/// Errors are equal if and only if their overclaimed numbers are.
+/// Errors are equal if and only if their overclaimed numbers are the same.
 impl<A: Allocator> PartialEq for OverclaimedAsResources<A> {
     ghost eq = { λ a b. same_runs a b };
 

@@ -19,8 +19,8 @@ impl<A: Allocator> AsBlocks<A> {
     ghost use Rattle.rpki_as.specs.Blocks.{IsAsSet};
     ghost use Rattle.rpki_as_block.specs.Blocks.{as_bounds};
 
-    /// Takes a SEQUENCE of zero or more blocks, and returns the set of their numbers. The blocks may be in any order
-    /// and may overlap.
+    /// Takes a SEQUENCE of zero or more blocks, and returns the set of their numbers. From a lenient cursor, the blocks
+    /// may be in any order and may overlap.
     ///
     /// # Errors
     ///
@@ -55,12 +55,14 @@ impl<A: Allocator> AsBlocks<A> {
         Self::take_from_by_mode(alloc, cursor)
     }
 
-    /// Appends the blocks of the set to `out`, ascending, without an enclosing SEQUENCE. They are its runs: a run of
-    /// one number is an AS number, any other is the SEQUENCE of its bounds.
+    /// Appends the blocks of the set to `out`, ascending, without an enclosing SEQUENCE.
+    ///
+    /// The blocks are the runs of the set. A run of one number is an AS number, any other is the SEQUENCE of its
+    /// bounds. The call succeeds if the capacity of `out` suffices.
     ///
     /// # Errors
     ///
-    /// [`AllocError`] if there is no memory for all blocks. The octets of `out` are unchanged then.
+    /// [`AllocError`]: out of memory for all blocks. The octets in `out` are unchanged then.
     #[tactic(auto, using(crate::proofs::AsSetDerLemmas::blocks_octets))]
     pub fn encode<B: Allocator>(&self, out: &mut Vec<u8, B>) -> Result<(), AllocError>
         ensures ok { OnOk result (out.new.items ≡ out.old.items ++ as_set_octets self.now) }

@@ -38,8 +38,8 @@ pub fn written_resources()
         (as_resources_octets a ≡ as_resources_octets b) ↔ (a ≡ b) }
 {}
 
-/// Resources are refused for a list of no blocks if and only if the SEQUENCE of blocks is empty. The octets after it
-/// don't matter.
+/// Resources are refused by `EmptyBlocks` if and only if the octets begin with both enclosing tags around an empty
+/// SEQUENCE. The octets after it don't matter.
 #[tactic(auto, using(crate::proofs::AsResourcesDerFaults::empty_blocks))]
 pub fn empty_blocks()
     ensures { (bytes : List ℕ) → (as_choice_at bytes ≡ Err EmptyBlocks)

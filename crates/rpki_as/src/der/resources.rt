@@ -1,5 +1,5 @@
-//! AS resources in DER: a SEQUENCE of a tagged NULL or SEQUENCE of blocks (RFC 3779, 3.2.3.1 to 3.2.3.4; RFC 6487,
-//! 4.8.11).
+//! AS resources in DER: a SEQUENCE with one tagged value, a NULL or a SEQUENCE of blocks (RFC 3779, 3.2.3.1 to 3.2.3.4;
+//! RFC 6487, 4.8.11).
 ghost use Rattle.rpki_der.specs.Reading.{tagged_at};
 ghost use Rattle.std.specs.Prelude.{◌≡◌, IfOk};
 ghost use Rattle.rpki_der.specs.Views.{Takes, is_strict, left};
@@ -27,17 +27,18 @@ impl<A: Allocator> AsResources<A> {
     ghost use Rattle.rpki_as.specs.Blocks.{IsAsSet};
     ghost use Rattle.rpki_as_block.specs.Blocks.{as_bounds};
 
-    /// Takes AS resources, which are inherited or listed. The blocks may be in any order and may overlap.
+    /// Takes AS resources, which are inherited or listed. From a lenient cursor, the blocks may be in any order and may
+    /// overlap.
     ///
     /// # Errors
     ///
     /// The cursor is unchanged after an error. `Memory` means that an allocation failed. `Refused` has the first fault:
     ///
     /// - a fault of the SEQUENCE or of the tagged value in it, as in [`Cursor::take_sequence`]
-    /// - `BadTag`: the tagged value has neither a NULL nor a SEQUENCE
+    /// - `BadTag`: the content of the tagged value is neither a NULL nor a SEQUENCE
     /// - `BadNull`: the NULL has content
     /// - a fault of a block, as in [`AsBlock::take_opt_from`](crate::block::AsBlock::take_opt_from)
-    /// - `EmptyBlocks`: the SEQUENCE has no block
+    /// - `EmptyBlocks`: the SEQUENCE of blocks is empty
     /// - `NotCanonical`, from a strict cursor only, as in [`AsBlocks::take_from`](crate::blocks::AsBlocks::take_from)
     /// - `TrailingData`, after those above: octets are left in one of the two enclosing values
     pub fn take_from(
@@ -68,10 +69,10 @@ impl<A: Allocator> AsResources<A> {
         Self::take_from_by_mode(alloc, cursor)
     }
 
-    /// Appends the encoding of the resources to `out`, in a tag and a SEQUENCE.
+    /// Appends the encoding of the resources to `out`: a SEQUENCE with one value of tag `[0]` (RFC 3779, 3.2.3.1).
     ///
     /// Inherited resources are a NULL. Listed ones are the SEQUENCE of their runs, ascending. A run of one number is an
-    /// AS number, any other is the SEQUENCE of its bounds.
+    /// AS number, any other is the SEQUENCE of its bounds. The call succeeds if the capacity of `out` suffices.
     ///
     /// # Preconditions
     ///
@@ -79,7 +80,7 @@ impl<A: Allocator> AsResources<A> {
     ///
     /// # Errors
     ///
-    /// [`AllocError`] if there is no memory for the whole encoding. The octets of `out` are unchanged then.
+    /// [`AllocError`]: out of memory for the whole encoding. The octets in `out` are unchanged then.
     pub fn encode<B: Allocator>(&self, out: &mut Vec<u8, B>) -> Result<(), AllocError>
         requires { self.now ≢ Missing }
         ensures ok { OnOk result (out.new.items ≡ out.old.items ++ as_resources_octets self.now) }
@@ -126,7 +127,7 @@ impl<A: Allocator> AsResources<A> {
     }
 }
 
-/// Takes a value with a tag, and returns a cursor over its content.
+/// Takes a value with the tag `tag`, and returns a cursor over its content. The cursor is unchanged after an error.
 #[tactic(auto, unfolding(rpki_der::specs::Reading::tagged_at))]
 fn take_tagged<'a>(cursor: &mut Cursor<'a>, tag: u8) -> Result<Cursor<'a>, DerError>
     ensures exact { Takes left cursor.old cursor.new result (tagged_at tag) }

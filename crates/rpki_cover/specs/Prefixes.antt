@@ -1,7 +1,7 @@
 -- Prefixes of a width: 32 bits for IPv4, 128 bits for IPv6 and for addresses of either family.
 use Rattle.std.specs.Prelude.{◌≡◌, ℕ, ◌+◌, ◌-◌, ◌%◌, ◌^◌, ◌<◌, ◌≤◌}
 
--- the value that contracts see of a prefix: its first number, and the number of its leading bits that are fixed
+-- the model of a prefix: its first number, and the number of its leading bits that are fixed
 pub record PrefixValue : Type 0 where
   pub first : ℕ
   pub len : ℕ

@@ -1,5 +1,5 @@
--- The cover list of a range of numbers, as a traversal from its beginning finds it. proofs/CoverList proves that it
--- is the cover list.
+-- The list of prefixes that a traversal of a range from its beginning finds. proofs/CoverList proves that it is the
+-- cover list of the range.
 use Rattle.std.specs.Prelude.{ℕ, zero, suc, ◌+◌, ◌-◌, ◌%◌, ◌^◌, ◌==◌, nat_le, ◌&&◌, List, [], ◌∷◌, if◌then◌else◌, Option, Some, None}
 use Rattle.rpki_cover.specs.Prefixes.{PrefixValue}
 
@@ -26,7 +26,7 @@ free_bits w a b = free_bits_upto w a b
 unfoldable pub cover_list : ℕ → ℕ → ℕ → List PrefixValue
 cover_list w a b = cover_list_upto (b + 1 - a) w a b
 
--- the cover list of the rest of a range; empty if nothing is left
+-- the cover list of the rest of a range, or no prefixes if nothing is left
 abbrev pub left_cover : ℕ → Option (ℕ × ℕ) → List PrefixValue
 left_cover w None = []
 left_cover w (Some (a, b)) = cover_list w a b

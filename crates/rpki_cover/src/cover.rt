@@ -25,7 +25,7 @@ impl Model for NumberPrefix {
 }
 
 impl NumberPrefix {
-    /// The first number.
+    /// Returns the first number, which is the lowest one.
     pub fn first(self) -> u128
         ensures { result ≡ self.first }
     {
@@ -42,10 +42,10 @@ impl NumberPrefix {
 
 /// An iterator over the cover list of a range of numbers of one width, ascending.
 ///
-/// Contracts see it as the list of the prefixes that are left.
-///
 /// The cover list has exactly the maximal prefixes inside the range. Its union is the range, and no list of prefixes
 /// with that union is shorter.
+///
+/// The model of the iterator is the list of the prefixes that are left.
 #[derive(Debug, Drop)]
 pub struct Cover {
     width: u8,
@@ -145,7 +145,7 @@ fn free_bits(width: u8, first: u128, last: u128) -> u8
     (aligned.min(fitting) as u8).min(width)
 }
 
-/// Returns the bounds of the numbers that are left after the first 2^`free`, if any are left.
+/// Returns the bounds of the numbers that are left after the first 2^`free` numbers, or None if no number is left.
 fn rest_after(first: u128, last: u128, free: u8) -> Option<(u128, u128)>
     ensures { MatchOption result (last < first + 2 ^ free)
         (λ r. (r ≡ (first + 2 ^ free, last)) × (first + 2 ^ free ≤ last)) }

@@ -1,4 +1,4 @@
-//! Lemmas about prefixes of numbers that no single call states.
+//! Lemmas about prefixes of numbers. Each is the contract of a function that does nothing when it runs.
 ghost use Rattle.std.specs.Prelude.{ℕ, ◌↔◌, ◌⊎◌};
 ghost use Rattle.rpki_cover.specs.Prefixes.{PrefixValue, IsPrefix, IsIn, LiesIn};
 

@@ -1,6 +1,7 @@
 //! Shortest covers of ranges of numbers by prefixes.
 //!
-//! The prefixes of an address set come from this crate, one after another, as in `example_calls::filters::v4_filter`:
+//! The iterator over the prefixes of an address set uses this crate. This example is in
+//! `example_calls::filters::v4_filter`:
 //!
 //! ```rust
 //! for prefix in set.prefixes() {

@@ -14,7 +14,7 @@ use Rattle.rpki_prefix.specs.declared.error.MaxLenError.TheVariants.{Overflow, U
 use Rattle.rpki_prefix.specs.declared.error.ParseMaxLenPrefixError.{ParseMaxLenPrefixError}
 use Rattle.rpki_prefix.specs.declared.error.ParseMaxLenPrefixError.TheVariants.{InvalidPrefix, InvalidMaxLenFormat, InvalidMaxLenValue}
 
--- the value that contracts see of a prefix with an optional maximum length
+-- the model of a prefix with an optional maximum length
 pub record MaxLenValue : Type 0 where
   pub prefix : FamilyPrefix
   pub max_len : Option ℕ
@@ -44,8 +44,8 @@ abbrev pub resolved : FamilyPrefix → Option ℕ → ℕ
 resolved p None = p.len
 resolved p (Some n) = n
 
--- by the prefix; then a maximum length before no maximum length; then the larger maximum length before the smaller
--- one
+-- the order by the prefix; then a maximum length before no maximum length; then the larger maximum length before the
+-- smaller one
 abbrev pub max_len_cmp : MaxLenValue → MaxLenValue → Ordering
 max_len_cmp = then_cmp (on (λ m. m.prefix) prefix_cmp) (flip_args (on (λ m. m.max_len) (option_cmp nat_cmp)))
 
@@ -68,6 +68,7 @@ abbrev pub IsMaxLenTextOf : List ℕ → FamilyPrefix → Option ℕ → Type 0
 IsMaxLenTextOf text p None = HasNo dash text × IsPrefixText text p
 IsMaxLenTextOf text p (Some n) = HasMaxLen text p n × IsMaxLenOf p (Some n)
 
+-- the text writes the prefix with its optional maximum length
 abbrev pub IsMaxLenText : List ℕ → MaxLenValue → Type 0
 IsMaxLenText text m = IsMaxLenTextOf text m.prefix m.max_len
 
@@ -77,11 +78,12 @@ HasMaxLenTextFault text (InvalidPrefix f) = (HasNo dash text × HasPrefixTextFau
 HasMaxLenTextFault text (InvalidMaxLenFormat f) = Around dash text (λ left right. (p : FamilyPrefix) × IsPrefixText left p × HasNumberFault (2 ^ 8 - 1) right f)
 HasMaxLenTextFault text (InvalidMaxLenValue f) = (p : FamilyPrefix) × (n : ℕ) × HasMaxLen text p n × HasMaxLenError p (Some n) f
 
--- the printed text: the prefix, and a dash and the maximum length if there is one
+-- the printed text of an optional maximum length: a dash and the number, or nothing
 abbrev pub max_text : Option ℕ → List ℕ
 max_text None = []
 max_text (Some n) = dash ∷ decimal n
 
+-- the printed text: the prefix, and a dash and the maximum length if there is one
 abbrev pub max_len_text : MaxLenValue → List ℕ
 max_len_text m = prefix_text m.prefix ++ max_text m.max_len
 

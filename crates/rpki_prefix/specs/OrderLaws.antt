@@ -1,4 +1,4 @@
--- Prefixes tie in the order if and only if they are equal.
+-- Lemmas: prefixes tie in the order if and only if they are equal.
 use Rattle.std.proofs.Common.{◌≡◌, ℕ, ◌+◌, ◌-◌, ◌^◌, ◌<◌, Bool, false, ◌&&◌, eqb, sym, ◌∙◌, ap, refl, arith, inl, inr, Option, Some, None}
 use Rattle.std.proofs.lemmas.Bool.{cases_eq, cases_order, eq-eqb, ne_eqb, lt-ltb, le-ltb, and_right}
 use Rattle.std.proofs.lemmas.Nat.{pow_pos}
@@ -19,13 +19,13 @@ pub record IsSameAddress (test : IpAddr → IpAddr → Bool) : Type 0 where
   pub v4_v6 : (m n : ℕ) → test (V4 m) (V6 n) ≡ false
   pub v6_v4 : (m n : ℕ) → test (V6 m) (V4 n) ≡ false
 
--- both comparisons tie
+-- two comparisons one after the other tie if and only if each ties
 is_eq_then : (a b : Ordering) → is_eq (ordering_then a b) ≡ (is_eq a && is_eq b)
 is_eq_then Less b = refl
 is_eq_then Equal b = refl
 is_eq_then Greater b = refl
 
--- numbers tie if they are equal
+-- numbers tie if and only if they are equal
 is_eq_nat : (x y : ℕ) → is_eq (nat_cmp x y) ≡ eqb x y
 is_eq_nat x y = elim (cases_order x y) [
   | inl e ↦ rw (le-ltb x y (omega arith), eq-eqb x y e) refl
@@ -50,7 +50,7 @@ same_ends w a b k l = elim (cases_eq k l) [
       ])
 ]
 
--- within a family
+-- within a family, the keys of the order are equal if and only if the first numbers and the lengths are
 same_keys : (w a b k l : ℕ)
     → (eqb a b && eqb k l) ≡ is_eq (ordering_then (nat_cmp (a + 2 ^ (w - k) - 1) (b + 2 ^ (w - l) - 1)) (nat_cmp l k))
 same_keys w a b k l =
@@ -59,7 +59,7 @@ same_keys w a b k l =
     ∙ (λ i. is_eq_nat (a + 2 ^ (w - k) - 1) (b + 2 ^ (w - l) - 1) i && is_eq_nat l k i))
 
 module _ (test : IpAddr → IpAddr → Bool) (is : IsSameAddress test) where
-  -- the keys of two addresses with lengths
+  -- two addresses with lengths tie if and only if both are the same
   ties_at : (a b : IpAddr) (k l : ℕ)
       → (test a b && eqb k l) ≡ is_eq (prefix_cmp (record { addr = a; len = k }) (record { addr = b; len = l }))
   ties_at (V4 m) (V4 n) k l = rw (is.of_v4 m n) (same_keys 32 m n k l)
@@ -67,11 +67,11 @@ module _ (test : IpAddr → IpAddr → Bool) (is : IsSameAddress test) where
   ties_at (V4 m) (V6 n) k l = rw (is.v4_v6 m n) refl
   ties_at (V6 m) (V4 n) k l = rw (is.v6_v4 m n) refl
 
-  -- the keys are equal if and only if the prefixes are
+  -- prefixes tie if and only if they are equal
   pub prefix_ties : (x y : FamilyPrefix) → (test x.addr y.addr && eqb x.len y.len) ≡ is_eq (prefix_cmp x y)
   prefix_ties x y = ties_at x.addr y.addr x.len y.len
 
--- the same for maximum lengths
+-- optional maximum lengths tie if and only if they are equal
 option_ties : (m n : Option ℕ) → option_eq eqb m n ≡ is_eq (option_cmp nat_cmp n m)
 option_ties None None = refl
 option_ties None (Some y) = refl
@@ -79,6 +79,7 @@ option_ties (Some x) None = refl
 option_ties (Some x) (Some y) = eq_turned x y ∙ sym (is_eq_nat y x)
 
 module _ (test : IpAddr → IpAddr → Bool) (is : IsSameAddress test) where
+  -- prefixes with maximum lengths tie if and only if they are equal
   pub max_len_ties : (x y : MaxLenValue)
       → ((test x.prefix.addr y.prefix.addr && eqb x.prefix.len y.prefix.len) && option_eq eqb x.max_len y.max_len)
       ≡ is_eq (max_len_cmp x y)

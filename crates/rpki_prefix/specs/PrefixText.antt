@@ -46,21 +46,23 @@ abbrev pub HasTextFaultBy : (IpAddr → ℕ → PrefixError → Type 0) → List
 HasTextFaultBy Fails text e =
     HasNoParts text e ⊎ ((a : IpAddr) × (len : ℕ) × (f : PrefixError) × HasParts text a len × Fails a len f × (e ≡ InvalidPrefix f))
 
--- the text of a prefix whose host bits are zero, and the faults of any other text
+-- the text is that of a prefix whose host bits are zero
 abbrev pub IsPrefixText : List ℕ → FamilyPrefix → Type 0
 IsPrefixText = IsTextBy IsPrefixOf
 
+-- this is the first fault of a text that is not that of a prefix whose host bits are zero
 abbrev pub HasPrefixTextFault : List ℕ → ParsePrefixError → Type 0
 HasPrefixTextFault = HasTextFaultBy HasPrefixError
 
--- the same, except that host bits may be set and are cleared
+-- the text is that of a prefix, whose host bits may be set and are cleared
 abbrev pub IsRelaxedPrefixText : List ℕ → FamilyPrefix → Type 0
 IsRelaxedPrefixText = IsTextBy IsRelaxedPrefixOf
 
+-- this is the first fault of a text that is not that of a prefix with any host bits
 abbrev pub HasRelaxedPrefixTextFault : List ℕ → ParsePrefixError → Type 0
 HasRelaxedPrefixTextFault = HasTextFaultBy HasRelaxedPrefixError
 
--- the printed text of a fault
+-- the printed text of an error
 abbrev pub prefix_fault_text : ParsePrefixError → List ℕ
 prefix_fault_text Empty = codes "empty string"
 prefix_fault_text MissingLen = codes "missing length portion"

@@ -23,12 +23,12 @@ abbrev pub with_bits : IpAddr → ℕ → IpAddr
 with_bits (V4 n) m = V4 m
 with_bits (V6 n) m = V6 m
 
--- the value that contracts see of a prefix: its address, and the number of its leading bits that are fixed
+-- the model of a prefix: its address, and the number of its leading bits that are fixed
 pub record FamilyPrefix : Type 0 where
   pub addr : IpAddr
   pub len : ℕ
 
--- the numbers of its addresses, as a prefix of its family's width
+-- the numbers of the addresses of a prefix, as a prefix of its family's width
 abbrev pub interval : FamilyPrefix → PrefixValue
 interval p = record { first = address_number p.addr; len = p.len }
 
@@ -66,7 +66,7 @@ abbrev pub HasPrefixError : IpAddr → ℕ → PrefixError → Type 0
 HasPrefixError a len LenOverflow = width a < len
 HasPrefixError a len NonZeroHost = (len ≤ width a) × (address_number a % 2 ^ (width a - len) ≢ 0)
 
--- why the first bits of an address are not a prefix
+-- why an address and a length are not a prefix if the host bits are cleared: only the length can be invalid
 abbrev pub HasRelaxedPrefixError : IpAddr → ℕ → PrefixError → Type 0
 HasRelaxedPrefixError a len LenOverflow = width a < len
 HasRelaxedPrefixError a len NonZeroHost = ⊥
@@ -76,7 +76,7 @@ pub record CoversPrefix (p q : FamilyPrefix) : Type 0 where
   pub family : is_v6 p.addr ≡ is_v6 q.addr
   pub inside : LiesIn (width q.addr) (IsIn (width p.addr) (interval p)) (interval q)
 
--- the message of an error
+-- the printed text of an error
 abbrev pub prefix_error_text : PrefixError → List ℕ
 prefix_error_text LenOverflow = codes "prefix length too large"
 prefix_error_text NonZeroHost = codes "non-zero host portion"

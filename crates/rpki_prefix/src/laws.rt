@@ -1,4 +1,4 @@
-//! Lemmas for callers that no single call states.
+//! Lemmas for callers about several calls. Each is the contract of a function that does nothing when it runs.
 ghost use Rattle.std.specs.Prelude.{◌≡◌, ◌↔◌, IsTrue};
 ghost use Rattle.std.specs.Cmp.{IsTotalOrder};
 ghost use Rattle.std.specs.declared.cmp.Ordering.TheVariants.{Equal};
@@ -9,8 +9,8 @@ ghost use Rattle.rpki_prefix.specs.Values.{CoversPrefix, FamilyPrefix};
 use crate::max_len::MaxLenPrefix;
 use crate::prefix::Prefix;
 
-/// Prefixes are equal if and only if their addresses and their lengths are the same. With maximum lengths, these must
-/// be the same too.
+/// Prefixes are equal if and only if their addresses and their lengths are the same. Prefixes with maximum lengths are
+/// equal if and only if the prefixes and the maximum lengths are the same.
 pub fn equal_where_the_same()
     ensures prefix { (p q : FamilyPrefix) → IsTrue (⟦<Prefix as PartialEq>⟧.eq p q) ↔ (p ≡ q) }
     ensures max_len { (m n : MaxLenValue)

@@ -1,7 +1,7 @@
 //! Prefixes of IPv4 and IPv6 addresses, with an optional maximum length, as in routing and in route origin
 //! validation.
 //!
-//! Find the prefixes of a table that cover a route, as in `example_calls::cache::covering`:
+//! This example, in `example_calls::cache::covering`, finds the prefixes of a table that cover a route:
 //!
 //! ```rust
 //! for prefix in table {

@@ -18,8 +18,8 @@ use std::str::FromStr;
 
 /// A prefix with an optional maximum length (RFC 9582, 4.3.2).
 ///
-/// The value stands for the prefixes inside the prefix that are not longer than the maximum length. The maximum length
-/// is at least the length of the prefix, and at most the longest one of the family: 32 or 128.
+/// The value denotes the prefixes inside the prefix that are not longer than the maximum length. The maximum length is
+/// at least the length of the prefix, and at most the longest one of the family: 32 or 128.
 #[derive(Clone, Copy, Debug, PartialEq, Eq, Hash)]
 pub struct MaxLenPrefix {
     prefix: Prefix,
@@ -61,10 +61,10 @@ impl MaxLenPrefix {
         Ok(MaxLenPrefix { prefix, max_len })
     }
 
-    /// Returns the prefix with this optional maximum length, moved into its range.
+    /// Returns the prefix with this optional maximum length, which is moved into its range. This call has no error.
     ///
     /// A maximum length below the length of the prefix is raised to that length. A maximum length above the longest
-    /// length of the family is lowered to that.
+    /// length of the family is lowered to the longest length.
     pub fn saturating_new(prefix: Prefix, max_len: Option<u8>) -> MaxLenPrefix
         ensures value { result ≡ record { prefix = prefix; max_len = saturated prefix max_len } }
         ensures within { IsMaxLenOf result.prefix result.max_len }
@@ -136,6 +136,7 @@ impl From<Prefix> for MaxLenPrefix {
     }
 }
 
+/// Orders by the prefix, then a maximum length before no maximum length, then the larger maximum length first.
 impl Ord for MaxLenPrefix {
     ghost cmp = { max_len_cmp };
 

@@ -39,6 +39,7 @@ fn number(addr: &IpAddr) -> u128
     }
 }
 
+/// Orders IPv4 before IPv6, then by the highest address, then the longer prefix first.
 impl Ord for Prefix {
     ghost cmp = { prefix_cmp };
 

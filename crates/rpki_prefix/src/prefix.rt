@@ -84,14 +84,22 @@ impl Prefix {
         Ok(prefix)
     }
 
-    /// Returns the IPv4 prefix with this address and length, with the errors of [`Prefix::new`].
+    /// Returns the IPv4 prefix with this address and length.
+    ///
+    /// # Errors
+    ///
+    /// The errors of [`Prefix::new`].
     pub fn new_v4(addr: Ipv4Addr, len: u8) -> Result<Prefix, PrefixError>
         ensures { MatchResult result (IsPrefixOf (V4 addr) len) (HasPrefixError (V4 addr) len) }
     {
         Prefix::new(IpAddr::V4(addr), len)
     }
 
-    /// Returns the IPv6 prefix with this address and length, with the errors of [`Prefix::new`].
+    /// Returns the IPv6 prefix with this address and length.
+    ///
+    /// # Errors
+    ///
+    /// The errors of [`Prefix::new`].
     pub fn new_v6(addr: Ipv6Addr, len: u8) -> Result<Prefix, PrefixError>
         ensures { MatchResult result (IsPrefixOf (V6 addr) len) (HasPrefixError (V6 addr) len) }
     {
@@ -116,7 +124,11 @@ impl Prefix {
         })
     }
 
-    /// Returns the IPv4 prefix of the first `len` bits of an address, with the errors of [`Prefix::new_relaxed`].
+    /// Returns the IPv4 prefix of the first `len` bits of an address. Host bits that are set are cleared.
+    ///
+    /// # Errors
+    ///
+    /// The errors of [`Prefix::new_relaxed`].
     pub fn new_v4_relaxed(addr: Ipv4Addr, len: u8) -> Result<Prefix, PrefixError>
         ensures { MatchResult result (IsRelaxedPrefixOf (V4 addr) len)
             (HasRelaxedPrefixError (V4 addr) len) }
@@ -124,7 +136,11 @@ impl Prefix {
         Prefix::new_relaxed(IpAddr::V4(addr), len)
     }
 
-    /// Returns the IPv6 prefix of the first `len` bits of an address, with the errors of [`Prefix::new_relaxed`].
+    /// Returns the IPv6 prefix of the first `len` bits of an address. Host bits that are set are cleared.
+    ///
+    /// # Errors
+    ///
+    /// The errors of [`Prefix::new_relaxed`].
     pub fn new_v6_relaxed(addr: Ipv6Addr, len: u8) -> Result<Prefix, PrefixError>
         ensures { MatchResult result (IsRelaxedPrefixOf (V6 addr) len)
             (HasRelaxedPrefixError (V6 addr) len) }
@@ -167,7 +183,7 @@ impl Prefix {
         let _len = self.len;
     }
 
-    /// Returns the prefix length, which is the number of bits that all its addresses begin with.
+    /// Returns the prefix length, which is the number of leading bits that all its addresses share.
     pub fn len(self) -> u8
         ensures value { result ≡ self.len }
         ensures prefix { IsFamilyPrefix self }

@@ -16,7 +16,7 @@ pub record IsUnknown (command : List ℕ) : Type 0 where
   pub no_cover : command ≢ codes "cover"
   pub no_path : command ≢ codes "path"
 
--- this text is the answer to this line
+-- the text is the answer to the line
 pub record IsAnswer (line text : List ℕ) : Type 0 where
   pub not_utf8 : ¬ IsUtf8 line → text ≡ codes "error: not UTF-8"
   pub norm : IsUtf8 line → command_of line ≡ codes "norm" → IsNormAnswer (kind_of line) (argument_of line) text

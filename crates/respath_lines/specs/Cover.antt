@@ -18,7 +18,7 @@ use Rattle.respath_lines.specs.Shown.{ShowsValueOrFault}
 abbrev pub prefix_with_length : AddressFamily → PrefixValue → List ℕ
 prefix_with_length family p = addr_text family p.first ++ slash ∷ decimal p.len
 
--- the text printed for a prefix in a list: a comma and a space precede all but the first
+-- the text printed for a prefix in a list; a comma and a space precede it unless it is the first
 abbrev pub listed_text : Bool → AddressFamily → PrefixValue → List ℕ
 listed_text is_first family p = if is_first then prefix_with_length family p else codes ", " ++ prefix_with_length family p
 
@@ -30,15 +30,15 @@ cover_text family ps = joined (map (prefix_with_length family) ps)
 abbrev pub IsCoverOf : AddressFamily → List ℕ → List PrefixValue → Type 0
 IsCoverOf family list ps = (set : Runs) × IsSetOf (HasBlocks family list) set × IsShortestCover 128 (Holds set) ps
 
--- the text is that of this cover
+-- the text is that of the shortest cover of a list of blocks of the family
 abbrev pub IsCoverText : AddressFamily → List ℕ → List ℕ → Type 0
 IsCoverText family list text = (ps : List PrefixValue) × IsCoverOf family list ps × (text ≡ cover_text family ps)
 
--- the answer to a list of blocks of a family
+-- the text is the answer to `cover` for a list of blocks of a family
 abbrev pub IsCoverIp : AddressFamily → List ℕ → List ℕ → Type 0
 IsCoverIp family list text = ShowsValueOrFault (IsCoverOf family list) (cover_text family) (HasBlocksFault family list) IpFaults.ip_from_str_error_text text
 
--- the answer to a list of blocks of this kind
+-- the text is the answer to `cover` for a list of blocks of this kind
 pub record IsCoverAnswer (kind list text : List ℕ) : Type 0 where
   pub v4_blocks : kind ≡ codes "v4" → IsCoverIp Ipv4 list text
   pub v6_blocks : kind ≡ codes "v6" → IsCoverIp Ipv6 list text

@@ -16,13 +16,13 @@ use Rattle.rpki_ipres.specs.SetText.{IsSetOf}
 use Rattle.respath_lines.specs.Hexadecimal.{lower_hexadecimal}
 use Rattle.respath_lines.specs.Shown.{ShowsValueOrFault}
 
--- the octets in hexadecimal, or `missing` for missing resources, which have none
+-- the octets of a claim in hexadecimal, or `missing` for missing resources, which have no encoding
 abbrev pub octets_text : (Claim → List ℕ) → Claim → List ℕ
 octets_text octets Missing = codes "missing"
 octets_text octets Inherit = lower_hexadecimal (octets Inherit)
 octets_text octets (Blocks set) = lower_hexadecimal (octets (Blocks set))
 
--- the answer to a text of AS resources
+-- the text is the answer to `der` for a list of AS resources
 abbrev pub IsDerAs : List ℕ → List ℕ → Type 0
 IsDerAs list text = ShowsValueOrFault (IsAsResourcesText list) (octets_text as_resources_octets) (HasAsResourcesFault list) AsFaults.as_from_str_error_text text
 
@@ -32,25 +32,26 @@ IsDerAs list text = ShowsValueOrFault (IsAsResourcesText list) (octets_text as_r
 abbrev pub IsListed : AddressFamily → List ℕ → Claim → Type 0
 IsListed family list claim = (set : Runs) × IsSetOf (HasBlocks family list) set × (claim ≡ claim_of set)
 
--- the text is `inherit` for inherited resources, and else a list of blocks of the family, empty for missing ones
+-- the text denotes the claim: `inherit` is inherited resources, and any other text is a list of blocks of the family
 abbrev pub IsIpResourcesText : AddressFamily → List ℕ → Claim → Type 0
 IsIpResourcesText family list Missing = (list ≢ codes "inherit") × IsSetOf (HasBlocks family list) []
 IsIpResourcesText family list Inherit = list ≡ codes "inherit"
 IsIpResourcesText family list (Blocks set) = (list ≢ codes "inherit") × IsSetOf (HasBlocks family list) set × (set ≢ [])
 
+-- the fault of a text that denotes no resources of the family
 abbrev pub HasIpResourcesFault : AddressFamily → List ℕ → FromStrError → Type 0
 HasIpResourcesFault family list fault = (list ≢ codes "inherit") × HasBlocksFault family list fault
 
--- the octets of families of which only this one has resources
+-- the octets of a list of families in which only this family has resources
 abbrev pub one_family_der : AddressFamily → Claim → List ℕ
 one_family_der Ipv4 claim = ip_families_der claim Missing
 one_family_der Ipv6 claim = ip_families_der Missing claim
 
--- the answer to a text of the resources of a family
+-- the text is the answer to `der` for the resources of a family
 abbrev pub IsDerIp : AddressFamily → List ℕ → List ℕ → Type 0
 IsDerIp family list text = ShowsValueOrFault (IsIpResourcesText family list) (octets_text (one_family_der family)) (HasIpResourcesFault family list) IpFaults.ip_from_str_error_text text
 
--- the answer to a text of resources of this kind
+-- the text is the answer to `der` for resources of this kind
 pub record IsDerAnswer (kind list text : List ℕ) : Type 0 where
   pub as_resources : kind ≡ codes "as" → IsDerAs list text
   pub v4_resources : kind ≡ codes "v4" → IsDerIp Ipv4 list text

@@ -3,7 +3,7 @@ use Rattle.std.specs.Prelude.{◌≡◌, ◌≢◌, ℕ, List, Option, Some, Non
 use Rattle.respath_lines.specs.declared.kind.Kind.{Kind}
 use Rattle.respath_lines.specs.declared.kind.Kind.TheVariants.{As, V4, V6}
 
--- this is the kind with this name, if there is one
+-- the kind with the name `as`, `v4` or `v6`, or None for any other word
 pub record IsKindNamed (word : List ℕ) (kind : Option Kind) : Type 0 where
   pub as_numbers : word ≡ codes "as" → kind ≡ Some As
   pub v4_addresses : word ≡ codes "v4" → kind ≡ Some V4

@@ -9,15 +9,15 @@ use Rattle.rpki_ip_block.specs.ListText.{HasBlocks, HasBlocksFault}
 use Rattle.rpki_ipres.specs.SetText.{IsSetOf, set_text}
 use Rattle.respath_lines.specs.Shown.{ShowsValueOrFault}
 
--- the answer to a list of AS blocks
+-- the text is the answer to `norm` for a list of AS blocks
 abbrev pub IsNormAs : List ℕ → List ℕ → Type 0
 IsNormAs list text = ShowsValueOrFault (IsAsListText list) as_list_text (HasAsListFault list) AsFaults.as_from_str_error_text text
 
--- the answer to a list of IP blocks of a family
+-- the text is the answer to `norm` for a list of blocks of addresses of a family
 abbrev pub IsNormIp : AddressFamily → List ℕ → List ℕ → Type 0
 IsNormIp family list text = ShowsValueOrFault (IsSetOf (HasBlocks family list)) (set_text family) (HasBlocksFault family list) IpFaults.ip_from_str_error_text text
 
--- the answer to a list of blocks of this kind
+-- the text is the answer to `norm` for a list of blocks of this kind
 pub record IsNormAnswer (kind list text : List ℕ) : Type 0 where
   pub as_blocks : kind ≡ codes "as" → IsNormAs list text
   pub v4_blocks : kind ≡ codes "v4" → IsNormIp Ipv4 list text

@@ -1,5 +1,5 @@
--- The answer to `path`: what remains of the first list after all steps, the first refused step, or the fault of the
--- first invalid part of the path.
+-- The answer to `path`: the resources that remain of the first list after all steps, the first refused step, or the
+-- fault of the first invalid part of the path.
 use Rattle.std.specs.Prelude.{◌≡◌, ◌≢◌, ◌⊎◌, ℕ, ◌==◌, List, [], ◌∷◌, ◌++◌, Result, Ok, Err, codes, decimal}
 use Rattle.std.specs.List.{slice_split, before_first, after_first}
 use Rattle.std.specs.Str.{trim}
@@ -28,23 +28,24 @@ use Rattle.respath_lines.specs.Shown.{error_line}
 use Rattle.respath_lines.specs.declared.steps.PartFault.{PartFault}
 use Rattle.respath_lines.specs.declared.steps.PartFault.TheVariants.{BadList, UnknownStep}
 
--- the parts of a path: its text cut at each `|`
+-- the parts of a path, which `|` separates
 abbrev pub parts_of : List ℕ → List (List ℕ)
 parts_of text = slice_split (λ byte. byte == 124) text
 
--- a part without the white space on both its sides: the text up to its first space, and the text after that
+-- the text of a part up to its first space, without white space at its ends
 abbrev pub word_of : List ℕ → List ℕ
 word_of part = before_first is_space (trim part)
 
+-- the text of a part after its first space, without white space at its end
 abbrev pub list_of : List ℕ → List ℕ
 list_of part = after_first is_space (trim part)
 
--- the word says what happens to overclaimed resources
+-- the word is the name of the mode, which says what happens to overclaimed resources
 abbrev pub IsMode : List ℕ → Overclaim → Type 0
 IsMode word Refuse = word ≡ codes "refuse"
 IsMode word Trim = word ≡ codes "trim"
 
--- the part is not a step: it is neither `inherit` nor `missing`, and its first word is no mode
+-- the part is not a step: it is neither `inherit` nor `missing`, and its first word is not a mode
 pub record IsNoStep (part : List ℕ) : Type 0 where
   pub no_inherit : trim part ≢ codes "inherit"
   pub no_missing : trim part ≢ codes "missing"
@@ -54,8 +55,8 @@ pub record IsNoStep (part : List ℕ) : Type 0 where
 -- ---- the parts of a path; `Writes` says which set a list denotes, and `Fails` which fault it has
 
 module _ {R : Type 0} (claim : R → Claim) (Writes : List ℕ → Runs → Type 0) where
-  -- The part is a step. It is `inherit` or `missing` alone, and then the mode says nothing. Or it is a mode and the
-  -- list of what is claimed, which is empty for a missing claim.
+  -- The part is a step. It is `inherit` or `missing` alone, and then its mode doesn't matter. Or it is a mode and the
+  -- list of the claimed resources, which is empty for a missing claim.
   abbrev pub IsStepText : List ℕ → Step R → Type 0
   IsStepText part step =
       ((trim part ≡ codes "inherit") × (claim step.claim ≡ Inherit))
@@ -78,7 +79,7 @@ module _ {E : Type 0} (Fails : List ℕ → E → Type 0) where
   HasStepFault part UnknownStep = IsNoStep part
   HasStepFault part (BadList fault) = (mode : Overclaim) × IsMode (word_of part) mode × Fails (list_of part) fault
 
-  -- this is the fault of the first invalid part
+  -- the fault of the first invalid part of a path
   module _ {R : Type 0} (claim : R → Claim) (Writes : List ℕ → Runs → Type 0) where
     abbrev pub HavePathFault : List (List ℕ) → PartFault E → Type 0
     HavePathFault [] fault = ⊥
@@ -88,21 +89,23 @@ module _ {E : Type 0} (Fails : List ℕ → E → Type 0) where
 
 -- ---- texts
 
+-- the text printed for the fault of a part
 abbrev pub part_fault_text : {E : Type 0} → (E → List ℕ) → PartFault E → List ℕ
 part_fault_text fault_text UnknownStep = codes "unknown step"
 part_fault_text fault_text (BadList fault) = fault_text fault
 
+-- the text printed for a refusal: the index of the refused step, and its fault
 abbrev pub refusal_text : {F : Type 0} → (F → List ℕ) → PathRefusal F → List ℕ
 refusal_text excess_text refusal = codes "refused at step " ++ decimal refusal.step ++ codes ": " ++ excess_text refusal.fault
 
--- the text is that of what remains after a path, or that of a refusal; no text is, if the call ran out of memory
+-- the text is that of the resources that remain after a path, or that of a refusal; an out-of-memory error has no text
 abbrev pub ShowsLeft : {S F : Type 0} → (S → List ℕ) → (F → List ℕ) → Result S (OrMemory (PathRefusal F)) → List ℕ
     → Type 0
 ShowsLeft list_text excess_text (Ok set) text = text ≡ list_text set
 ShowsLeft list_text excess_text (Err (Refused refusal)) text = text ≡ refusal_text excess_text refusal
 ShowsLeft list_text excess_text (Err (Memory error)) text = ⊥
 
--- the text is that of what remains of the first list after a path, or that of its first refusal
+-- the text is that of the resources that remain of the first list after a path, or that of its first refusal
 abbrev pub ShowsPath : (Runs → List ℕ) → (Runs → List ℕ) → Runs → List (Step Claim) → List ℕ → Type 0
 ShowsPath list_text excess_text root steps text =
     ((left : Runs) × IsPathResult (λ claim. claim) (Holds root) steps left × (text ≡ list_text left))
@@ -110,22 +113,22 @@ ShowsPath list_text excess_text root steps text =
 
 -- ---- the answer
 
--- the answer to a path over the sets that some lists denote
+-- the text is the answer to a path of lists, which denote sets by `Writes` and have faults by `Fails`
 abbrev pub IsPathOf : {E : Type 0} → (List ℕ → Runs → Type 0) → (Runs → List ℕ) → (Runs → List ℕ)
     → (List ℕ → E → Type 0) → (E → List ℕ) → List ℕ → List ℕ → Type 0
 IsPathOf {E} Writes list_text excess_text Fails fault_text path text =
     ((root : Runs) × (steps : List (Step Claim)) × ArePath (λ claim. claim) Writes (parts_of path) root steps × ShowsPath list_text excess_text root steps text)
     ⊎ ((fault : PartFault E) × HavePathFault Fails (λ (claim : Claim). claim) Writes (parts_of path) fault × (text ≡ error_line (part_fault_text fault_text fault)))
 
--- the answer to a path of AS numbers
+-- the text is the answer to `path` for AS numbers
 abbrev pub IsPathAs : List ℕ → List ℕ → Type 0
 IsPathAs = IsPathOf IsAsListText as_list_text AsFaults.overclaimed_as_text HasAsListFault AsBlockFaults.as_from_str_error_text
 
--- the answer to a path of addresses of a family
+-- the text is the answer to `path` for addresses of a family
 abbrev pub IsPathIp : AddressFamily → List ℕ → List ℕ → Type 0
 IsPathIp family = IsPathOf (λ list. IsSetOf (HasBlocks family list)) (set_text family) (IpTexts.overclaimed_ip_text family) (HasBlocksFault family) IpFaults.ip_from_str_error_text
 
--- the answer to a path of this kind
+-- the text is the answer to `path` for resources of this kind
 pub record IsPathAnswer (kind path text : List ℕ) : Type 0 where
   pub as_numbers : kind ≡ codes "as" → IsPathAs path text
   pub v4_addresses : kind ≡ codes "v4" → IsPathIp Ipv4 path text

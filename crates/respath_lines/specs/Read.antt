@@ -20,52 +20,53 @@ use Rattle.rpki_ipres.specs.SetText.{set_text}
 use Rattle.respath_lines.specs.Hexadecimal.{IsHexadecimal}
 use Rattle.respath_lines.specs.Shown.{error_line}
 
--- the decoded value is the result if no octets are left; else the result is a refusal
+-- the result after a value was decoded: the value if no octets are left, and else TrailingData; an error stays the same
 abbrev pub IsEnded : {V : Type 0} → Result V (OrMemory DerError) → List ℕ → Result V (OrMemory DerError) → Type 0
 IsEnded (Ok value) rest (Ok answer) = (answer ≡ value) × (rest ≡ [])
 IsEnded (Ok value) rest (Err (Refused fault)) = (rest ≢ []) × (fault ≡ TrailingData)
 IsEnded (Ok value) rest (Err (Memory error)) = ⊥
 IsEnded (Err fault) rest answer = answer ≡ Err fault
 
--- the octets are not the encoding of a value, and this is the first fault in reading them
+-- the octets are not the encoding of a value, and this is the first fault of the reading
 abbrev pub HasFault : {V Y : Type 0} → (List ℕ → V → Type 0) → (List ℕ → Result (Y × List ℕ) DerError) → List ℕ
     → DerError → Type 0
 HasFault Is reading octets fault = HasNone Is octets × (only reading octets ≡ Err fault)
 
--- the answer is the text of the value that the octets encode; if they are invalid, it is `error: ` and the text of
--- their first fault
+-- The answer is the text of the value that the octets encode. If the octets are invalid, it is `error: ` and the text
+-- of their first fault.
 abbrev pub ShowsOctets : {V Y : Type 0} → (List ℕ → V → Type 0) → (List ℕ → Result (Y × List ℕ) DerError) → (V → List ℕ)
     → List ℕ → List ℕ → Type 0
 ShowsOctets {V} Is reading value_text octets answer =
     ((value : V) × Is octets value × (answer ≡ value_text value))
     ⊎ ((fault : DerError) × HasFault Is reading octets fault × (answer ≡ error_line (fault_text fault)))
 
--- the same for the octets of a text in hexadecimal, if the text is hexadecimal
+-- the answer to octets in hexadecimal; for any other text it is `error: bad hex`
 pub record ShowsHexadecimal {V Y : Type 0} (Is : List ℕ → V → Type 0) (reading : List ℕ → Result (Y × List ℕ) DerError) (value_text : V → List ℕ) (text answer : List ℕ) : Type 0 where
   pub octets : (octets : List ℕ) → IsHexadecimal text octets → ShowsOctets Is reading value_text octets answer
   pub none : ((octets : List ℕ) → ¬ IsHexadecimal text octets) → answer ≡ codes "error: bad hex"
 
--- the answer to octets of AS resources
+-- the answer to `read` for octets of AS resources
 abbrev pub IsReadAs : List ℕ → List ℕ → Type 0
 IsReadAs = ShowsHexadecimal IsAsResources as_choice_at as_resources_text
 
 -- ---- resources of a family
 
--- the text printed for the resources of a family, if it has some
+-- the text printed for the resources of a family, which may be absent
 abbrev pub family_text : AddressFamily → Option Claim → List ℕ
 family_text family None = codes "missing"
 family_text family (Some Missing) = codes "missing"
 family_text family (Some Inherit) = codes "inherit"
 family_text family (Some (Blocks set)) = set_text family set
 
--- the answer to octets of families, which shows one of them
+-- the answer to octets of families, which shows the resources of one family
 abbrev pub ShowsFamily : AddressFamily → List ℕ → List ℕ → Type 0
 ShowsFamily family = ShowsOctets IsIpFamilies ip_families_at (λ (found : ByFamily Claim). family_text family (of_family family found))
 
+-- the answer to `read` for octets of families, which shows the resources of one family
 abbrev pub IsReadIp : AddressFamily → List ℕ → List ℕ → Type 0
 IsReadIp family = ShowsHexadecimal IsIpFamilies ip_families_at (λ (found : ByFamily Claim). family_text family (of_family family found))
 
--- the answer to octets of resources of this kind
+-- the answer to `read` for resources of this kind
 pub record IsReadAnswer (kind text answer : List ℕ) : Type 0 where
   pub as_resources : kind ≡ codes "as" → IsReadAs text answer
   pub v4_resources : kind ≡ codes "v4" → IsReadIp Ipv4 text answer

@@ -3,18 +3,18 @@ use Rattle.std.specs.Prelude.{◌≡◌, ◌⊎◌, ℕ, List, ◌++◌, Result,
 use Rattle.rpki_text.specs.declared.memory.OrMemory.{OrMemory}
 use Rattle.rpki_text.specs.declared.memory.OrMemory.TheVariants.{Refused, Memory}
 
--- a fault's text, after `error: `
+-- the text of a fault after `error: `
 abbrev pub error_line : List ℕ → List ℕ
 error_line fault = codes "error: " ++ fault
 
--- the text is that of a value that exists, or `error: ` and that of a fault that exists
+-- the text is that of a value for which Has holds, or `error: ` and that of a fault for which Fails holds
 abbrev pub ShowsValueOrFault : {V E : Type 0} → (V → Type 0) → (V → List ℕ) → (E → Type 0) → (E → List ℕ) → List ℕ
     → Type 0
 ShowsValueOrFault {V} {E} Has value_text Fails fault_text text =
     ((value : V) × Has value × (text ≡ value_text value))
     ⊎ ((fault : E) × Fails fault × (text ≡ error_line (fault_text fault)))
 
--- the text is that of the result of a call; no text is, if the call ran out of memory
+-- the text is that of the result of a call; an out-of-memory error has no text
 abbrev pub ShowsResult : {V E : Type 0} → (V → List ℕ) → (E → List ℕ) → Result V (OrMemory E) → List ℕ → Type 0
 ShowsResult value_text fault_text (Ok value) text = text ≡ value_text value
 ShowsResult value_text fault_text (Err (Refused fault)) text = text ≡ error_line (fault_text fault)

@@ -3,8 +3,9 @@ ghost use Rattle.std.specs.Prelude.{◌≡◌};
 ghost use Rattle.std.specs.List.{before_first, after_first, position_or_len};
 ghost use Rattle.rpki_text.specs.Cuts.{is_space};
 
-/// Returns the index of the first space of a text, or the length of the text if it has none. Words are short, so the
-/// bytes are examined one by one.
+/// Returns the index of the first space of a text, or the length of the text if it has none.
+///
+/// Words are short, so the bytes are examined one by one.
 #[tactic(auto, using(std::proofs::lemmas::List::Sums::position_or_len_is))]
 fn first_space(text: &[u8]) -> usize
     ensures { result ≡ position_or_len is_space text.now }

@@ -1,4 +1,4 @@
-//! The command `cover`: turns a list of blocks into the shortest list of prefixes with the same addresses.
+//! The command `cover`: prints the shortest list of prefixes with the addresses of a list of blocks.
 ghost use Rattle.std.specs.Prelude.{◌≡◌, ◌≤◌, ◌++◌, ◌∷◌, [], List, length, take, codes, if◌then◌else◌, Some, OnOk};
 ghost use Rattle.std.specs.Iterator.{Drains, IsFinite};
 ghost use Rattle.std.specs.String.{string_bytes};
@@ -16,7 +16,11 @@ use rpki_ipres::blocks::IpBlocks;
 use std::alloc::{AllocError, Allocator};
 use std::fmt;
 
-/// Answers `cover KIND LIST`.
+/// Replaces `answer` by the answer to `cover KIND LIST`.
+///
+/// # Errors
+///
+/// [`AllocError`] if an allocation fails. The text of `answer` is unspecified then.
 pub(crate) fn cover<A: Allocator + Copy>(
     alloc: A,
     kind: &str,
@@ -48,8 +52,9 @@ fn cover_ip<A: Allocator + Copy>(
     }
 }
 
-/// Prints prefixes of a family, joined by a comma and a space. Without prefixes the answer is empty. Each is printed as
-/// it comes, so no list of them is kept.
+/// Prints prefixes of a family, joined by a comma and a space. Without prefixes the answer is empty.
+///
+/// Each prefix is printed when the iterator yields it, so no list of them is kept.
 fn print_prefixes<A: Allocator, I: Iterator<Item = Prefix>>(
     answer: &mut String<A>,
     family: AddressFamily,
@@ -70,7 +75,7 @@ fn print_prefixes<A: Allocator, I: Iterator<Item = Prefix>>(
 /// The maximum number of bytes of a prefix in a list: a comma, a space and the prefix.
 const ROOM: usize = PREFIX_ROOM + 2;
 
-/// Writes a comma and a space to the front of a buffer, unless `is_first`, and returns the index of their end.
+/// Writes a comma and a space to the front of a buffer, unless `is_first`, and returns the end index.
 fn put_separator(out: &mut [u8], is_first: bool) -> usize
     requires { 2 ≤ length out.old }
     ensures text { take result out.new ≡ (if is_first then [] else codes ", ") }
@@ -92,7 +97,7 @@ struct Listed {
 }
 
 impl Listed {
-    /// Writes the prefix to the front of a buffer, and returns the index of its end.
+    /// Writes the prefix to the front of a buffer, and returns the end index.
     fn put(&self, out: &mut [u8]) -> usize
         requires { 46 ≤ length out.old }
         ensures text { take result out.new
@@ -105,7 +110,8 @@ impl Listed {
     }
 }
 
-/// Prints the address, a slash and the length, even the maximum one. A comma and a space precede all but the first.
+/// Prints the address, a slash and the length, even the maximum length. A comma and a space precede it unless it is the
+/// first prefix.
 impl fmt::Display for Listed {
     ghost output = { λ p. Some (listed_text p.is_first p.family p.prefix) };
 
@@ -116,7 +122,7 @@ impl fmt::Display for Listed {
     }
 }
 
-/// Appends a prefix to the printed ones, after a comma and a space unless it is the first.
+/// Appends a prefix to the printed prefixes, after a comma and a space unless it is the first.
 #[tactic(auto, using(crate::proofs::CoverCommandLemmas::more_text))]
 fn append<A: Allocator>(
     text: &mut String<A>,

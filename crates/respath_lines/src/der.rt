@@ -20,7 +20,11 @@ use rpki_ipres::resources::IpResources;
 use std::alloc::{AllocError, Allocator};
 use std::mem::replace;
 
-/// Answers `der KIND LIST`.
+/// Replaces `answer` by the answer to `der KIND LIST`.
+///
+/// # Errors
+///
+/// [`AllocError`] if an allocation fails. The text of `answer` is unspecified then.
 pub(crate) fn der<A: Allocator + Copy>(
     alloc: A,
     kind: &str,
@@ -37,7 +41,7 @@ pub(crate) fn der<A: Allocator + Copy>(
     }
 }
 
-/// Returns the emptied buffer of an answer. The answer is empty and has no buffer afterwards.
+/// Takes the buffer of an answer and returns it without its content. The answer is empty and has no buffer afterwards.
 fn buffer_of<A: Allocator>(alloc: A, answer: &mut String<A>) -> Vec<u8, A>
     ensures { result.items ≡ [] }
 {
@@ -61,7 +65,7 @@ fn der_as<A: Allocator + Copy>(
     }
 }
 
-/// Answers with octets. Their digits are written to the buffer of `octets`.
+/// Answers with octets in hexadecimal. The digits are written to the buffer of `octets`.
 fn write_octets<A: Allocator>(octets: Vec<u8, A>, answer: &mut String<A>) -> Result<(), AllocError>
     ensures { OnOk result (string_bytes answer.new ≡ lower_hexadecimal octets.items) }
 {
@@ -69,7 +73,7 @@ fn write_octets<A: Allocator>(octets: Vec<u8, A>, answer: &mut String<A>) -> Res
     Ok(())
 }
 
-/// Answers with the octets of AS resources.
+/// Answers with the octets of AS resources, or with `missing`.
 fn write_as<A: Allocator + Copy>(
     alloc: A,
     resources: AsResources<A>,
@@ -114,7 +118,7 @@ fn der_ip<A: Allocator + Copy>(
     }
 }
 
-/// Returns the resources of a family in a text: inherited ones for `inherit`, and else those of the list.
+/// Returns the resources of a family in a text: inherited resources for `inherit`, and otherwise those of the list.
 #[tactic(auto, using(crate::proofs::DerCommandLemmas::listed_resources, rpki_as::proofs::AsResourcesTexts::not_true))]
 fn ip_resources<A: Allocator + Copy>(
     alloc: A,
@@ -143,7 +147,7 @@ fn listed<A: Allocator + Copy>(
     Ok(IpResources::blocks(set))
 }
 
-/// Answers with the octets of a list of families in which only this family has resources.
+/// Answers with the octets of a list of families in which only `family` has resources, or with `missing`.
 fn write_ip<A: Allocator + Copy>(
     alloc: A,
     family: AddressFamily,

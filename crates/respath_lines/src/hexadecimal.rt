@@ -22,7 +22,7 @@ static DIGIT_VALUES: [u8; 256] = [
     16, 16, 16, 16, 16, 16, 16, 16, 16, 16, 16, 16, 16, 16,
 ];
 
-/// Returns the value of a digit, or 16 for any other byte.
+/// Returns the value of a digit in either case, or 16 for any other byte.
 #[inline(always)]
 fn value_of(byte: u8) -> u8
     ensures { result ≡ hex_value byte }
@@ -43,7 +43,7 @@ fn octet_of(high: u8, low: u8) -> Option<u8>
     Some(high * 16 + low)
 }
 
-/// Writes to `octets` the octets of pairs of digits. Returns false if one of the pairs is not an octet.
+/// Writes to `octets` the octets of pairs of digits. Returns false if one of the pairs doesn't write an octet.
 fn put_octets(digits: &[u8], octets: &mut [u8]) -> bool
     requires { length digits.now ≡ 2 * length octets.old }
     ensures written { IsTrue result → IsHexadecimal digits.now octets.new }
@@ -58,7 +58,11 @@ fn put_octets(digits: &[u8], octets: &mut [u8]) -> bool
     true
 }
 
-/// Returns the octets of a text with digits of either case, or None if the text is not hexadecimal.
+/// Returns the octets of a text with digits of either case, or None if the text is not hexadecimal (RFC 4648, 8).
+///
+/// # Errors
+///
+/// [`AllocError`] if an allocation fails.
 #[tactic(auto, using(crate::proofs::HexadecimalLemmas::even_text))]
 pub(crate) fn octets_of<A: Allocator>(
     alloc: A,
@@ -93,7 +97,9 @@ fn digit_of(value: u8) -> u8
     LOWER_DIGITS[usize::from(value)]
 }
 
-/// Replaces all bytes by the digits of the octets at their front. The last octet is written first, so none is lost.
+/// Replaces the first `count` bytes, which are octets, by their digits in all `2 * count` bytes.
+///
+/// The last octet is written first, so no octet is overwritten before it is read.
 fn spread(bytes: &mut [u8], count: usize)
     requires { length bytes.old ≡ 2 * count }
     ensures { bytes.new ≡ lower_hexadecimal (take count bytes.old) }
@@ -107,8 +113,12 @@ fn spread(bytes: &mut [u8], count: usize)
     }
 }
 
-/// Returns the digits of octets, in lower case. They are made in the buffer of the octets, with capacity for an end of
-/// line.
+/// Returns the digits of octets, in lower case. They are made in the buffer of the octets, with capacity for the end of
+/// a line.
+///
+/// # Errors
+///
+/// [`AllocError`] if an allocation fails.
 pub(crate) fn hexadecimal_of<A: Allocator>(mut octets: Vec<u8, A>) -> Result<String<A>, AllocError>
     ensures { IfOk result (λ text. string_bytes text ≡ lower_hexadecimal octets.items) }
 {

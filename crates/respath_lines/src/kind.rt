@@ -9,7 +9,7 @@ pub(crate) enum Kind {
     V6,
 }
 
-/// Returns the kind with this name.
+/// Returns the kind with the name `as`, `v4` or `v6`, or None for any other word.
 pub(crate) fn kind_named(word: &str) -> Option<Kind>
     ensures { IsKindNamed word.now result }
 {

@@ -1,9 +1,9 @@
-//! Lemmas on the texts of answers.
+//! Lemmas about the texts of answers.
 ghost use Rattle.std.specs.Prelude.{◌≡◌, ℕ, List};
 ghost use Rattle.rpki_der.specs.Der.{IsBytes};
 ghost use Rattle.respath_lines.specs.Hexadecimal.{IsHexadecimal, lower_hexadecimal};
 
-/// Proves that the text of octets is read back as them, and that a text has at most one list of octets (RFC 4648, 8).
+/// States that the text of octets is read back as them, and that a text has at most one list of octets (RFC 4648, 8).
 #[tactic(auto, using(crate::proofs::HexadecimalLemmas::lower_writes, crate::proofs::HexadecimalLemmas::one_octets))]
 pub fn hexadecimal_read_back()
     ensures written { (octets : List ℕ) → IsBytes octets

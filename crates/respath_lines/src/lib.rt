@@ -36,13 +36,13 @@ use read::read;
 use std::alloc::{AllocError, Allocator};
 use write_answer::write_text;
 
-/// The initial capacity of an answer in bytes. A short answer isn't moved as it grows.
+/// The initial capacity of an answer in bytes. A short answer is not moved when it grows.
 const ROOM: usize = 64;
 
-/// Returns the answer to `line`. Neither has an end of line.
+/// Returns the answer to `line`. Neither text has the end of a line.
 ///
-/// The answer to a line that isn't UTF-8, or doesn't begin with a command, is an error message. The same holds for the
-/// answer to a list that its command refuses.
+/// The answer is an error message in three cases: the line isn't UTF-8, it doesn't begin with a command, or the command
+/// refuses its list.
 ///
 /// # Errors
 ///
@@ -55,7 +55,7 @@ pub fn answer<A: Allocator + Copy>(alloc: A, line: &[u8]) -> Result<String<A>, A
     Ok(text)
 }
 
-/// Replaces the text of `answer` by the answer to `line`, the one that [`answer`](fn@answer) returns.
+/// Replaces the text of `answer` by the answer to `line`, which is the text that [`answer`](fn@answer) returns.
 ///
 /// # Errors
 ///

@@ -39,7 +39,8 @@ impl Answers for Commands {
 /// # Preconditions
 ///
 /// No call of `reader` or `writer` has failed, and no write has taken nothing. A new
-/// [`FromRead`](lines_engine::adapters::FromRead) and a new [`IntoWrite`](lines_engine::adapters::IntoWrite) meet this.
+/// [`FromRead`](lines_engine::adapters::FromRead) and a new [`IntoWrite`](lines_engine::adapters::IntoWrite) meet this
+/// precondition.
 ///
 /// # Errors
 ///

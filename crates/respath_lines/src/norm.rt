@@ -1,4 +1,4 @@
-//! The command `norm`: turns a list of blocks into the canonical list of the same numbers.
+//! The command `norm`: prints the canonical list of the numbers of a list of blocks.
 ghost use Rattle.std.specs.Prelude.{OnOk};
 ghost use Rattle.std.specs.String.{string_bytes};
 ghost use Rattle.respath_lines.specs.Norm.{IsNormAnswer, IsNormAs, IsNormIp};
@@ -11,7 +11,11 @@ use rpki_ip::family::AddressFamily;
 use rpki_ipres::blocks::IpBlocks;
 use std::alloc::{AllocError, Allocator};
 
-/// Answers `norm KIND LIST`.
+/// Replaces `answer` by the answer to `norm KIND LIST`.
+///
+/// # Errors
+///
+/// [`AllocError`] if an allocation fails. The text of `answer` is unspecified then.
 pub(crate) fn norm<A: Allocator + Copy>(
     alloc: A,
     kind: &str,
@@ -28,7 +32,7 @@ pub(crate) fn norm<A: Allocator + Copy>(
     }
 }
 
-/// Prints the set of a list of AS blocks, or the fault of the list.
+/// Answers with the set of a list of AS blocks, or with the fault of the list.
 fn norm_as<A: Allocator + Copy>(
     alloc: A,
     list: &str,
@@ -39,7 +43,7 @@ fn norm_as<A: Allocator + Copy>(
     show(answer, AsBlocks::from_str(alloc, list))
 }
 
-/// Prints the set of a list of blocks of a family, or the fault of the list.
+/// Answers with the set of a list of blocks of a family, or with the fault of the list.
 fn norm_ip<A: Allocator + Copy>(
     alloc: A,
     family: AddressFamily,

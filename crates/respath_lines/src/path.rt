@@ -21,7 +21,11 @@ use rpki_ipres::overclaim::OverclaimedIpResources;
 use std::alloc::{AllocError, Allocator};
 use std::fmt;
 
-/// Answers `path KIND ROOT | STEP ..`.
+/// Replaces `answer` by the answer to `path KIND ROOT | STEP ..`.
+///
+/// # Errors
+///
+/// [`AllocError`] if an allocation fails. The text of `answer` is unspecified then.
 pub(crate) fn path<A: Allocator + Copy>(
     alloc: A,
     kind: &str,
@@ -74,8 +78,11 @@ fn path_ip<A: Allocator + Copy>(
     }
 }
 
-/// Prints the AS numbers that remain after a path, or the first refusal. Returns `AllocError` if memory ran out
-/// for the AS numbers or for the text.
+/// Prints the AS numbers that remain after a path, or the first refusal.
+///
+/// # Errors
+///
+/// [`AllocError`] if `left` is out of memory, or if an allocation for the text fails.
 fn write_left_as<A: Allocator>(
     left: Result<AsBlocks<A>, OrMemory<PathRefusal<OverclaimedAsResources<A>>>>,
     answer: &mut String<A>,
@@ -89,7 +96,11 @@ fn write_left_as<A: Allocator>(
     }
 }
 
-/// Does the same for addresses, which are printed as those of a family.
+/// Prints the addresses that remain after a path, or the first refusal, as addresses of a family.
+///
+/// # Errors
+///
+/// [`AllocError`] if `left` is out of memory, or if an allocation for the text fails.
 fn write_left_ip<A: Allocator>(
     family: AddressFamily,
     left: Result<IpBlocks<A>, OrMemory<PathRefusal<OverclaimedIpResources<A>>>>,
@@ -108,7 +119,7 @@ fn write_left_ip<A: Allocator>(
     }
 }
 
-/// Prints a refusal: the index of the refused step, and the reason.
+/// Prints a refusal: the index of the refused step, and the overclaimed resources.
 fn refused<F: fmt::Display + Drop, A: Allocator>(
     refusal: PathRefusal<F>,
     answer: &mut String<A>,
@@ -122,7 +133,7 @@ fn refused<F: fmt::Display + Drop, A: Allocator>(
     write!(answer, "refused at step {step}: {fault}")
 }
 
-/// Prints the fault of an invalid part.
+/// Prints the fault of an invalid part of a path.
 fn write_part_fault<E: fmt::Display + Drop, A: Allocator>(
     fault: PartFault<E>,
     answer: &mut String<A>,

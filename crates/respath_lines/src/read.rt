@@ -20,7 +20,11 @@ use rpki_ipres::blocks::IpBlocks;
 use rpki_ipres::resources::IpResources;
 use std::alloc::{AllocError, Allocator};
 
-/// Answers `read KIND HEX`.
+/// Replaces `answer` by the answer to `read KIND HEX`.
+///
+/// # Errors
+///
+/// [`AllocError`] if an allocation fails. The text of `answer` is unspecified then.
 pub(crate) fn read<A: Allocator + Copy>(
     alloc: A,
     kind: &str,
@@ -37,7 +41,7 @@ pub(crate) fn read<A: Allocator + Copy>(
     }
 }
 
-/// Prints the AS resources that octets encode, or the fault of the octets.
+/// Answers with the AS resources that octets in hexadecimal encode, or with the fault of the text or of the octets.
 fn read_as<A: Allocator + Copy>(
     alloc: A,
     text: &str,
@@ -51,7 +55,7 @@ fn read_as<A: Allocator + Copy>(
     show(answer, as_resources_in(alloc, octets.as_slice()))
 }
 
-/// Returns the AS resources that the octets, all of them, encode. `Refused` has the first fault of invalid octets.
+/// Returns the AS resources that all the octets encode. `Refused` has the first fault of invalid octets.
 fn as_resources_in<A: Allocator + Copy>(
     alloc: A,
     octets: &[u8],
@@ -64,7 +68,7 @@ fn as_resources_in<A: Allocator + Copy>(
     ended(taken, cursor)
 }
 
-/// Returns the decoded value if no octets follow it.
+/// Returns the decoded value if no octets follow it, and otherwise `TrailingData`. An error stays the same.
 fn ended<V: Drop>(
     taken: Result<V, OrMemory<DerError>>,
     cursor: Cursor<'_>,
@@ -80,7 +84,8 @@ fn ended<V: Drop>(
     }
 }
 
-/// Prints the resources of one family in the families that octets encode, or the fault of the octets.
+/// Answers with the resources of one family in the families that octets in hexadecimal encode, or with the fault of the
+/// text or of the octets.
 fn read_ip<A: Allocator + Copy>(
     alloc: A,
     family: AddressFamily,
@@ -111,7 +116,7 @@ fn family_in<A: Allocator + Copy>(
     }
 }
 
-/// Returns the resources of a family, from those of both.
+/// Returns the resources of a family from the resources of both.
 fn resources_of<A: Allocator>(
     families: (Option<IpResources<A>>, Option<IpResources<A>>),
     family: AddressFamily,
@@ -124,8 +129,7 @@ fn resources_of<A: Allocator>(
     }
 }
 
-/// Returns the resources by family that the octets, all of them, encode. `Refused` has the first fault of invalid
-/// octets.
+/// Returns the resources by family that all the octets encode. `Refused` has the first fault of invalid octets.
 fn families_in<A: Allocator + Copy>(
     alloc: A,
     octets: &[u8],
@@ -138,7 +142,7 @@ fn families_in<A: Allocator + Copy>(
     ended(taken, cursor)
 }
 
-/// Prints the resources of a family.
+/// Prints the resources of a family: `missing`, `inherit` or the set.
 fn print_resources<A: Allocator>(
     family: AddressFamily,
     resources: Option<IpResources<A>>,

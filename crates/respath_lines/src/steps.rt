@@ -19,8 +19,9 @@ pub(crate) enum PartFault<E> {
     BadList(E),
 }
 
-/// Returns the set of a path's first list and the steps, or the fault of the first invalid part. The path is cut at
-/// each `|`. Its first part is the first list, and the others are the steps.
+/// Returns the set of a path's first list and the steps, or the fault of the first invalid part.
+///
+/// The path is separated by `|`. Its first part is the first list, and the others are the steps.
 pub(crate) fn read_path<A: Allocator + Copy, L: Lists<A>>(
     alloc: A,
     lists: &L,
@@ -57,7 +58,7 @@ fn read_root<A: Allocator + Copy, L: Lists<A>>(
     }
 }
 
-/// Returns the steps in a text, which is cut at each `|`, or the fault of the first part that is not a step.
+/// Returns the steps in a text, which `|` separates, or the fault of the first part that is not a step.
 fn read_steps<A: Allocator + Copy, L: Lists<A>>(
     alloc: A,
     lists: &L,
@@ -79,8 +80,10 @@ fn read_steps<A: Allocator + Copy, L: Lists<A>>(
     Ok(steps)
 }
 
-/// Returns the step in a part, without the white space on both its sides. It is `inherit` or `missing` alone, or a
-/// mode, a space and the list of what is claimed. The mode says what happens to overclaimed resources.
+/// Returns the step in a part, without the white space at its ends.
+///
+/// A step is `inherit` or `missing` alone, or a mode, a space and the list of claimed resources. The mode says what
+/// happens to overclaimed resources.
 fn read_step<A: Allocator + Copy, L: Lists<A>>(
     alloc: A,
     lists: &L,
@@ -116,7 +119,7 @@ fn read_step<A: Allocator + Copy, L: Lists<A>>(
     }
 }
 
-/// Returns the mode with this name. It says what happens to overclaimed resources.
+/// Returns the mode with the name `refuse` or `trim`, or None for any other word.
 fn mode_named(word: &str) -> Option<Overclaim>
     ensures { MatchOption result ((word.now ≢ codes "refuse") × (word.now ≢ codes "trim"))
         (IsMode word.now) }

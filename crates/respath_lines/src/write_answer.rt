@@ -10,7 +10,7 @@ use rpki_ipres::blocks::IpBlocks;
 use std::alloc::{AllocError, Allocator};
 use std::fmt;
 
-/// Writes a text.
+/// Replaces the answer by a text.
 pub(crate) fn write_text<A: Allocator>(answer: &mut String<A>, text: &str) -> Result<(), AllocError>
     ensures { OnOk result (string_bytes answer.new ≡ text.now) }
 {
@@ -18,7 +18,7 @@ pub(crate) fn write_text<A: Allocator>(answer: &mut String<A>, text: &str) -> Re
     answer.push_str(text)
 }
 
-/// Prints a value.
+/// Replaces the answer by the printed text of a value.
 pub(crate) fn print<T: fmt::Display, A: Allocator>(
     answer: &mut String<A>,
     value: &T,
@@ -31,7 +31,7 @@ pub(crate) fn print<T: fmt::Display, A: Allocator>(
     write!(answer, "{value}")
 }
 
-/// Prints a set of addresses of a family.
+/// Replaces the answer by the printed text of a set of addresses of a family.
 pub(crate) fn print_set<A: Allocator>(
     answer: &mut String<A>,
     family: AddressFamily,
@@ -42,7 +42,7 @@ pub(crate) fn print_set<A: Allocator>(
     print(answer, &set.display_with_family(family))
 }
 
-/// Prints a fault, after `error: `.
+/// Replaces the answer by `error: ` and the printed text of a fault.
 pub(crate) fn write_fault<E: fmt::Display, A: Allocator>(
     answer: &mut String<A>,
     fault: &E,
@@ -55,8 +55,11 @@ pub(crate) fn write_fault<E: fmt::Display, A: Allocator>(
     write!(answer, "error: {fault}")
 }
 
-/// Prints the value, or the fault after `error: `. Returns `AllocError` if memory ran out in the call or
-/// for the text.
+/// Replaces the answer by the printed text of a value, or by `error: ` and that of a fault.
+///
+/// # Errors
+///
+/// [`AllocError`] if `found` is out of memory, or if an allocation for the text fails.
 pub(crate) fn show<T: fmt::Display + Drop, E: fmt::Display + Drop, A: Allocator>(
     answer: &mut String<A>,
     found: Result<T, OrMemory<E>>,

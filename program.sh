@@ -390,6 +390,6 @@ version() {
     if is_current && kit=$(kit_of_program); then
         echo "proved here with $kit"
     else
-        sed -n 's/^Last proved whole with `\(.*\)`\.$/not proved here; last proved whole with \1/p' "$top/README.md"
+        sed -n 's/^The kit that last proved all crates is `\(.*\)`\.$/not proved here; last proved whole with \1/p' "$top/README.md"
     fi
 }

@@ -13,7 +13,7 @@ mkdir -p "$copy/bin" "$copy/tools" "$copy/tmp" "$copy/crates/other"
 for crate in $(sed '/^#/d; s/[ :].*//' "$top/crates.txt"); do mkdir -p "$copy/crates/$crate/out"; done
 cp "$top/respath" "$top/origins" "$top/program.sh" "$top/crates.txt" "$top/HANDLES" "$copy/"
 # shellcheck disable=SC2016 # the README's own marks
-echo 'Last proved whole with `a-kit logic 12`.' >"$copy/README.md"
+echo 'The kit that last proved all crates is `a-kit logic 12`.' >"$copy/README.md"
 for script in respath origins; do
     # shellcheck disable=SC2016 # the program's own words
     program=$copy/crates/$script/out/$script

@@ -3,7 +3,7 @@
 # says nothing: another one may have proved it. Ends with status 0 where it has.
 top=$(CDPATH='' cd -- "$(dirname -- "$0")/.." && pwd) || exit 1
 # shellcheck disable=SC2016 # the README's own marks
-wanted=$(sed -n 's/^Last proved whole with `.* \(logic .*\)`\.$/\1/p' "${1-"$top/README.md"}")
+wanted=$(sed -n 's/^The kit that last proved all crates is `.* \(logic .*\)`\.$/\1/p' "${1-"$top/README.md"}")
 found=$(rt version | sed 's/^[^ ]* //')
 if [ "$wanted" = "$found" ]; then
     echo "ok      $found"

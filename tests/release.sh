@@ -45,7 +45,7 @@ esac
 cat "$kit/said/$crate"
 END
     chmod +x "$kit/bin/rt"
-    sed -n 's/^Last proved whole with `\(.*\)`\.$/\1/p' README.md >"$kit/identity"
+    sed -n 's/^The kit that last proved all crates is `\(.*\)`\.$/\1/p' README.md >"$kit/identity"
     local name
     sum=$(sed 's/.* //' "$kit/identity")
     for name in respath origins pigyelund_c; do

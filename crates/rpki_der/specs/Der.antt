@@ -130,7 +130,7 @@ IsSequence bytes content = IsValue bytes 48 content
 
 -- ---- grammars from grammars
 
--- a value of G that says y by the rule C, as a SEQUENCE does by its content
+-- a value of G that denotes y by the rule C, as a SEQUENCE does by its content
 abbrev pub Refines : {X Y : Type 0} → (List ℕ → X → Type 0) → (X → Y → Type 0) → List ℕ → Y → Type 0
 Refines {X} G C bytes y = (x : X) × G bytes x × C x y
 
@@ -154,7 +154,7 @@ NoFront {X} G bytes = (x : X) (rest : List ℕ) → Front G bytes x rest → ⊥
 abbrev pub HasNone : {X : Type 0} → (List ℕ → X → Type 0) → List ℕ → Type 0
 HasNone {X} G bytes = (x : X) → ¬ G bytes x
 
--- octets begin with at most one value of G, which stands for one x
+-- octets begin with at most one value of G, which denotes only one x
 abbrev pub OneFront : {X : Type 0} → (List ℕ → X → Type 0) → Type 0
 OneFront {X} G = (a b : List ℕ) (x y : X) (r s : List ℕ) → G a x → G b y → a ++ r ≡ b ++ s → (a ≡ b) × (x ≡ y) × (r ≡ s)
 

@@ -93,7 +93,7 @@ abbrev pub families_by : {X : Type 0} → Bool → (AddressFamily → List ℕ �
     → Result (ByFamily X × List ℕ) DerError
 families_by strict claim_at = refined (tagged_at 48) (families_in_by strict claim_at)
 
--- ---- from what the octets say to the result
+-- ---- from the meaning of the octets to the result
 
 -- a member: the same family, and C relates the claims
 abbrev pub SaysClaim : {X Y : Type 0} → (Y → X → Type 0) → AddressFamily × Y → AddressFamily × X → Type 0

@@ -12,7 +12,7 @@ abbrev pub family_octets : AddressFamily → List ℕ
 family_octets Ipv4 = 0 ∷ 1 ∷ []
 family_octets Ipv6 = 0 ∷ 2 ∷ []
 
--- the content of an OCTET STRING says this family
+-- the content of an OCTET STRING names this family
 abbrev pub SaysFamily : List ℕ → AddressFamily → Type 0
 SaysFamily content family = content ≡ family_octets family
 

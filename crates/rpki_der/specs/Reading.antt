@@ -10,7 +10,7 @@ abbrev pub ◌>>=◌ : {A B : Type 0} → Result A DerError → (A → Result B 
 (Ok x) >>= f = f x
 (Err e) >>= f = Err e
 
--- what a call returned, seen by view, is what reading gives
+-- the result of a call, seen by view, is the result of reading: the same value or the same error
 abbrev pub Gives : {X Y : Type 0} → (X → Y) → Result X DerError → Result Y DerError → Type 0
 Gives view (Ok x) read = read ≡ Ok (view x)
 Gives view (Err e) read = read ≡ Err e
@@ -88,7 +88,7 @@ bits_by strict content = bits content >>= passing strict is_padded
 
 -- ---- readings from readings
 
--- the value that reading finds, passed through a check
+-- the result of a check of the value that reading finds, and the octets after the value
 unfoldable pub refined : {X Y : Type 0} → (List ℕ → Result (X × List ℕ) DerError) → (X → Result Y DerError) → List ℕ
     → Result (Y × List ℕ) DerError
 refined reading check bytes = do
@@ -96,7 +96,7 @@ refined reading check bytes = do
   y ← check x.0
   Ok (y, x.1)
 
--- what reading finds; at the end of the octets, nothing
+-- the value that reading finds, or None if there are no octets
 unfoldable pub optional : {X : Type 0} → (List ℕ → Result (X × List ℕ) DerError) → List ℕ
     → Result (Option X × List ℕ) DerError
 optional reading [] = Ok (None, [])
@@ -115,7 +115,7 @@ each_from next (suc steps) reading state (b ∷ bytes) = do
   xs ← each_from next steps reading (next state x.0) x.1
   Ok (x.0 ∷ xs)
 
--- the same without a state
+-- each_from without a state
 abbrev pub each : {X : Type 0} → ℕ → (List ℕ → Result (X × List ℕ) DerError) → List ℕ → Result (List X) DerError
 each steps reading = each_from (λ (state : Unit {0}) x. state) steps (λ state. reading) tt
 
@@ -137,7 +137,7 @@ bit_string_by strict = refined (tagged_at 3) (bits_by strict)
 abbrev pub null_at : List ℕ → Result (Unit {0} × List ℕ) DerError
 null_at = refined (tagged_at 5) nothing
 
--- ---- what readings find
+-- ---- the values that readings find
 
 -- reading finds the values of a grammar, with any octets after them, and no others
 pub record IsReading {X : Type 0} (G : List ℕ → X → Type 0) (reading : List ℕ → Result (X × List ℕ) DerError) : Type 0 where
@@ -149,7 +149,7 @@ pub record IsReading {X : Type 0} (G : List ℕ → X → Type 0) (reading : Lis
 abbrev pub Tightens : {X : Type 0} → Bool → Result X DerError → Result X DerError → Type 0
 Tightens strict by found = (by ≡ found) ⊎ ((strict ≡ true) × (by ≡ Err NotCanonical))
 
--- the same for all octets; the strict reading finds the values of S
+-- Tightens holds for all octets, and the strict reading finds the values of S
 pub record IsModal {X : Type 0} (S : List ℕ → X → Type 0) (reading : List ℕ → Result (X × List ℕ) DerError) (by : Bool → List ℕ → Result (X × List ℕ) DerError) : Type 0 where
   pub tight : IsReading S (by true)
   pub tightens : (strict : Bool) (bytes : List ℕ) → Tightens strict (by strict bytes) (reading bytes)

@@ -9,11 +9,11 @@ use Rattle.rpki_der.specs.Reading.{◌>>=◌, each_from, ended, passing, refined
 
 -- ---- one of two tags
 
--- a value of the tag that says x by One, or a SEQUENCE that says it by Two
+-- a value of the tag whose content denotes x by One, or a SEQUENCE whose content denotes x by Two
 abbrev pub SaysByTag : {X : Type 0} → ℕ → (List ℕ → X → Type 0) → (List ℕ → X → Type 0) → Tlv → X → Type 0
 SaysByTag tag One Two v x = ((v.tag ≡ tag) × One v.content x) ⊎ ((v.tag ≡ 48) × Two v.content x)
 
--- what one finds in the content of a value of the tag, or two in that of a SEQUENCE; another tag is BadTag
+-- the result of one for the content of a value of the tag, or of two for that of a SEQUENCE; another tag is BadTag
 unfoldable pub by_tag : {X : Type 0} → ℕ → (List ℕ → Result X DerError) → (List ℕ → Result X DerError) → Tlv
     → Result X DerError
 by_tag tag one two v =
@@ -23,11 +23,12 @@ by_tag tag one two v =
 
 -- ---- two values in a content
 
--- the content is two values of G, and nothing else, which say y by C
+-- the content is two values of G, and nothing else, which denote y by C
 abbrev pub SaysPair : {X Y : Type 0} → (List ℕ → X → Type 0) → (X → X → Y → Type 0) → List ℕ → Y → Type 0
 SaysPair {X} G C content y = (first : X) × (second : X) × Both G G content first second × C first second y
 
--- what two values of the content give by a check, and nothing else; the check is before that of the content's end
+-- the result of a check of two values, if the content is these values and nothing else; the check is made before the
+-- end of the content is checked
 unfoldable pub pair_in : {X Y : Type 0} → (List ℕ → Result (X × List ℕ) DerError) → (X → X → Result Y DerError) → List ℕ
     → Result Y DerError
 pair_in reading check content = do
@@ -37,8 +38,8 @@ pair_in reading check content = do
   end ← ended second.1
   Ok y
 
--- the same by the mode: strictly, only if the two values pass a test, which is made after the end of the content is
--- checked
+-- pair_in by the mode: a strict reading also requires that the two values pass a test, which is made after the end of
+-- the content is checked
 unfoldable pub pair_by : {X Y : Type 0} → Bool → (List ℕ → Result (X × List ℕ) DerError) → (X → X → Result Y DerError)
     → (X → X → Bool) → List ℕ → Result Y DerError
 pair_by strict reading check test content = do
@@ -54,14 +55,14 @@ pair_by strict reading check test content = do
 abbrev pub Encloses : {X : Type 0} → ℕ → (List ℕ → X → Type 0) → List ℕ → X → Type 0
 Encloses tag G = Refines (λ bytes content. IsValue bytes tag content) G
 
--- what reading finds in a content, and nothing else
+-- the value that reading finds, if the content is this value and nothing else
 unfoldable pub only : {X : Type 0} → (List ℕ → Result (X × List ℕ) DerError) → List ℕ → Result X DerError
 only reading content = do
   x ← reading content
   end ← ended x.1
   Ok x.0
 
--- what reading finds in the content of a value of the tag, and nothing else, as with explicit tags (X.690, 8.14)
+-- the value that reading finds, if it is all of the content of a value of the tag, as with explicit tags (X.690, 8.14)
 abbrev pub enclosed_at : {X : Type 0} → ℕ → (List ℕ → Result (X × List ℕ) DerError) → List ℕ
     → Result (X × List ℕ) DerError
 enclosed_at tag reading = refined (tagged_at tag) (only reading)
@@ -72,19 +73,19 @@ enclosed_at tag reading = refined (tagged_at tag) (only reading)
 abbrev pub Skips : {X : Type 0} → (List ℕ → X → Type 0) → List ℕ → Unit {0} → Type 0
 Skips G = Refines G (λ x u. Unit {0})
 
--- the octets after what reading finds, without its value
+-- the octets after the value that reading finds, without the value
 abbrev pub skipping : {X : Type 0} → (List ℕ → Result (X × List ℕ) DerError) → List ℕ
     → Result (Unit {0} × List ℕ) DerError
 skipping reading = refined reading (λ x. Ok tt)
 
--- ---- only if its tag is there
+-- ---- only if the next octet is its tag
 
 -- whether the next octet is this one
 abbrev pub begins_with : ℕ → List ℕ → Bool
 begins_with octet [] = false
 begins_with octet (b ∷ bytes) = b == octet
 
--- what reading finds, if the next octet is the tag. Otherwise, and at the end, nothing, and no octet is taken
+-- the value that reading finds, if the next octet is the tag; otherwise None, and no octet is taken
 unfoldable pub if_tagged : {X : Type 0} → ℕ → (List ℕ → Result (X × List ℕ) DerError) → List ℕ
     → Result (Option X × List ℕ) DerError
 if_tagged tag reading bytes =

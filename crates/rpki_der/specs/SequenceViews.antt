@@ -9,25 +9,27 @@ use Rattle.rpki_text.specs.declared.memory.OrMemory.{OrMemory}
 use Rattle.rpki_text.specs.Memory.{IfRefused}
 use Rattle.rpki_der.specs.SequenceReading.{begins_with}
 
--- what a call returned, seen by view, is what reading gives, including its fault. Out of memory says nothing
+-- the result of a call, seen by view, is the result of reading, including its fault; an out-of-memory error implies
+-- nothing
 abbrev pub GivesOrMemory : {X Y : Type 0} → (X → Y) → Result X (OrMemory DerError) → Result Y DerError → Type 0
 GivesOrMemory view (Ok x) read = read ≡ Ok (view x)
 GivesOrMemory view (Err e) read = IfRefused (λ fault. read ≡ Err fault) e
 
--- C relates what reading gives to what a call returned. Out of memory says nothing
+-- C relates the value of reading to the value of a call, and the faults are the same; an out-of-memory error implies
+-- nothing
 abbrev pub GivesSaidOrMemory : {X Y : Type 0} → (Y → X → Type 0) → Result X (OrMemory DerError) → Result Y DerError
     → Type 0
 GivesSaidOrMemory {X} {Y} C (Ok x) read = (y : Y) × (read ≡ Ok y) × C y x
 GivesSaidOrMemory C (Err e) read = IfRefused (λ fault. read ≡ Err fault) e
 
--- The result, seen by view, is what reading gives at the old cursor, including its fault. The new cursor is where
--- reading ends. After a refusal, and after an out-of-memory error, the cursor is unchanged.
+-- The result, seen by view, is the result of reading at the old cursor, including its fault. The new cursor is at the
+-- end of reading. After a refusal, and after an out-of-memory error, the cursor is unchanged.
 abbrev pub TakesOrMemory : {X Y : Type 0} → (X → Y) → Cursor → Cursor → Result X (OrMemory DerError)
     → (List ℕ → Result (Y × List ℕ) DerError) → Type 0
 TakesOrMemory view old new (Ok x) reading = reading (left old) ≡ Ok (view x, left new)
 TakesOrMemory view old new (Err e) reading = IfRefused (λ fault. reading (left old) ≡ Err fault) e × (new ≡ old)
 
--- The same, with C relating what reading gives to the result.
+-- TakesOrMemory, with C relating the value of reading to the value of the result.
 abbrev pub TakesSaidOrMemory : {X Y : Type 0} → (Y → X → Type 0) → Cursor → Cursor → Result X (OrMemory DerError)
     → (List ℕ → Result (Y × List ℕ) DerError) → Type 0
 TakesSaidOrMemory {X} {Y} C old new (Ok x) reading = (y : Y) × (reading (left old) ≡ Ok (y, left new)) × C y x
@@ -49,7 +51,7 @@ ReadsTagged tag G old new (Ok (Some x)) = (begins_with tag (left old) ≡ true) 
 ReadsTagged tag G old new (Err e) = (begins_with tag (left old) ≡ true) × NoFront G (left old) × (new ≡ old)
 
 -- If the result is a refusal, the cursor is strict and found octets that aren't canonical, or there was no value of
--- the grammar at the old cursor. Out of memory says nothing.
+-- the grammar at the old cursor. An out-of-memory error implies nothing.
 abbrev pub NotCanonicalOrMemory : {X Y : Type 0} → (List ℕ → Y → Type 0) → Cursor → Result X (OrMemory DerError)
     → Type 0
 NotCanonicalOrMemory G old (Ok x) = Unit {0}

@@ -31,19 +31,19 @@ is_strict cursor = cursor.strict
 abbrev pub is_strict_in : Content → Bool
 is_strict_in value = value.strict
 
--- what holds for a lenient cursor, which takes all values of the grammars
+-- P holds if the cursor is lenient, which means that it takes all values of the grammars
 abbrev pub Lenient : Cursor → Type 0 → Type 0
 Lenient cursor P = is_strict cursor ≡ false → P
 
--- what holds for a content that was taken from a lenient cursor
+-- P holds if the content was taken from a lenient cursor
 abbrev pub LenientIn : Content → Type 0 → Type 0
 LenientIn value P = is_strict_in value ≡ false → P
 
--- what holds for a strict cursor, which takes only canonical octets
+-- P holds if the cursor is strict, which means that it takes only canonical octets
 abbrev pub Strict : Cursor → Type 0 → Type 0
 Strict cursor P = is_strict cursor ≡ true → P
 
--- what holds for a content that was taken from a strict cursor
+-- P holds if the content was taken from a strict cursor
 abbrev pub StrictIn : Content → Type 0 → Type 0
 StrictIn value P = is_strict_in value ≡ true → P
 
@@ -53,21 +53,22 @@ abbrev pub ReadsValue : {X Y : Type 0} → (List ℕ → Y → Type 0) → (X �
 ReadsValue G view old new (Ok x) = Front G (left old) (view x) (left new)
 ReadsValue G view old new (Err e) = NoFront G (left old) × (new ≡ old)
 
--- The same, except that the result is None if and only if no octet was left.
+-- ReadsValue, except that the result is None if and only if no octet was left.
 abbrev pub ReadsOptional : {X Y : Type 0} → (List ℕ → Y → Type 0) → (X → Y) → Cursor → Cursor
     → Result (Option X) DerError → Type 0
 ReadsOptional G view old new (Ok None) = (left old ≡ []) × (left new ≡ [])
 ReadsOptional G view old new (Ok (Some x)) = Front G (left old) (view x) (left new)
 ReadsOptional G view old new (Err e) = (left old ≢ []) × NoFront G (left old) × (new ≡ old)
 
--- The result, seen by view, is what reading gives at the old cursor, including its fault. The new cursor is where
--- reading ends. After a refusal the cursor is unchanged.
+-- The result, seen by view, is the result of reading at the old cursor, including its fault. The new cursor is at the
+-- end of reading. After a refusal the cursor is unchanged.
 abbrev pub Takes : {X Y : Type 0} → (X → Y) → Cursor → Cursor → Result X DerError
     → (List ℕ → Result (Y × List ℕ) DerError) → Type 0
 Takes view old new (Ok x) reading = reading (left old) ≡ Ok (view x, left new)
 Takes view old new (Err e) reading = (reading (left old) ≡ Err e) × (new ≡ old)
 
--- The result, seen by view, is what the octets say by the rule C. A refusal means that they say nothing by it.
+-- The result, seen by view, is the meaning of the octets by the rule C. A refusal means that they have no meaning by
+-- it.
 abbrev pub Parses : {X Y E : Type 0} → (List ℕ → Y → Type 0) → (X → Y) → List ℕ → Result X E → Type 0
 Parses C view octets (Ok x) = C octets (view x)
 Parses {Y} C view octets (Err e) = (y : Y) → C octets y → ⊥
@@ -78,7 +79,7 @@ abbrev pub NotCanonicalOr : {X Y : Type 0} → (List ℕ → Y → Type 0) → C
 NotCanonicalOr G old (Ok x) = Unit {0}
 NotCanonicalOr G old (Err e) = ((is_strict old ≡ true) × (e ≡ NotCanonical)) ⊎ NoFront G (left old)
 
--- If the result is a refusal, the content was taken from a strict cursor and isn't canonical, or it says nothing by
+-- If the result is a refusal, the content was taken from a strict cursor and isn't canonical, or it has no meaning by
 -- the rule C.
 abbrev pub NotCanonicalInOr : {X Y : Type 0} → (List ℕ → Y → Type 0) → Content → Result X DerError → Type 0
 NotCanonicalInOr C value (Ok x) = Unit {0}

@@ -47,6 +47,7 @@ impl<'a> Cursor<'a> {
         Self::in_mode(octets, true)
     }
 
+    /// Returns a cursor of the given mode, strict (true) or lenient (false), at the start of `octets`.
     pub(crate) fn in_mode(octets: &'a [u8], strict: bool) -> Cursor<'a>
         ensures octets { left result ≡ octets.now }
         ensures mode { is_strict result ≡ strict }

@@ -49,6 +49,7 @@ impl DerError {
         *self as u8
     }
 
+    /// Returns the name of the variant.
     fn name(&self) -> &'static str
         ensures name { result.now ≡ fault_name self.now }
     {

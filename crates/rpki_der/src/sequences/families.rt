@@ -23,10 +23,10 @@ pub trait ReadClaim {
     /// The claim that is read.
     type Claim: Drop;
 
-    // What the octets say, before it becomes a claim.
+    // The type of the meaning of octets, from which a claim is made.
     ghost Found: { Type 0 };
 
-    // What the octets say is this claim.
+    // The meaning of the octets is this claim.
     ghost says: { Self → Found → Self.Claim → Type 0 };
 
     // The octets are a claim of the family.
@@ -66,8 +66,8 @@ pub trait ReadClaim {
     ghost is_reading: { (reader : Self) (family : SomeFamily)
         → IsReading (grammar reader family) (reading reader family) };
 
-    // A lenient cursor gives what `reading` gives. A strict cursor gives the same or refuses it by `NotCanonical`, and
-    // finds exactly the claims of the strict grammar.
+    // For a lenient cursor the result is that of `reading`. For a strict cursor it is the same or `NotCanonical`, and
+    // the claims that are found are exactly those of the strict grammar.
     ghost is_modal: { (reader : Self) (family : SomeFamily)
         → IsModal (strict_grammar reader family) (reading reader family)
         (λ strict. reading_by reader strict family) };

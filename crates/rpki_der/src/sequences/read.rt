@@ -72,8 +72,8 @@ pub trait ReadNext {
     ghost has_octets: { (reader : Self) (state : Self.State) (front : List ℕ) (value : Self.Value)
         → grammar reader state front value → 0 < length front };
 
-    // A lenient cursor gives what `reading` gives. A strict cursor gives the same or refuses it by `NotCanonical`, and
-    // finds exactly the values of the strict grammar.
+    // For a lenient cursor the result is that of `reading`. For a strict cursor it is the same or `NotCanonical`, and
+    // the values that are found are exactly those of the strict grammar.
     ghost is_modal: { (reader : Self) (state : Self.State)
         → IsModal (strict_grammar reader state) (reading reader state)
         (λ strict. reading_by reader strict state) };

@@ -24,7 +24,7 @@ abbrev pub walk : Wanted → List ℕ → List ℕ → List ℕ
 walk wanted [] right = all_kept wanted.right right
 walk wanted (x ∷ left) right = walk_step wanted x left (walk wanted left) right
 
--- the numbers of a difference: those of the left list alone
+-- the numbers of a difference: those of the left list only
 abbrev pub only_left : Wanted
 only_left = record { left = true; both = false; right = false }
 

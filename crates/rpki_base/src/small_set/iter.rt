@@ -51,6 +51,7 @@ pub trait Operation {
     // The numbers that the operation gives, by the set or sets that they are in.
     ghost WANTED: { WantedOf };
 
+    /// The numbers that the operation gives, by the set or sets that they are in.
     const WANTED: Wanted;
 }
 

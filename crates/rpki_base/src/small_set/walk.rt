@@ -23,24 +23,28 @@ pub struct Wanted {
 }
 
 impl Wanted {
+    /// The numbers of a difference: those of the left list only.
     pub(crate) const LEFT: Wanted = Wanted {
         left: true,
         both: false,
         right: false,
     };
 
+    /// The numbers of a symmetric difference: those of exactly one list.
     pub(crate) const ONE: Wanted = Wanted {
         left: true,
         both: false,
         right: true,
     };
 
+    /// The numbers of an intersection: those of both lists.
     pub(crate) const BOTH: Wanted = Wanted {
         left: false,
         both: true,
         right: false,
     };
 
+    /// The numbers of a union: those of at least one list.
     pub(crate) const ANY: Wanted = Wanted {
         left: true,
         both: true,

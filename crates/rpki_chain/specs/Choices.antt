@@ -11,7 +11,7 @@ MatchChoice Missing M I B = M
 MatchChoice Inherit M I B = I
 MatchChoice (Blocks x) M I B = B x
 
--- the same choice, with the relation R between what both list
+-- both are missing, both are inherited, or both list, and R relates the values that they list
 abbrev pub ListsBy : {X Y : Type 0} → (X → Y → Type 0) → ResourcesChoice X → ResourcesChoice Y → Type 0
 ListsBy {X} {Y} R x y = MatchChoice x (y ≡ Missing) (y ≡ Inherit) (λ listed. (other : Y) × R listed other × (y ≡ Blocks other))
 

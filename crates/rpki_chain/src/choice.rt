@@ -58,12 +58,12 @@ impl<T> ResourcesChoice<T> {
         !matches!(self, ResourcesChoice::Missing)
     }
 
-    /// Returns the same choice, with what `f` returns in place of what is listed. `f` is called only if something is
+    /// Returns the same choice, with the result of `f` in place of the listed value. `f` is called only if a value is
     /// listed.
     ///
     /// # Preconditions
     ///
-    /// `f` can be called with what is listed.
+    /// `f` can be called with the listed value.
     pub fn map_blocks<U, F: FnOnce(T) -> U>(self, f: F) -> ResourcesChoice<U>
         requires { MatchChoice self ⊤ ⊤ (F.pre f) }
         ensures { ListsBy (F.post f) self result }
@@ -110,7 +110,7 @@ impl<T: Listed> ResourcesChoice<T> {
     }
 }
 
-/// Prints nothing for missing resources, `inherit` for inherited ones, or else what is listed.
+/// Prints nothing for missing resources, `inherit` for inherited ones, or else the listed value.
 impl<T: fmt::Display> fmt::Display for ResourcesChoice<T> {
     ghost output = { choice_text T.output };
 

@@ -17,7 +17,7 @@ pub enum OrMemory<E> {
 }
 
 impl<E> OrMemory<E> {
-    /// Returns the error with what `f` returns in place of the error of a refusal.
+    /// Returns the error with the result of `f` in place of the error of a refusal.
     ///
     /// An out-of-memory error is unchanged. The call runs `f` only for a refusal.
     ///
@@ -36,7 +36,7 @@ impl<E> OrMemory<E> {
     }
 }
 
-/// Returns `answer` with what `f` returns in place of the error of a refusal.
+/// Returns `answer` with the result of `f` in place of the error of a refusal.
 ///
 /// A value and an out-of-memory error are unchanged. The call runs `f` only for a refusal.
 ///

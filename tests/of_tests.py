@@ -363,7 +363,8 @@ def of_check(folder: Path) -> Iterator[tuple[str, str | None]]:
     parts = listed[1].replace("\\\n", " ").split() if listed else []
     folder.mkdir()
     shutil.copy(TOP / "check", folder)
-    fakes = {it: PART for it in (*parts, f"tests/{Path(ROWS).name}") if it != "reference"}
+    foreign = "tests/foreign.sh"
+    fakes = {it: PART for it in (*parts, f"tests/{Path(ROWS).name}", foreign) if it != "reference"}
     fakes |= dict.fromkeys(("respath", "origins"), '#!/bin/sh\nexit "${NOTED-0}"\n')
     fakes |= {"bin/rt": '#!/bin/sh\necho "$TOTAL"\nexit "${PROVED-0}"\n'}
     for name, text in fakes.items():
@@ -371,27 +372,52 @@ def of_check(folder: Path) -> Iterator[tuple[str, str | None]]:
         (folder / name).write_text(text)
         (folder / name).chmod(0o755)
     one, many = "places.py", " ".join([*(Path(it).name for it in parts), "rows.py"])
-    failing = {"": [], one: [f"tests/{one}"], "rows.py": ["reference"], many: parts}
-    for names, wanted in failing.items():
+    whole, no_words, every = [*parts, foreign], (), ("--all",)
+    # The words of check, the parts that run, the names that fail, and the parts that fail then.
+    failing = (
+        (no_words, parts, "", []),
+        (no_words, parts, one, [f"tests/{one}"]),
+        (no_words, parts, "rows.py", ["reference"]),
+        (no_words, parts, many, parts),
+        (no_words, parts, "foreign.sh", []),
+        (every, whole, "", []),
+        (every, whole, one, [f"tests/{one}"]),
+        (every, whole, "foreign.sh", [foreign]),
+        (every, whole, f"{many} foreign.sh", whole),
+    )
+    for words, run_parts, names, wanted in failing:
         total = f"3 passed, {len(wanted)} failed"
-        run = checked(folder, FAILING=names, TOTAL="3 passed, 0 failed")
+        run = checked(folder, words, FAILING=names, TOTAL="3 passed, 0 failed")
         lines = run.stdout.splitlines()
         found = [it.removeprefix("FAILED: ") for it in lines if it.startswith("FAILED: ")]
         named = [it.removesuffix(":") for it in lines if it.endswith(":")]
         seen = (run.returncode, lines[-1], found, named)
-        fault = None if parts and seen == (int(bool(wanted)), total, wanted, parts) else f"{seen}"
-        yield f"check: {len(wanted)} of {len(parts)} parts fail", fault
+        fault = None if parts and seen == (int(bool(wanted)), total, wanted, run_parts) else f"{seen}"
+        yield f"check {' '.join(words)}: {len(wanted)} of {len(run_parts)} parts fail", fault
     for name, status in (("PROVED", "7"), ("NOTED", "5")):
-        run = checked(folder, **{name: status}, TOTAL="2 passed, 1 failed")
-        seen = (run.returncode, run.stdout)
-        yield f"check: {name} {status}", None if seen == (int(status), "2 passed, 1 failed\n") else f"{seen}"
+        for words in (no_words, every):
+            run = checked(folder, words, **{name: status}, TOTAL="2 passed, 1 failed")
+            seen = (run.returncode, run.stdout)
+            fault = None if seen == (int(status), "2 passed, 1 failed\n") else f"{seen}"
+            yield f"check {' '.join(words)}: {name} {status}", fault
+    yield from of_help(folder)
 
 
-def checked(folder: Path, **more: str) -> subprocess.CompletedProcess:
-    """A run of the copy of `check`, with the prover beside it."""
+def of_help(folder: Path) -> Iterator[tuple[str, str | None]]:
+    """The help of `check` names each option that it takes, and an option that it doesn't take is refused."""
+    taken = set(re.findall(r"^(--\w+)\)", (TOP / "check").read_text(), re.MULTILINE))
+    said = checked(folder, ("--help",)).stdout
+    usage, listed = (set(re.findall(it, said, re.MULTILINE)) for it in (r"[\[|] ?(--\w+)", r"^  (--\w+) "))
+    yield "check --help", None if taken and taken == usage == listed else f"{taken}, {usage}, {listed}"
+    run = checked(folder, ("--moon",))
+    yield "check --moon", None if (run.returncode, run.stdout) == (2, "") else f"{run.returncode}, {run.stdout}"
+
+
+def checked(folder: Path, words: tuple[str, ...] = (), **more: str) -> subprocess.CompletedProcess:
+    """A run of the copy of `check` with these words, with the prover beside it."""
     paths = {"PATH": f"{folder / 'bin'}:{os.environ['PATH']}", "TMPDIR": str(folder)}
     env = {name: value for name, value in os.environ.items() if name not in ("FAILING", "PROVED", "NOTED", "TOTAL")}
-    return subprocess.run([folder / "check"], env=env | paths | more, capture_output=True, text=True, timeout=60)
+    return subprocess.run([folder / "check", *words], env=env | paths | more, capture_output=True, text=True, timeout=60)
 
 
 def all_cases(folder: Path) -> Iterator[tuple[str, str | None]]:

@@ -99,7 +99,8 @@ fn item_after<T: Block>(item: T::Item) -> T::Item
 
 /// Returns the chain of the numbers of `own` that `other` doesn't have, as [`crate::chain::Chain::difference`] does.
 ///
-/// The number of reads of both chains together is at most the number of their blocks.
+/// The number of reads of both chains together is at most the number of their blocks. The blocks don't change, even
+/// after an error.
 ///
 /// # Errors
 ///

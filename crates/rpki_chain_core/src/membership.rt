@@ -75,7 +75,8 @@ pub fn first_from<T: Block, R: Reads<T>>(chain: &mut R, item: T::Item) -> Option
 
 /// Returns whether the chain has `item`, as [`crate::chain::Chain::contains_item`] does.
 ///
-/// The call reads at most as many blocks as their number has binary digits, so it reads no block of an empty chain.
+/// The call reads at most as many blocks as their number has binary digits, so it reads no block of an empty chain. The
+/// blocks don't change.
 pub fn contains_item_counted<T: Block, R: Reads<T>>(chain: &mut R, item: T::Item) -> bool
     ensures value { IsTrue result ↔ Covers T.bounds (R.blocks chain.old) (T.number item) }
     ensures kept { R.blocks chain.new ≡ R.blocks chain.old }

@@ -13,8 +13,8 @@ use std::alloc::{AllocError, Allocator};
 
 /// Checks that `other` has each number of `own`, as [`crate::chain::Chain::trim`] does.
 ///
-/// Both chains together are read at most `2 * own.len() + other.len()` times. If the call returns Ok, it has allocated
-/// nothing. `test_chains` tests this, and no clause states it.
+/// Both chains together are read at most `2 * own.len() + other.len()` times. Their blocks don't change. If the call
+/// returns Ok, it has allocated nothing. `test_chains` tests this, and no clause states it.
 ///
 /// # Errors
 ///

@@ -90,8 +90,8 @@ fn close_with<T: Block, A: Allocator, R: Reads<T>>(
 
 /// Returns the chain of the numbers that `own` or `other` has, as [`crate::chain::Chain::union`] does.
 ///
-/// The number of reads of both chains together is at most the number of their blocks. Each iteration finishes one
-/// block, the one that begins first.
+/// The number of reads of both chains together is at most the number of their blocks. The blocks don't change, even
+/// after an error. Each iteration finishes one block, the one that begins first.
 ///
 /// # Errors
 ///

@@ -40,6 +40,10 @@ pub(crate) fn fmt_asn<W: fmt::Write>(asn: Asn, f: &mut fmt::Formatter<W>) -> fmt
 }
 
 /// Prints two AS numbers with a dash between them, as in `AS3-AS5`. The call does not compare them.
+///
+/// # Errors
+///
+/// `fmt::Error`: the writer of `f` failed.
 pub fn fmt_asn_range<W: fmt::Write>(min: Asn, max: Asn, f: &mut fmt::Formatter<W>) -> fmt::Result
     ensures { WritesOnOk W.write_str_gives f.old result (asn_text min ++ dash ∷ asn_text max) f.new }
 {

@@ -1,7 +1,7 @@
 //! A box as two parts, its pointer and its allocator, which can become the box again.
 //!
-//! A program that hands a value to code outside of Rattle needs this: that code keeps only the pointer.
-//! `pigyelund_routes::table::made_table` makes a handle from it:
+//! A program needs this to pass a value to code outside of Rattle, which keeps only the pointer.
+//! `pigyelund_routes::table::made_table` makes a handle of it:
 //!
 //! ```rust
 //! Ok(boxed) => Ok(BoxPointer::of(boxed)),
@@ -23,7 +23,7 @@ pub struct BoxPointer<T, A: Allocator> {
     pub at: *mut T,
     /// The allocator of the value's block.
     pub alloc: A,
-    /// The value.
+    /// The value at the pointer, for contracts only.
     pub ghost value: { T },
 }
 
@@ -32,7 +32,7 @@ impl<T, A: Allocator> Model for BoxPointer<T, A> {
 }
 
 impl<T: Drop, A: Allocator> BoxPointer<T, A> {
-    /// Takes a box apart.
+    /// Takes a box apart. The pointer and the allocator own the value and its memory afterwards.
     pub fn of(boxed: Box<T, A>) -> BoxPointer<T, A>
         ensures { result.value ≡ boxed.value }
     {

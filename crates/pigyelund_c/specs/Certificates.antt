@@ -12,7 +12,7 @@ use Rattle.pigyelund_c.specs.declared.refusal.ArgumentError.TheVariants.{NoEncod
 
 -- ---- as octets and numbers
 
--- The certificate has the octets of the extensions that are present.
+-- The certificate has the octets of the extensions that are present, the encoding, and the mode with this number.
 pub record IsCertificate (present : ℕ) (numbers addresses : List ℕ) (encoding : Encoding) (mode : ℕ) (certificate : Extensions) : Type 0 where
   pub there : Present
   pub is_there : present ≡ present_number there
@@ -21,7 +21,7 @@ pub record IsCertificate (present : ℕ) (numbers addresses : List ℕ) (encodin
   pub is_read : certificate.encoding ≡ encoding
   pub is_mode : mode ≡ mode_number certificate.mode
 
--- The number of the extensions is invalid; if it is valid, the number of the mode is invalid.
+-- The number of the extensions that are present is unknown, or else the number of the mode is.
 abbrev pub IsArgumentError : ℕ → ℕ → ArgumentError → Type 0
 IsArgumentError present mode NoPresence = (there : Present) → present ≢ present_number there
 IsArgumentError present mode NoMode = ((there : Present) × (present ≡ present_number there)) × ((m : Overclaim) → mode ≢ mode_number m)
@@ -31,18 +31,18 @@ IsArgumentError present mode Outside = ⊥
 
 -- ---- as ranges of a run of octets
 
--- Both ranges lie in the run.
+-- The ranges of both extensions lie in the run.
 pub record LiesInRun (run : List ℕ) (c : Certificate) : Type 0 where
   pub numbers : c.as_start + c.as_len ≤ length run
   pub addresses : c.ip_start + c.ip_len ≤ length run
 
--- The certificate has the octets of the two ranges.
+-- The certificate has the octets of the two ranges of the run.
 pub record IsCertificateAt (run : List ℕ) (encoding : Encoding) (c : Certificate) (certificate : Extensions) : Type 0 where
   pub inside : LiesInRun run c
   pub says : IsCertificate c.present (slice_range run c.as_start (c.as_start + c.as_len))
       (slice_range run c.ip_start (c.ip_start + c.ip_len)) encoding c.mode certificate
 
--- A range lies outside of the run; if both lie in it, a number is invalid.
+-- A range does not lie in the run, or else a number of the certificate is unknown.
 abbrev pub IsArgumentErrorAt : List ℕ → Certificate → ArgumentError → Type 0
 IsArgumentErrorAt run c Outside = (length run < c.as_start + c.as_len) ⊎ (length run < c.ip_start + c.ip_len)
 IsArgumentErrorAt run c NoPresence = LiesInRun run c × IsArgumentError c.present c.mode NoPresence

@@ -17,30 +17,31 @@ use Rattle.pigyelund_c.specs.declared.cover.CoverError.{CoverError}
 use Rattle.pigyelund_c.specs.declared.cover.CoverError.TheVariants.{Asked, Unread}
 use Rattle.pigyelund_c.specs.declared.refusal.ArgumentError.TheVariants.{NoEncoding, NoFamily}
 
--- A prefix: the octets of its address, and then its length. An IPv4 address is the first 32 of 128 bits.
+-- The octets of a prefix: those of its address, and then its length. An IPv4 address is the first 32 of 128 bits.
 abbrev pub prefix_octets : AddressFamily → PrefixValue → List ℕ
 prefix_octets Ipv4 p = octets_of (p.first / 2 ^ 96) ++ p.len ∷ []
 prefix_octets Ipv6 p = to_be_bytes w128 p.first ++ p.len ∷ []
 
--- The prefixes one after the other.
+-- The octets of prefixes, one after the other.
 abbrev pub cover_octets : AddressFamily → List PrefixValue → List ℕ
 cover_octets family [] = []
 cover_octets family (p ∷ ps) = prefix_octets family p ++ cover_octets family ps
 
--- The octets are the shortest cover of a set.
+-- The octets are those of the shortest cover of a set.
 abbrev pub AreCoverOctets : AddressFamily → Runs → List ℕ → Type 0
 AreCoverOctets family set octets = (ps : List PrefixValue) × IsShortestCover 128 (Holds set) ps × (octets ≡ cover_octets family ps)
 
--- The same for the addresses of one family in IP address blocks.
+-- The octets are the shortest cover of the addresses of one family in IP address blocks.
 abbrev pub IsCoverIn : Encoding → AddressFamily → List ℕ → List ℕ → Type 0
 IsCoverIn encoding family addresses octets =
     (set : Triple) × IsSet encoding [] addresses set × AreCoverOctets family (set_of_family family set) octets
 
+-- The same for the numbers of an encoding and of a family.
 abbrev pub IsCover : List ℕ → ℕ → ℕ → List ℕ → Type 0
 IsCover addresses encoding family octets =
     (way : Encoding) × (encoding ≡ encoding_number way) × ((kind : AddressFamily) × (family ≡ family_number kind) × IsCoverIn way kind addresses octets)
 
--- The number of the encoding is invalid, or else the number of the family is, or else the octets list no set.
+-- The number of the encoding is unknown, or else the number of the family is, or else the octets list no set.
 abbrev pub IsNoCover : List ℕ → ℕ → ℕ → CoverError → Type 0
 IsNoCover addresses encoding family (Asked why) =
     ((why ≡ NoEncoding) × ((way : Encoding) → encoding ≢ encoding_number way))
@@ -48,6 +49,7 @@ IsNoCover addresses encoding family (Asked why) =
 IsNoCover addresses encoding family (Unread reason) =
     (way : Encoding) × (encoding ≡ encoding_number way) × ((kind : AddressFamily) × (family ≡ family_number kind)) × IsNoSet way [] addresses reason
 
+-- The status of the reason why there is no cover.
 abbrev pub cover_error_status : CoverError → ℕ
 cover_error_status (Asked why) = argument_error_status why
 cover_error_status (Unread reason) = read_set_error_status reason

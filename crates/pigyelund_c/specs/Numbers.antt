@@ -7,29 +7,31 @@ use Rattle.rpki_extensions.specs.declared.encoding.Encoding.TheVariants.{Any, Ca
 use Rattle.pigyelund_c.specs.declared.encodings.Present.{Present}
 use Rattle.pigyelund_c.specs.declared.encodings.Present.TheVariants.{Neither, Numbers, Addresses, Both}
 
+-- The number of an encoding.
 abbrev pub encoding_number : Encoding → ℕ
 encoding_number Any = 0
 encoding_number Canonical = 1
 
+-- The number of a mode for an overclaim.
 abbrev pub mode_number : Overclaim → ℕ
 mode_number Refuse = 0
 mode_number Trim = 1
 
--- 1 for AS identifiers, 2 for IP address blocks, and the sum for both.
+-- The number of the extensions that are present: 1 for AS identifiers, 2 for IP address blocks, and the sum for both.
 abbrev pub present_number : Present → ℕ
 present_number Neither = 0
 present_number Numbers = 1
 present_number Addresses = 2
 present_number Both = 3
 
--- The octets of AS identifiers, if these are present.
+-- The octets of AS identifiers, None if this extension is absent.
 abbrev pub numbers_there : Present → List ℕ → Option (List ℕ)
 numbers_there Neither octets = None
 numbers_there Numbers octets = Some octets
 numbers_there Addresses octets = None
 numbers_there Both octets = Some octets
 
--- The same for IP address blocks.
+-- The octets of IP address blocks, None if this extension is absent.
 abbrev pub addresses_there : Present → List ℕ → Option (List ℕ)
 addresses_there Neither octets = None
 addresses_there Numbers octets = None

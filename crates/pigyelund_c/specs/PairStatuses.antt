@@ -7,6 +7,7 @@ use Rattle.pigyelund_c.specs.Statuses.{read_set_error_status}
 use Rattle.pigyelund_c.specs.declared.pair.ReadPairError.{ReadPairError}
 use Rattle.pigyelund_c.specs.declared.pair.ReadPairError.TheVariants.{NoEncoding, First, Second}
 
+-- The status of the reason why octets are not two sets: 4096 is added for the second set.
 abbrev pub read_pair_error_status : ReadPairError → ℕ
 read_pair_error_status NoEncoding = 9
 read_pair_error_status (First reason) = read_set_error_status reason
@@ -18,7 +19,7 @@ made_status (Ok set) = 0
 made_status (Err (Refused reason)) = read_pair_error_status reason
 made_status (Err (Memory error)) = 2
 
--- The set that is returned with it; no resources unless the status is 0.
+-- The set that is returned with it. It has no resources unless the status is 0.
 abbrev pub made_set : Result Triple (OrMemory ReadPairError) → Triple
 made_set (Ok set) = set
 made_set (Err (Refused reason)) = no_resources

@@ -1,4 +1,4 @@
--- Two sets of resources that are passed as octets, and the questions about both.
+-- Two sets of resources that are passed as octets, and the operations and tests on both.
 use Rattle.std.specs.Prelude.{◌≡◌, ◌≢◌, ◌⊎◌, ◌↔◌, ℕ, Bool, List, IsTrue}
 use Rattle.rpki_resources.specs.Triples.{IsDifferenceOf, IsIntersectionOf, IsUnionOf, Triple}
 use Rattle.rpki_extensions.specs.declared.encoding.Encoding.{Encoding}
@@ -16,17 +16,17 @@ use Rattle.pigyelund_c.specs.declared.pair.ReadPairError.TheVariants.{NoEncoding
 abbrev pub AreTwo : Encoding → List ℕ → List ℕ → List ℕ → List ℕ → Pair → Type 0
 AreTwo encoding a_as a_ip b_as b_ip pair = IsSet encoding a_as a_ip pair.first × IsSet encoding b_as b_ip pair.second
 
--- The first octets list no set; if they do, the second octets list no set.
+-- The first octets list no set, or else the second octets list no set.
 abbrev pub AreNotTwo : Encoding → List ℕ → List ℕ → List ℕ → List ℕ → ReadPairError → Type 0
 AreNotTwo encoding a_as a_ip b_as b_ip NoEncoding = ⊥
 AreNotTwo encoding a_as a_ip b_as b_ip (First reason) = IsNoSet encoding a_as a_ip reason
 AreNotTwo encoding a_as a_ip b_as b_ip (Second reason) = ((a : Triple) × IsSet encoding a_as a_ip a) × IsNoSet encoding b_as b_ip reason
 
--- The same by the number of an encoding.
+-- The two sets are those that the octets list in the encoding with this number.
 abbrev pub AreRead : List ℕ → List ℕ → List ℕ → List ℕ → ℕ → Pair → Type 0
 AreRead a_as a_ip b_as b_ip encoding pair = (way : Encoding) × (encoding ≡ encoding_number way) × AreTwo way a_as a_ip b_as b_ip pair
 
--- The number is invalid, or there is such a reason.
+-- The number of the encoding is unknown, or else the octets are not two sets for the reason.
 abbrev pub AreNotRead : List ℕ → List ℕ → List ℕ → List ℕ → ℕ → ReadPairError → Type 0
 AreNotRead a_as a_ip b_as b_ip encoding reason =
     ((reason ≡ NoEncoding) × ((e : Encoding) → encoding ≢ encoding_number e))
@@ -34,17 +34,17 @@ AreNotRead a_as a_ip b_as b_ip encoding reason =
 
 -- ---- computed
 
--- The relation of the set that an operation makes to the two.
+-- The set is the one that the operation makes of the two.
 abbrev pub IsBy : Operation → Triple → Triple → Triple → Type 0
 IsBy Union = IsUnionOf
 IsBy Intersection = IsIntersectionOf
 IsBy Difference = IsDifferenceOf
 
--- The set is in the relation R to the two that were read.
+-- R holds for the two sets that were read and this set.
 abbrev pub IsMade : (Triple → Triple → Triple → Type 0) → List ℕ → List ℕ → List ℕ → List ℕ → ℕ → Triple → Type 0
 IsMade R a_as a_ip b_as b_ip encoding set = (pair : Pair) × AreRead a_as a_ip b_as b_ip encoding pair × R pair.first pair.second set
 
--- The answer is yes if and only if R holds for the two that were read.
+-- The answer is yes if and only if R holds for the two sets that were read.
 abbrev pub IsTested : (Triple → Triple → Type 0) → List ℕ → List ℕ → List ℕ → List ℕ → ℕ → Bool → Type 0
 IsTested R a_as a_ip b_as b_ip encoding answer =
     (pair : Pair) × AreRead a_as a_ip b_as b_ip encoding pair × (IsTrue answer ↔ R pair.first pair.second)

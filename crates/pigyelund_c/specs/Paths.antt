@@ -14,18 +14,19 @@ use Rattle.pigyelund_c.specs.declared.certificate.Certificate.{Certificate}
 use Rattle.pigyelund_c.specs.declared.path.PathError.{PathError}
 use Rattle.pigyelund_c.specs.declared.refusal.Refusal.{Refusal}
 
--- The set is what one certificate claims of its issuer's set.
+-- The set is the part of its issuer's set that one certificate claims.
 abbrev pub IsCertificateStep : List ℕ → Encoding → Triple → Certificate → Triple → Type 0
 IsCertificateStep run encoding issuer c set =
     (certificate : Extensions) × IsCertificateAt run encoding c certificate × IsVerified issuer certificate set
 
--- A range or a number of the certificate is invalid, or its issuer's set does not verify it.
+-- A range or a number of the certificate is invalid, or else its issuer's set does not verify it.
 abbrev pub IsNoCertificateStep : List ℕ → Encoding → Triple → Certificate → Refusal → Type 0
 IsNoCertificateStep run encoding issuer c reason =
     OfArgumentError (IsArgumentErrorAt run c) reason
     ⊎ ((certificate : Extensions) × IsCertificateAt run encoding c certificate × IsVerifyRefusal issuer certificate reason)
 
--- The set is what all certificates leave of the anchor's set. Each is verified by what the ones before it leave.
+-- The set is the part of the anchor's set that all certificates leave. Each is verified by the part that the
+-- certificates before it leave.
 abbrev pub IsLeftOnPath : List ℕ → Encoding → Triple → List Certificate → Triple → Type 0
 IsLeftOnPath run encoding anchor [] set = set ≡ anchor
 IsLeftOnPath run encoding anchor (c ∷ cs) set = (next : Triple) × IsCertificateStep run encoding anchor c next × IsLeftOnPath run encoding next cs set
@@ -38,20 +39,23 @@ IsFirstRefused run encoding anchor cs error =
 
 -- ---- from the anchor's octets
 
+-- The set is the part that the certificates leave of the set that the anchor's octets list.
 abbrev pub IsPathOutcomeIn : List ℕ → List ℕ → List ℕ → List Certificate → Encoding → Triple → Type 0
 IsPathOutcomeIn anchor_as anchor_ip run cs encoding set =
     (anchor : Triple) × IsSet encoding anchor_as anchor_ip anchor × IsLeftOnPath run encoding anchor cs set
 
--- The anchor's octets list no set, or a certificate is not verified.
+-- The anchor's octets list no set, or else a certificate is not verified.
 abbrev pub IsNoPathOutcomeIn : List ℕ → List ℕ → List ℕ → List Certificate → Encoding → PathError → Type 0
 IsNoPathOutcomeIn anchor_as anchor_ip run cs encoding error =
     ((error.verified ≡ 0) × OfIssuer (IsNoSet encoding anchor_as anchor_ip) error.reason)
     ⊎ ((anchor : Triple) × IsSet encoding anchor_as anchor_ip anchor × IsFirstRefused run encoding anchor cs error)
 
+-- The same for the number of an encoding.
 abbrev pub IsPathOutcome : List ℕ → List ℕ → List ℕ → List Certificate → ℕ → Triple → Type 0
 IsPathOutcome anchor_as anchor_ip run cs encoding set =
     (way : Encoding) × (encoding ≡ encoding_number way) × IsPathOutcomeIn anchor_as anchor_ip run cs way set
 
+-- The number of the encoding is unknown, or else the path has this error.
 abbrev pub IsNoPathOutcome : List ℕ → List ℕ → List ℕ → List Certificate → ℕ → PathError → Type 0
 IsNoPathOutcome anchor_as anchor_ip run cs encoding error =
     ((error.verified ≡ 0) × HasNoEncoding encoding error.reason)
@@ -59,13 +63,13 @@ IsNoPathOutcome anchor_as anchor_ip run cs encoding error =
 
 -- ---- reported
 
--- The number of verified certificates: all n with a set, and 0 if memory runs out.
+-- The number of verified certificates: all n if there is a set, and 0 if out of memory.
 abbrev pub verified_count : ℕ → Result Triple (OrMemory PathError) → ℕ
 verified_count n (Ok set) = n
 verified_count n (Err (Refused error)) = error.verified
 verified_count n (Err (Memory error)) = 0
 
--- The outcome without this number.
+-- The outcome without the number of verified certificates.
 abbrev pub outcome_alone : Result Triple (OrMemory PathError) → Result Triple (OrMemory Refusal)
 outcome_alone (Ok set) = Ok set
 outcome_alone (Err (Refused error)) = Err (Refused error.reason)

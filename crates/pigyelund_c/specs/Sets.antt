@@ -11,12 +11,12 @@ use Rattle.pigyelund_c.specs.declared.refusal.ReadSetError.TheVariants.{Numbers,
 
 -- ---- read
 
--- A set without resources of a kind has no octets of that extension, as if the extension is absent.
+-- The value of an extension in a set that is passed. No octets mean that the extension is absent.
 abbrev pub some_octets : List ℕ → Option (List ℕ)
 some_octets [] = None
 some_octets (octet ∷ octets) = Some (octet ∷ octets)
 
--- The set is the one that the octets of both extensions list.
+-- The octets of both extensions list this set.
 pub record IsSet (encoding : Encoding) (numbers addresses : List ℕ) (set : Triple) : Type 0 where
   pub asn : Claim
   pub ip : Claim × Claim
@@ -41,7 +41,7 @@ IsNoSet encoding numbers addresses Inherited = AreInherited encoding numbers add
 
 -- ---- written
 
--- The octets of an extension; none if it is absent.
+-- The octets of an extension, or no octets if it is absent.
 abbrev pub octets_or_none : Option (List ℕ) → List ℕ
 octets_or_none None = []
 octets_or_none (Some octets) = octets

@@ -6,7 +6,8 @@ use Rattle.rpki_resources.specs.Triples.{Triple, no_resources}
 use Rattle.rpki_extensions.specs.declared.error.VerifyError.{VerifyError}
 use Rattle.rpki_extensions.specs.declared.error.VerifyError.TheVariants.{Absent, AsOctets, AddressOctets, Inherited, Asn, Ipv4, Ipv6}
 
--- The first four are reasons why the extensions are no claims.
+-- The status of the reason why an issuer does not verify a certificate's extensions. 4096 is added if the octets of an
+-- extension are invalid, or if resources are inherited without an issuer.
 abbrev pub verify_error_status : {A : Type 0} → VerifyError A → ℕ
 verify_error_status Absent = 10
 verify_error_status (AsOctets fault) = 4096 + 256 + fault_number fault
@@ -16,7 +17,7 @@ verify_error_status (Asn excess) = 5
 verify_error_status (Ipv4 excess) = 6
 verify_error_status (Ipv6 excess) = 7
 
--- The overclaimed resources as a set; no resources for any other reason.
+-- The overclaimed resources as a set. It has no resources for any other reason.
 abbrev pub verify_error_excess : {A : Type 0} → VerifyError A → Triple
 verify_error_excess Absent = no_resources
 verify_error_excess (AsOctets fault) = no_resources

@@ -9,7 +9,9 @@ use rpki_extensions::extensions::Extensions;
 
 /// Returns the extensions whose octets are passed.
 ///
-/// Returns `NoPresence` if `present` is above 3, or else `NoMode` if `mode` is above 1.
+/// # Errors
+///
+/// The first of these: `NoPresence` if `present` is above 3, `NoMode` if `mode` is above 1.
 pub(crate) fn extensions_of<'a>(
     present: u32,
     numbers: &'a [u8],
@@ -36,30 +38,32 @@ pub(crate) fn extensions_of<'a>(
 
 /// A certificate of a path: the ranges of its extensions in a run of octets, and two numbers.
 ///
-/// The ranges are `as_len` octets from `as_start` and `ip_len` octets from `ip_start`. Both lie in the run, also that
-/// of an absent extension.
+/// The ranges are `as_len` octets from `as_start` and `ip_len` octets from `ip_start`. Both lie in the run, also the
+/// range of an absent extension.
 #[repr(C)]
 #[derive(Clone, Copy)]
 pub struct Certificate {
-    /// Index of the first octet of AS identifiers, from 0.
+    /// The index of the first octet of the AS identifiers, counted from 0.
     pub as_start: usize,
-    /// Number of octets of AS identifiers.
+    /// The number of octets of the AS identifiers.
     pub as_len: usize,
-    /// Index of the first octet of IP address blocks, from 0.
+    /// The index of the first octet of the IP address blocks, counted from 0.
     pub ip_start: usize,
-    /// Number of octets of IP address blocks.
+    /// The number of octets of the IP address blocks.
     pub ip_len: usize,
-    /// Extensions that are present: 1 for AS identifiers, 2 for IP address blocks, 3 for both, 0 for neither.
+    /// The extensions that are present: 1 for AS identifiers, 2 for IP address blocks, 3 for both, 0 for neither.
     pub present: u32,
-    /// Mode for an overclaim: 0 refuses the certificate, 1 reduces the claim to what the issuer has.
+    /// The mode for an overclaim: 0 refuses the certificate, 1 reduces the claim to the resources that the issuer has.
     pub mode: u32,
 }
 
 impl Certificate {
     /// Returns the extensions, whose octets are in a run.
     ///
-    /// Returns `Outside` if a range does not lie in the run, also the range of an absent extension. Otherwise it
-    /// returns the first invalid number.
+    /// # Errors
+    ///
+    /// `Outside` if a range does not lie in the run, also the range of an absent extension. Otherwise the first invalid
+    /// number, as `extensions_of` returns it.
     pub(crate) fn extensions<'a>(
         &self,
         run: &'a [u8],

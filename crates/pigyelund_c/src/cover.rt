@@ -1,4 +1,4 @@
-//! The shortest cover of one family of a set's addresses, as octets.
+//! The shortest cover of a set's addresses of one family, as octets.
 ghost use Rattle.std.specs.Prelude.{◌≡◌, [], ◌++◌, IfOk, OnOk, MatchResult};
 ghost use Rattle.rpki_text.specs.Memory.{IfRefused};
 ghost use Rattle.rpki_der.specs.declared.family.AddressFamily.TheVariants.{Ipv4, Ipv6};
@@ -16,7 +16,7 @@ use rpki_resources::OrMemory;
 use rpki_resources::repository::resources::{AddressFamily, Prefix};
 use std::alloc::{AllocError, Global};
 
-/// Reason why there is no cover.
+/// The reason why there is no cover.
 #[derive(Drop)]
 pub(crate) enum CoverError {
     /// A number that the caller passed is invalid.
@@ -37,7 +37,7 @@ impl CoverError {
     }
 }
 
-/// Appends an IPv4 prefix: the four octets of its address, and its length.
+/// Appends an IPv4 prefix: the four octets of its address, and its length in one octet.
 fn put_v4(prefix: Prefix, octets: &mut Vec<u8, Global>) -> Result<(), AllocError>
     ensures { OnOk result (octets.new.items ≡ octets.old.items ++ prefix_octets Ipv4 prefix) }
 {
@@ -46,7 +46,7 @@ fn put_v4(prefix: Prefix, octets: &mut Vec<u8, Global>) -> Result<(), AllocError
     Ok(())
 }
 
-/// Appends an IPv6 prefix: the sixteen octets of its address, and its length.
+/// Appends an IPv6 prefix: the sixteen octets of its address, and its length in one octet.
 fn put_v6(prefix: Prefix, octets: &mut Vec<u8, Global>) -> Result<(), AllocError>
     ensures { OnOk result (octets.new.items ≡ octets.old.items ++ prefix_octets Ipv6 prefix) }
 {
@@ -55,7 +55,7 @@ fn put_v6(prefix: Prefix, octets: &mut Vec<u8, Global>) -> Result<(), AllocError
     Ok(())
 }
 
-/// Appends a prefix of a family.
+/// Appends a prefix as a prefix of `family`.
 fn put(
     family: AddressFamily,
     prefix: Prefix,
@@ -70,6 +70,10 @@ fn put(
 }
 
 /// Returns the prefixes of the shortest cover of a set of addresses of one family, one after the other.
+///
+/// # Errors
+///
+/// [`AllocError`] if an allocation fails.
 fn ip_cover<F: Family>(alloc: Global, set: &FamilyBlocks<F>) -> Result<Vec<u8, Global>, AllocError>
     ensures { IfOk result (λ octets. AreCoverOctets F.FAMILY set.now octets.items) }
 {
@@ -81,6 +85,11 @@ fn ip_cover<F: Family>(alloc: Global, set: &FamilyBlocks<F>) -> Result<Vec<u8, G
 }
 
 /// Returns the cover of one family of the set that IP address blocks list.
+///
+/// # Errors
+///
+/// - `Refused` with the first reason why the octets list no set.
+/// - `Memory` if an allocation fails.
 fn cover_in(
     alloc: Global,
     addresses: &[u8],
@@ -99,7 +108,12 @@ fn cover_in(
     Ok(octets)
 }
 
-/// Does the same with the numbers of an encoding and of a family.
+/// Returns the cover of one family of the set that IP address blocks list. `encoding` and `family` are numbers.
+///
+/// # Errors
+///
+/// - `Refused` with the first of these: an unknown encoding, an unknown family, the reason why the octets list no set.
+/// - `Memory` if an allocation fails.
 pub(crate) fn cover(
     alloc: Global,
     addresses: &[u8],

@@ -11,8 +11,8 @@ use std::alloc::Global;
 
 /// Lists the fewest prefixes that have exactly the addresses of one family in IP address blocks, in ascending order.
 ///
-/// Each prefix is its address and then its length, one octet: 5 octets for IPv4 (family 1), 17 for IPv6 (family 2).
-/// `encoding` is that of `pigy_verify`. `len` receives the length in octets, written or required.
+/// Each prefix is its address and then its length in bits, one octet: 5 octets for IPv4 (family 1), 17 for IPv6 (family
+/// 2). `encoding` is that of `pigy_verify`. `len` receives the length in octets, written or required.
 ///
 /// Returns the first status that applies:
 ///
@@ -21,8 +21,8 @@ use std::alloc::Global;
 /// - `PIGY_INHERITED`: the addresses of a family are inherited, also those of the other family.
 /// - `PIGY_TOO_SMALL`, then `PIGY_OK`.
 ///
-/// `PIGY_MEMORY` can come instead of any of them. With an error other than `PIGY_TOO_SMALL` `len` is 0. With any error
-/// `out` is unchanged.
+/// The call can return `PIGY_MEMORY` instead of any other status. `len` is 0 for an error other than `PIGY_TOO_SMALL`.
+/// For any error `out` is unchanged.
 #[unsafe(no_mangle)]
 pub extern "C" fn pigy_cover(
     alloc: Global,

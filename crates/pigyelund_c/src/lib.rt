@@ -1,4 +1,4 @@
-//! The calls for C and for languages that call C: octets in, octets and a status out.
+//! The calls for C and for languages that call C. Inputs are octets, and results are octets and a status.
 //!
 //! `foreign/pigyelund.h` lists the obligations of a caller, and docs/FOREIGN.md is its guide. The comments of the
 //! exports use the names of statuses in that header. A set of resources is passed as the values of the two extensions

@@ -8,7 +8,7 @@ use pigyelund_routes::write::write_items;
 use respath_lines::answer;
 use std::alloc::Global;
 
-/// Answers a line as the program `respath` does.
+/// Writes the answer of the program `respath` to a line.
 ///
 /// Neither text has the end of a line. `len` receives the length in octets, written or required.
 ///

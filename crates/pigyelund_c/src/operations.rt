@@ -1,4 +1,4 @@
-//! Operations on two sets: a third one is made of both, or a test compares them.
+//! Operations on two sets: they make a third set, or compare the two.
 ghost use Rattle.std.specs.Prelude.{IfOk, MatchResult};
 ghost use Rattle.rpki_text.specs.Memory.{IfRefused};
 ghost use Rattle.rpki_resources.specs.Triples.{HasEachOf};
@@ -21,7 +21,11 @@ pub(crate) enum Operation {
 }
 
 impl Operation {
-    /// Returns the set that is made of two, or `AllocError` if memory for it runs out.
+    /// Returns the set that the operation makes of two.
+    ///
+    /// # Errors
+    ///
+    /// [`AllocError`] if an allocation fails.
     fn on(self, alloc: Global, a: &ResourceSet, b: &ResourceSet) -> Result<ResourceSet, AllocError>
         ensures { IfOk result (IsBy self a.now b.now) }
     {
@@ -33,9 +37,12 @@ impl Operation {
     }
 }
 
-/// Returns the set that is made of two sets, which are read from octets.
+/// Returns the set that an operation makes of two sets, which are read from octets.
 ///
-/// Returns `Refused` with the first reason why there are not two sets, and `Memory` if memory for a set runs out.
+/// # Errors
+///
+/// - `Refused` with the first reason why the octets are not two sets.
+/// - `Memory` if an allocation fails.
 pub(crate) fn made(
     alloc: Global,
     operation: Operation,
@@ -58,7 +65,9 @@ pub(crate) fn made(
 
 /// Returns whether the first of two sets has each number and each address of the second.
 ///
-/// Returns `Refused` and `Memory` as [`made`] does.
+/// # Errors
+///
+/// The errors are those of [`made`].
 pub(crate) fn has_each(
     alloc: Global,
     a_as: &[u8],
@@ -77,7 +86,9 @@ pub(crate) fn has_each(
 
 /// Returns whether two sets are the same.
 ///
-/// Returns `Refused` and `Memory` as [`made`] does.
+/// # Errors
+///
+/// The errors are those of [`made`].
 pub(crate) fn are_same(
     alloc: Global,
     a_as: &[u8],

@@ -10,12 +10,12 @@ use std::alloc::Global;
 
 /// Validates routes by VRPs (RFC 6811, 2).
 ///
-/// Writes one octet for each route: 0 valid, 1 not found, 2 invalid (RFC 8097, 2). VRPs may be in any order, with
-/// duplicates. Each call makes a table of them once. Pass many routes to one call, or use `pigy_table_new`. `len`
+/// The call writes one octet for each route: 0 valid, 1 not found, 2 invalid (RFC 8097, 2). VRPs may be in any order,
+/// with duplicates. Each call makes a table of them once. Pass many routes to one call, or use `pigy_table_new`. `len`
 /// receives the length in octets, written or required. `index` receives the index of the first invalid VRP or route,
-/// from 0; else 0.
+/// counted from 0, and 0 otherwise.
 ///
-/// If the path of a route has no single origin ("NONE" in RFC 6811, 2), pass AS 0. No VRP matches AS 0.
+/// If the path of a route has no single origin ("NONE" in RFC 6811, 2), pass AS0. No VRP matches AS0.
 ///
 /// Returns the first status that applies:
 ///
@@ -23,8 +23,8 @@ use std::alloc::Global;
 /// - `PIGY_SECOND` + `PIGY_BAD_FAMILY`, `PIGY_SECOND` + `PIGY_BAD_PREFIX`: the first invalid route.
 /// - `PIGY_TOO_SMALL`, then `PIGY_OK`.
 ///
-/// `PIGY_MEMORY` can come instead of any of them. With an error other than `PIGY_TOO_SMALL` `len` is 0. With any error
-/// `out` is unchanged.
+/// The call can return `PIGY_MEMORY` instead of any other status. `len` is 0 for an error other than `PIGY_TOO_SMALL`.
+/// For any error `out` is unchanged.
 #[unsafe(no_mangle)]
 pub extern "C" fn pigy_origins(
     alloc: Global,

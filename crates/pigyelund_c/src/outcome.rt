@@ -12,7 +12,9 @@ use std::alloc::{AllocError, Global};
 
 /// Returns the status of an outcome, and the set that is returned with it.
 ///
-/// Returns `AllocError` if std cannot share the overclaimed resources.
+/// # Errors
+///
+/// [`AllocError`] if std refuses an additional reference to the overclaimed resources.
 fn status_and_set(
     outcome: Result<ResourceSet, OrMemory<Refusal>>,
 ) -> Result<(u32, ResourceSet), AllocError>
@@ -28,7 +30,9 @@ fn status_and_set(
     }
 }
 
-/// Reports the status of an outcome, and its set or the overclaimed resources.
+/// Writes the set of an outcome or its overclaimed resources to the caller's buffers, and returns the status.
+///
+/// Both lengths are 0 if the status is `MEMORY`.
 pub(crate) fn write_outcome(
     alloc: Global,
     outcome: Result<ResourceSet, OrMemory<Refusal>>,

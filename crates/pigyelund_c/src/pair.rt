@@ -20,14 +20,14 @@ pub(crate) struct Pair {
     pub(crate) second: ResourceSet,
 }
 
-/// Reason why the octets of two sets are not two sets.
+/// The reason why the octets of two sets are not two sets.
 #[derive(Drop)]
 pub(crate) enum ReadPairError {
     /// The number of the encoding is invalid.
     NoEncoding,
-    /// The octets of the first list no set.
+    /// The octets of the first set list no set.
     First(ReadSetError),
-    /// The octets of the second list no set.
+    /// The octets of the second set list no set.
     Second(ReadSetError),
 }
 
@@ -44,10 +44,12 @@ impl ReadPairError {
     }
 }
 
-/// Returns the sets that the octets list.
+/// Returns the sets that the octets list. The first set is read before the second.
 ///
-/// Returns `Refused` with the first reason if one of them lists no set, and `Memory` if memory runs out. The first set
-/// is read before the second.
+/// # Errors
+///
+/// - `Refused` with the first reason why octets list no set.
+/// - `Memory` if an allocation fails.
 fn two(
     alloc: Global,
     a_as: &[u8],
@@ -70,7 +72,12 @@ fn two(
     Ok(Pair { first, second })
 }
 
-/// Does the same with the number of an encoding.
+/// Returns the sets that the octets list. `encoding` is a number.
+///
+/// # Errors
+///
+/// - `Refused` with `NoEncoding` if the encoding is unknown, and otherwise as [`two`] does.
+/// - `Memory` if an allocation fails.
 pub(crate) fn pair_of(
     alloc: Global,
     a_as: &[u8],
@@ -88,7 +95,7 @@ pub(crate) fn pair_of(
     }
 }
 
-/// Returns the status of a set that was made of two, and the set that is returned with it.
+/// Returns the status of a set that was made of two, and the set that is returned with it. It is empty for an error.
 pub(crate) fn status_and_made_set(
     outcome: Result<ResourceSet, OrMemory<ReadPairError>>,
 ) -> (u32, ResourceSet)
@@ -101,7 +108,7 @@ pub(crate) fn status_and_made_set(
     }
 }
 
-/// Returns the status of a test of two sets.
+/// Returns the status of a test of two sets: `OK` for yes, `NO` for no, or that of the error.
 pub(crate) fn status_of_test(outcome: Result<bool, OrMemory<ReadPairError>>) -> u32
     ensures { result ≡ test_status outcome }
 {

@@ -1,4 +1,4 @@
-//! A path of certificates, from an anchor's set down.
+//! A path of certificates, from the set of a trust anchor down.
 ghost use Rattle.std.specs.Prelude.{◌≡◌, length, MatchResult};
 ghost use Rattle.rpki_text.specs.Memory.{IfRefused};
 ghost use Rattle.pigyelund_c.specs.Paths.{IsFirstRefused, IsLeftOnPath, IsNoPathOutcome, IsNoPathOutcomeIn, IsPathOutcome, IsPathOutcomeIn, IsNoCertificateStep, IsCertificateStep, outcome_alone, verified_count};
@@ -13,17 +13,17 @@ use rpki_resources::OrMemory;
 use rpki_resources::repository::resources::ResourceSet;
 use std::alloc::Global;
 
-/// Reason why a path is not verified.
+/// The reason why a path is not verified.
 #[derive(Drop)]
 pub(crate) struct PathError {
-    /// Number of verified certificates: the next one is not verified.
+    /// The number of verified certificates: the next one is not verified.
     pub(crate) verified: usize,
-    /// The reason.
+    /// The reason why the next certificate is not verified.
     pub(crate) reason: Refusal,
 }
 
 impl PathError {
-    /// Returns the refusal for a reason that comes before the first certificate.
+    /// Returns the error for a reason that comes before the first certificate.
     fn at_first(reason: Refusal) -> PathError
         ensures { result ≡ record { verified = 0; reason = reason } }
     {
@@ -34,7 +34,12 @@ impl PathError {
     }
 }
 
-/// Returns what one certificate claims of the set of the one before it.
+/// Returns the part of an issuer's set that one certificate claims.
+///
+/// # Errors
+///
+/// - `Refused` with the first invalid range or number of the certificate, or else as [`verified`] does.
+/// - `Memory` if an allocation fails.
 fn step(
     alloc: Global,
     issuer: &ResourceSet,
@@ -51,10 +56,14 @@ fn step(
     }
 }
 
-/// Returns what the certificates leave of an anchor's set. Each is verified by what the ones before it leave.
+/// Returns the part of an anchor's set that the certificates leave.
 ///
-/// Returns `Refused` with the index of the first certificate that is not verified and the reason; `Memory` if memory
-/// for a set on the way runs out.
+/// The part that the certificates before it leave verifies each certificate.
+///
+/// # Errors
+///
+/// - `Refused` with the index of the first certificate that is not verified, and the reason.
+/// - `Memory` if an allocation fails.
 fn left_on_path(
     alloc: Global,
     anchor: ResourceSet,
@@ -81,7 +90,12 @@ fn left_on_path(
     Ok(issuer)
 }
 
-/// Does the same with an anchor's set that is read from octets first.
+/// Returns the part that the certificates leave of an anchor's set, which is read from octets.
+///
+/// # Errors
+///
+/// - `Refused` with the reason why the anchor's octets list no set, or else as [`left_on_path`] does.
+/// - `Memory` if an allocation fails.
 fn path_answered_in(
     alloc: Global,
     anchor_as: &[u8],
@@ -104,7 +118,12 @@ fn path_answered_in(
     }
 }
 
-/// Does the same with the number of an encoding.
+/// Returns the part that the certificates leave of an anchor's set, which is read from octets. `encoding` is a number.
+///
+/// # Errors
+///
+/// - `Refused` with `NoEncoding` if the encoding is unknown, and otherwise as [`path_answered_in`] does.
+/// - `Memory` if an allocation fails.
 pub(crate) fn path_answered(
     alloc: Global,
     anchor_as: &[u8],
@@ -134,6 +153,8 @@ pub(crate) fn path_answered(
 }
 
 /// Returns the number of verified certificates of a path, and the outcome without this number.
+///
+/// The number is 0 if the outcome is out of memory.
 pub(crate) fn counted(
     certificates: &[Certificate],
     outcome: Result<ResourceSet, OrMemory<PathError>>,

@@ -10,7 +10,7 @@ use rpki_resources::OrMemory;
 use rpki_resources::repository::resources::ResourceSet;
 use std::alloc::Global;
 
-/// Returns the octets, or `None` if the array is empty: the set then has no resources of these kinds.
+/// Returns the octets, or `None` if there are none: the set then has no resources of these kinds.
 fn some_octets(octets: &[u8]) -> Option<&[u8]>
     ensures { option_map (λ octets. octets.now) result ≡ some_octets octets.now }
 {
@@ -22,7 +22,10 @@ fn some_octets(octets: &[u8]) -> Option<&[u8]>
 
 /// Returns the set that the octets of both extensions list.
 ///
-/// Returns `Refused` with the first reason if they list no set, and `Memory` if memory for the set runs out.
+/// # Errors
+///
+/// - `Refused` with the first reason why they list no set.
+/// - `Memory` if an allocation fails.
 pub(crate) fn set_of(
     alloc: Global,
     numbers: &[u8],

@@ -1,4 +1,4 @@
-//! Reasons why a call returns no requested set, the status of each, and the set that it returns instead.
+//! The reasons why a call does not return the requested set, the status of each, and the set that it returns instead.
 ghost use Rattle.std.specs.Prelude.{◌≡◌, ◌<◌, IfOk};
 ghost use Rattle.pigyelund_c.specs.Statuses.{excess_of, argument_error_status, refusal_status, read_set_error_status};
 ghost use Rattle.pigyelund_c.specs.VerifyErrors.{verify_error_excess, verify_error_status};
@@ -9,18 +9,18 @@ use rpki_extensions::error::VerifyError;
 use rpki_resources::repository::resources::{AsBlocks, Ipv4Blocks, Ipv6Blocks, ResourceSet};
 use std::alloc::AllocError;
 
-/// The number that a caller passed and that is invalid.
+/// The argument that is invalid.
 #[derive(Clone, Copy)]
 pub(crate) enum ArgumentError {
-    /// The encoding.
+    /// The number of the encoding is unknown.
     NoEncoding,
-    /// The mode.
+    /// The number of the mode is unknown.
     NoMode,
-    /// The number of the extensions that are present.
+    /// The number of the extensions that are present is above 3.
     NoPresence,
-    /// The family.
+    /// The number of the family is unknown.
     NoFamily,
-    /// The range of an extension, which lies outside of the octets.
+    /// The range of an extension does not lie in the run of octets.
     Outside,
 }
 
@@ -39,12 +39,12 @@ impl ArgumentError {
     }
 }
 
-/// Reason why the octets of both extensions list no set.
+/// The reason why the octets of both extensions list no set.
 #[derive(Drop)]
 pub(crate) enum ReadSetError {
-    /// The AS identifiers are invalid, with their first error.
+    /// The AS identifiers are invalid. The field is their first fault.
     Numbers(DerError),
-    /// The IP address blocks are invalid, with their first error.
+    /// The IP address blocks are invalid. The field is their first fault.
     Addresses(DerError),
     /// Some resources are inherited.
     Inherited,
@@ -81,9 +81,11 @@ fn verify_error_status(reason: &VerifyError) -> u32
     }
 }
 
-/// Returns the overclaimed resources as a set; no resources for any other reason.
+/// Returns the overclaimed resources as a set. The set is empty for any other reason.
 ///
-/// Returns `AllocError` if std cannot share them.
+/// # Errors
+///
+/// [`AllocError`] if std refuses an additional reference to them.
 fn verify_error_excess(reason: &VerifyError) -> Result<ResourceSet, AllocError>
     ensures { IfOk result (λ set. set ≡ verify_error_excess reason.now) }
 {
@@ -104,10 +106,10 @@ fn verify_error_excess(reason: &VerifyError) -> Result<ResourceSet, AllocError>
     }
 }
 
-/// Reason why an issuer verifies nothing of a certificate.
+/// The reason why an issuer does not verify a certificate.
 #[derive(Drop)]
 pub(crate) enum Refusal {
-    /// A number that the caller passed is invalid.
+    /// An argument is invalid.
     Asked(ArgumentError),
     /// The issuer's octets list no set.
     Issuer(ReadSetError),
@@ -127,9 +129,11 @@ impl Refusal {
         }
     }
 
-    /// Returns the overclaimed resources as a set; no resources for any other reason.
+    /// Returns the overclaimed resources as a set. The set is empty for any other reason.
     ///
-    /// Returns `AllocError` as `verify_error_excess` does.
+    /// # Errors
+    ///
+    /// [`AllocError`] as in `verify_error_excess`.
     pub(crate) fn excess(&self) -> Result<ResourceSet, AllocError>
         ensures { IfOk result (λ set. set ≡ excess_of self.now) }
     {

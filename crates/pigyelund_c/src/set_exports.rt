@@ -13,7 +13,7 @@ use crate::pair::{status_and_made_set, status_of_test};
 use crate::write::write_set;
 use std::alloc::Global;
 
-/// Computes the union of two sets: what one or the other has.
+/// Computes the union of two sets: the resources that are in at least one of them.
 ///
 /// `encoding` is that of `pigy_verify`, for both sets. `as_len` and `ip_len` receive lengths in octets, written or
 /// required.
@@ -25,8 +25,8 @@ use std::alloc::Global;
 /// - `PIGY_SECOND` + one of these: the second set.
 /// - `PIGY_TOO_SMALL`, then `PIGY_OK`.
 ///
-/// `PIGY_MEMORY` can come instead of any of them. With an error other than `PIGY_TOO_SMALL` both lengths are 0. With
-/// any error the buffers are unchanged.
+/// The call can return `PIGY_MEMORY` instead of any other status. Both lengths are 0 for an error other than
+/// `PIGY_TOO_SMALL`. For any error the buffers are unchanged.
 #[unsafe(no_mangle)]
 pub extern "C" fn pigy_union(
     alloc: Global,
@@ -52,7 +52,8 @@ pub extern "C" fn pigy_union(
     write_set(alloc, status, &set, as_out, ip_out, as_len, ip_len)
 }
 
-/// Computes the intersection of two sets: what both have. Parameters and statuses are those of `pigy_union`.
+/// Computes the intersection of two sets: the resources that are in both. Parameters and statuses are those of
+/// `pigy_union`.
 #[unsafe(no_mangle)]
 pub extern "C" fn pigy_intersection(
     alloc: Global,
@@ -86,7 +87,8 @@ pub extern "C" fn pigy_intersection(
     write_set(alloc, status, &set, as_out, ip_out, as_len, ip_len)
 }
 
-/// Computes what the first set has and the second does not. Parameters and statuses are those of `pigy_union`.
+/// Computes the resources of the first set that are not in the second. Parameters and statuses are those of
+/// `pigy_union`.
 #[unsafe(no_mangle)]
 pub extern "C" fn pigy_difference(
     alloc: Global,
@@ -120,11 +122,16 @@ pub extern "C" fn pigy_difference(
     write_set(alloc, status, &set, as_out, ip_out, as_len, ip_len)
 }
 
-/// Says whether the first set has each AS number and each address of the second.
+/// Returns whether the first set has each AS number and each address of the second, as a status.
 ///
-/// `encoding` is that of `pigy_verify`, for both sets. Returns `PIGY_OK` for yes and `PIGY_NO` for no. Before that come
-/// the statuses of `pigy_union` for the encoding, the first set and the second set. `PIGY_MEMORY` can come instead of
-/// any of them.
+/// `encoding` is that of `pigy_verify`, for both sets.
+///
+/// Returns the first status that applies:
+///
+/// - The statuses of `pigy_union` for the encoding, the first set and the second set.
+/// - `PIGY_OK` for yes, `PIGY_NO` for no.
+///
+/// The call can return `PIGY_MEMORY` instead of any other status.
 #[unsafe(no_mangle)]
 pub extern "C" fn pigy_contains(
     alloc: Global,
@@ -143,7 +150,7 @@ pub extern "C" fn pigy_contains(
     status_of_test(has_each(alloc, a_as, a_ip, b_as, b_ip, encoding))
 }
 
-/// Says whether both sets are the same. Parameters and statuses are those of `pigy_contains`.
+/// Returns whether both sets are the same, as a status. Parameters and statuses are those of `pigy_contains`.
 #[unsafe(no_mangle)]
 pub extern "C" fn pigy_equal(
     alloc: Global,

@@ -1,4 +1,4 @@
-//! The statuses. A number, once it is given out, never changes its meaning.
+//! The statuses. A released number never changes its meaning.
 //!
 //! The statuses of routes and tables are in `pigyelund_routes`.
 
@@ -6,9 +6,9 @@
 pub const OK: u32 = 0;
 /// A buffer is too small. No buffer is changed, and the lengths are the required ones.
 pub const TOO_SMALL: u32 = 1;
-/// Out of memory: an allocation was refused.
+/// Out of memory: an allocation failed.
 pub const MEMORY: u32 = 2;
-/// A set says "inherit" where it has to list its resources.
+/// A set has "inherit" where it has to list its resources.
 pub const INHERITED: u32 = 3;
 /// The mode is unknown.
 pub const BAD_MODE: u32 = 4;
@@ -24,7 +24,7 @@ pub const NO: u32 = 8;
 pub const BAD_ENCODING: u32 = 9;
 /// The certificate has neither extension.
 pub const ABSENT: u32 = 10;
-/// Octets of a certificate on a path lie outside of the run of octets.
+/// The range of a certificate's extension does not lie in the run of octets.
 pub const OUTSIDE: u32 = 11;
 /// The number of the extensions that are present is above 3.
 pub const BAD_PRESENT: u32 = 12;
@@ -36,5 +36,5 @@ pub const NO_TABLE: u32 = 16;
 pub const BAD_AS: u32 = 256;
 /// The IP address blocks are invalid. The number of the first error is added.
 pub const BAD_IP: u32 = 512;
-/// Added to a status if the error is in the second set, the certificate or a route.
+/// Added to a status if the error is in the second set, a certificate, a route or a withdrawn VRP.
 pub const SECOND: u32 = 4096;

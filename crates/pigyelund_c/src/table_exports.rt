@@ -12,12 +12,16 @@ use std::alloc::Global;
 
 /// Makes a table of VRPs.
 ///
-/// VRPs may be in any order. Duplicates are kept: a VRP that comes twice is listed and reported twice. `table` receives
-/// the handle, which the caller passes to `pigy_table_free` in the end. `index` receives the index of the first invalid
-/// VRP, from 0; else 0.
+/// VRPs may be in any order. Duplicates are kept: a VRP that comes twice is listed twice. `table` receives the handle,
+/// which the caller passes to `pigy_table_free` in the end. `index` receives the index of the first invalid VRP,
+/// counted from 0, and 0 otherwise.
 ///
-/// Returns `PIGY_BAD_FAMILY`, `PIGY_BAD_PREFIX` or `PIGY_BAD_MAX_LEN` for the first invalid VRP; else `PIGY_OK`.
-/// `PIGY_MEMORY` can come instead. With any error the handle is null.
+/// Returns the first status that applies:
+///
+/// - `PIGY_BAD_FAMILY`, `PIGY_BAD_PREFIX`, `PIGY_BAD_MAX_LEN`: the first invalid VRP.
+/// - `PIGY_OK`.
+///
+/// The call can return `PIGY_MEMORY` instead. For any error the handle is null.
 #[unsafe(no_mangle)]
 pub extern "C" fn pigy_table_new(
     alloc: Global,
@@ -45,10 +49,10 @@ pub extern "C" fn pigy_table_new(
     }
 }
 
-/// Validates routes by a table, one octet each, as `pigy_origins` does. It makes no table.
+/// Validates routes by a table, one octet each, as `pigy_origins` does. The call makes no table.
 ///
 /// `len` receives the length in octets, written or required. `index` receives the index of the first invalid route,
-/// from 0; else 0.
+/// counted from 0, and 0 otherwise.
 ///
 /// Returns the first status that applies:
 ///
@@ -56,8 +60,8 @@ pub extern "C" fn pigy_table_new(
 /// - `PIGY_SECOND` + `PIGY_BAD_FAMILY`, `PIGY_SECOND` + `PIGY_BAD_PREFIX`: the first invalid route.
 /// - `PIGY_TOO_SMALL`, then `PIGY_OK`.
 ///
-/// `PIGY_MEMORY` can come instead of any of them except `PIGY_NO_TABLE`. With an error other than `PIGY_TOO_SMALL`
-/// `len` is 0. With any error `out` is unchanged.
+/// The call can return `PIGY_MEMORY` instead of any status except `PIGY_NO_TABLE`. `len` is 0 for an error other than
+/// `PIGY_TOO_SMALL`. For any error `out` is unchanged.
 #[unsafe(no_mangle)]
 pub extern "C" fn pigy_table_origins(
     alloc: Global,
@@ -88,9 +92,9 @@ pub extern "C" fn pigy_table_origins(
 /// Makes the next table: `table` without the withdrawn VRPs, and then with the announced ones (RFC 8210, 5.6).
 ///
 /// The next table has a handle of its own, and `table` does not change. A withdrawal removes all copies of a VRP. Each
-/// array lists a VRP once, also one that the table lists more than once. A VRP in both arrays has to be in the table,
-/// and is listed once afterwards. `next` receives the handle. `index` receives the index of the VRP at fault, from 0;
-/// else 0.
+/// array may list a VRP only once, even if the table lists it more than once. A VRP in both arrays has to be in the
+/// table, and the next table lists it once. `next` receives the handle. `index` receives the index of the VRP at fault,
+/// counted from 0, and 0 otherwise.
 ///
 /// Returns the first status that applies:
 ///
@@ -103,8 +107,8 @@ pub extern "C" fn pigy_table_origins(
 ///    repetition in `announced`.
 /// 6. `PIGY_OK`.
 ///
-/// `PIGY_MEMORY` can come instead of any of them except `PIGY_NO_TABLE`. `index` is an index of `withdrawn` with 3 and
-/// 4, and of `announced` with 2 and 5. With any error the handle in `next` is null.
+/// The call can return `PIGY_MEMORY` instead of any status except `PIGY_NO_TABLE`. `index` is an index of `withdrawn`
+/// for 3 and 4, and of `announced` for 2 and 5. For any error the handle in `next` is null.
 #[unsafe(no_mangle)]
 pub extern "C" fn pigy_table_changed(
     alloc: Global,
@@ -139,10 +143,10 @@ pub extern "C" fn pigy_table_changed(
     }
 }
 
-/// Lists the VRPs of a table that cover a route, each with the reason why it does not match.
+/// Lists the VRPs of a table that cover a route, each with the reason why it does not match (RFC 6811, 2).
 ///
-/// The longest prefix comes first. VRPs with the same prefix come with the least AS number first. VRPs with the same AS
-/// too come with the longest maximum length first. `len` receives the length, written or required, in VRPs.
+/// The longest prefix comes first. VRPs of one prefix are in ascending order of AS numbers. VRPs that also have one AS
+/// are in descending order of maximum lengths. `len` receives the length, written or required, in VRPs.
 ///
 /// Returns the first status that applies:
 ///
@@ -150,8 +154,8 @@ pub extern "C" fn pigy_table_changed(
 /// - `PIGY_SECOND` + `PIGY_BAD_FAMILY`, `PIGY_SECOND` + `PIGY_BAD_PREFIX`: the route is invalid.
 /// - `PIGY_TOO_SMALL`, then `PIGY_OK`.
 ///
-/// `PIGY_MEMORY` can come instead of any of them except `PIGY_NO_TABLE`. With an error other than `PIGY_TOO_SMALL`
-/// `len` is 0. With any error `out` is unchanged.
+/// The call can return `PIGY_MEMORY` instead of any status except `PIGY_NO_TABLE`. `len` is 0 for an error other than
+/// `PIGY_TOO_SMALL`. For any error `out` is unchanged.
 #[unsafe(no_mangle)]
 pub extern "C" fn pigy_table_covering(
     alloc: Global,
@@ -173,9 +177,9 @@ pub extern "C" fn pigy_table_covering(
     }
 }
 
-/// Counts the VRPs of a table.
+/// Counts the VRPs of a table, duplicates included.
 ///
-/// Returns `PIGY_NO_TABLE` if the handle is null, or else `PIGY_OK`. `len` receives the number of VRPs; 0 with an
+/// Returns `PIGY_NO_TABLE` if the handle is null, or else `PIGY_OK`. `len` receives the number of VRPs, and 0 for an
 /// error.
 #[unsafe(no_mangle)]
 pub extern "C" fn pigy_table_len(table: TableRef, len: &mut usize) -> u32
@@ -189,14 +193,14 @@ pub extern "C" fn pigy_table_len(table: TableRef, len: &mut usize) -> u32
     status::OK
 }
 
-/// Lists all VRPs of a table.
+/// Lists all VRPs of a table, duplicates included.
 ///
-/// IPv4 comes before IPv6. Then the order is by address, and then by prefix length, the shorter first. VRPs with the
-/// same prefix come with the greatest AS number first. VRPs with the same AS too come with the shortest maximum length
-/// first. `len` receives the length, written or required, in VRPs.
+/// IPv4 comes before IPv6. Then the order is by address, and then by prefix length, the shorter first. VRPs of one
+/// prefix are in descending order of AS numbers. VRPs that also have one AS are in ascending order of maximum lengths.
+/// `len` receives the length, written or required, in VRPs.
 ///
-/// Returns `PIGY_NO_TABLE`, `PIGY_TOO_SMALL` or `PIGY_OK`: the first that applies. `PIGY_MEMORY` can come instead of
-/// the last two. With `PIGY_NO_TABLE` and `PIGY_MEMORY` `len` is 0. With any error `out` is unchanged.
+/// Returns `PIGY_NO_TABLE`, `PIGY_TOO_SMALL` or `PIGY_OK`: the first that applies. The call can return `PIGY_MEMORY`
+/// instead of the last two. For `PIGY_NO_TABLE` and `PIGY_MEMORY` `len` is 0. For any error `out` is unchanged.
 #[unsafe(no_mangle)]
 pub extern "C" fn pigy_table_vrps(
     alloc: Global,
@@ -216,7 +220,7 @@ pub extern "C" fn pigy_table_vrps(
     }
 }
 
-/// Frees a table. A null handle is accepted, and then the call does nothing.
+/// Frees a table. For a null handle the call does nothing.
 #[unsafe(no_mangle)]
 pub extern "C" fn pigy_table_free(alloc: Global, table: TableOwner) {
     if let Some(parts) = table.into_parts(alloc) {

@@ -16,10 +16,12 @@ use rpki_resources::OrMemory;
 use rpki_resources::repository::resources::ResourceSet;
 use std::alloc::Global;
 
-/// Returns what a certificate's extensions claim of an issuer's set.
+/// Returns the part of an issuer's set that a certificate's extensions claim.
 ///
-/// Returns `Refused` if they are no claims, or with the first overclaimed resources; `Memory` if memory for a set runs
-/// out.
+/// # Errors
+///
+/// - `Refused` if the extensions are no claims, or with the first overclaimed resources.
+/// - `Memory` if an allocation fails.
 pub(crate) fn verified(
     alloc: Global,
     issuer: &ResourceSet,
@@ -35,7 +37,12 @@ pub(crate) fn verified(
     }
 }
 
-/// Does the same with an issuer's set that is read from octets first.
+/// Returns the part that a certificate's extensions claim of an issuer's set, which is read from octets.
+///
+/// # Errors
+///
+/// - `Refused` with the reason why the issuer's octets list no set, or else as [`verified`] does.
+/// - `Memory` if an allocation fails.
 fn left_of(
     alloc: Global,
     issuer_as: &[u8],
@@ -53,7 +60,13 @@ fn left_of(
     }
 }
 
-/// Does the same with a certificate that is passed as octets and numbers.
+/// Returns the part that a certificate claims of an issuer's set. Both are passed as octets, and `present` and `mode`
+/// are numbers.
+///
+/// # Errors
+///
+/// - `Refused` with the first invalid number, or else as [`left_of`] does.
+/// - `Memory` if an allocation fails.
 fn answered_in(
     alloc: Global,
     issuer_as: &[u8],
@@ -75,7 +88,13 @@ fn answered_in(
     }
 }
 
-/// Does the same with the number of an encoding.
+/// Returns the part that a certificate claims of an issuer's set. Both are passed as octets, and `present`, `encoding`
+/// and `mode` are numbers.
+///
+/// # Errors
+///
+/// - `Refused` with `NoEncoding` if the encoding is unknown, and otherwise as [`answered_in`] does.
+/// - `Memory` if an allocation fails.
 pub(crate) fn answered(
     alloc: Global,
     issuer_as: &[u8],

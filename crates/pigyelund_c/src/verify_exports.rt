@@ -1,4 +1,4 @@
-//! The exports on certificates: the version, and verification by an issuer or along a path from an anchor.
+//! The exports on certificates: the version, and verification by an issuer or along a path from a trust anchor.
 ghost use Rattle.std.specs.Prelude.{◌≡◌, length, MatchResult, Result};
 ghost use Rattle.rpki_text.specs.Memory.{IfRefused};
 ghost use Rattle.rpki_text.specs.declared.memory.OrMemory.{OrMemory as Refusing};
@@ -26,16 +26,17 @@ pub extern "C" fn pigy_version() -> u32
     4
 }
 
-/// Verifies the resources of a certificate against those of its issuer.
+/// Verifies the resources of a certificate against those of its issuer (RFC 3779, 2.3 and 3.3).
 ///
-/// The outputs are what the issuer's set leaves of the claims, for AS numbers, IPv4 and IPv6 each. They are nothing for
-/// an absent extension or an absent family, all of the issuer's for "inherit", and otherwise what both have. The octets
-/// of an absent extension are not read.
+/// The outputs are the part of the issuer's set that the certificate claims, for AS numbers, IPv4 and IPv6 each. An
+/// absent extension or family claims nothing. "inherit" claims all resources of the issuer. A list claims the resources
+/// that both the list and the issuer have. The octets of an absent extension are not read.
 ///
 /// - `present`: 1 for AS identifiers, 2 for IP address blocks, 3 for both, 0 for neither.
 /// - `encoding`: 0 accepts blocks in any order that the syntax allows, 1 accepts canonical DER only. It holds for the
 ///   issuer's octets too.
-/// - `mode`: 0 refuses an overclaim (RFC 6487, 7.2), 1 reduces the claim to what the issuer has of it (RFC 8360, 4).
+/// - `mode`: 0 refuses an overclaim (RFC 6487, 7.2), 1 reduces the claim to the resources that the issuer has (RFC
+///   8360, 4).
 /// - `as_len`, `ip_len`: receive the lengths in octets, written or required.
 ///
 /// Returns the first status that applies:
@@ -48,8 +49,8 @@ pub extern "C" fn pigy_version() -> u32
 ///    overclaimed resources of that kind, as a set. If these do not fit, the status is `PIGY_TOO_SMALL`.
 /// 6. `PIGY_TOO_SMALL`, then `PIGY_OK`.
 ///
-/// `PIGY_MEMORY` can come instead of any of them. With 1 to 4 and with `PIGY_MEMORY` both lengths are 0 and the buffers
-/// are unchanged. With `PIGY_TOO_SMALL` the buffers are unchanged.
+/// The call can return `PIGY_MEMORY` instead of any other status. With 1 to 4 and with `PIGY_MEMORY` both lengths are 0
+/// and the buffers are unchanged. With `PIGY_TOO_SMALL` the buffers are unchanged.
 #[unsafe(no_mangle)]
 pub extern "C" fn pigy_verify(
     alloc: Global,
@@ -79,10 +80,11 @@ pub extern "C" fn pigy_verify(
     write_outcome(alloc, outcome, as_out, ip_out, as_len, ip_len)
 }
 
-/// Verifies the resources of certificates on a path, from an anchor down.
+/// Verifies the resources of certificates on a path, from a trust anchor down.
 ///
-/// The anchor's set verifies the first certificate. Each other certificate is verified by what the ones before it
-/// leave. The outputs are what all certificates leave. If there are no certificates, they are the anchor's set.
+/// The anchor's set verifies the first certificate. The part that the certificates before it leave verifies each other
+/// certificate. The outputs are the part that all certificates leave. If there are no certificates, they are the
+/// anchor's set.
 ///
 /// The octets of all extensions are in `run`. `encoding` is that of `pigy_verify`, and holds for the anchor's octets
 /// too. `as_len` and `ip_len` receive lengths in octets, written or required. `verified` receives the number of
@@ -93,12 +95,15 @@ pub extern "C" fn pigy_verify(
 /// 1. `PIGY_BAD_ENCODING`; `verified` is 0.
 /// 2. `PIGY_BAD_AS` + n, `PIGY_BAD_IP` + n, `PIGY_INHERITED`: the anchor's set. `verified` is 0.
 /// 3. For each certificate in turn: `PIGY_OUTSIDE`, `PIGY_BAD_PRESENT`, `PIGY_BAD_MODE`, and then 3 to 5 of
-/// `pigy_verify`. `verified` is the index of this certificate, from 0. 4. `PIGY_TOO_SMALL`, then `PIGY_OK`.
+///    `pigy_verify`. `verified` is the index of this certificate, counted from 0.
+/// 4. `PIGY_TOO_SMALL`, then `PIGY_OK`. `verified` is the number of all certificates.
 ///
-/// With `PIGY_OVERCLAIM_AS`, `PIGY_OVERCLAIM_V4` and `PIGY_OVERCLAIM_V6` the outputs are the overclaimed resources.
-/// `PIGY_MEMORY` can come instead of any other status, and `verified` is then unspecified. With any status except these
-/// three, `PIGY_OK` and `PIGY_TOO_SMALL` both lengths are 0 and the buffers are unchanged. With `PIGY_TOO_SMALL` the
-/// buffers are unchanged.
+/// With `PIGY_OVERCLAIM_AS`, `PIGY_OVERCLAIM_V4` and `PIGY_OVERCLAIM_V6` the outputs are the overclaimed resources. If
+/// these do not fit, the status is `PIGY_TOO_SMALL`, and `verified` is the index of the certificate. The call can
+/// return `PIGY_MEMORY` instead of any other status, and `verified` is then unspecified.
+///
+/// With any status except `PIGY_OK`, `PIGY_TOO_SMALL` and the three of overclaimed resources both lengths are 0 and the
+/// buffers are unchanged. With `PIGY_TOO_SMALL` the buffers are unchanged.
 #[unsafe(no_mangle)]
 pub extern "C" fn pigy_verify_path(
     alloc: Global,

@@ -8,7 +8,7 @@ use rpki_extensions::write::{write_as_extension, write_ip_extension};
 use rpki_resources::repository::resources::ResourceSet;
 use std::alloc::{AllocError, Global};
 
-/// Returns the octets of an extension; none if it is absent.
+/// Returns the octets of an extension, or no octets if the extension is absent.
 fn or_none(alloc: Global, value: Option<Vec<u8, Global>>) -> Vec<u8, Global>
     ensures { result.items ≡ octets_or_none (option_map (λ octets. octets.items) value) }
 {
@@ -18,7 +18,11 @@ fn or_none(alloc: Global, value: Option<Vec<u8, Global>>) -> Vec<u8, Global>
     }
 }
 
-/// Returns the octets of a set's AS numbers; none if it has no AS numbers.
+/// Returns the octets of a set's AS numbers, or no octets if it has no AS numbers.
+///
+/// # Errors
+///
+/// [`AllocError`] if an allocation fails.
 fn as_octets(alloc: Global, set: &ResourceSet) -> Result<Vec<u8, Global>, AllocError>
     ensures { IfOk result (λ octets. octets.items ≡ as_value set.now) }
 {
@@ -26,7 +30,11 @@ fn as_octets(alloc: Global, set: &ResourceSet) -> Result<Vec<u8, Global>, AllocE
     Ok(or_none(alloc, value))
 }
 
-/// Returns the octets of a set's addresses; none if it has no addresses.
+/// Returns the octets of a set's addresses, or no octets if it has no addresses.
+///
+/// # Errors
+///
+/// [`AllocError`] if an allocation fails.
 fn ip_octets(alloc: Global, set: &ResourceSet) -> Result<Vec<u8, Global>, AllocError>
     ensures { IfOk result (λ octets. octets.items ≡ ip_value set.now) }
 {
@@ -34,10 +42,12 @@ fn ip_octets(alloc: Global, set: &ResourceSet) -> Result<Vec<u8, Global>, AllocE
     Ok(or_none(alloc, value))
 }
 
-/// Reports a status and a set, whose octets are written if both buffers are large enough.
+/// Writes a set to the caller's buffers if both are large enough, and returns the status.
 ///
-/// If a buffer is too small, the status is `TOO_SMALL`, the buffers are unchanged and the lengths are the required
-/// ones. If memory runs out, the status is `MEMORY`, the buffers are unchanged and the lengths are 0.
+/// - If both octet strings fit, the status is `status`, and the lengths are theirs.
+/// - If a buffer is too small, the status is `TOO_SMALL`, the buffers are unchanged and the lengths are the required
+///   ones.
+/// - If an allocation fails, the status is `MEMORY`, the buffers are unchanged and the lengths are 0.
 pub(crate) fn write_set(
     alloc: Global,
     status: u32,

@@ -9,7 +9,7 @@ use Rattle.pigyelund_routes.specs.Routes.{IsNoRoute, IsRoute}
 use Rattle.pigyelund_routes.specs.declared.route.Route.{Route}
 use Rattle.pigyelund_routes.specs.declared.route.RouteError.{RouteError}
 
--- The lookup is that of the route in the VRPs.
+-- The lookup is that of the route in these VRPs.
 pub record IsLookupIn (vrps : List Vrp) (r : Route) (lookup : RouteLookup) : Type 0 where
   pub vrps_are : lookup.vrps ≡ vrps
   pub is_route : IsRoute r lookup.route

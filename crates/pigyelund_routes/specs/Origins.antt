@@ -21,7 +21,7 @@ abbrev pub AreEach : {X Y : Type 0} → (X → Y → Type 0) → List X → List
 AreEach R [] ys = ys ≡ []
 AreEach {X} {Y} R (x ∷ xs) ys = (y : Y) × R x y × ((rest : List Y) × (ys ≡ y ∷ rest) × AreEach R xs rest)
 
--- R holds for each x before an index, and the x at the index is invalid for the given reason.
+-- R holds for each x before an index, and the x at this index is invalid for the given reason.
 abbrev pub IsFirstElementError : {X Y : Type 0} → (X → Y → Type 0) → (X → RouteError → Type 0) → List X → ElementError
     → Type 0
 IsFirstElementError {X} {Y} R N xs first =
@@ -29,7 +29,7 @@ IsFirstElementError {X} {Y} R N xs first =
 
 -- ---- validities
 
--- The validities as numbers (RFC 8097, 2).
+-- The number of a validity (RFC 8097, 2).
 abbrev pub validity_number : Validity → ℕ
 validity_number Valid = 0
 validity_number NotFound = 1
@@ -43,22 +43,24 @@ pub record IsOrigin (vrps : List Vrp) (r : Route) (octet : ℕ) : Type 0 where
   pub is_validity : IsValidity prefix r.asn vrps validity
   pub number : octet ≡ validity_number validity
 
--- The octets are the validities of all routes, by all VRPs.
+-- The octets are the validities of all routes by all VRPs.
 abbrev pub AreOrigins : List Handed → List Route → List ℕ → Type 0
 AreOrigins handed routes octets = (vrps : List Vrp) × AreEach IsVrp handed vrps × AreEach (IsOrigin vrps) routes octets
 
--- A VRP is invalid; if all are valid, a route is invalid.
+-- The first invalid VRP, or if all VRPs are valid, the first invalid route.
 abbrev pub HasValidationError : List Handed → List Route → ValidationError → Type 0
 HasValidationError handed routes (NoVrp first) = IsFirstElementError IsVrp IsNoVrp handed first
 HasValidationError handed routes (NoRoute first) =
     (vrps : List Vrp) × AreEach IsVrp handed vrps × IsFirstElementError (IsOrigin vrps) IsNoRoute routes first
 
--- ---- reported
+-- ---- statuses
 
+-- The status of the reason why no validities are returned: 4096 is added for a route.
 abbrev pub validation_error_status : ValidationError → ℕ
 validation_error_status (NoVrp first) = route_error_status first.reason
 validation_error_status (NoRoute first) = 4096 + route_error_status first.reason
 
+-- The index of the invalid VRP or route.
 abbrev pub validation_error_index : ValidationError → ℕ
 validation_error_index (NoVrp first) = first.at
 validation_error_index (NoRoute first) = first.at

@@ -18,17 +18,17 @@ use Rattle.pigyelund_routes.specs.declared.route.RouteError.{RouteError}
 
 -- ---- a VRP
 
--- The octets of an address, the highest first. Zeros follow the four of IPv4.
+-- The sixteen octets of an address, the most significant first. Zeros follow the four octets of an IPv4 address.
 abbrev pub address_octets : IpAddr → List ℕ
 address_octets (V4 n) = octets_of n ++ 0 ∷ 0 ∷ 0 ∷ 0 ∷ 0 ∷ 0 ∷ 0 ∷ 0 ∷ 0 ∷ 0 ∷ 0 ∷ 0 ∷ []
 address_octets (V6 n) = to_be_bytes w128 n
 
--- The number is that of IP address blocks (RFC 3779, 2.2.3.3).
+-- The number of an address's family in IP address blocks (RFC 3779, 2.2.3.3).
 abbrev pub address_family : IpAddr → ℕ
 address_family (V4 n) = 1
 address_family (V6 n) = 2
 
--- The prefix, the maximum length, and the AS. The maximum length is that of the prefix if the VRP has none.
+-- The VRP in the form for C. Its maximum length is the prefix length if the VRP has none.
 abbrev pub handed_of : Vrp → Handed
 handed_of vrp = record {
   address = address_octets vrp.0.prefix.addr;
@@ -38,7 +38,7 @@ handed_of vrp = record {
   max_len = longest vrp;
 }
 
--- ---- one that covers a route
+-- ---- a VRP that covers a route
 
 -- The reason why a VRP does not match the route, or 0 if it does. 1: its AS. 2: the route is longer than the VRP
 -- allows. 3: both.
@@ -49,6 +49,7 @@ IsMismatch route asn vrp why =
     ⊎ (((why ≡ 2) × HasAs asn vrp × (¬ (route.len ≤ longest vrp)))
     ⊎ ((why ≡ 3) × (¬ HasAs asn vrp) × (¬ (route.len ≤ longest vrp)))))
 
+-- The item is the VRP in the form for C, with the reason why it does not match the route.
 pub record IsCovering (route : FamilyPrefix) (asn : ℕ) (vrp : Vrp) (item : Covering) : Type 0 where
   pub vrp_is : handed_of vrp
       ≡ record { address = item.address; asn = item.asn; family = item.family; len = item.len; max_len = item.max_len }
@@ -62,6 +63,7 @@ pub record AreCoveringsTo (table : List Vrp) (route : FamilyPrefix) (asn : ℕ) 
   pub ordered : IsNonDecreasingBy table_place (reverse vrps)
   pub each : AreEach (IsCovering route asn) vrps item
 
+-- The same for a route that a caller passes.
 abbrev pub AreCoveringsOf : List Vrp → Route → List Covering → Type 0
 AreCoveringsOf table r item = (route : FamilyPrefix) × IsRoute r route × AreCoveringsTo table route r.asn item
 

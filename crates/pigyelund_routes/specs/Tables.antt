@@ -1,4 +1,4 @@
--- Tables that stay: the results of calls on them.
+-- Tables that stay between calls: the results of calls on them.
 use Rattle.std.specs.Prelude.{◌≡◌, ◌⊎◌, ℕ, ◌+◌, List, Option, Some, length, map}
 use Rattle.std.specs.List.Sorted.{IsPermutation}
 use Rattle.std.specs.Ptr.{Ptr, null_ptr}
@@ -26,7 +26,7 @@ use Rattle.pigyelund_routes.specs.declared.route.RouteError.{RouteError}
 abbrev pub IsTableOfHanded : List Handed → List Vrp → Type 0
 IsTableOfHanded handed table = (vrps : List Vrp) × AreEach IsVrp handed vrps × IsPermutation vrps table
 
--- A VRP is invalid.
+-- The first invalid VRP.
 abbrev pub IsNoTable : List Handed → ValidationError → Type 0
 IsNoTable handed (NoVrp first) = IsFirstElementError IsVrp IsNoVrp handed first
 IsNoTable handed (NoRoute first) = ⊥
@@ -46,11 +46,11 @@ IsMadeTableReturned handed = IsTableReturned ValidationError (IsTableOfHanded ha
 
 -- ---- read
 
--- A table is read, and T holds; or the handle is null, U holds, and the status is 16.
+-- Either the handle is that of a table and T holds, or it is null, U holds, and the status is 16.
 abbrev pub IsAsked : Ptr → Type 0 → Type 0 → ℕ → Type 0
 IsAsked at T U result = (InBlock at × T) ⊎ ((at ≡ null_ptr) × U × (result ≡ 16))
 
--- A route is invalid.
+-- The first invalid route.
 abbrev pub HasTableValidationError : List Vrp → List Route → ValidationError → Type 0
 HasTableValidationError table routes (NoVrp first) = ⊥
 HasTableValidationError table routes (NoRoute first) = IsFirstElementError (IsOrigin table) IsNoRoute routes first
@@ -80,7 +80,7 @@ AreVrpsReturned at table before after len result =
 
 -- ---- changed
 
--- The announced VRPs and the withdrawn VRPs are those that are passed.
+-- The announced and the withdrawn VRPs are those that the caller passes.
 pub record AreHanded (announced withdrawn : List Handed) (in_order : List Vrp × List Vrp) : Type 0 where
   pub announced_are : AreEach IsVrp announced in_order.0
   pub withdrawn_are : AreEach IsVrp withdrawn in_order.1
@@ -91,7 +91,7 @@ IsChangedTable table announced withdrawn next =
     (changes : List Vrp × List Vrp) × AreHanded announced withdrawn changes
     × AreUpdates table changes.0 changes.1 × IsUpdated table changes.0 changes.1 next
 
--- An announced VRP is invalid; or else a withdrawn one is; or else a change is impossible, and this is the first.
+-- An announced VRP is invalid, or else a withdrawn one is, or else this is the first impossible change.
 abbrev pub HasChangeTableError : List Vrp → List Handed → List Handed → ChangeTableError → Type 0
 HasChangeTableError table announced withdrawn (Announced first) = IsFirstElementError IsVrp IsNoVrp announced first
 HasChangeTableError table announced withdrawn (Withdrawn first) =
@@ -99,19 +99,23 @@ HasChangeTableError table announced withdrawn (Withdrawn first) =
 HasChangeTableError table announced withdrawn (Fault fault) =
     (changes : List Vrp × List Vrp) × AreHanded announced withdrawn changes × HasChangeFault table changes.0 changes.1 fault
 
+-- The status of an impossible change.
 abbrev pub fault_status : ChangeFault → ℕ
 fault_status (UnknownWithdrawal at) = 17
 fault_status (DuplicateAnnouncement at) = 18
 
+-- The index of an impossible change in its array.
 abbrev pub fault_index : ChangeFault → ℕ
 fault_index (UnknownWithdrawal at) = at
 fault_index (DuplicateAnnouncement at) = at
 
+-- The status of the reason why there is no table after changes: 4096 is added for a withdrawn VRP.
 abbrev pub change_table_error_status : ChangeTableError → ℕ
 change_table_error_status (Announced first) = route_error_status first.reason
 change_table_error_status (Withdrawn first) = 4096 + route_error_status first.reason
 change_table_error_status (Fault fault) = fault_status fault
 
+-- The index of the VRP at fault in its array.
 abbrev pub change_table_error_index : ChangeTableError → ℕ
 change_table_error_index (Announced first) = first.at
 change_table_error_index (Withdrawn first) = first.at

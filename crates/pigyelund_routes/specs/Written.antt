@@ -1,18 +1,19 @@
 -- Elements of arrays that are written into a caller's buffer.
 use Rattle.std.specs.Prelude.{◌≡◌, ◌⊎◌, ◌<◌, ℕ, List, ◌++◌, length, drop}
 
--- The elements are at the front of a buffer, and the rest of it is unchanged.
+-- The items are at the front of a buffer, and the rest of it is unchanged.
 abbrev pub IsPut : {X : Type 0} → List X → List X → List X → Type 0
 IsPut items before after = after ≡ items ++ drop (length items) before
 
--- Octets or other elements are written whole, or the buffer is unchanged and the status is 1. The length is theirs.
+-- The items are written whole and the status is 0, or the buffer is unchanged and the status is 1. The length is the
+-- number of items.
 abbrev pub AreWritten : {X : Type 0} → List X → List X → List X → ℕ → ℕ → Type 0
 AreWritten items before after len result =
     (len ≡ length items)
     × (((result ≡ 1) × (after ≡ before) × (length before < len)) ⊎ ((result ≡ 0) × IsPut items before after))
 
--- An answer for which P holds is returned. Otherwise the status is that of a reason for which N holds, or 2, and
--- nothing is written.
+-- Items for which P holds are returned. Otherwise the status is that of a reason for which N holds, or 2, and nothing
+-- is written.
 abbrev pub IsAnswered : {X : Type 0} → (R : Type 0) → (List X → Type 0) → (R → ℕ) → (R → Type 0) → List X → List X → ℕ
     → ℕ → Type 0
 IsAnswered {X} R P status N before after len result =

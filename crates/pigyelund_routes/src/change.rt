@@ -11,18 +11,18 @@ use roa_origin::{ChangeFault, OriginTable};
 use rpki_text::memory::OrMemory;
 use std::alloc::{AllocError, Global};
 
-/// Reason why there is no table after changes.
+/// The reason why there is no table after changes.
 #[derive(Clone, Copy)]
 pub enum ChangeTableError {
-    /// An announced VRP is invalid.
+    /// An announced VRP is invalid. The field has its index and the reason.
     Announced(ElementError),
-    /// A withdrawn VRP is invalid.
+    /// A withdrawn VRP is invalid. The field has its index and the reason.
     Withdrawn(ElementError),
-    /// A change is impossible for the table.
+    /// A change is impossible for the table. The field is the first such fault.
     Fault(ChangeFault),
 }
 
-/// Returns the status of a change that is impossible.
+/// Returns the status of an impossible change.
 fn fault_status(fault: ChangeFault) -> u32
     ensures { result ≡ fault_status fault }
 {
@@ -32,7 +32,7 @@ fn fault_status(fault: ChangeFault) -> u32
     }
 }
 
-/// Returns the index of a change that is impossible.
+/// Returns the index of an impossible change in its array.
 fn fault_index(fault: ChangeFault) -> usize
     ensures { result ≡ fault_index fault }
 {
@@ -54,7 +54,7 @@ impl ChangeTableError {
         }
     }
 
-    /// Returns the index of the VRP at fault, in its array.
+    /// Returns the index of the VRP at fault in its array, counted from 0.
     pub fn index(self) -> usize
         ensures { result ≡ change_table_error_index self }
     {
@@ -66,12 +66,14 @@ impl ChangeTableError {
     }
 }
 
-/// Returns the boxed table without the withdrawn VRPs and with the announced ones.
+/// Returns the boxed table without the withdrawn VRPs and with the announced ones (RFC 8210, 5.6). `table` doesn't
+/// change.
 ///
 /// # Errors
 ///
-/// - `Refused`: the first invalid VRP in `announced`; or else in `withdrawn`; or else the first impossible change.
-/// - `Memory`: memory for the VRPs, the table or its box runs out.
+/// - `Refused` with the first of these: the first invalid VRP in `announced`, the first invalid VRP in `withdrawn`, the
+///   first impossible change.
+/// - `Memory`: out of memory for the VRPs, the table or its box.
 pub fn changed_table(
     alloc: Global,
     table: &OriginTable<Global>,

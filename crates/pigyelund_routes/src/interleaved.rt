@@ -1,4 +1,4 @@
-//! Validation of many routes by a table. Their memory reads overlap.
+//! Validation of several routes by a table at the same time, so that their memory reads overlap.
 ghost use Rattle.std.specs.Prelude.{◌≡◌, ◌++◌, List, ℕ, [], IfOk, OnOk};
 ghost use Rattle.pigyelund_routes.specs.Origins.{AreEach};
 ghost use Rattle.pigyelund_routes.specs.Lookups.{AreBegun, IsLookupValidity};
@@ -9,14 +9,21 @@ use roa_origin::{Lookup, OriginTable};
 use rpki_base::Asn;
 use std::alloc::{AllocError, Global};
 
-/// Number of routes that are looked up at the same time. Their list has less than a KiB, which malloc reuses at once.
+/// The number of routes that are looked up at the same time. Their list has less than a KiB, which malloc reuses at
+/// once.
 pub(crate) const BESIDE: usize = 12;
 
-/// Takes the first step for each route up to the first invalid one, and returns the reason why that is invalid.
+/// Begins a lookup for each route before the first invalid one, and returns the reason why that route is invalid.
+///
+/// Without an invalid route the result is None.
 ///
 /// # Preconditions
 ///
 /// `lookups` is empty.
+///
+/// # Errors
+///
+/// [`AllocError`] if an allocation fails.
 pub(crate) fn begin<'a>(
     table: &'a OriginTable<Global>,
     routes: &[Route],
@@ -43,7 +50,11 @@ pub(crate) fn advance(lookups: &mut Vec<Lookup<'_>, Global>)
     }
 }
 
-/// Appends the validity of each lookup as a number.
+/// Appends the number of the validity that each lookup finds.
+///
+/// # Errors
+///
+/// [`AllocError`] if an allocation fails.
 pub(crate) fn end(lookups: &[Lookup<'_>], octets: &mut Vec<u8, Global>) -> Result<(), AllocError>
     ensures { OnOk result ((written : List ℕ) × (octets.new.items ≡ octets.old.items ++ written)
         × AreEach IsLookupValidity lookups.now written) }

@@ -1,6 +1,6 @@
 //! VRPs, routes and tables as callers in C pass and receive them (RFC 6811, 2; RFC 8210, 5.6).
 //!
-//! The exports of `pigyelund_c` on route origins are made of these. They report the results, as
+//! The exports of `pigyelund_c` on route origins call this crate. They report its results, as
 //! `pigyelund_c::table_exports` does:
 //!
 //! ```rust

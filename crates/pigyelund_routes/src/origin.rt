@@ -11,21 +11,21 @@ use roa_origin::{OriginTable, Validity, Vrp};
 use rpki_text::memory::{OrMemory, refused_as};
 use std::alloc::Global;
 
-/// The first invalid element of an array, and the reason.
+/// The first invalid element of an array, and the reason why it is invalid.
 #[derive(Clone, Copy)]
 pub struct ElementError {
-    /// The index, from 0.
+    /// The index of the element, counted from 0.
     pub at: usize,
-    /// The reason.
+    /// The reason why the element is invalid.
     pub reason: RouteError,
 }
 
-/// Reason why no validities are returned.
+/// The reason why no validities are returned.
 #[derive(Clone, Copy)]
 pub enum ValidationError {
-    /// A VRP is invalid.
+    /// A VRP is invalid. The field has its index and the reason.
     Vrp(ElementError),
-    /// A route is invalid.
+    /// A route is invalid. The field has its index and the reason.
     Route(ElementError),
 }
 
@@ -40,7 +40,7 @@ impl ValidationError {
         }
     }
 
-    /// Returns the index of the invalid VRP or route.
+    /// Returns the index of the invalid VRP or route in its array, counted from 0.
     pub fn index(self) -> usize
         ensures { result ≡ validation_error_index self }
     {
@@ -51,7 +51,7 @@ impl ValidationError {
     }
 }
 
-/// Returns the number of a validity in messages between routers (RFC 8097, 2).
+/// Returns the number of a validity: 0 valid, 1 not found, 2 invalid (RFC 8097, 2).
 pub(crate) fn number_of(validity: Validity) -> u8
     ensures { result ≡ validity_number validity }
 {
@@ -62,12 +62,12 @@ pub(crate) fn number_of(validity: Validity) -> u8
     }
 }
 
-/// Returns the VRPs of an array.
+/// Returns the checked VRPs of an array, in its order.
 ///
 /// # Errors
 ///
 /// - `Refused`: the first invalid VRP.
-/// - `Memory`: memory for the VRPs runs out.
+/// - `Memory`: out of memory for the VRPs.
 pub fn vrps_of(alloc: Global, vrps: &[RawVrp]) -> Result<Vec<Vrp, Global>, OrMemory<ElementError>>
     ensures { MatchResult result (λ read. AreEach IsVrp vrps.now read.items)
         (IfRefused (IsFirstElementError IsVrp IsNoVrp vrps.now)) }
@@ -82,12 +82,12 @@ pub fn vrps_of(alloc: Global, vrps: &[RawVrp]) -> Result<Vec<Vrp, Global>, OrMem
     Ok(read)
 }
 
-/// Returns the validity of each route by a table, as numbers.
+/// Returns the validity of each route by a table, as numbers (RFC 6811, 2; RFC 8097, 2).
 ///
 /// # Errors
 ///
 /// - `Refused`: the first invalid route.
-/// - `Memory`: memory for the numbers or the lookups runs out.
+/// - `Memory`: out of memory for the numbers or the lookups.
 pub fn origins_in(
     alloc: Global,
     table: &OriginTable<Global>,
@@ -115,7 +115,12 @@ pub fn origins_in(
     Ok(octets)
 }
 
-/// Does the same with VRPs, of which it makes a table first. `Memory` also if memory for the table runs out.
+/// Returns the validity of each route by checked VRPs, as numbers. The call makes a table of the VRPs first.
+///
+/// # Errors
+///
+/// - `Refused`: the first invalid route.
+/// - `Memory`: out of memory for the table, the numbers or the lookups.
 fn origins_of(
     alloc: Global,
     vrps: &[Vrp],
@@ -129,12 +134,12 @@ fn origins_of(
     origins_in(alloc, &table, routes)
 }
 
-/// Returns the validity of each route by VRPs, as numbers.
+/// Returns the validity of each route by VRPs, as numbers (RFC 6811, 2; RFC 8097, 2).
 ///
 /// # Errors
 ///
 /// - `Refused`: the first invalid VRP, or else the first invalid route.
-/// - `Memory`: memory for the VRPs, a table or the numbers runs out.
+/// - `Memory`: out of memory for the VRPs, a table, the numbers or the lookups.
 pub fn origins(
     alloc: Global,
     vrps: &[RawVrp],

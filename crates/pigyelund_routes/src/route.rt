@@ -11,19 +11,20 @@ use rpki_base::{Asn, IpAddr, Ipv4Addr, Ipv6Addr};
 use rpki_der::family::AddressFamily;
 use rpki_prefix::{MaxLenPrefix, Prefix};
 
-/// Reason why octets and numbers are no VRP, or no route.
+/// The reason why octets and numbers are not a VRP or a route.
 #[derive(Clone, Copy)]
 pub enum RouteError {
     /// The number of the family is unknown.
     NoFamily,
-    /// The length is above the family's, or bits of the address after it are set.
+    /// The length is above the family's number of bits, or bits of the address after it are set.
     NoPrefix,
-    /// The maximum length is below the prefix's length, or above the family's.
+    /// The maximum length is below the prefix length, or above the family's number of bits. A route never has this
+    /// error.
     NoMaxLen,
 }
 
 impl RouteError {
-    /// Returns the status of this reason.
+    /// Returns the status of this reason for a VRP.
     pub fn status(self) -> u32
         ensures { result ≡ route_error_status self }
     {
@@ -42,7 +43,7 @@ impl RouteError {
     }
 }
 
-/// A VRP: a prefix with a maximum length, and the AS that may originate it.
+/// A VRP: a prefix with a maximum length, and the AS that may originate routes to it.
 ///
 /// This is a struct for C, with numbers that are not checked yet.
 #[repr(C)]
@@ -60,7 +61,7 @@ pub struct RawVrp {
     pub max_len: u8,
 }
 
-/// A route: the prefix that it leads to, and the AS that originates it.
+/// A route: its prefix, and the AS that originates it.
 ///
 /// This is a struct for C, with numbers that are not checked yet. `origins_lines::Route` is a route in a line of text.
 #[repr(C)]
@@ -92,19 +93,19 @@ pub struct Covering {
     pub len: u8,
     /// The maximum length, in bits.
     pub max_len: u8,
-    /// 0 if the VRP matches the route; 1 if its AS is not the route's or is AS 0, 2 if the route is too long, 3 for
+    /// 0 if the VRP matches the route; 1 if its AS is not the route's or is AS0, 2 if the route is too long, 3 for
     /// both.
     pub mismatch: u8,
 }
 
-/// Returns the number that the first four octets write.
+/// Returns the number that the first four octets write, the most significant first.
 fn first_four(octets: [u8; 16]) -> u32
     ensures { result ≡ from_be_bytes w32 (slice_range octets 0 4) }
 {
     u32::from_be_bytes([octets[0], octets[1], octets[2], octets[3]])
 }
 
-/// Returns the address of a family with these octets.
+/// Returns the address of a family with these octets, the most significant first.
 fn address_of(family: AddressFamily, octets: [u8; 16]) -> IpAddr
     ensures { result ≡ address_in family octets }
 {
@@ -114,7 +115,7 @@ fn address_of(family: AddressFamily, octets: [u8; 16]) -> IpAddr
     }
 }
 
-/// Returns the prefix with these numbers and octets, or the reason why they are no prefix.
+/// Returns the prefix with these numbers and octets, or the reason why they are not a prefix.
 fn prefix_of(family: u8, address: [u8; 16], len: u8) -> Result<Prefix, RouteError>
     ensures { MatchResult result (HasPrefix family address len) (HasNoPrefix family address len) }
 {
@@ -127,7 +128,7 @@ fn prefix_of(family: u8, address: [u8; 16], len: u8) -> Result<Prefix, RouteErro
     }
 }
 
-/// Returns the octets of an address, the highest first.
+/// Returns the octets of an address, the most significant first. The last twelve of an IPv4 address are 0.
 fn octets_of(addr: IpAddr) -> [u8; 16]
     ensures { result ≡ address_octets addr }
 {
@@ -140,7 +141,7 @@ fn octets_of(addr: IpAddr) -> [u8; 16]
     }
 }
 
-/// Returns the number of an address's family.
+/// Returns the number of an address's family: 1 for IPv4, 2 for IPv6 (RFC 3779, 2.2.3.3).
 fn family_number(addr: IpAddr) -> u8
     ensures { result ≡ address_family addr }
 {
@@ -150,7 +151,8 @@ fn family_number(addr: IpAddr) -> u8
     }
 }
 
-/// Returns the reason why a VRP that covers a route does not match it, or 0 if it does.
+/// Returns the reason why a VRP that covers a route does not match it, or 0 if it does. The numbers are those of
+/// [`Covering::mismatch`].
 fn mismatch(route: Prefix, asn: Asn, vrp: &Vrp) -> u8
     ensures { IsMismatch route asn vrp.now result }
 {
@@ -180,7 +182,8 @@ impl RawVrp {
         }
     }
 
-    /// Returns the checked VRP, or the first reason why it is invalid: family, prefix, maximum length.
+    /// Returns the checked VRP, or the first reason why it is invalid. The family is checked first, then the prefix,
+    /// then the maximum length.
     pub fn read(&self) -> Result<Vrp, RouteError>
         ensures { MatchResult result (IsVrp self.now) (IsNoVrp self.now) }
     {
@@ -193,7 +196,7 @@ impl RawVrp {
 }
 
 impl Route {
-    /// Returns the prefix that the route leads to, or the reason why it is invalid.
+    /// Returns the prefix of the route, or the reason why it is invalid.
     pub fn prefix(&self) -> Result<Prefix, RouteError>
         ensures { MatchResult result (IsRoute self.now) (IsNoRoute self.now) }
     {

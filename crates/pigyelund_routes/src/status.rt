@@ -1,4 +1,4 @@
-//! Statuses of calls on routes and tables. A number, once it is given out, never changes its meaning.
+//! Statuses of calls on routes and tables. A released number never changes its meaning.
 //!
 //! The other statuses are in `pigyelund_c`.
 
@@ -8,13 +8,13 @@ pub const OK: u32 = 0;
 pub const TOO_SMALL: u32 = 1;
 /// The family is unknown.
 pub const BAD_FAMILY: u32 = 13;
-/// An address and a length are no prefix.
+/// An address and a length are not a prefix.
 pub const BAD_PREFIX: u32 = 14;
-/// The maximum length is invalid for its prefix.
+/// The maximum length is invalid for its prefix: it is below the prefix length, or above the family's number of bits.
 pub const BAD_MAX_LEN: u32 = 15;
-/// A withdrawn VRP is not in the table, or is listed twice (RFC 8210, 12: 6).
+/// A withdrawn VRP is not in the table, or is withdrawn twice (RFC 8210, 12: error 6).
 pub const UNKNOWN_WITHDRAWAL: u32 = 17;
-/// An announced VRP is in the table, or is listed twice (RFC 8210, 12: 7).
+/// An announced VRP is in the table and not withdrawn, or is announced twice (RFC 8210, 12: error 7).
 pub const DUPLICATE_ANNOUNCEMENT: u32 = 18;
 /// Added to a status if the error is in a route or in a withdrawn VRP.
 pub const SECOND: u32 = 4096;

@@ -1,6 +1,6 @@
-//! Tables that stay: made of VRPs that a caller passes.
+//! Tables that stay between calls: they are made of VRPs that a caller passes.
 //!
-//! They return the validity of routes, the VRPs that cover a route, and all VRPs.
+//! The calls return the validity of routes, the VRPs that cover a route, and all VRPs.
 ghost use Rattle.std.specs.Prelude.{◌≡◌, IfOk, MatchResult, map};
 ghost use Rattle.rpki_text.specs.Memory.{IfRefused};
 ghost use Rattle.pigyelund_routes.specs.Origins.{AreEach, IsOrigin};
@@ -17,12 +17,12 @@ use rpki_prefix::Prefix;
 use rpki_text::memory::{OrMemory, refused_as};
 use std::alloc::{AllocError, Global};
 
-/// Returns the boxed table of VRPs.
+/// Returns the boxed table of VRPs. Duplicates are kept.
 ///
 /// # Errors
 ///
-/// - `Refused`: the first invalid VRP.
-/// - `Memory`: memory for the VRPs, the table or its box runs out.
+/// - `Refused`: the first invalid VRP, as [`ValidationError::Vrp`].
+/// - `Memory`: out of memory for the VRPs, the table or its box.
 pub fn made_table(
     alloc: Global,
     vrps: &[RawVrp],
@@ -38,12 +38,12 @@ pub fn made_table(
     }
 }
 
-/// Returns the validity of each route by a table, as numbers.
+/// Returns the validity of each route by a table, as numbers (RFC 6811, 2; RFC 8097, 2).
 ///
 /// # Errors
 ///
-/// - `Refused`: the first invalid route.
-/// - `Memory`: memory for the numbers runs out, or for the lookups.
+/// - `Refused`: the first invalid route, as [`ValidationError::Route`].
+/// - `Memory`: out of memory for the numbers or the lookups.
 pub fn table_origins(
     alloc: Global,
     table: &OriginTable<Global>,
@@ -61,7 +61,9 @@ pub fn table_origins(
 
 /// Returns the VRPs of a table that cover the route to `route` from `asn`, each with its mismatch.
 ///
-/// Returns `AllocError` if memory for them runs out.
+/// # Errors
+///
+/// [`AllocError`] if out of memory for them.
 fn coverings_to(
     alloc: Global,
     table: &OriginTable<Global>,
@@ -77,12 +79,14 @@ fn coverings_to(
     Ok(list)
 }
 
-/// Returns the VRPs of a table that cover a route, each with its mismatch.
+/// Returns the VRPs of a table that cover a route, each with its mismatch (RFC 6811, 2).
+///
+/// The longest prefix comes first, then the least AS number, then the longest maximum length.
 ///
 /// # Errors
 ///
 /// - `Refused`: the route is invalid.
-/// - `Memory`: memory for the VRPs runs out.
+/// - `Memory`: out of memory for the VRPs.
 pub fn coverings(
     alloc: Global,
     table: &OriginTable<Global>,
@@ -99,7 +103,11 @@ pub fn coverings(
     Ok(list)
 }
 
-/// Returns all VRPs of a table, in its order, or `AllocError` if memory for them runs out.
+/// Returns all VRPs of a table, in its order.
+///
+/// # Errors
+///
+/// [`AllocError`] if out of memory for them.
 pub fn all_vrps(
     alloc: Global,
     table: &OriginTable<Global>,

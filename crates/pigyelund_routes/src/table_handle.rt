@@ -1,7 +1,7 @@
 //! Handles: a table in a block of its own, whose pointer the caller keeps.
 //!
-//! In C each handle is a pointer, `pigy_table *`. The type of a parameter says what the caller has of the table, and no
-//! clause of an export repeats it:
+//! In C each handle is a pointer, `pigy_table *`. The type of a parameter says which right to the table the caller
+//! passes, and the contracts of the exports do not repeat it:
 //!
 //! - [`TableOutput`]: an output whose old value is not read.
 //! - [`TableOwner`]: the owner of a table.
@@ -25,8 +25,7 @@ pub struct Table {
 
 /// An output that receives a handle.
 ///
-/// The library does not read what the output has before a call. If a call writes a handle into it, that handle owns a
-/// table.
+/// The library does not read the old value of the output. If a call writes a handle into it, that handle owns a table.
 #[repr(C)]
 #[derive(Drop)]
 pub struct TableOutput {
@@ -61,7 +60,7 @@ impl TableOutput {
     }
 }
 
-/// A handle that a caller returns to be freed, or null.
+/// A handle that a caller passes so that the table is freed, or null.
 #[repr(C)]
 pub struct TableOwner {
     /// The pointer.

@@ -1,10 +1,10 @@
-//! Writing of octets, or other elements of an array, into a caller's buffer.
+//! Writing of octets, or of other elements of an array, into a caller's buffer.
 ghost use Rattle.std.specs.Prelude.{◌≡◌, ◌≤◌, ◌++◌, length, drop};
 ghost use Rattle.pigyelund_routes.specs.Written.{AreWritten};
 
 use crate::status;
 
-/// Writes elements at the front of a buffer. The rest of the buffer is unchanged.
+/// Writes `items` at the front of `out`. The rest of the buffer is unchanged.
 ///
 /// # Preconditions
 ///
@@ -16,10 +16,10 @@ pub fn put<T: Copy>(items: &[T], out: &mut [T])
     out[..items.len()].copy_from_slice(items);
 }
 
-/// Writes octets, or other elements, if the buffer is large enough, and returns the status.
+/// Writes `items` at the front of `out` if the buffer is large enough, and returns the status.
 ///
-/// `len` receives their number. If `out` is too short, the status is `TOO_SMALL` and `out` is unchanged. Otherwise
-/// the status is `OK`.
+/// `len` receives the number of items. If `out` is too short, the status is `TOO_SMALL` and `out` is unchanged.
+/// Otherwise the status is `OK`, and the rest of `out` is unchanged.
 pub fn write_items<T: Copy>(items: &[T], out: &mut [T], len: &mut usize) -> u32
     ensures { AreWritten items.now out.old out.new len.new result }
 {

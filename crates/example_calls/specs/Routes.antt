@@ -8,15 +8,15 @@ use Rattle.roa_origin.specs.Coverings.{AreThose}
 use Rattle.roa_origin.specs.Vrps.{Vrp}
 use Rattle.roa_origin.specs.Validities.{IsRouteCovered, IsMatched}
 
--- the model of a route: its prefix, and the number of the AS that originates it
+-- the value of a route in contracts: its prefix, and the number of the AS that originates it
 abbrev pub Route : Type 0
 Route = FamilyPrefix × ℕ
 
--- some VRP covers the route, and none matches it (RFC 6811, 2: 'Invalid')
+-- a VRP covers the route, and none matches it (RFC 6811, 2: 'Invalid')
 abbrev pub IsInvalid : List Vrp → Route → Type 0
 IsInvalid vrps route = IsRouteCovered route.0 vrps × ¬ IsMatched route.0 route.1 vrps
 
--- this number of the routes is invalid; a repeated route counts each time
+-- count is the number of invalid routes; a repeated route counts each time
 abbrev pub IsCountOfInvalid : List Vrp → List Route → ℕ → Type 0
 IsCountOfInvalid vrps routes count = (invalid : List Route) × AreThose (IsInvalid vrps) routes invalid × (count ≡ length invalid)
 

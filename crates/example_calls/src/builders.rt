@@ -6,7 +6,7 @@ ghost use Rattle.rpki_as_block.specs.Blocks.{as_bounds};
 use rpki_resources::repository::resources::{AsBlock, AsResources, AsResourcesBuilder};
 use std::alloc::{AllocError, Allocator};
 
-/// Returns AS resources that list one block. The builder first inherits, and the block replaces this.
+/// Returns AS resources that list one block. The builder first gets inherited resources, and the block replaces them.
 ///
 /// # Errors
 ///

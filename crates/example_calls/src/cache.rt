@@ -1,4 +1,4 @@
-//! A router's cache: a sorted table of prefixes, and the prefixes that cover a route.
+//! The cache of a router: a sorted table of prefixes, and the prefixes that cover a route.
 ghost use Rattle.std.specs.Prelude.{◌↔◌, IfOk, Contains};
 ghost use Rattle.std.specs.List.Sorted.{IsStrictlySortedBy};
 ghost use Rattle.rpki_prefix.specs.Order.{prefix_cmp};
@@ -8,8 +8,10 @@ ghost use Rattle.roa_origin.specs.Coverings.{AreThose};
 use rpki_resources::resources::addr::Prefix;
 use std::alloc::{AllocError, Allocator};
 
-/// Returns the prefixes of a list, sorted and each once: IPv4 before IPv6, then by the last address. A prefix never
-/// precedes one that it covers.
+/// Returns the prefixes of a list, sorted and each once.
+///
+/// IPv4 comes before IPv6. Then the order is by the last address, and then the longer prefix comes first. A prefix
+/// never precedes one that it covers.
 ///
 /// # Errors
 ///

@@ -1,4 +1,4 @@
-//! Verifies the claims on a certificate path, kind by kind.
+//! Verifies the claims on a path of certificates, kind by kind.
 ghost use Rattle.std.specs.Prelude.{IfOk, MatchResult, All};
 ghost use Rattle.rpki_text.specs.Memory.{IfRefused};
 ghost use Rattle.rpki_ipres.specs.Resources.{IsWholeClaim};
@@ -12,7 +12,7 @@ use rpki_resources::repository::resources::{
 };
 use std::alloc::{Allocator, Global};
 
-/// A refused claim on a path: the index of its certificate, and the overclaimed resources.
+/// A refused claim on a path. The field has the index of its certificate, and the overclaimed resources.
 #[derive(Drop)]
 pub enum Overclaimed<A: Allocator = Global> {
     /// AS numbers.
@@ -23,7 +23,8 @@ pub enum Overclaimed<A: Allocator = Global> {
     Ipv6(PathRefusal<OverclaimedIpv6Resources<A>>),
 }
 
-/// Returns what remains of the resources of `root` after the claims of the certificates on a path. It lies in `root`.
+/// Returns the part of the resources of `root` that the claims of the certificates on a path leave. `root` has all of
+/// it.
 ///
 /// - `alloc`: the allocator of the sets.
 /// - `root`: the resources at the start of the path.
@@ -31,11 +32,11 @@ pub enum Overclaimed<A: Allocator = Global> {
 ///
 /// # Preconditions
 ///
-/// The IPv4 claims consist of whole addresses. The claims that `Extensions::claims` returns do.
+/// The IPv4 claims consist of whole addresses. The claims that `Extensions::claims` returns meet this precondition.
 ///
 /// # Errors
 ///
-/// - `Refused`: the first overclaim, of AS numbers before IPv4, and of IPv4 before IPv6.
+/// - `Refused`: the first overclaim. AS numbers come before IPv4, and IPv4 before IPv6.
 /// - `Memory`: an allocation failed.
 pub fn verified<A: Allocator + Copy>(
     alloc: A,

@@ -14,7 +14,9 @@ use rpki_resources::repository::resources::{
 };
 use std::alloc::{AllocError, Allocator};
 
-/// Returns the range between two AS numbers, in either order. [`AsRange::new`] requires the least number first.
+/// Returns the range between two AS numbers, in either order.
+///
+/// [`AsRange::new`] requires the least number first.
 pub fn between(one: Asn, other: Asn) -> AsRange
     ensures in_order { one ≤ other → range_bounds result ≡ (one, other) }
     ensures turned { other < one → range_bounds result ≡ (other, one) }
@@ -26,7 +28,9 @@ pub fn between(one: Asn, other: Asn) -> AsRange
     }
 }
 
-/// Returns the next AS number, or None after the last one. [`Asn::add`] requires a sum that is an AS number.
+/// Returns the next AS number, or None after the last one.
+///
+/// [`Asn::add`] requires a sum that is an AS number.
 pub fn next_asn(asn: Asn) -> Option<Asn>
     ensures { MatchOption result (asn ≡ 4294967295) (λ next. next ≡ asn + 1) }
 {
@@ -36,8 +40,9 @@ pub fn next_asn(asn: Asn) -> Option<Asn>
     Some(asn.add(1))
 }
 
-/// Returns a set of IPv4 addresses, or None if the set has only a part of an address. [`Ipv4Blocks::from_ip_blocks`]
-/// requires whole addresses.
+/// Returns a set of IPv4 addresses, or None if `blocks` has only a part of an IPv4 address.
+///
+/// [`Ipv4Blocks::from_ip_blocks`] requires whole addresses.
 pub fn whole_v4<A: Allocator>(blocks: IpBlocks<A>) -> Option<Ipv4Blocks<A>>
     ensures { MatchOption result (¬ IsWhole (Holds blocks)) (λ set. set ≡ blocks) }
 {
@@ -48,6 +53,7 @@ pub fn whole_v4<A: Allocator>(blocks: IpBlocks<A>) -> Option<Ipv4Blocks<A>>
 }
 
 /// Returns the set that resources list, or None if they list a part of an IPv4 address or some are inherited.
+///
 /// [`ResourceSet::from_resources`] requires whole addresses.
 ///
 /// # Errors
@@ -72,8 +78,9 @@ pub fn listed_set<A: Allocator>(
     }
 }
 
-/// Appends the encoding of resources to `out`, or nothing if they are missing. [`AsResources::encode`] requires
-/// resources that aren't missing.
+/// Appends the encoding of resources to `out`, or nothing if they are missing.
+///
+/// [`AsResources::encode`] requires resources that aren't missing.
 ///
 /// # Errors
 ///

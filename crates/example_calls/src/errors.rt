@@ -1,4 +1,4 @@
-//! Passes on errors, distinguishes them, and causes out-of-memory errors by an allocator that refuses.
+//! Passes on errors, distinguishes them, and causes out-of-memory errors with an allocator that refuses.
 ghost use Rattle.std.specs.Prelude.{IsTrue, IfOk, MatchOption};
 ghost use Rattle.rpki_chain.specs.Runs.{Runs};
 ghost use Rattle.rpki_as.specs.ListText.{HasAsListFault, IsAsListText};
@@ -13,8 +13,8 @@ use test_support::{Plan, Refusing};
 ///
 /// # Errors
 ///
-/// The fault of the list, or the out-of-memory error. A contract cannot say what an [`anyhow::Error`] is. If you need
-/// to know the fault, see [`fault_of`].
+/// The fault of the list, or the out-of-memory error. A contract cannot say which error an [`anyhow::Error`] is. If you
+/// need to know the fault, use [`fault_of`].
 pub fn any_error(alloc: Global, list: &str) -> anyhow::Result<AsBlocks>
     ensures { IfOk result (IsAsListText list.now) }
 {
@@ -41,7 +41,7 @@ pub fn fault_of<A: Allocator + Copy>(
     }
 }
 
-/// Whether a list of AS blocks can be read if every allocation is refused.
+/// Returns whether a list of AS blocks can be read while every allocation is refused.
 pub fn is_read_without_memory<A: Allocator>(alloc: A, list: &str) -> bool
     ensures { IsTrue result → (set : Runs) × IsAsListText list.now set }
 {

@@ -1,4 +1,4 @@
-//! Encodes blocks, sets and resources in DER, and decodes them. The result is the same value.
+//! Encodes blocks, sets and resources in DER, and decodes them. Each result is the same value.
 ghost use Rattle.std.specs.Prelude.{◌≡◌, ◌≢◌, IfOk};
 ghost use Rattle.rpki_chain.specs.declared.choice.ResourcesChoice.TheVariants.{Missing};
 ghost use Rattle.rpki_ipres.specs.Resources.{IsWholeClaim};
@@ -11,7 +11,7 @@ use rpki_resources::repository::resources::{
 };
 use std::alloc::{AllocError, Allocator};
 
-/// Encodes an AS block, and decodes it from octets that begin with its encoding.
+/// Encodes an AS block, appends the octets `behind`, and decodes the block from the front.
 ///
 /// # Errors
 ///
@@ -33,7 +33,7 @@ pub fn as_block_written_and_read<A: Allocator>(
     }
 }
 
-/// Encodes a block of addresses, and decodes it from octets that begin with its encoding.
+/// Encodes a block of addresses, appends the octets `behind`, and decodes the block from the front.
 ///
 /// # Errors
 ///

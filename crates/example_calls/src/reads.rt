@@ -1,4 +1,4 @@
-//! Reads blocks through a reader of the caller's own, and counts the reads.
+//! Reads blocks with a reader of the caller's own, and counts the reads.
 ghost use Rattle.std.specs.Prelude.{◌≡◌, ◌+◌, ◌^◌, ◌<◌, ◌≤◌, ◌↔◌, ℕ, length, IsTrue, None};
 ghost use Rattle.rpki_as_block.specs.Blocks.{as_bounds};
 ghost use Rattle.rpki_chain_core.specs.Sets.{Covers};
@@ -54,7 +54,7 @@ impl Reads<AsBlock> for Noted<'_> {
     }
 }
 
-/// Whether a chain has an AS number. If it has fewer than 2^n blocks, at most n are read.
+/// Returns whether a chain has an AS number. If it has fewer than 2^n blocks, the call reads at most n of them.
 pub fn has<'a>(chain: &mut Noted<'a>, asn: Asn) -> bool
     ensures value { IsTrue result
         ↔ Covers as_bounds (⟦<Noted<'a> as Reads<AsBlock>>⟧.blocks chain.old) asn }

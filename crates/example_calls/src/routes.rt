@@ -15,15 +15,18 @@ use rpki_resources::resources::addr::{MaxLenPrefix, Prefix};
 use rpki_resources::resources::asn::Asn;
 use std::alloc::{AllocError, Allocator};
 
-/// Returns the validity of the route to a prefix that an AS originates, by a list of VRPs. The call needs no memory,
-/// and suits a single route.
+/// Returns the validity of the route to a prefix that an AS originates, by a list of VRPs.
+///
+/// The call needs no memory, and suits a single route.
 pub fn by_list(route: Prefix, asn: Asn, vrps: &[Vrp]) -> Validity
     ensures { IsValidity route asn vrps.now result }
 {
     origin(route, asn, vrps)
 }
 
-/// Returns the same by a table of the list. A router makes such a table once, and uses it for many routes.
+/// Returns the validity of the route to a prefix that an AS originates, by a table of a list of VRPs.
+///
+/// A router makes such a table once, and uses it for many routes.
 ///
 /// # Errors
 ///
@@ -41,7 +44,7 @@ pub fn by_table<A: Allocator + Copy>(
     Ok(table.origin(route, asn))
 }
 
-/// Returns how many of the routes are invalid by a table: some VRP covers the route, and none matches it (RFC 6811, 2).
+/// Returns how many of the routes are invalid by a table: a VRP covers the route, and none matches it (RFC 6811, 2).
 pub fn count_invalid<A: Allocator>(table: &OriginTable<A>, routes: &[(Prefix, Asn)]) -> usize
     ensures { IsCountOfInvalid table.now routes.now result }
 {
@@ -54,8 +57,9 @@ pub fn count_invalid<A: Allocator>(table: &OriginTable<A>, routes: &[(Prefix, As
     count
 }
 
-/// Returns the VRPs of a table that cover the route to a prefix. They explain the validity of its origin. VRPs of
-/// longer prefixes come first. A repeated VRP is repeated.
+/// Returns the VRPs of a table that cover the route to a prefix. They explain the validity of its origin.
+///
+/// VRPs of longer prefixes come first. A repeated VRP is repeated.
 ///
 /// # Errors
 ///
@@ -77,8 +81,10 @@ pub fn explanation<A: Allocator>(
     Ok(found)
 }
 
-/// Returns the first prefix of an authorization that isn't inside the resources of its certificate. It
-/// returns None if each one is inside: the certificate then has all addresses of the authorization (RFC 9582, 5).
+/// Returns the first prefix of an authorization that isn't inside the resources of its certificate.
+///
+/// The call returns None if each prefix is inside: the certificate then has all addresses of the authorization (RFC
+/// 9582, 5).
 pub fn excess<A: Allocator>(
     resources: &ResourceSet<A>,
     prefixes: &[MaxLenPrefix],

@@ -43,7 +43,7 @@ pub fn blocks_of<A: Allocator>(alloc: A, set: &AsBlocks<A>) -> Result<Vec<AsBloc
     Ok(list)
 }
 
-/// Returns the set that is made again from the blocks of a set. It is the same set.
+/// Returns the set that is made of the blocks of a set. It is the same set.
 ///
 /// # Errors
 ///

@@ -1,4 +1,4 @@
-//! Prints sets and resources, and parses the texts. The result is the same value.
+//! Prints sets and resources, and parses the texts. Each result is the same value.
 ghost use Rattle.std.specs.Prelude.{◌≡◌, IfOk};
 
 use rpki_resources::OrMemory;

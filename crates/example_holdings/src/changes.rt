@@ -10,7 +10,7 @@ use rpki_resources::repository::resources::{ResourceDiff, ResourceSet};
 use std::alloc::{AllocError, Allocator};
 use std::fmt;
 
-/// Returns the text of the changes from what a holder had to what it gets.
+/// Returns the text of the changes from `had` to `gets`, the resources of a holder before and after.
 ///
 /// # Errors
 ///
@@ -26,7 +26,11 @@ pub fn printed<A: Allocator + Copy>(
     text(alloc, between(alloc, had, gets)?)
 }
 
-/// Returns what is added to `had` and removed from it if the holder gets `gets`.
+/// Returns the resources that are added and removed if a holder of `had` gets `gets`.
+///
+/// # Errors
+///
+/// [`AllocError`] if an allocation fails.
 fn between<A: Allocator + Copy>(
     alloc: A,
     had: &ResourceSet<A>,

@@ -31,13 +31,13 @@ pub struct Input<'a> {
 /// A fault of an input.
 #[derive(Clone, Copy, Debug, PartialEq, Eq, Error)]
 pub enum InputError {
-    /// The text has not two lines, but this number.
+    /// The text doesn't have two lines. The field is their number.
     #[error("two lines are wanted, there are {0}")]
     Lines(usize),
-    /// The first line has not three lists, but this number.
+    /// The first line doesn't have three lists. The field is their number.
     #[error("what was had: three lists are wanted, there are {0}")]
     Had(usize),
-    /// The second line has not three lists, but this number.
+    /// The second line doesn't have three lists. The field is their number.
     #[error("what is got: three lists are wanted, there are {0}")]
     Gets(usize),
 }
@@ -46,8 +46,8 @@ pub enum InputError {
 ///
 /// # Errors
 ///
-/// - `Refused`: the text hasn't exactly two lines, or a line hasn't exactly three lists. The fault has the number of
-///   lines, or the number of lists of the first such line.
+/// - `Refused`: the text doesn't have exactly two lines, or a line doesn't have exactly three lists. The fault has the
+///   number of lines, or the number of lists of the first such line.
 /// - `Memory`: an allocation failed.
 pub fn read_input<A: Allocator + Copy>(
     alloc: A,
@@ -72,8 +72,12 @@ pub fn read_input<A: Allocator + Copy>(
     }
 }
 
-/// Returns the three lists of a line. `Refused` has their number if there aren't exactly three. `Memory` means that an
-/// allocation failed.
+/// Returns the three lists of a line.
+///
+/// # Errors
+///
+/// - `Refused` with the number of lists if there aren't exactly three.
+/// - `Memory` if an allocation fails.
 fn read_lists<A: Allocator + Copy>(alloc: A, line: &str) -> Result<Lists<'_>, OrMemory<usize>>
     ensures { MatchResult result (AreLists line.now) (IfRefused (HasOtherCount line.now)) }
 {

@@ -24,8 +24,8 @@ fn main(rt: HostRuntime) -> anyhow::Result<()> {
     compare(&rt, input)
 }
 
-/// Compares the resources of two lines. Each of the calls from here on holds one set more, so that few owners are alive
-/// at once.
+/// Compares the resources of two lines. Each call from here on holds one more set, so that each function owns few
+/// values.
 fn compare(rt: &HostRuntime, input: Input<'_>) -> anyhow::Result<()> {
     let had = set_of(rt.alloc(), input.had)?;
     compare_with(rt, &had, input.gets)
@@ -68,7 +68,7 @@ fn print_line(
     Ok(())
 }
 
-/// Returns the octets in hexadecimal, or `missing` without octets.
+/// Returns the octets in hexadecimal, or `missing` if there are none.
 fn hexadecimal(alloc: Global, octets: Octets<Global>) -> Result<String, AllocError> {
     match octets? {
         Some(octets) => hex::encode(alloc, octets.as_slice()),

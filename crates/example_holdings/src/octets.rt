@@ -8,10 +8,10 @@ ghost use Rattle.rpki_resources.specs.ResourcesDer.{ip_families_der};
 use rpki_resources::repository::resources::{AsResources, IpResources, ResourceSet};
 use std::alloc::{AllocError, Allocator};
 
-/// Octets, or None if nothing is listed, or [`AllocError`] if an allocation fails.
+/// The octets of resources, None if no resources are listed, or [`AllocError`] if an allocation fails.
 pub type Octets<A> = Result<Option<Vec<u8, A>>, AllocError>;
 
-/// Returns the octets of AS resources that list the AS numbers of a set.
+/// Returns the octets of AS resources that list the AS numbers of a set, or None if it has no AS numbers.
 pub fn of_asn<A: Allocator>(alloc: A, set: &ResourceSet<A>) -> Octets<A>
     ensures { IfOk result (λ found. MatchOption found (set.now.asn ≡ [])
         (λ octets. octets.items ≡ as_resources_octets (claim_of set.now.asn))) }
@@ -33,7 +33,7 @@ fn of_as_resources<A: Allocator>(alloc: A, resources: &AsResources<A>) -> Octets
     Ok(Some(octets))
 }
 
-/// Returns the octets of the families that list the addresses of a set.
+/// Returns the octets of the families that list the addresses of a set, or None if it has no addresses.
 pub fn of_addresses<A: Allocator>(alloc: A, set: &ResourceSet<A>) -> Octets<A>
     ensures { IfOk result (λ found. MatchOption found ((set.now.ipv4 ≡ []) × (set.now.ipv6 ≡ []))
         (λ octets. octets.items ≡ ip_families_der (claim_of set.now.ipv4)

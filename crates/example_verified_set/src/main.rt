@@ -1,5 +1,5 @@
-//! The program `example_verified_set`: prints the resources that an issuer verifies of a certificate, or why it
-//! refuses.
+//! The program `example_verified_set`: prints the resources that an issuer verifies of a certificate, or the reason why
+//! it refuses the certificate.
 //!
 //! Its arguments are:
 //!
@@ -60,8 +60,9 @@ fn verify_files(
     verify(rt, issuer, &certificate)
 }
 
-/// Prints the resources that the issuer verifies of a certificate, or the whole reason why it refuses. An
-/// [`anyhow::Error`] would keep the first 120 bytes of the reason.
+/// Prints the resources that the issuer verifies of a certificate, or the whole reason why it refuses the certificate.
+///
+/// An [`anyhow::Error`] would keep only the first 120 bytes of the reason.
 fn verify(
     rt: &HostRuntime,
     issuer: &ResourceSet,

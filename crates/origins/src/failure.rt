@@ -3,7 +3,7 @@ use lines_engine::error::RunError;
 use origins_lines::error::ReadVrpsError;
 use std::fmt;
 
-/// Why the program has no answer, or not all of them.
+/// The reason why the program prints no answers, or not all of them.
 #[derive(Clone, Copy, Debug)]
 pub enum Failure<'a> {
     /// A command-line argument is not UTF-8, or memory ran out.

@@ -69,7 +69,7 @@ fn serve<'a>(rt: &HostRuntime, task: Task<'a>) -> Result<u8, Failure<'a>> {
     }
 }
 
-/// Returns the exit status after a text was printed.
+/// Returns exit status 0 after a text was printed, or the failure of the print.
 fn status_after_print<'a>(printed: io::Result<()>) -> Result<u8, Failure<'a>> {
     match printed {
         Ok(()) => Ok(0),
@@ -77,8 +77,10 @@ fn status_after_print<'a>(printed: io::Result<()>) -> Result<u8, Failure<'a>> {
     }
 }
 
-/// Answers the routes of the standard input by the VRPs of a file. The file is closed before any route is read. If the
-/// standard input is closed, the file is then not taken for it.
+/// Answers the routes of the standard input by the VRPs of a file.
+///
+/// The file is closed before any route is read. Therefore the program doesn't read the file as its standard input if
+/// the standard input was closed when it started.
 fn answer<'a>(rt: &HostRuntime, name: &'a str, why: bool, check: bool) -> Result<u8, Failure<'a>> {
     let mut vrps = open(rt, name)?;
     let mut routes = FromRead::new(Retrying::new(rt.stdin()));

@@ -35,22 +35,22 @@ pub enum Task<'a> {
     Version,
 }
 
-/// Why the arguments are no task.
+/// The reason why the arguments are not a task.
 #[derive(Clone, Copy, Debug)]
 pub enum Misuse<'a> {
     /// The option is unknown.
     UnknownOption(&'a str),
-    /// The argument of `--of` is not an AS number.
+    /// The word after `--of` is not an AS number.
     NoAsn(&'a str),
-    /// `--of` is the last argument.
+    /// `--of` is the last word.
     OfWithoutAsn,
     /// `--of` is passed without `--table`.
     OfWithoutTable,
-    /// The two options do not go together.
+    /// Two options that exclude each other. The fields are their names.
     Options(&'static str, &'static str),
     /// A file name is missing.
     TooFewNames,
-    /// There are too many file names, and this is one of those too many.
+    /// There are too many file names. The field is one that is too many.
     TooManyNames(&'a str),
 }
 
@@ -89,6 +89,10 @@ enum Names<'a> {
 }
 
 /// Returns the task of the command line. Its first word is the program's name.
+///
+/// # Errors
+///
+/// The first [`Misuse`] of the words, or of the options and file names together.
 pub fn parse(words: &[String]) -> Result<Task<'_>, Misuse<'_>> {
     let mut options = Options {
         why: false,
@@ -140,7 +144,7 @@ fn with_name<'a>(names: Names<'a>, name: &'a str) -> Names<'a> {
     }
 }
 
-/// Returns the task of options and file names, if they fit together.
+/// Returns the task of options and file names, or the reason why they are not a task.
 fn asked_for<'a>(options: Options, names: Names<'a>) -> Result<Task<'a>, Misuse<'a>> {
     if options.table && options.diff {
         return Err(Misuse::Options("--table", "--diff"));

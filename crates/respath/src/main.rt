@@ -1,4 +1,4 @@
-//! The program `respath`: it answers each line of the standard input with one line on the standard output.
+//! The program `respath`. It answers each line of the standard input by one line on the standard output.
 #![tactic(auto)]
 
 use lines_engine::adapters::{FromRead, IntoWrite};
@@ -21,7 +21,7 @@ fn main(rt: HostRuntime) -> ExitCode {
     }
 }
 
-/// Answers the standard input on the standard output.
+/// Answers the lines of the standard input on the standard output.
 fn serve(rt: &HostRuntime) -> Result<(), RunError> {
     let Ok(buffered) = BufWriter::with_capacity(rt.alloc(), BUFFER, rt.stdout()) else {
         return Err(RunError::Memory);

@@ -34,11 +34,42 @@ if [ $# -eq 0 ]; then
     (cd crates/pigyelund_c && rt lib >"$out/log" 2>&1) || { tail -n 20 "$out/log"; echo "FAILED: rt lib"; exit 1; }
 fi
 
+# made [VARIABLE=VALUE ..] TARGET ..: runs make with the C compiler and the folder of this test
+made() { make -s -C foreign/c CC=gcc CFLAGS="-O2 -Wall -Wextra -Werror" OUT="$spaced" "$@"; }
+
+# Each call of the header is in exports.map. The static library defines no other global symbols, and the shared library
+# exports no others.
+of_symbols() {
+    sed -n 's/^ *\(pigy_[a-z_]*\);.*/\1/p' foreign/c/exports.map | sort >"$out/exports"
+    grep -v '^static\|^typedef' foreign/pigyelund.h | sed -n 's/^[a-z].* \**\(pigy_[a-z_]*\)(.*/\1/p' |
+        sort >"$out/declared"
+    diff "$out/declared" "$out/exports" || fail "exports.map has the calls of pigyelund.h"
+    nm -g --defined-only "$spaced/libpigyelund.a" | awk 'NF == 3 { print $3 }' | sort | diff "$out/exports" - ||
+        fail "the global symbols of the static library are its calls"
+    nm -D --defined-only "$spaced/libpigyelund.so" | awk '$2 != "A" { print $3 }' | sed 's/@@PIGYELUND_1$//' | sort |
+        diff "$out/exports" - || fail "the shared library exports its calls, with the version PIGYELUND_1"
+}
+
+# A program may define the symbols that the kit has. The static library does not use them.
+of_collisions() {
+    {
+        echo '#include <pigyelund.h>'
+        nm -g --defined-only "$LIB" "$KIT/c/liblibc_c.a" 2>/dev/null |
+            awk 'NF == 3 && $3 ~ /^[A-Za-z_][A-Za-z_0-9]*$/ && $3 !~ /^pigy_/ { print $3 }' | sort -u >"$out/of_kit"
+        sed 's/.*/int &_of_program(void) __asm__("&"); int &_of_program(void) { __builtin_trap(); }/' "$out/of_kit"
+        echo 'int main(void) { uint8_t text[64]; size_t len;'
+        echo 'return (int)pigy_answer((const uint8_t *)"norm as 1", 9, text, sizeof text, &len); }'
+    } >"$out/collisions.c"
+    [ -s "$out/of_kit" ] || fail "the kit has global symbols"
+    gcc -Wno-builtin-declaration-mismatch -Iforeign "$out/collisions.c" "$spaced/libpigyelund.a" -o "$out/collisions" &&
+        "$out/collisions" || fail "a program with the names of the kit's symbols"
+}
+
 of_c() {
-    make -s -C foreign/c CC=gcc OUT="$spaced" || fail "C is compiled"
-    same "the example in C" "$spaced/example"
-    "$spaced/test" foreign || fail "the test in C"
-    "$spaced/test" foreign stack || fail "the stack that pigyelund.h states"
+    made all || fail "C is compiled"
+    made check || fail "make check: the example and the test in C"
+    of_symbols
+    of_collisions
     if has "the example as C++" g++; then
         g++ -x c++ -std=c++11 -Wall -Wextra -Werror -Iforeign foreign/c/example.c -x none "$spaced/libpigyelund.a" \
             -o "$out/as_cpp" || fail "the example is C++"
@@ -50,24 +81,74 @@ of_c() {
     fi
 }
 
+# by_pkg_config FOLDER: the example is built by the pigyelund.pc of that folder, and runs with the shared library
+by_pkg_config() {
+    flags=$(PKG_CONFIG_PATH="$1" pkg-config --cflags --libs pigyelund) || fail "pkg-config $1"
+    # What pkg-config prints has a backslash before each space.
+    eval "gcc foreign/c/example.c -o '$out/by_pkg_config' $flags" || fail "the example by pkg-config $1"
+    LD_LIBRARY_PATH="${1%/pkgconfig}" same "the example by pkg-config $1" "$out/by_pkg_config"
+}
+
+# of_folders NAME [VARIABLE=FOLDER ..]: installs into a prefix of that name that has files of others, also with DESTDIR,
+# and uninstalls. The files of others are left, and no other file.
+of_folders() {
+    own="$spaced/$1" staged="$spaced/staged $1"
+    shift
+    for there in include lib/pkgconfig share/doc/other; do
+        mkdir -p "$own/$there" && echo other >"$own/$there/other.h"
+    done
+    find "$spaced" -path "$staged" -prune -o ! -type d -print | sort >"$out/others"
+    made install DESTDIR="$staged" PREFIX="$own" "$@" || fail "make install with DESTDIR $*"
+    made install PREFIX="$own" "$@" || fail "make install $*"
+    [ "$(cd "$staged" && find . ! -type d -exec cmp {} "/{}" \; -print | wc -l)" -eq 7 ] || fail "DESTDIR: $*"
+    if has "pigyelund.pc" pkg-config; then
+        by_pkg_config "$(dirname "$(find "$staged" -name pigyelund.pc | sed "s|^$staged||")")"
+    fi
+    made uninstall DESTDIR="$staged" PREFIX="$own" "$@" || fail "make uninstall with DESTDIR $*"
+    left=$(find "$staged" ! -type d -o -name pigyelund)
+    [ -z "$left" ] || fail "make uninstall with DESTDIR leaves $left"
+    made uninstall PREFIX="$own" "$@" || fail "make uninstall $*"
+    find "$spaced" -path "$staged" -prune -o ! -type d -print | sort | diff "$out/others" - || fail "make uninstall $*"
+}
+
+# The tools and all options are those of the command.
+of_variables() {
+    made -n all install CC="a-cc -x" AR=an-ar OBJCOPY=an-objcopy INSTALL=an-install CPPFLAGS=-Dcpp CFLAGS=-Dc \
+        LDFLAGS=-Wl,ld >"$out/commands" || fail "make -n"
+    for text in "^a-cc -x -Dc -shared" "-Wl,-z,relro -Wl,-z,now -Wl,ld" "^a-cc -x -Dcpp -Dc .*example.c .*-Wl,ld$" \
+        "^a-cc -x -nostdlib -r" "^an-ar rcs" "^an-objcopy --keep" "^an-install -m 644"; do
+        grep -qe "$text" "$out/commands" || fail "make obeys its variables: $text"
+    done
+    grep -Ee "^(cc|gcc|ar|objcopy|install) " "$out/commands" && fail "make names a tool of its own"
+}
+
 # Installs it below a folder, and under the prefix, which both have spaces; the sources stay as they were.
 of_install() {
     git status --porcelain >"$out/before" 2>/dev/null
-    make -s -C foreign/c install CC=gcc OUT="$spaced" DESTDIR="$spaced/stage" PREFIX="/usr local" &&
-        (umask 077 && make -s -C foreign/c install CC=gcc OUT="$spaced" PREFIX="$prefix") || fail "make install"
+    made install DESTDIR="$spaced/stage" PREFIX="/usr local" &&
+        (umask 077 && made install PREFIX="$prefix") || fail "make install"
     diff -r "$spaced/stage/usr local" "$prefix" || fail "DESTDIR has what PREFIX has"
     git status --porcelain 2>/dev/null | diff "$out/before" - || fail "make install leaves the sources"
     cmp LICENSE "$prefix/share/doc/pigyelund/LICENSE" || fail "the licence is installed"
     modes=$(cd "$prefix" && find . -type f ! -perm 644 -o -type d ! -perm 755)
     [ -z "$modes" ] || fail "files are installed with mode 644, folders with 755: $modes"
-    [ "$(nm -D --defined-only "$prefix/lib/libpigyelund.so" | awk '$3 !~ /^pigy_/' | wc -l)" -eq 0 ] ||
-        fail "the shared library exports its calls alone"
-    if has "pigyelund.pc" pkg-config; then
-        flags=$(PKG_CONFIG_PATH="$prefix/lib/pkgconfig" pkg-config --cflags --libs pigyelund) || fail "pkg-config"
-        # What pkg-config prints has a backslash before each space.
-        eval "gcc foreign/c/example.c -o '$out/by_pkg_config' $flags" || fail "the example by pkg-config"
-        LD_LIBRARY_PATH="$prefix/lib" same "the example by pkg-config" "$out/by_pkg_config"
-    fi
+    [ "$(readlink "$prefix/lib/libpigyelund.so")" = libpigyelund.so.1 ] &&
+        [ "$(readlink "$prefix/lib/libpigyelund.so.1")" = "libpigyelund.so.1.$(cat VERSION)" ] ||
+        fail "the links of the shared library"
+    readelf -dW "$prefix/lib/libpigyelund.so" >"$out/dynamic" || fail "readelf"
+    for text in '(SONAME) .*\[libpigyelund.so.1\]' '(FLAGS).*BIND_NOW' '(FLAGS_1).*NOW'; do
+        grep -q "$text" "$out/dynamic" || fail "the shared library has $text"
+    done
+    grep -q TEXTREL "$out/dynamic" && fail "the shared library has text relocations"
+    readelf -lW "$prefix/lib/libpigyelund.so" | awk '/GNU_RELRO/ { relro = 1 } /GNU_STACK/ { stack = $7 }
+        END { exit !(relro && stack == "RW") }' || fail "the shared library has relro, and no executable stack"
+    has "pigyelund.pc" pkg-config && by_pkg_config "$prefix/lib/pkgconfig"
+    of_variables
+    of_folders "own prefix"
+    of_folders "multiarch" LIBDIR="$spaced/multiarch/lib/x86_64-linux-gnu"
+    of_folders "below" LIBDIR="$spaced/below/elsewhere/lib 64" INCLUDEDIR="$spaced/below/elsewhere/include of it"
+    of_folders "apart" LIBDIR="$spaced/elsewhere/lib 64" INCLUDEDIR="$spaced/elsewhere/include" \
+        DOCDIR="$spaced/elsewhere/doc"
 }
 
 # Makes a library of that name in a folder, whose calls are of version 3.
@@ -169,7 +250,7 @@ if has_python; then
 else
     echo "left out: numbers, names, Python and the programs of docs/FOREIGN.md need python3, from 3.10 on"
 fi
-if has "C, and all that is installed," gcc make ar; then
+if has "C, and all that is installed," gcc make ar objcopy nm readelf; then
     of_c
     of_install
     has_python && { tests/foreign_page.py C "$prefix" || fail "the program in C"; of_python; }

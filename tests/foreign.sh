@@ -213,35 +213,119 @@ of_python() {
     tests/foreign_page.py "A table in Python" "$prefix" || fail "the table in Python"
 }
 
-# says TEXT FOLDER: the package of Rust isn't built with that folder of the library, and says why
+# rust COMMAND ..: cargo runs a command on the package of Rust, without a network
+rust() {
+    command=$1
+    shift
+    cargo "$command" -q --offline --manifest-path foreign/rust/Cargo.toml "$@"
+}
+
+# says TEXT VALUE: the package of Rust isn't built with that value of PIGYELUND_LIB, and says why
 says() {
-    PIGYELUND_LIB=$2 cargo check -q --offline --manifest-path foreign/rust/Cargo.toml >"$out/log" 2>&1
-    [ $? -ne 0 ] && grep -qF "$1: $2 " "$out/log" || fail "cargo says: $1: $2"
+    PIGYELUND_LIB=$2 rust check >"$out/log" 2>&1
+    [ $? -ne 0 ] && grep -qF "PIGYELUND_LIB=$2 $1: expected " "$out/log" || fail "cargo says: PIGYELUND_LIB=$2 $1"
 }
 
 # Once it was built, cargo asks build.rs again where a variable that build.rs reads has changed.
 of_rust_variables() {
-    variables=$(grep -o 'var([^)]*)' foreign/rust/build.rs | sed 's/var("\(.*\)")/\1/')
+    variables=$(grep -oE '"[A-Z]+(_[A-Z]+)+"' foreign/rust/build.rs | tr -d '"')
     [ -n "$variables" ] || fail "build.rs reads no variable by its name"
     for variable in $variables; do
         grep -qx "cargo:rerun-if-env-changed=$variable" "$CARGO_TARGET_DIR"/debug/build/pigyelund-*/output ||
             fail "build.rs names $variable to cargo"
     done
-    says "PIGYELUND_LIB names a folder without libpigyelund.a" "$spaced/another"
+    says "does not exist" "$spaced/another"
+}
+
+# The documentation is built without the library, as on docs.rs, and without a warning with it.
+of_rust_docs() {
+    RUSTDOCFLAGS=-Dwarnings rust doc --no-deps || fail "cargo doc"
+    for variable in DOCS_RS=1 RUSTFLAGS="--cfg docsrs"; do
+        env "$variable" PIGYELUND_LIB="$spaced/none" RUSTDOCFLAGS="-Dwarnings --cfg docsrs" CARGO_TARGET_DIR="$out/docs" \
+            cargo doc -q --offline --no-deps --manifest-path foreign/rust/Cargo.toml ||
+            fail "cargo doc with $variable and without the library"
+    done
+}
+
+# A crate that depends on the package gets the installed header, its number, and the version of the library.
+of_rust_dependent() {
+    mkdir -p "$out/dependent/src"
+    cat >"$out/dependent/Cargo.toml" <<END
+[package]
+name = "dependent"
+version = "0.1.0"
+edition = "2021"
+
+[dependencies]
+pigyelund = { path = "$PWD/foreign/rust" }
+END
+    cat >"$out/dependent/build.rs" <<'END'
+use std::env::var;
+
+fn main() {
+    for name in ["LIB", "ROOT", "INCLUDE", "CALLS", "VERSION"] {
+        println!("cargo:rustc-env={name}={}", var(format!("DEP_PIGYELUND_{name}")).unwrap());
+    }
+}
+END
+    cat >"$out/dependent/src/main.rs" <<'END'
+fn main() {
+    assert!(std::path::Path::new(env!("INCLUDE")).join("pigyelund.h").is_file());
+    assert_eq!(env!("CALLS"), pigyelund::version().to_string());
+    println!("{} {} {}", env!("ROOT"), env!("LIB"), env!("VERSION"));
+}
+END
+    version=$(sed -n 's/^Version: //p' foreign/pigyelund.pc)
+    [ "$(cargo run -q --offline --manifest-path "$out/dependent/Cargo.toml")" = "$prefix $prefix/lib $version" ] ||
+        fail "a crate that depends on the package gets DEP_PIGYELUND_.."
+}
+
+# The package for crates.io is made without a warning, has the files of the repository, and passes its tests alone.
+of_rust_package() {
+    export CARGO_TARGET_DIR="$out/packed"
+    for option in --no-verify ""; do
+        cargo package --offline --allow-dirty $option --manifest-path foreign/rust/Cargo.toml >"$out/log" 2>&1 ||
+            fail "cargo package $option"
+        ! grep '^warning' "$out/log" || fail "cargo package $option prints no warning"
+    done
+    mkdir "$out/unpacked" && tar -xzf "$out"/packed/package/pigyelund-*.crate -C "$out/unpacked" --strip-components=1 ||
+        { fail "the package is unpacked"; return; }
+    cmp LICENSE "$out/unpacked/LICENSE" || fail "the package has the licence"
+    for name in rows texts numbers; do
+        cmp "foreign/$name.txt" "$out/unpacked/tests/shared/$name.txt" || fail "the package has $name.txt"
+    done
+    cargo test -q --offline --manifest-path "$out/unpacked/Cargo.toml" >"$out/log" 2>&1 ||
+        { cat "$out/log"; fail "the test in Rust"; }
+}
+
+of_rust_style() {
+    if cargo fmt --version >/dev/null 2>&1; then
+        cargo fmt --check --manifest-path foreign/rust/Cargo.toml || fail "cargo fmt"
+    else
+        echo "left out: the format of the package of Rust needs cargo fmt"
+    fi
+    if cargo clippy --version >/dev/null 2>&1; then
+        rust clippy --all-targets -- -D warnings || fail "cargo clippy"
+    else
+        echo "left out: the lints of the package of Rust need cargo clippy"
+    fi
 }
 
 of_rust() {
     export PIGYELUND_LIB="$prefix/lib" CARGO_TARGET_DIR="$out/rust"
-    says "PIGYELUND_LIB is no absolute path" lib
-    says "PIGYELUND_LIB names a folder without libpigyelund.a" "$spaced"/none
-    cargo test -q --offline --manifest-path foreign/rust/Cargo.toml >"$out/log" 2>&1 ||
-        { cat "$out/log"; fail "the test in Rust"; }
+    says "is a relative path" lib
+    says "does not exist" "$spaced/none"
+    says "has no file libpigyelund.a" "$spaced"
+    says "is a file" "$prefix/lib/libpigyelund.a"
+    same "the example in Rust" rust run --example verify
     of_rust_variables
-    same "the example in Rust" cargo run -q --offline --manifest-path foreign/rust/Cargo.toml --example verify
-    RUSTDOCFLAGS=-Dwarnings cargo doc -q --offline --no-deps --manifest-path foreign/rust/Cargo.toml || fail "cargo doc"
+    of_rust_docs
+    of_rust_style
+    of_rust_dependent
     has_python && { tests/foreign_page.py "The examples" "$prefix" || fail "the examples"; }
     has_python && { tests/foreign_page.py Rust "$prefix" || fail "the program in Rust"; }
     has_python && { tests/foreign_page.py "A table in Rust" "$prefix" || fail "the table in Rust"; }
+    of_rust_package
 }
 
 if has_python; then

@@ -340,7 +340,7 @@ def of_rust(folder: Path) -> Iterator[tuple[str, str | None]]:
     if not (TOP / LIBRARY).is_file():
         print(f"left out: {OF_RUST} needs {LIBRARY}, which rt lib builds there")
         return
-    shutil.copytree(TOP / "foreign", folder / "foreign")
+    shutil.copytree(TOP / "foreign", folder / "foreign", symlinks=True)
     shutil.copy(TOP / "LICENSE", folder)
     where = [f"OUT={folder}", f"LIB={TOP / LIBRARY}", f"KIT={kit()}"]
     subprocess.run(["make", "-s", "-C", folder / "foreign" / "c", "CC=gcc", *where, "static"], check=True)

@@ -449,7 +449,7 @@ impl Row<'_> {
 
 /// Returns the text of a test file that all languages share.
 fn shared(name: &str) -> String {
-    let path = format!("{}/../{name}", env!("CARGO_MANIFEST_DIR"));
+    let path = format!("{}/tests/shared/{name}", env!("CARGO_MANIFEST_DIR"));
     std::fs::read_to_string(path).unwrap()
 }
 

@@ -23,11 +23,10 @@ pub enum Overclaimed<A: Allocator = Global> {
     Ipv6(PathRefusal<OverclaimedIpv6Resources<A>>),
 }
 
-/// Returns the part of the resources of `root` that the claims of the certificates on a path leave. `root` has all of
-/// it.
+/// Returns the part of the resources of `root` that the claims of the certificates on a path leave.
 ///
 /// - `alloc`: the allocator of the sets.
-/// - `root`: the resources at the start of the path.
+/// - `root`: the resources at the start of the path. It has all resources of the result.
 /// - `asn`, `ipv4`, `ipv6`: the claims of the certificates, in the order of the path.
 ///
 /// # Preconditions

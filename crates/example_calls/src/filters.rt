@@ -7,8 +7,9 @@ ghost use Rattle.rpki_family.specs.Families.{Ipv4Of};
 use rpki_resources::repository::resources::{Ipv4Blocks, Ipv6Blocks, Prefix};
 use std::alloc::{AllocError, Allocator};
 
-/// Returns the fewest prefixes that have exactly the addresses of a set of IPv4, ascending. Their lengths are at most
-/// 32.
+/// Returns the fewest prefixes that have exactly the addresses of a set of IPv4, ascending.
+///
+/// Their lengths are at most 32.
 ///
 /// # Errors
 ///

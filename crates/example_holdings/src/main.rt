@@ -68,7 +68,7 @@ fn print_line(
     Ok(())
 }
 
-/// Returns the octets in hexadecimal, or `missing` if there are none.
+/// Returns the octets in hexadecimal, or `missing` without octets.
 fn hexadecimal(alloc: Global, octets: Octets<Global>) -> Result<String, AllocError> {
     match octets? {
         Some(octets) => hex::encode(alloc, octets.as_slice()),

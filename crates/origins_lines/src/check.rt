@@ -2,8 +2,10 @@
 ghost use Rattle.std.specs.Prelude.{◌≡◌, ◌++◌, ◌↔◌, ◌⊎◌, [], ℕ, IsTrue, List};
 ghost use Rattle.origins_lines.specs.Checks.{IsSeen, IsFaultInitial, seen_behind, seen_nothing, seen_with};
 
-/// The state of a check after some bytes. The check looks for lines that begin with `i` or `e`. The answers
-/// `invalid-as`, `invalid-length` and `error: ..` begin so, and no others.
+/// The state of a check after some bytes.
+///
+/// The check looks for lines that begin with `i` or `e`. The answers `invalid-as`, `invalid-length` and `error: ..`
+/// begin so, and no others.
 #[derive(Clone, Copy, Debug)]
 pub struct Seen {
     /// Whether a line begins after the bytes.

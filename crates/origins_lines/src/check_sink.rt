@@ -26,8 +26,9 @@ impl<W: Sink> Watched<W> {
         }
     }
 
-    /// Returns whether one of the written lines begins with `i` or `e`, as `invalid-as`, `invalid-length` and `error:
-    /// ..` do.
+    /// Returns whether one of the written lines begins with `i` or `e`.
+    ///
+    /// The answers `invalid-as`, `invalid-length` and `error: ..` do.
     #[tactic(auto, using(crate::proofs::CheckLemmas::known_found))]
     pub fn has_found(&self) -> bool
         ensures { IfSome (⟦<Watched<W> as Sink>⟧.written self.now) (λ octets. IsTrue result ↔ HasFound octets) }

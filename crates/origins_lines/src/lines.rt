@@ -45,8 +45,9 @@ pub fn write_both<A: Allocator + Copy, W: Sink>(
     write_vrps(alloc, None, "announce ", announced, writer)
 }
 
-/// Writes a line for each VRP of `table`, in their order: `word`, the prefix with its maximum length, a space, and the
-/// AS.
+/// Writes a line for each VRP of `table`, in their order.
+///
+/// A line has `word`, the prefix with its maximum length, a space, and the AS.
 ///
 /// - `alloc`: the allocator of the lines.
 /// - `of`: the AS whose VRPs alone are written; None for all.

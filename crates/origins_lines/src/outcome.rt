@@ -9,8 +9,9 @@ use rpki_prefix::Prefix;
 use std::alloc::Allocator;
 use std::fmt;
 
-/// The validity of a route (RFC 6811, 2). For an invalid route it also says whether a VRP that covers the route has its
-/// AS.
+/// The validity of a route (RFC 6811, 2).
+///
+/// For an invalid route the outcome also says whether a VRP that covers the route has its AS.
 #[derive(Clone, Copy, Debug, PartialEq, Eq)]
 pub enum Outcome {
     /// A VRP matches the route.

@@ -91,8 +91,8 @@ pub fn answer_routes<A: Allocator + Copy, P: Source, R: Source, W: Sink>(
         AnswersEnded (IsOriginAnswer why listed) (W.written writer.old) (W.written writer.new)
         (R.left routes.old) (R.left routes.new))) }
 
-    // Memory: no call failed. The answers to some first lines, not to all unless there is none, were written whole, and
-    // nothing else.
+    // Memory: no call failed. The answers to some first lines were written whole, and nothing else. They are not the
+    // answers to all lines, unless the input has no lines.
     ensures memory_unmarked { IsErrOf result (Run RunError.Memory) →
         (R.mark routes.new ≡ R.mark routes.old) × (W.mark writer.new ≡ W.mark writer.old) }
     ensures some_answered { IsErrOf result (Run RunError.Memory) → IfSome (P.left vrps.old) (ByFile (λ listed.

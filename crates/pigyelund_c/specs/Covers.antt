@@ -36,7 +36,7 @@ abbrev pub IsCoverIn : Encoding → AddressFamily → List ℕ → List ℕ → 
 IsCoverIn encoding family addresses octets =
     (set : Triple) × IsSet encoding [] addresses set × AreCoverOctets family (set_of_family family set) octets
 
--- The same for the numbers of an encoding and of a family.
+-- The octets are the cover in the encoding and of the family with these numbers.
 abbrev pub IsCover : List ℕ → ℕ → ℕ → List ℕ → Type 0
 IsCover addresses encoding family octets =
     (way : Encoding) × (encoding ≡ encoding_number way) × ((kind : AddressFamily) × (family ≡ family_number kind) × IsCoverIn way kind addresses octets)

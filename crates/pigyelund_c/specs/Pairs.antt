@@ -49,6 +49,6 @@ abbrev pub IsTested : (Triple → Triple → Type 0) → List ℕ → List ℕ �
 IsTested R a_as a_ip b_as b_ip encoding answer =
     (pair : Pair) × AreRead a_as a_ip b_as b_ip encoding pair × (IsTrue answer ↔ R pair.first pair.second)
 
--- Both are the same set.
+-- The two sets are the same.
 abbrev pub AreSame : Triple → Triple → Type 0
 AreSame a b = a ≡ b

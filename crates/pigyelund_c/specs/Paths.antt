@@ -50,7 +50,7 @@ IsNoPathOutcomeIn anchor_as anchor_ip run cs encoding error =
     ((error.verified ≡ 0) × OfIssuer (IsNoSet encoding anchor_as anchor_ip) error.reason)
     ⊎ ((anchor : Triple) × IsSet encoding anchor_as anchor_ip anchor × IsFirstRefused run encoding anchor cs error)
 
--- The same for the number of an encoding.
+-- The set is the part that the certificates leave, in the encoding with this number.
 abbrev pub IsPathOutcome : List ℕ → List ℕ → List ℕ → List Certificate → ℕ → Triple → Type 0
 IsPathOutcome anchor_as anchor_ip run cs encoding set =
     (way : Encoding) × (encoding ≡ encoding_number way) × IsPathOutcomeIn anchor_as anchor_ip run cs way set

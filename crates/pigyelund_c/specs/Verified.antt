@@ -62,7 +62,7 @@ IsNoOutcomeIn issuer_as issuer_ip present cert_as cert_ip encoding mode reason =
     ⊎ ((certificate : Extensions) × IsCertificate present cert_as cert_ip encoding mode certificate
     × IsNotLeftByOctets issuer_as issuer_ip encoding certificate reason)
 
--- The same for the number of an encoding.
+-- The set is the part that the certificate claims, in the encoding with this number.
 abbrev pub IsOutcome : List ℕ → List ℕ → ℕ → List ℕ → List ℕ → ℕ → ℕ → Triple → Type 0
 IsOutcome issuer_as issuer_ip present cert_as cert_ip encoding mode set =
     (way : Encoding) × (encoding ≡ encoding_number way) × IsOutcomeIn issuer_as issuer_ip present cert_as cert_ip way mode set

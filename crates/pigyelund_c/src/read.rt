@@ -10,7 +10,7 @@ use rpki_resources::OrMemory;
 use rpki_resources::repository::resources::ResourceSet;
 use std::alloc::Global;
 
-/// Returns the octets, or `None` if there are none: the set then has no resources of these kinds.
+/// Returns the octets, or `None` for an empty array: the set then has no resources of these kinds.
 fn some_octets(octets: &[u8]) -> Option<&[u8]>
     ensures { option_map (λ octets. octets.now) result ≡ some_octets octets.now }
 {

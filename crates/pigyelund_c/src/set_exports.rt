@@ -52,8 +52,9 @@ pub extern "C" fn pigy_union(
     write_set(alloc, status, &set, as_out, ip_out, as_len, ip_len)
 }
 
-/// Computes the intersection of two sets: the resources that are in both. Parameters and statuses are those of
-/// `pigy_union`.
+/// Computes the intersection of two sets: the resources that are in both.
+///
+/// Parameters and statuses are those of `pigy_union`.
 #[unsafe(no_mangle)]
 pub extern "C" fn pigy_intersection(
     alloc: Global,
@@ -87,8 +88,9 @@ pub extern "C" fn pigy_intersection(
     write_set(alloc, status, &set, as_out, ip_out, as_len, ip_len)
 }
 
-/// Computes the resources of the first set that are not in the second. Parameters and statuses are those of
-/// `pigy_union`.
+/// Computes the difference of two sets: the resources of the first set that are not in the second.
+///
+/// Parameters and statuses are those of `pigy_union`.
 #[unsafe(no_mangle)]
 pub extern "C" fn pigy_difference(
     alloc: Global,
@@ -150,7 +152,9 @@ pub extern "C" fn pigy_contains(
     status_of_test(has_each(alloc, a_as, a_ip, b_as, b_ip, encoding))
 }
 
-/// Returns whether both sets are the same, as a status. Parameters and statuses are those of `pigy_contains`.
+/// Returns whether both sets are the same, as a status.
+///
+/// Parameters and statuses are those of `pigy_contains`.
 #[unsafe(no_mangle)]
 pub extern "C" fn pigy_equal(
     alloc: Global,

@@ -63,7 +63,7 @@ pub record AreCoveringsTo (table : List Vrp) (route : FamilyPrefix) (asn : ℕ) 
   pub ordered : IsNonDecreasingBy table_place (reverse vrps)
   pub each : AreEach (IsCovering route asn) vrps item
 
--- The same for a route that a caller passes.
+-- The VRPs of a table that cover a route which a caller passes, each with the reason why it does not match.
 abbrev pub AreCoveringsOf : List Vrp → Route → List Covering → Type 0
 AreCoveringsOf table r item = (route : FamilyPrefix) × IsRoute r route × AreCoveringsTo table route r.asn item
 

@@ -66,8 +66,9 @@ impl ChangeTableError {
     }
 }
 
-/// Returns the boxed table without the withdrawn VRPs and with the announced ones (RFC 8210, 5.6). `table` doesn't
-/// change.
+/// Returns the boxed table without the withdrawn VRPs and with the announced ones (RFC 8210, 5.6).
+///
+/// `table` doesn't change.
 ///
 /// # Errors
 ///

@@ -93,8 +93,9 @@ pub struct Covering {
     pub len: u8,
     /// The maximum length, in bits.
     pub max_len: u8,
-    /// 0 if the VRP matches the route; 1 if its AS is not the route's or is AS0, 2 if the route is too long, 3 for
-    /// both.
+    /// The reason why the VRP does not match the route, or 0 if it matches.
+    ///
+    /// The number is 1 if its AS is not the route's or is AS0, 2 if the route is too long, and 3 for both.
     pub mismatch: u8,
 }
 
@@ -182,8 +183,11 @@ impl RawVrp {
         }
     }
 
-    /// Returns the checked VRP, or the first reason why it is invalid. The family is checked first, then the prefix,
-    /// then the maximum length.
+    /// Returns the checked VRP.
+    ///
+    /// # Errors
+    ///
+    /// The first reason why it is invalid. The family is checked first, then the prefix, then the maximum length.
     pub fn read(&self) -> Result<Vrp, RouteError>
         ensures { MatchResult result (IsVrp self.now) (IsNoVrp self.now) }
     {
@@ -196,7 +200,11 @@ impl RawVrp {
 }
 
 impl Route {
-    /// Returns the prefix of the route, or the reason why it is invalid.
+    /// Returns the prefix of the route.
+    ///
+    /// # Errors
+    ///
+    /// The first reason why it is invalid: [`RouteError::NoFamily`] or [`RouteError::NoPrefix`].
     pub fn prefix(&self) -> Result<Prefix, RouteError>
         ensures { MatchResult result (IsRoute self.now) (IsNoRoute self.now) }
     {

@@ -69,8 +69,8 @@ pub fn run<A: Allocator + Copy, R: Source, W: Sink>(
     ensures read { IsErrOf result RunError.Read → R.mark reader.new ≡ true }
     ensures nothing_written { IsErrOf result RunError.Read → writer.new ≡ writer.old }
 
-    // Memory: no call failed. The answers to some first lines, not to all unless there is none, were written whole, and
-    // nothing else.
+    // Memory: no call failed. The answers to some first lines were written whole, and nothing else. They are not the
+    // answers to all lines, unless the input has no lines.
     ensures memory_unmarked { IsErrOf result RunError.Memory →
         (R.mark reader.new ≡ R.mark reader.old) × (W.mark writer.new ≡ W.mark writer.old) }
     ensures some_answered { IsErrOf result RunError.Memory → IfSome (R.left reader.old)

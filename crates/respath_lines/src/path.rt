@@ -1,4 +1,4 @@
-//! The command `path`: prints what remains of the first list after all steps, or the first refused step.
+//! The command `path`: prints the resources that remain of the first list after all steps, or the first refused step.
 ghost use Rattle.std.specs.Prelude.{◌≡◌, ℕ, List, Some, OnOk};
 ghost use Rattle.std.specs.String.{string_bytes};
 ghost use Rattle.rpki_as.specs.Faults.{overclaimed_as_text};
@@ -124,7 +124,7 @@ fn refused<F: fmt::Display + Drop, A: Allocator>(
     refusal: PathRefusal<F>,
     answer: &mut String<A>,
 ) -> Result<(), AllocError>
-    // Whatever text each fault prints, the answer has it.
+    // The answer has the text that the fault prints.
     ensures { (excess_text : F → List ℕ) → ((fault : F) → F.output fault ≡ Some (excess_text fault))
         → OnOk result (string_bytes answer.new ≡ refusal_text excess_text refusal) }
 {
@@ -138,7 +138,7 @@ fn write_part_fault<E: fmt::Display + Drop, A: Allocator>(
     fault: PartFault<E>,
     answer: &mut String<A>,
 ) -> Result<(), AllocError>
-    // Whatever text each fault of a list prints, the answer has it.
+    // The answer has the text that the fault of a list prints.
     ensures { (fault_text : E → List ℕ) → ((fault : E) → E.output fault ≡ Some (fault_text fault))
         → OnOk result (string_bytes answer.new ≡ error_line (part_fault_text fault_text fault)) }
 {

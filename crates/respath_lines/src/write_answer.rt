@@ -23,7 +23,7 @@ pub(crate) fn print<T: fmt::Display, A: Allocator>(
     answer: &mut String<A>,
     value: &T,
 ) -> Result<(), AllocError>
-    // Whatever text the value prints.
+    // The answer is the text that the value prints.
     ensures { (value_text : List ℕ) → T.output value.now ≡ Some value_text
         → OnOk result (string_bytes answer.new ≡ value_text) }
 {
@@ -47,7 +47,7 @@ pub(crate) fn write_fault<E: fmt::Display, A: Allocator>(
     answer: &mut String<A>,
     fault: &E,
 ) -> Result<(), AllocError>
-    // Whatever text the fault prints.
+    // The answer has the text that the fault prints.
     ensures { (fault_text : List ℕ) → E.output fault.now ≡ Some fault_text
         → OnOk result (string_bytes answer.new ≡ error_line fault_text) }
 {
@@ -64,7 +64,7 @@ pub(crate) fn show<T: fmt::Display + Drop, E: fmt::Display + Drop, A: Allocator>
     answer: &mut String<A>,
     found: Result<T, OrMemory<E>>,
 ) -> Result<(), AllocError>
-    // Whatever text each value and each fault prints, the answer shows it.
+    // The answer has the text that the value or the fault prints.
     ensures { (value_text : T → List ℕ) → ((value : T) → T.output value ≡ Some (value_text value))
         → (fault_text : E → List ℕ) → ((fault : E) → E.output fault ≡ Some (fault_text fault))
         → OnOk result (ShowsResult value_text fault_text found (string_bytes answer.new)) }

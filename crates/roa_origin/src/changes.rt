@@ -9,8 +9,7 @@ use crate::vrp::Vrp;
 use crate::vrp_table::VrpTable;
 use std::alloc::{AllocError, Allocator, Global};
 
-/// The VRPs that a cache announces and withdraws, so that a router gets from one table to the next (RFC 8210, 5.6 and
-/// 8.2).
+/// The VRPs that a cache announces and withdraws from one table to the next (RFC 8210, 5.6 and 8.2).
 #[derive(Drop)]
 #[derive_where(Debug)]
 pub struct VrpChanges<A: Allocator = Global> {

@@ -17,7 +17,7 @@ pub enum Column {
 }
 
 impl Column {
-    /// Whether `text` is a name of the column.
+    /// Returns whether `text` is a name of the column.
     fn is_named(self, text: &str) -> bool
         ensures { IsTrue result ↔ Names self text.now }
     {

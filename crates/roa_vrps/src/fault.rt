@@ -7,8 +7,9 @@ use rpki_base::number::ParseIntError;
 use rpki_prefix::{MaxLenError, ParsePrefixError};
 use thiserror::Error;
 
-/// A fault of a VRP. A call returns the first fault in the order of the variants. Only lines of CSV have the first
-/// three.
+/// A fault of a VRP. A call returns the first fault in the order of the variants.
+///
+/// Only lines of CSV have the first three faults.
 #[derive(Clone, Copy, Debug, PartialEq, Eq, Error)]
 pub enum VrpFault {
     /// The line isn't UTF-8.

@@ -42,14 +42,14 @@ pub fn read_vrps<A: Allocator + Copy>(
     ensures answers { AnswersOrMemory (λ vrps. vrps.items) (IsVrpFile text.now)
         (HasFileFault text.now) result }
 
-    // An allocation failed. None is requested before the first VRP of a CSV file, nor for a text that opens an object
-    // and isn't UTF-8.
+    // An allocation failed. No allocation is requested before the first VRP of a CSV file, nor for a text that opens
+    // an object and isn't UTF-8.
     ensures memory { IfErr result (λ error. IsMemory error → MayWantMemory text.now) }
 {
     read_vrps_matched(alloc, text)
 }
 
-/// Returns the VRPs of a file, or its fault.
+/// Returns the VRPs of a file, or its first fault.
 fn read_vrps_matched<A: Allocator + Copy>(
     alloc: A,
     text: &[u8],
@@ -66,14 +66,14 @@ fn read_vrps_matched<A: Allocator + Copy>(
     }
 }
 
-/// Whether the first octet that is not white space opens an object.
+/// Returns whether the first octet that is not white space opens an object.
 fn opens_object(text: &[u8]) -> bool
     ensures { IsTrue result ↔ IsObjectText text.now }
 {
     text.trim_ascii_start().starts_with(b"{")
 }
 
-/// Whether the first octet that is not white space opens an array.
+/// Returns whether the first octet that is not white space opens an array.
 fn opens_array(text: &[u8]) -> bool
     ensures { IsTrue result ↔ IsArrayText text.now }
 {

@@ -57,7 +57,7 @@ fn read_object<A: Allocator + Copy>(alloc: A, text: &str) -> Result<Roas<A>, Err
     }
 }
 
-/// Whether the next token begins an object. The object's members follow.
+/// Returns whether the next token begins an object, and takes this token. The object's members follow.
 fn begins_object(reader: &mut Reader<'_>) -> bool
     ensures { MatchBool result (reader.old ≡ begin_object ∷ reader.new)
         ((rest : List SpecToken) → reader.old ≢ begin_object ∷ rest) }

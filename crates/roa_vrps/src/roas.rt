@@ -62,14 +62,14 @@ fn read_member<A: Allocator + Copy>(
     }
 }
 
-/// Whether no member `roas` was read yet.
+/// Returns whether no member `roas` was read yet.
 fn is_missing<A: Allocator>(outcome: &Roas<A>) -> bool
     ensures { IsTrue result ↔ (outcome.now ≡ Err (Roas Missing)) }
 {
     matches!(outcome, Err(FileFault::Roas(MemberFault::Missing)))
 }
 
-/// Reads a value of `roas`.
+/// Reads a value of `roas`, which has to be an array.
 #[tactic(auto, using(crate::proofs::RoasLemmas::array_fails, crate::proofs::RoasLemmas::object_fails))]
 fn read_list<A: Allocator + Copy>(
     alloc: A,

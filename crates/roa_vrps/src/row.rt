@@ -42,7 +42,7 @@ pub fn read_row(columns: Columns, line: &[u8]) -> Result<Row, VrpFault>
     read_row_matched(columns, line)
 }
 
-/// Returns the content of a line, or its fault.
+/// Returns the content of a line, or its first fault.
 #[tactic(auto, using(crate::proofs::RowLemmas::row_fault, crate::proofs::RowLemmas::count_fault, crate::proofs::RowLemmas::body_of))]
 fn read_row_matched(columns: Columns, line: &[u8]) -> Result<Row, VrpFault>
     ensures { MatchResult result (IsRow columns line.now) (HasRowFault columns line.now) }
@@ -63,7 +63,7 @@ fn read_row_matched(columns: Columns, line: &[u8]) -> Result<Row, VrpFault>
     }
 }
 
-/// Checks the number of fields of a line that must be a VRP.
+/// Returns Ok if a line has a field in each of the three columns, and no more fields than the columns allow.
 fn check_count(columns: Columns, line: &str) -> Result<(), VrpFault>
     ensures { MatchResult result (λ _. FitsColumns columns line.now) (HasCountFault columns line.now) }
 {
@@ -89,7 +89,7 @@ fn read_columns(columns: Columns, line: &str) -> Result<Vrp, VrpFault>
     read_fields(asn, prefix, max_len)
 }
 
-/// Whether a line is only white space.
+/// Returns whether a line is only white space.
 fn is_blank(line: &str) -> bool
     ensures { IsTrue result ↔ (trim line.now ≡ []) }
 {

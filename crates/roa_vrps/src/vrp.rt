@@ -2,6 +2,8 @@
 use rpki_base::Asn;
 use rpki_prefix::MaxLenPrefix;
 
-/// A VRP (validated ROA payload, RFC 6811, 2): a prefix with its maximum length, and the AS that may originate routes
-/// to it. It is the same type as `roa_origin::Vrp`.
+/// A VRP (validated ROA payload, RFC 6811, 2).
+///
+/// It is a prefix with its maximum length, and the AS that may originate routes to the prefix. The type is that of
+/// `roa_origin::Vrp`.
 pub type Vrp = (MaxLenPrefix, Asn);

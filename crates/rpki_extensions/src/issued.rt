@@ -16,8 +16,7 @@ use rpki_resources::repository::resources::{
 };
 use std::alloc::Allocator;
 
-/// Returns the resources of a certificate: the part of its issuer's resources that its extensions claim (RFC 6487, 7.2;
-/// RFC 8360, 4).
+/// Returns the part of an issuer's resources that a certificate's extensions claim (RFC 6487, 7.2; RFC 8360, 4).
 ///
 /// An absent extension and an absent family claim nothing.
 ///

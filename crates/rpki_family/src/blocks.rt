@@ -168,8 +168,9 @@ impl<F: Family, A: Allocator> FamilyBlocks<F, A> {
         self.blocks.is_empty()
     }
 
-    /// Returns an iterator over the blocks of the set, ascending: its runs, each as a prefix if possible, and otherwise
-    /// as a range.
+    /// Returns an iterator over the blocks of the set, ascending.
+    ///
+    /// The blocks are the set's runs, each as a prefix if possible, and otherwise as a range.
     #[tactic(auto, using(crate::proofs::FamilyLemmas::is_family_set, crate::proofs::FamilyLemmas::blocks_in))]
     pub fn iter(&self) -> BlockIter<'_, FamilyBlock<F>>
         ensures blocks { map ip_bounds result ≡ self.now }

@@ -28,8 +28,9 @@ pub trait BlockOfSet: Copy {
         ensures { result ≡ of ip };
 }
 
-/// An iterator over the blocks of a set of one family, ascending. In contracts its value is the list of the blocks that
-/// are left.
+/// An iterator over the blocks of a set of one family, ascending.
+///
+/// In contracts its value is the list of the blocks that are left.
 #[derive(Drop)]
 pub struct BlockIter<'a, B: BlockOfSet> {
     left: Iter<'a, IpBlock>,

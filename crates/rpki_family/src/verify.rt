@@ -52,11 +52,10 @@ impl<F: Family, A: Allocator> FamilyBlocks<F, A> {
         }
     }
 
-    /// Returns Ok if and only if an issuer's claim has each address of the set. A call that returns Ok allocates
-    /// nothing.
+    /// Returns Ok if and only if an issuer's claim has each address of the set.
     ///
     /// A missing claim covers only the empty set. An inherited claim covers each set. A listed claim covers the sets
-    /// inside it.
+    /// inside it. A call that returns Ok allocates nothing.
     ///
     /// # Preconditions
     ///

@@ -46,7 +46,7 @@ range_der r = sequence_value (range_content r)
 abbrev pub is_written_as : RangeValue → PrefixValue → PrefixValue → Bool
 is_written_as r p q = (p.len == (without_end_zeros r.min).len) && (q.len == (without_end_ones r.max).len)
 
--- ---- the same by the shortest prefixes
+-- ---- the shortest prefixes of an address
 
 -- the shortest prefix whose first address is a
 pub record IsShortestFrom (a : ℕ) (p : PrefixValue) : Type 0 where

@@ -98,7 +98,11 @@ pub fn range_between(
     range_from(first, last)
 }
 
-/// Returns the range from one address to another. Different families are reported before a wrong order.
+/// Returns the range from one address to another.
+///
+/// # Errors
+///
+/// `FamilyMismatch` if the families differ, and otherwise `BadRange` if the first address is above the last.
 fn range_from(first: IpAddr, last: IpAddr) -> Result<AddressRange, FromStrError>
     ensures { MatchResult result (IsRangeFrom first last) (HasPairFault first last) }
 {
@@ -192,8 +196,9 @@ fn look_alike(family: AddressFamily, a: Addr, b: Addr) -> bool
 /// The maximum number of bytes of a range's text: two addresses and a dash.
 const RANGE_ROOM: usize = 2 * IP_ROOM + 1;
 
-/// Writes an address of the family into `out` at index `at`. Returns the end index and the number of bits of the
-/// family's addresses.
+/// Writes an address of the family into `out` at index `at`.
+///
+/// The call returns the end index and the number of bits of the family's addresses.
 #[inline(always)]
 fn put_addr(out: &mut [u8], at: usize, family: AddressFamily, addr: Addr) -> (usize, u8)
     requires { at + 40 ≤ length out.old }
@@ -290,6 +295,10 @@ impl Prefix {
     }
 
     /// Prints the prefix as an IPv4 prefix, as [`Prefix::fmt_with_family`] does.
+    ///
+    /// # Errors
+    ///
+    /// `fmt::Error` if the writer fails. It may have a part of the text then.
     pub fn fmt_v4<W: fmt::Write>(&self, f: &mut fmt::Formatter<W>) -> fmt::Result
         ensures { WritesOnOk W.write_str_gives f.old result (ip_prefix_text Ipv4 self.now) f.new }
     {
@@ -297,6 +306,10 @@ impl Prefix {
     }
 
     /// Prints the prefix as an IPv6 prefix, as [`Prefix::fmt_with_family`] does.
+    ///
+    /// # Errors
+    ///
+    /// `fmt::Error` if the writer fails. It may have a part of the text then.
     pub fn fmt_v6<W: fmt::Write>(&self, f: &mut fmt::Formatter<W>) -> fmt::Result
         ensures { WritesOnOk W.write_str_gives f.old result (ip_prefix_text Ipv6 self.now) f.new }
     {
@@ -369,6 +382,10 @@ impl AddressRange {
     }
 
     /// Prints the range as an IPv4 range, as [`AddressRange::fmt_with_family`] does.
+    ///
+    /// # Errors
+    ///
+    /// `fmt::Error` if the writer fails. It may have a part of the text then.
     pub fn fmt_v4<W: fmt::Write>(&self, f: &mut fmt::Formatter<W>) -> fmt::Result
         ensures { WritesOnOk W.write_str_gives f.old result (ip_range_text Ipv4 self.now) f.new }
     {
@@ -376,6 +393,10 @@ impl AddressRange {
     }
 
     /// Prints the range as an IPv6 range, as [`AddressRange::fmt_with_family`] does.
+    ///
+    /// # Errors
+    ///
+    /// `fmt::Error` if the writer fails. It may have a part of the text then.
     pub fn fmt_v6<W: fmt::Write>(&self, f: &mut fmt::Formatter<W>) -> fmt::Result
         ensures { WritesOnOk W.write_str_gives f.old result (ip_range_text Ipv6 self.now) f.new }
     {

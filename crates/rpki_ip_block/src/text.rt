@@ -82,8 +82,9 @@ impl IpBlock {
         read_block(Some(AddressFamily::Ipv6), text)
     }
 
-    /// Prints the block as a block of `family`, as [`Prefix::fmt_with_family`] and [`AddressRange::fmt_with_family`]
-    /// do.
+    /// Prints the block as a block of `family`.
+    ///
+    /// The forms are those of [`Prefix::fmt_with_family`] and [`AddressRange::fmt_with_family`].
     ///
     /// # Errors
     ///

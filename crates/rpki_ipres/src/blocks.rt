@@ -159,8 +159,9 @@ impl<A: Allocator> IpBlocks<A> {
         self.set.recall_invariant();
     }
 
-    /// Iterates over the blocks of the set, ascending: its runs, each as a Prefix if possible, and otherwise as a
-    /// Range.
+    /// Iterates over the blocks of the set, ascending.
+    ///
+    /// The blocks are the set's runs, each as a Prefix if possible, and otherwise as a Range.
     pub fn iter(&self) -> Iter<'_, IpBlock>
         ensures blocks { map ip_bounds (iter_rest result) ≡ self.now }
         ensures made { iter_rest result ≡ map new_ip_block self.now }
@@ -169,7 +170,9 @@ impl<A: Allocator> IpBlocks<A> {
         self.set.iter()
     }
 
-    /// Returns the blocks of the set, ascending: its runs, each as a Prefix if possible, and otherwise as a Range.
+    /// Returns the blocks of the set, ascending.
+    ///
+    /// The blocks are the set's runs, each as a Prefix if possible, and otherwise as a Range.
     pub(crate) fn as_slice(&self) -> &[IpBlock]
         ensures blocks { map ip_bounds result.now ≡ self.now }
         ensures made { result.now ≡ map new_ip_block self.now }

@@ -61,11 +61,10 @@ pub fn claims_of_families()
     ensures v6 { (claim : Claim) → IsIpClaim claim → IsFamilyClaim Ipv6 claim }
 {}
 
-/// States that the printed text of a set of a family parses back to that set, and that a text parses to at most one
-/// set.
+/// States that the printed text of a set of a family parses back to that set.
 ///
-/// The text parses as a list of that family, and also as a list without a given family. Therefore two sets of a family
-/// print alike if and only if they have the same addresses.
+/// The text parses as a list of that family, and also as a list without a given family. A text parses to at most one
+/// set. Therefore two sets of a family print alike if and only if they have the same addresses.
 pub fn printed_sets()
     ensures written { (family : _) (set : Runs) →
         IsFamilySet family set → IsSetOf (HasBlocks family (set_text family set)) set }

@@ -41,12 +41,11 @@ impl<A: Allocator> OverclaimedIpResources<A> {
         &self.excess
     }
 
-    /// Returns the fault for display as a fault of `family`, without the precondition of
-    /// [`OverclaimedIpResources::v4`].
+    /// Returns the fault for display as a fault of `family`.
     ///
-    /// This call borrows the fault, and the family is a value. [`OverclaimedIpResources::into_family`] takes the fault,
-    /// and the family is a type. The call is internal API for other crates: a user prints the fault that `v4` or `v6`
-    /// returns.
+    /// Unlike [`OverclaimedIpResources::v4`], the call has no precondition. It borrows the fault, and the family is a
+    /// value. [`OverclaimedIpResources::into_family`] takes the fault, and the family is a type. The call is internal
+    /// API for other crates: a user prints the fault that `v4` or `v6` returns.
     pub fn display_with_family(&self, family: AddressFamily) -> OverclaimedForFamily<'_, A>
         ensures { result ≡ (family, self.now) }
     {

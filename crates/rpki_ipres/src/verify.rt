@@ -72,9 +72,10 @@ impl<A: Allocator> IpBlocks<A> {
         }
     }
 
-    /// Returns the part of the set that a path of claims leaves. Each claim is made on what the steps before it leave.
+    /// Returns the part of the set that a path of claims leaves.
     ///
-    /// A path without steps leaves the whole set.
+    /// Each claim is checked against the part that the steps before it leave. A path without steps leaves the whole
+    /// set.
     ///
     /// # Errors
     ///

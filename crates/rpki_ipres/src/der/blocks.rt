@@ -131,11 +131,11 @@ impl<A: Allocator> IpBlocks<A> {
         encode_sequence(self.iter().as_slice(), out)
     }
 
-    /// Appends the SEQUENCE of the family and of what `encode` appends (RFC 3779, 2.2.3.2). The empty set appends
-    /// nothing.
+    /// Appends the SEQUENCE of the family and of the octets that `encode` appends (RFC 3779, 2.2.3.2).
     ///
-    /// A set of the family can be read back. An IPv4 set must consist of whole IPv4 addresses for that. For other sets
-    /// the IPv4 encoding has prefixes and bounds of more than 32 bits, which readers of IPv4 refuse.
+    /// The empty set appends nothing. A set of the family can be read back. An IPv4 set must consist of whole IPv4
+    /// addresses for that. For other sets the IPv4 encoding has prefixes and bounds of more than 32 bits, which readers
+    /// of IPv4 refuse.
     ///
     /// # Errors
     ///
@@ -277,7 +277,11 @@ impl<'a> Member<'a> {
         header_len(tag::SEQUENCE, self.content_len) + self.content_len
     }
 
-    /// Appends what `put_family` appends, if `out` has the capacity for it.
+    /// Appends the octets that `put_family` appends.
+    ///
+    /// # Preconditions
+    ///
+    /// The free capacity of `out` suffices for the encoding.
     pub(crate) fn append<B: Allocator>(&self, out: &mut Vec<u8, B>)
         requires fits { vec_len out.old + length self.now ≤ vec_capacity out.old }
         ensures items { out.new.items ≡ out.old.items ++ self.now }

@@ -26,10 +26,10 @@ impl<A: Allocator> IpResources<A> {
     ghost use Rattle.rpki_chain.specs.Choices.{if_present};
     ghost use Rattle.rpki_ipres.specs.ResourcesDer.{IsIpFamilies, IsIpResources, SaysClaimOf, SaysClaims, ip_families_at, ip_families_der, ip_member_der, ip_resources_at, ip_resources_der};
 
-    /// Reads the resources of a family: a NULL for inherited resources, or a SEQUENCE of blocks of the family (RFC
-    /// 3779, 2.2.3.4).
+    /// Reads the resources of a family (RFC 3779, 2.2.3.4).
     ///
-    /// The SEQUENCE has at least one block. From a lenient cursor the blocks may be in any order and may overlap.
+    /// They are a NULL for inherited resources, or a SEQUENCE of at least one block of the family. From a lenient
+    /// cursor the blocks may be in any order and may overlap.
     ///
     /// # Errors
     ///
@@ -78,11 +78,10 @@ impl<A: Allocator> IpResources<A> {
         Self::take_from_by_mode(alloc, cursor, family)
     }
 
-    /// Appends a NULL for inherited resources, or the SEQUENCE of the set's runs, ascending (RFC 3779, 2.2.3.4 to
-    /// 2.2.3.6).
+    /// Appends the encoding of the resources (RFC 3779, 2.2.3.4 to 2.2.3.6).
     ///
-    /// A run is encoded as a prefix if its addresses are those of a prefix, and otherwise as the SEQUENCE of its
-    /// bounds.
+    /// It is a NULL for inherited resources, or the SEQUENCE of the set's runs, ascending. A run is encoded as a prefix
+    /// if its addresses are those of a prefix, and otherwise as the SEQUENCE of its bounds.
     ///
     /// # Preconditions
     ///
@@ -103,10 +102,10 @@ impl<A: Allocator> IpResources<A> {
         encode_choice(&self.as_choice(), out)
     }
 
-    /// Appends the SEQUENCE of the family and of what `encode` appends (RFC 3779, 2.2.3.2). Missing resources append
-    /// nothing.
+    /// Appends the SEQUENCE of the family and of the octets that `encode` appends (RFC 3779, 2.2.3.2).
     ///
-    /// Resources of the family can be read back. IPv4 resources must list whole IPv4 addresses for that.
+    /// Missing resources append nothing. Resources of the family can be read back. IPv4 resources must list whole IPv4
+    /// addresses for that.
     ///
     /// # Errors
     ///

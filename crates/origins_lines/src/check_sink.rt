@@ -14,7 +14,7 @@ pub struct Watched<W> {
 impl<W: Sink> Watched<W> {
     ghost use Rattle.origins_lines.specs.Checks.{HasFound};
 
-    /// Wraps a sink to which nothing was written yet.
+    /// Wraps a sink that is at the start of a line, for example one to which nothing was written.
     pub fn new(sink: W) -> Watched<W>
         ensures written { W.written sink ≡ Some [] → ⟦<Watched<W> as Sink>⟧.written result ≡ Some [] }
         ensures mark { ⟦<Watched<W> as Sink>⟧.mark result ≡ W.mark sink }

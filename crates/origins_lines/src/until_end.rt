@@ -14,7 +14,7 @@ pub struct UntilEnd<R> {
 }
 
 impl<R: Read> UntilEnd<R> {
-    /// Wraps a reader. No call of it has failed.
+    /// Wraps a reader. No read through the result has failed yet.
     pub fn new(reader: R) -> UntilEnd<R>
     where
         R: Drop,

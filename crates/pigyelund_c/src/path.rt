@@ -58,7 +58,7 @@ fn step(
 
 /// Returns the part of an anchor's set that the certificates leave.
 ///
-/// The part that the certificates before it leave verifies each certificate.
+/// The claims of each certificate are compared with the part of the set that the certificates before it leave.
 ///
 /// # Errors
 ///

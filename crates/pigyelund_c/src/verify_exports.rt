@@ -82,9 +82,9 @@ pub extern "C" fn pigy_verify(
 
 /// Verifies the resources of certificates on a path, from a trust anchor down.
 ///
-/// The anchor's set verifies the first certificate. The part that the certificates before it leave verifies each other
-/// certificate. The outputs are the part that all certificates leave. If there are no certificates, they are the
-/// anchor's set.
+/// The claims of the first certificate are compared with the anchor's set. The claims of each later certificate are
+/// compared with the part of the set that the certificates before it leave. The outputs are the part that all
+/// certificates leave. If there are no certificates, they are the anchor's set.
 ///
 /// The octets of all extensions are in `run`. `encoding` is that of `pigy_verify`, and holds for the anchor's octets
 /// too. `as_len` and `ip_len` receive lengths in octets, written or required. `verified` receives the number of

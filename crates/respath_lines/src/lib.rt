@@ -41,8 +41,8 @@ const ROOM: usize = 64;
 
 /// Returns the answer to `line`. Neither text has the end of a line.
 ///
-/// The answer is an error message in three cases: the line isn't UTF-8, it doesn't begin with a command, or the command
-/// refuses its list.
+/// The answer is an error message if the line isn't UTF-8, if it doesn't begin with a command and a kind, or if the
+/// command refuses its argument.
 ///
 /// # Errors
 ///

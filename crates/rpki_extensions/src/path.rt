@@ -14,10 +14,11 @@ use rpki_resources::OrMemory;
 use rpki_resources::repository::resources::ResourceSet;
 use std::alloc::Allocator;
 
-/// Returns the part of a trust anchor's resources that the certificates on a path leave.
+/// Returns the part of a trust anchor's resources that the certificates on a path leave (RFC 6487, 7.2; RFC 8360, 4).
 ///
-/// The anchor's resources verify the first certificate. The resources that the certificates before it leave verify each
-/// other certificate. Without certificates the result is the anchor's resources.
+/// The claims of the first certificate are compared with the anchor's resources. The claims of each later certificate
+/// are compared with the part that the certificates before it leave. Without certificates the result is the anchor's
+/// resources.
 ///
 /// # Errors
 ///
@@ -62,7 +63,7 @@ fn verified_at<A: Allocator + Copy>(
     }
 }
 
-/// Returns the part of a trust anchor's set that the certificates on a path leave.
+/// Returns the part of a trust anchor's set that the certificates on a path leave (RFC 6487, 7.2; RFC 8360, 4).
 ///
 /// The anchor's set is the one that its extensions list. [`verified_path`] says how the certificates are verified.
 ///

@@ -20,7 +20,7 @@ use Rattle.rpki_ip_block.specs.Blocks.{ip_bounds}
 use Rattle.rpki_ip_block.specs.declared.block.IpBlock.{IpBlock}
 use Rattle.rpki_ip_block.specs.declared.block.IpBlock.TheVariants.{Prefix, Range}
 
--- the content of a range
+-- the strict reading of the content of a range finds exactly the contents that strict cursors accept
 strict_range_check : (limit : ℕ) → IsCheck IsBytes (SaysStrictRange limit) (range_in_by true limit)
 strict_range_check limit = tested_pair_check (IsStrictPrefix limit) IsSpan (prefix_by true limit) span_of is_set_range (prefix_modal limit).tight span_says span_again
 
@@ -28,7 +28,7 @@ range_tightens : (strict : Bool) (limit : ℕ) (content : List ℕ)
     → Tightens strict (range_in_by strict limit content) (range_in limit content)
 range_tightens strict limit content = tested_pair_tightens (IsStrictPrefix limit) IsSpan (prefix_at limit) span_of is_set_range strict (prefix_by strict limit) ((prefix_modal limit).tightens strict) content
 
--- by the tag
+-- the content denotes f of the value that it denotes by C
 abbrev Named : {X Y : Type 0} → (List ℕ → X → Type 0) → (X → Y) → List ℕ → Y → Type 0
 Named {X} C f content y = (x : X) × C content x × (y ≡ f x)
 
@@ -49,7 +49,7 @@ block_from limit bytes (Prefix p) (b, ((counted, is), padded), prefix) =
     (record { tag = 3; content = bit_content b }, is, inl (refl, (p, (b, (record { counted = counted; spelled = refl }, padded), prefix), refl)))
 block_from limit bytes (Range r) (content, is, says) = (record { tag = 48; content = content }, is, inr (refl, (r, says, refl)))
 
--- a block
+-- the reading of a block in either mode
 pub ip_block_modal : (limit : ℕ)
     → IsModal (IsStrictIpBlock limit) (ip_block_at limit) (λ strict. ip_block_by strict limit)
 unfolding Says
@@ -67,7 +67,7 @@ ip_block_modal limit = record {
       bytes;
 }
 
--- a block after others
+-- the reading of a block after others in either mode
 pub next_ip_block_modal : (limit : ℕ) (before : Option ℕ)
     → IsModal (IsNextIpBlock limit before) (ip_block_at limit) (λ strict. next_ip_block_by strict limit before)
 next_ip_block_modal limit before =

@@ -22,11 +22,11 @@ use Rattle.rpki_ip_block.specs.declared.block.IpBlock.TheVariants.{Prefix, Range
 abbrev Named : {X Y : Type 0} → (List ℕ → X → Type 0) → (X → Y) → List ℕ → Y → Type 0
 Named {X} C f content y = (x : X) × C content x × (y ≡ f x)
 
--- the content of a prefix
+-- the reading of the content of a prefix
 prefix_says : (limit : ℕ) → IsCheck IsBytes (Named (IsPrefixContent limit) Prefix) (prefix_block_in limit)
 prefix_says limit = mapped_check IsBytes (IsPrefixContent limit) (prefix_in limit) Prefix (record { takes = λ content p fits e. (prefix_check limit).takes content p tt e; again = (prefix_check limit).again })
 
--- the content of a range
+-- the reading of the content of a range
 range_says : (limit : ℕ) → IsCheck IsBytes (Named (SaysRange limit) Range) (range_block_in limit)
 range_says limit = mapped_check IsBytes (SaysRange limit) (range_in limit) Range (range_check limit)
 
@@ -54,7 +54,7 @@ block_from limit bytes (Prefix p) (b, (counted, is), prefix) =
     (record { tag = 3; content = bit_content b }, is, inl (refl, (p, (b, record { counted = counted; spelled = refl }, prefix), refl)))
 block_from limit bytes (Range r) (content, is, says) = (record { tag = 48; content = content }, is, inr (refl, (r, says, refl)))
 
--- a prefix or a range
+-- the reading finds exactly the blocks of the grammar: a prefix or a range
 pub ip_block_reading : (limit : ℕ) → IsReading (IsIpBlockDer limit) (ip_block_at limit)
 unfolding Says
 ip_block_reading limit =
@@ -67,6 +67,6 @@ pub ip_block_has_octets : (limit : ℕ) (front : List ℕ) (block : IpBlock) →
 ip_block_has_octets limit front (Prefix p) is = value_has_octets front 3 (bit_content is.0) is.1.1
 ip_block_has_octets limit front (Range r) is = value_has_octets front 48 is.0 is.1
 
--- a SEQUENCE of blocks
+-- the reading finds exactly the SEQUENCES of blocks
 pub blocks_reading : (limit : ℕ) → IsReading (IsSequenceOf (IsIpBlockDer limit)) (ip_blocks_at limit)
 blocks_reading limit = sequence_reading (λ (state : Unit {0}) (x : IpBlock). state) (λ state. IsIpBlockDer limit) (λ state. ip_block_at limit) (λ state. ip_block_reading limit) (λ state. ip_block_has_octets limit) tt

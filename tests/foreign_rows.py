@@ -276,7 +276,7 @@ def covering_octets(route: bytes, vrps: list[prefixes.Vrp]) -> bytes:
 def changed_vrps(
     vrps: list[prefixes.Vrp], announced: list[prefixes.Vrp], withdrawn: list[prefixes.Vrp]
 ) -> list[prefixes.Vrp]:
-    """The VRPs that a router has after changes (RFC 8210, 5.6 and 12): withdrawals are looked at first."""
+    """The VRPs that a router has after changes (RFC 8210, 5.3 and 12): withdrawals are looked at first."""
     left = set(vrps)
     for place, vrp in enumerate(withdrawn):
         if vrp not in left:

@@ -89,7 +89,7 @@ pub extern "C" fn pigy_table_origins(
     }
 }
 
-/// Makes the next table: `table` without the withdrawn VRPs, and then with the announced ones (RFC 8210, 5.6).
+/// Makes the next table: `table` without the withdrawn VRPs, and then with the announced ones (RFC 8210, 5.3).
 ///
 /// The next table has a handle of its own, and `table` does not change. A withdrawal removes all copies of a VRP. Each
 /// array may list a VRP only once, even if the table lists it more than once. A VRP in both arrays has to be in the

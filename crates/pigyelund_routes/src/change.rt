@@ -1,4 +1,4 @@
-//! A table after changes of its VRPs (RFC 8210, 5.6).
+//! A table after changes of its VRPs (RFC 8210, 5.3).
 ghost use Rattle.std.specs.Prelude.{◌≡◌, MatchResult};
 ghost use Rattle.rpki_text.specs.Memory.{IfRefused};
 ghost use Rattle.pigyelund_routes.specs.Tables.{IsChangedTable, HasChangeTableError, fault_index, fault_status, change_table_error_index, change_table_error_status};
@@ -66,7 +66,7 @@ impl ChangeTableError {
     }
 }
 
-/// Returns the boxed table without the withdrawn VRPs and with the announced ones (RFC 8210, 5.6).
+/// Returns the boxed table without the withdrawn VRPs and with the announced ones (RFC 8210, 5.3).
 ///
 /// `table` doesn't change.
 ///

@@ -60,7 +60,7 @@ class Table:
     """A table of VRPs (validated ROA payloads) for route origin validation (RFC 6811, 2).
 
     `Pigyelund.table` makes a table. A table can be queried any number of times. It never changes: `changed` makes the
-    next table from withdrawn and announced VRPs (RFC 8210, 5.6).
+    next table from withdrawn and announced VRPs (RFC 8210, 5.3).
 
         >>> from ipaddress import ip_network
         >>> from pigyelund import Pigyelund, Route, Vrp
@@ -142,7 +142,7 @@ class Table:
     __copy__ = __deepcopy__ = __reduce__ = __reduce_ex__ = _refuse_copy
 
     def changed(self, announced: object = (), withdrawn: object = ()) -> "Table":
-        """Returns a new table: this one without `withdrawn`, and then with `announced` (RFC 8210, 5.6).
+        """Returns a new table: this one without `withdrawn`, and then with `announced` (RFC 8210, 5.3).
 
         This table stays as it is. VRPs are the same if prefix, maximum length and AS are the same. A VRP that is both
         withdrawn and announced is in the new table once.

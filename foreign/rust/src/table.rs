@@ -9,7 +9,7 @@ use crate::{address_of, validity_of, OriginError, Prefix, Reason, Route, Validit
 /// A table of VRPs (validated ROA payloads) for route origin validation (RFC 6811, 2).
 ///
 /// A table can be queried any number of times. It never changes: [`Table::changed`] makes the next table from withdrawn
-/// and announced VRPs (RFC 8210, 5.6).
+/// and announced VRPs (RFC 8210, 5.3).
 ///
 /// A table is `Send` and `Sync`: any number of threads may query it at once.
 ///
@@ -92,7 +92,7 @@ impl Table {
         table_or_error(raw::Table::new(vrps))
     }
 
-    /// Returns a new table: this one without `withdrawn`, and then with `announced` (RFC 8210, 5.6).
+    /// Returns a new table: this one without `withdrawn`, and then with `announced` (RFC 8210, 5.3).
     ///
     /// This table stays as it is. VRPs are the same if prefix, maximum length and AS are the same. A VRP that is both
     /// withdrawn and announced is in the new table once.

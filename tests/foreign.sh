@@ -186,6 +186,13 @@ END
     names "$out/older" env PIGYELUND_LIB="$out/older"
 }
 
+# mypy accepts the package and right calls of it, and refuses wrong calls: those of the sources, and as pip installs it.
+of_python_types() {
+    has "the type hints of Python" mypy || return
+    foreign/python/test_types.py || fail "the type hints of the sources"
+    foreign/python/test_types.py "$out/there/bin/python" || fail "the type hints of the installed package"
+}
+
 # The first Python that the package wants runs its test, and the one before can't import it.
 of_least_python() {
     least=$(sed -n 's/^requires-python = ">=3\.\(.*\)"$/\1/p' foreign/python/pyproject.toml)
@@ -209,6 +216,7 @@ of_python() {
     python3 -c 'import ensurepip, venv' 2>/dev/null || { echo "left out: pip needs python3-venv"; return; }
     python3 -m venv "$out/there" && "$out/there/bin/pip" install -q foreign/python || { fail "pip install"; return; }
     of_python_search
+    of_python_types
     tests/foreign_page.py Python "$prefix" || fail "the program in Python"
     tests/foreign_page.py "A table in Python" "$prefix" || fail "the table in Python"
 }

@@ -43,6 +43,7 @@ from pigyelund import (
 )
 from pigyelund.errors import error_for_status
 from pigyelund.raw import CallResult, Lengths, Pair, Present
+from test_prefixes import OF_PREFIXES
 from test_tables import OF_TABLES, OtherVrp
 
 AMPLE = 8192
@@ -405,7 +406,7 @@ def reasons(library: Pigyelund, _: Path) -> Iterator[str]:
         (
             lambda: library.origins([Vrp.of(TEN, 1), vrp], []),
             OriginError,
-            "at index 1: bad maximum length of a VRP",
+            f"at index 1: bad maximum length of a VRP: {vrp}",
         ),
     ]
     for call, kind, text in asked:
@@ -434,7 +435,7 @@ def tables(library: Pigyelund, _: Path) -> Iterator[str]:
     try:
         yield f"a duplicate answers {table.changed(vrps[:1])}"
     except ChangeError as reason:
-        if (reason.index, str(reason)) != (0, "at index 0: duplicate announcement of a VRP"):
+        if (reason.index, str(reason)) != (0, f"at index 0: duplicate announcement of a VRP: {vrps[0]}"):
             yield f"{reason!r} of a duplicate"
     table.close()
     table.close()
@@ -533,7 +534,7 @@ def copies(library: Pigyelund, _: Path) -> Iterator[str]:
 
 
 OTHERS = (names_and_numbers, texts, no_bits_are_dropped, defaults, lenient, reasons, tables)
-OTHERS += (equal_fields, item_texts, changes_by_sets, copies, *OF_TABLES)
+OTHERS += (equal_fields, item_texts, changes_by_sets, copies, *OF_PREFIXES, *OF_TABLES)
 
 
 def main() -> int:

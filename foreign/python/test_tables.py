@@ -7,7 +7,10 @@ while a thread uses it. They also test the message that appears without a librar
 import copy
 import ctypes
 import gc
+import os
 import pickle
+import subprocess
+import sys
 import threading
 from array import array
 from collections.abc import Callable, Iterator
@@ -269,7 +272,7 @@ def closed_at_any_time(library: Pigyelund, _: Path) -> Iterator[str]:
 
 
 def no_library(library: Pigyelund, folder: Path) -> Iterator[str]:
-    """Without a library, or with an older one, an `ImportError` names the file and how to build it, in one line."""
+    """Without a library, or with an older one, an `ImportError` names the file and how to get it, in one line."""
     needed = raw.VERSION
     asked: list[tuple[Path | str, int, str]] = [
         (folder / "no folder" / raw.NAME, needed, "cannot open shared object file: No such file or directory"),
@@ -288,12 +291,35 @@ def no_library(library: Pigyelund, folder: Path) -> Iterator[str]:
             try:
                 yield f"{Pigyelund(path)} of {path}"
             except ImportError as reason:
-                if str(reason) != f"{path}: {why}; {raw.HOW_TO_BUILD}" or reason.path != str(path):
+                if str(reason) != f"{path}: {why}; {raw.HOW_TO_GET}" or reason.path != str(path):
                     yield f"{reason!r} of {path}"
     finally:
         raw.VERSION = needed
-    if "\n" in raw.HOW_TO_BUILD or "PIGYELUND_LIB" not in raw.HOW_TO_BUILD or "rt lib" not in raw.HOW_TO_BUILD:
-        yield f"how to build: {raw.HOW_TO_BUILD}"
+    if "\n" in raw.HOW_TO_GET or "PIGYELUND_LIB" not in raw.HOW_TO_GET or "rt lib" not in raw.HOW_TO_GET:
+        yield f"how to get the library: {raw.HOW_TO_GET}"
 
 
-OF_TABLES = (arrays, frees, no_copies, closed_while_asked, closed_at_any_time, no_library)
+def searched(_: Pigyelund, folder: Path) -> Iterator[str]:
+    """Without a path, an `ImportError` says what PIGYELUND_LIB is, and which folders were searched, in one line."""
+    own, none = Path(raw.__file__).parent, folder / "no folder"
+    loader = "/etc/ld.so.cache, and its default folders such as /lib and /usr/lib; "
+    package = f"searched: the folder of the package, {own}, and then by the system's loader: LD_LIBRARY_PATH "
+    named = f"{none}/{raw.NAME}: cannot open shared object file: No such file or directory; "
+    asked: list[tuple[dict[str, str], str]] = [
+        ({"PIGYELUND_LIB": str(none)}, f"{named}PIGYELUND_LIB names the only folder that was searched, {none}; "),
+        ({"LD_LIBRARY_PATH": str(none)}, f"PIGYELUND_LIB is not set; {package}({none}), {loader}"),
+        ({"PIGYELUND_LIB": ""}, f"PIGYELUND_LIB is empty; {package}(not set), {loader}"),
+    ]
+    for variables, wanted in asked:
+        kept = {name: os.environ[name] for name in ("PATH",) if name in os.environ}
+        words = [sys.executable, "-c", "import pigyelund; pigyelund.Pigyelund()"]
+        environment = kept | {"PYTHONPATH": str(own.parent), "LC_ALL": "C"} | variables
+        run = subprocess.run(words, env=environment, capture_output=True, text=True, check=False)
+        line = run.stderr.splitlines()[-1] if run.stderr else ""
+        if run.returncode == 0 and not (variables.get("PIGYELUND_LIB") or raw.BESIDE.exists()):
+            continue  # the system's loader has the library
+        if not (line.startswith("ImportError: ") and wanted in line and line.endswith(raw.HOW_TO_GET)):
+            yield f"{variables}: {line!r} does not have {wanted!r}"
+
+
+OF_TABLES = (arrays, frees, no_copies, closed_while_asked, closed_at_any_time, no_library, searched)

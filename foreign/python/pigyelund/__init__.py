@@ -52,7 +52,21 @@ from .errors import (
     error_for_status,
     status_text,
 )
-from .raw import CallResult, Comparison, Family, Lengths, Mismatch, Operation, Present, Route, Status, Vrp
+from .raw import (
+    Address,
+    CallResult,
+    Comparison,
+    Family,
+    Lengths,
+    Mismatch,
+    Network,
+    Operation,
+    Present,
+    Route,
+    Status,
+    Vrp,
+    Vrps,
+)
 from .table import Covering, Table, Validity
 
 __all__ = [
@@ -184,7 +198,8 @@ class Pigyelund:
 
     Raises:
         ImportError: The file is missing, is not the library, or lacks calls that this package requires. The text names
-            the file and says how to build it. No other file is tried.
+            the file, the folders that were searched, and PIGYELUND_LIB, and says how to get the library. No other file
+            is tried.
     """
 
     def __init__(self, path: str | os.PathLike[str] | None = None) -> None:
@@ -276,6 +291,47 @@ class Pigyelund:
             return [IPv4Network((octets[at : at + 4], octets[at + 4])) for at in range(0, len(octets), 5)]
         return [IPv6Network((octets[at : at + 16], octets[at + 16])) for at in range(0, len(octets), 17)]
 
+    def prefixes(self, resources: Resources, encoding: Encoding = Encoding.LENIENT) -> list[Network]:
+        """Returns the shortest list of prefixes that has exactly the addresses of a set.
+
+        Args:
+            resources: The set. Its AS identifiers are not read.
+            encoding: The encodings that are accepted.
+
+        Returns:
+            The prefixes of `ipaddress`: those of IPv4, ascending, and then those of IPv6, ascending.
+
+        Raises:
+            DerError, InheritedError: As in `cover`.
+        """
+        return [it for family in Family for it in self.cover(resources.ip, family, encoding)]
+
+    def resources(self, prefixes: Iterable[Network | Address]) -> Resources:
+        """Returns the set of the addresses of some prefixes. The set has no AS numbers.
+
+            >>> from ipaddress import ip_network
+            >>> library.prefixes(library.resources([ip_network("10.0.0.0/9"), ip_network("10.128.0.0/9")]))
+            [IPv4Network('10.0.0.0/8')]
+
+        Args:
+            prefixes: Networks and addresses of `ipaddress`, of both families and in any order. They may overlap. For
+                a range pass `summarize_address_range(first, last)` of `ipaddress`.
+
+        Raises:
+            TypeError: An item is neither a network nor an address, for example a `str` or an `IPv4Interface`.
+            ValueError: An item has a scope, such as `fe80::1%eth0`.
+        """
+        texts: dict[Family, list[str]] = {family: [] for family in Family}
+        for prefix in prefixes:
+            network = raw.network_of(prefix)
+            texts[raw.family_of(network)].append(str(network))
+        found = Resources()
+        for family, listed in texts.items():
+            if listed:
+                answer = self.answer(f"der {family.name.lower()} {', '.join(listed)}")
+                found = self.union(found, Resources(ip=bytes.fromhex(answer)))
+        return found
+
     def origins(self, vrps: Iterable[Vrp], routes: Iterable[Route]) -> list[Validity]:
         """Validates routes against VRPs (RFC 6811, 2).
 
@@ -295,13 +351,15 @@ class Pigyelund:
                 attribute `status` is at least `Status.SECOND`.
             TypeError: An item of `vrps` is no `Vrp`, or an item of `routes` is no `Route`.
         """
-        asked = list(routes)
-        result = self.raw.origins(list(vrps), asked, len(asked))
+        listed, asked = list(vrps), list(routes)
+        result = self.raw.origins(listed, asked, len(asked))
         if result.status != Status.OK:
-            raise error_for_status(result.status, index=result.number)
+            at, is_route = result.number, result.status >= Status.SECOND
+            item = raw.item_at(asked, len(asked), at) if is_route else raw.item_at(listed, len(listed), at)
+            raise error_for_status(result.status, index=at, item=item)
         return [Validity(octet) for octet in result.contents[0]]
 
-    def table(self, vrps: object) -> Table:
+    def table(self, vrps: Vrps) -> Table:
         """Builds a table of VRPs. Use it in a `with`, or call `close`.
 
         Args:

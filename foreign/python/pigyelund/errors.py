@@ -2,7 +2,7 @@
 
 from typing import NamedTuple
 
-from .raw import Status
+from .raw import Route, Status, Vrp
 
 
 class Resources(NamedTuple):
@@ -17,7 +17,7 @@ class Resources(NamedTuple):
     ip: bytes = b""
 
 
-TEXTS = {
+TEXTS: dict[int, str] = {
     Status.OK: "done",
     Status.TOO_SMALL: "a buffer is too small",
     Status.MEMORY: "out of memory",
@@ -67,7 +67,8 @@ def status_text(status: int) -> str:
         status: A status of a call. The text of an unknown status is `unknown status`.
     """
     fault, kind = status & 0xFF, status & ~0xFF
-    octets = {Status.BAD_AS: "AS identifiers", Status.BAD_IP: "IP address blocks"}.get(kind & ~Status.SECOND)
+    of_kind: dict[int, str] = {Status.BAD_AS: "AS identifiers", Status.BAD_IP: "IP address blocks"}
+    octets = of_kind.get(kind & ~Status.SECOND)
     if octets is None or not 1 <= fault <= len(FAULTS):
         return TEXTS.get(status, "unknown status")
     of = " of the certificate or of the second set" if kind & Status.SECOND else ""
@@ -85,22 +86,31 @@ class PigyelundError(Exception):
             `OutOfMemoryError`. For any other call it is None.
         index: For calls with VRPs or routes the index, from 0, of the refused one. For any other call, and in an
             `OutOfMemoryError`, it is None.
+        item: In an `OriginError` a copy of the refused `Vrp` or `Route`. In any other error it is None.
     """
 
     def __init__(
-        self, status: int, excess: Resources = Resources(), verified: int | None = None, index: int | None = None
+        self,
+        status: int,
+        excess: Resources = Resources(),
+        verified: int | None = None,
+        index: int | None = None,
+        item: Vrp | Route | None = None,
     ) -> None:
-        super().__init__(status, excess, verified, index)
+        super().__init__(status, excess, verified, index, item)
         self.status = status
         self.excess = excess
         self.verified = verified
         self.index = index
+        self.item = item
 
     def __str__(self) -> str:
         text = status_text(self.status)
         if self.verified is not None:
             return f"after {self.verified} certificates: {text}"
-        return text if self.index is None else f"at index {self.index}: {text}"
+        if self.index is None:
+            return text
+        return f"at index {self.index}: {text}" if self.item is None else f"at index {self.index}: {text}: {self.item}"
 
 
 class OutOfMemoryError(PigyelundError, MemoryError):
@@ -138,8 +148,8 @@ class DerError(PigyelundError):
 class OriginError(PigyelundError):
     """A VRP or a route is malformed: its family, its prefix, or its maximum length is invalid.
 
-    The attribute `index` is the index, from 0, of the first malformed VRP or route in its list. `ChangeError` is a
-    subclass of this class. Catch `ChangeError` first.
+    The attribute `index` is the index, from 0, of the first malformed VRP or route in its list, and `item` is a copy of
+    it. `ChangeError` is a subclass of this class. Catch `ChangeError` first.
     """
 
 
@@ -151,7 +161,8 @@ class ChangeError(OriginError):
     - `Status.UNKNOWN_WITHDRAWAL`: A VRP in `withdrawn` is not in the table, or is listed twice. This is checked first.
     - `Status.DUPLICATE_ANNOUNCEMENT`: A VRP in `announced` is in the table and is not withdrawn, or is listed twice.
 
-    The attribute `index` is the index, from 0, of the first VRP in this list that breaks the rule.
+    The attribute `index` is the index, from 0, of the first VRP in this list that breaks the rule, and `item` is a copy
+    of this VRP.
     """
 
 
@@ -179,13 +190,21 @@ ERROR_CLASSES: dict[int, type[PigyelundError]] = {
 
 
 def error_for_status(
-    status: int, excess: Resources = Resources(), verified: int | None = None, index: int | None = None
+    status: int,
+    excess: Resources = Resources(),
+    verified: int | None = None,
+    index: int | None = None,
+    item: Vrp | Route | None = None,
 ) -> PigyelundError:
-    """Returns the exception for the status of a call that failed. The `index` of an `OutOfMemoryError` is None."""
+    """Returns the exception for the status of a call that failed.
+
+    The `index` of an `OutOfMemoryError` is None. Only an `OriginError` has the `item`.
+    """
     kind = ERROR_CLASSES.get(status & ~Status.SECOND, PigyelundError)
     if status & ~Status.SECOND & 0xF00 in (Status.BAD_AS, Status.BAD_IP):
         kind = DerError
     elif index is not None and kind is not OutOfMemoryError:
         is_change = status in (Status.UNKNOWN_WITHDRAWAL, Status.DUPLICATE_ANNOUNCEMENT)
         kind = ChangeError if is_change else OriginError
-    return kind(status, excess, verified, None if kind is OutOfMemoryError else index)
+    has_item = issubclass(kind, OriginError)
+    return kind(status, excess, verified, None if kind is OutOfMemoryError else index, item if has_item else None)

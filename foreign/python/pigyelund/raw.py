@@ -15,18 +15,26 @@ The module makes one check of its own: an integer that does not fit its paramete
 
 import ctypes
 import os
+from collections.abc import Iterable, Sequence
 from enum import Enum, IntEnum, IntFlag
-from ipaddress import IPv4Network, IPv6Network, ip_network
+from ipaddress import IPv4Address, IPv4Interface, IPv4Network, IPv6Address, IPv6Interface, IPv6Network, ip_network
 from operator import index
 from pathlib import Path
-from typing import NamedTuple
+from typing import TYPE_CHECKING, ClassVar, NamedTuple, SupportsIndex, TypeAlias, TypeVar
+
+if TYPE_CHECKING:
+    from _typeshed import ReadableBuffer
 
 NAME = "libpigyelund.so"
+BESIDE = Path(__file__).parent / NAME
 VERSION = 4  # the version of the calls below; a library of a later version has them too
-HOW_TO_BUILD = (
-    "build it by 'rt lib' in crates/pigyelund_c, install it by 'make -C foreign/c install PREFIX=..', "
-    "and set PIGYELUND_LIB to PREFIX/lib"
+HOW_TO_GET = (
+    "to get the library, install the Debian package pigyelund; or build it by 'rt lib' in crates/pigyelund_c, "
+    "install it by 'make -C foreign/c install PREFIX=..', and set PIGYELUND_LIB to PREFIX/lib"
 )
+
+Network: TypeAlias = IPv4Network | IPv6Network
+Address: TypeAlias = IPv4Address | IPv6Address
 
 
 class Status(IntEnum):
@@ -162,22 +170,28 @@ class Struct(ctypes.Structure):
     Padding is ignored. Do not set a field of a struct that is in a set or is the key of a dict.
     """
 
-    _limits_: dict[str, int]  # for each integer field the least value that does not fit
-    _octet_count_: int  # the number of octets of all fields; the padding of C comes only after them
+    _limits_: ClassVar[dict[str, int]]  # for each integer field the least value that does not fit
+    _octet_count_: ClassVar[int]  # the number of octets of all fields; the padding of C comes only after them
+    if TYPE_CHECKING:
+        __iter__: ClassVar[None]  # a struct is no iterable; the `__getattr__` of ctypes would make it one
 
     def __init_subclass__(cls) -> None:
         super().__init_subclass__()
-        numbers = [(name, kind) for name, kind in cls._fields_ if not issubclass(kind, ctypes.Array)]
-        cls._limits_ = {name: 1 << 8 * ctypes.sizeof(kind) for name, kind in numbers}
-        cls._octet_count_ = sum(ctypes.sizeof(kind) for _, kind in cls._fields_)
+        kinds = {field[0]: field[1] for field in cls._fields_}
+        numbers = {name: kind for name, kind in kinds.items() if not issubclass(kind, ctypes.Array)}
+        cls._limits_ = {name: 1 << 8 * ctypes.sizeof(kind) for name, kind in numbers.items()}
+        cls._octet_count_ = sum(map(ctypes.sizeof, kinds.values()))
 
     def __setattr__(self, name: str, value: object) -> None:
-        if name in self._limits_ and not fits(value, self._limits_[name]):
-            raise OverflowError(f"{name}: {value}")
+        if name in self._limits_:
+            if not hasattr(value, "__index__"):
+                raise TypeError(f"{name}: {value!r} is no integer")
+            if not fits(value, self._limits_[name]):
+                raise OverflowError(f"{name}: {value} is not from 0 to {self._limits_[name] - 1}")
         super().__setattr__(name, value)
 
     def __eq__(self, other: object) -> bool:
-        if type(other) is not type(self):
+        if not isinstance(other, Struct) or type(other) is not type(self):
             return NotImplemented
         return self._octets() == other._octets()
 
@@ -218,9 +232,49 @@ class Certificate(Struct):
         ("present", ctypes.c_uint32),
         ("mode", ctypes.c_uint32),
     ]
+    as_start: int
+    as_len: int
+    ip_start: int
+    ip_len: int
+    present: int
+    mode: int
+
+    if TYPE_CHECKING:
+
+        def __init__(
+            self,
+            as_start: SupportsIndex = 0,
+            as_len: SupportsIndex = 0,
+            ip_start: SupportsIndex = 0,
+            ip_len: SupportsIndex = 0,
+            present: SupportsIndex = 0,
+            mode: SupportsIndex = 0,
+        ) -> None: ...
 
 
-class Vrp(Struct):
+class Prefixed:
+    """The property that a VRP and a route have in common.
+
+    Attributes:
+        prefix: The prefix, as an object of `ipaddress`.
+    """
+
+    address: ctypes.Array[ctypes.c_uint8]
+    family: int
+    len: int
+
+    @property
+    def prefix(self) -> Network:
+        """The prefix, as an object of `ipaddress`. A family other than `Family.V4` is read as IPv6.
+
+        Raises:
+            ValueError: The length is above the family's, or address bits after it are set.
+        """
+        octets = bytes(self.address)[: 4 if self.family == Family.V4 else 16]
+        return ip_network((octets, self.len))
+
+
+class Vrp(Prefixed, Struct):
     """A VRP (validated ROA payload, RFC 6811, 2): the struct `pigy_vrp` of `pigyelund.h`. `Vrp.of` makes one.
 
         >>> from ipaddress import ip_network
@@ -245,13 +299,27 @@ class Vrp(Struct):
         ("len", ctypes.c_uint8),
         ("max_len", ctypes.c_uint8),
     ]
+    asn: int
+    max_len: int
+
+    if TYPE_CHECKING:
+
+        def __init__(
+            self,
+            address: ctypes.Array[ctypes.c_uint8] = ...,
+            asn: SupportsIndex = 0,
+            family: SupportsIndex = 0,
+            len: SupportsIndex = 0,
+            max_len: SupportsIndex = 0,
+        ) -> None: ...
 
     @classmethod
-    def of(cls, prefix: IPv4Network | IPv6Network, asn: int, max_len: int | None = None) -> "Vrp":
+    def of(cls, prefix: Network | Address, asn: SupportsIndex, max_len: SupportsIndex | None = None) -> "Vrp":
         """Returns the VRP of a prefix.
 
         Args:
-            prefix: The prefix, an object of `ipaddress`. For text use `ip_network(text)`.
+            prefix: The prefix: a network of `ipaddress`, or an address, which is a prefix of 32 or 128 bits. For text
+                use `ip_network(text)`.
             asn: The AS that may originate the prefix, 0 to 4294967295.
             max_len: The maximum length in bits: the prefix length to 32 for IPv4, the prefix length to 128 for IPv6.
                 None means the prefix length.
@@ -259,37 +327,43 @@ class Vrp(Struct):
         Raises:
             OverflowError: `asn` is not from 0 to 4294967295, or `max_len` is not from 0 to 255. If `max_len` is from 0
                 to 255 but out of its range, a call that reads the VRP raises `OriginError`.
-            AttributeError: `prefix` is no network, for example a `str`.
-            TypeError: `asn` or `max_len` is no integer.
+            TypeError: `prefix` is neither a network nor an address, for example a `str` or an `IPv4Interface`. `asn` or
+                `max_len` is no integer.
+            ValueError: `prefix` has a scope, such as `fe80::1%eth0`.
         """
-        length = prefix.prefixlen if max_len is None else max_len
-        return cls(address_of(prefix), asn, family_of(prefix), prefix.prefixlen, length)
-
-    @property
-    def prefix(self) -> IPv4Network | IPv6Network:
-        """The prefix, as an object of `ipaddress`. A family other than `Family.V4` is read as IPv6.
-
-        Raises:
-            ValueError: The length is above the family's, or address bits after it are set.
-        """
-        octets = bytes(self.address)[: 4 if self.family == Family.V4 else 16]
-        return ip_network((octets, self.len))
+        network = network_of(prefix)
+        length = network.prefixlen if max_len is None else max_len
+        return cls(address_of(network), asn, family_of(network), network.prefixlen, length)
 
     def __repr__(self) -> str:
         return constructor_text(self, asn=self.asn, max_len=self.max_len)
 
 
-class Covering(Struct):
+class Covering(Prefixed, Struct):
     """A VRP that covers a route, and why it does not match the route: the struct `pigy_covering` of `pigyelund.h`.
 
     The field `mismatch` is a `Mismatch`. The other fields are those of `Vrp`. The octets after an IPv4 address are 0.
     """
 
     _fields_ = [*Vrp._fields_, ("mismatch", ctypes.c_uint8)]
-    prefix = Vrp.prefix
+    asn: int
+    max_len: int
+    mismatch: int
+
+    if TYPE_CHECKING:
+
+        def __init__(
+            self,
+            address: ctypes.Array[ctypes.c_uint8] = ...,
+            asn: SupportsIndex = 0,
+            family: SupportsIndex = 0,
+            len: SupportsIndex = 0,
+            max_len: SupportsIndex = 0,
+            mismatch: SupportsIndex = 0,
+        ) -> None: ...
 
 
-class Route(Struct):
+class Route(Prefixed, Struct):
     """A route (RFC 6811, 2): a prefix and the AS that originates it. `Route.of` makes one.
 
         >>> from ipaddress import ip_network
@@ -300,24 +374,36 @@ class Route(Struct):
     matches the route. The fields `address`, `family` and `len` are those of `Vrp`.
     """
 
-    _fields_ = Vrp._fields_[:-1]
+    _fields_ = [*Vrp._fields_[:-1]]
+    asn: int
+
+    if TYPE_CHECKING:
+
+        def __init__(
+            self,
+            address: ctypes.Array[ctypes.c_uint8] = ...,
+            asn: SupportsIndex = 0,
+            family: SupportsIndex = 0,
+            len: SupportsIndex = 0,
+        ) -> None: ...
 
     @classmethod
-    def of(cls, prefix: IPv4Network | IPv6Network, asn: int) -> "Route":
+    def of(cls, prefix: Network | Address, asn: SupportsIndex) -> "Route":
         """Returns the route to a prefix.
 
         Args:
-            prefix: The prefix, an object of `ipaddress`. For text use `ip_network(text)`.
+            prefix: The prefix: a network of `ipaddress`, or an address, which is a prefix of 32 or 128 bits. For text
+                use `ip_network(text)`.
             asn: The AS that originates the route, 1 to 4294967295, or 0 if the path ends in an AS_SET.
 
         Raises:
             OverflowError: `asn` is not from 0 to 4294967295.
-            AttributeError: `prefix` is no network, for example a `str`.
-            TypeError: `asn` is no integer.
+            TypeError: `prefix` is neither a network nor an address, for example a `str` or an `IPv4Interface`. `asn` is
+                no integer.
+            ValueError: `prefix` has a scope, such as `fe80::1%eth0`.
         """
-        return cls(address_of(prefix), asn, family_of(prefix), prefix.prefixlen)
-
-    prefix = Vrp.prefix
+        network = network_of(prefix)
+        return cls(address_of(network), asn, family_of(network), network.prefixlen)
 
     def __repr__(self) -> str:
         return constructor_text(self, asn=self.asn)
@@ -344,12 +430,32 @@ def constructor_text(item: Vrp | Route, **numbers: int) -> str:
     return call_text(f"{kind.__name__}.of", {"prefix": repr(prefix)} | texts)
 
 
-def address_of(prefix: IPv4Network | IPv6Network) -> ctypes.Array[ctypes.c_uint8]:
+def network_of(prefix: Network | Address) -> Network:
+    """Returns the prefix that a network or an address of `ipaddress` is. An address is a prefix of all its bits.
+
+    Raises:
+        TypeError: `prefix` is neither. An `IPv4Interface` or `IPv6Interface` is refused: it is an address and a network.
+        ValueError: `prefix` has a scope, such as `fe80::1%eth0`.
+    """
+    if isinstance(prefix, (IPv4Interface, IPv6Interface)):
+        raise TypeError(f"prefix: {prefix!r} is an interface; pass its network or its ip")
+    network = ip_network(prefix) if isinstance(prefix, (IPv4Address, IPv6Address)) else prefix
+    try:
+        address = network.network_address
+    except AttributeError:
+        text = f"prefix: {prefix!r} is no network or address of ipaddress; for a text pass ip_network(text)"
+        raise TypeError(text) from None
+    if getattr(address, "scope_id", None) is not None:
+        raise ValueError(f"prefix: {prefix!r} has a scope, which no prefix has")
+    return network
+
+
+def address_of(prefix: Network) -> ctypes.Array[ctypes.c_uint8]:
     """Returns the address of a prefix as an array of 16 octets. The octets after an IPv4 address are 0."""
     return (ctypes.c_uint8 * 16)(*prefix.network_address.packed)
 
 
-def family_of(prefix: IPv4Network | IPv6Network) -> Family:
+def family_of(prefix: Network) -> Family:
     """Returns the family of a prefix."""
     return Family.V4 if prefix.version == 4 else Family.V6
 
@@ -386,10 +492,15 @@ class TableResult(NamedTuple):
 
     status: int
     table: int | None
-    index: int
+    index: int  # type: ignore[assignment]  # the name is also that of a method of tuples
 
 
-def array_of(kind: type[Struct], given: object) -> tuple[ctypes.Array[Struct], int]:
+Vrps: TypeAlias = "Iterable[Vrp] | ReadableBuffer"
+Routes: TypeAlias = "Iterable[Route] | ReadableBuffer"
+Item = TypeVar("Item", bound=Struct)
+
+
+def array_of(kind: type[Item], given: "Iterable[Item] | ReadableBuffer") -> tuple[ctypes.Array[Item], int]:
     """Copies structs into a new array.
 
     Args:
@@ -408,8 +519,10 @@ def array_of(kind: type[Struct], given: object) -> tuple[ctypes.Array[Struct], i
     try:
         view = memoryview(given)  # type: ignore[arg-type]
     except TypeError:
-        listed = list(given)  # type: ignore[call-overload]
-        return (kind * max(len(listed), 1))(*listed), len(listed)
+        if not isinstance(given, Iterable):
+            raise TypeError(f"{given!r} is neither an iterable of {kind.__name__} nor a buffer") from None
+        listed = list(given)
+        return array_of_items(kind, listed), len(listed)
     element = getattr(view.obj, "_type_", type(view.obj))
     if isinstance(element, type) and issubclass(element, ctypes.Structure) and not has_layout_of(element, kind):
         raise TypeError(f"{element.__name__} in place of {kind.__name__}")
@@ -421,9 +534,41 @@ def array_of(kind: type[Struct], given: object) -> tuple[ctypes.Array[Struct], i
     return contents, count
 
 
+def array_of_items(kind: type[Item], items: Sequence[Item]) -> ctypes.Array[Item]:
+    """Copies the items of a list into a new array, which has one element if the list has none.
+
+    Raises:
+        TypeError: An item is of another type. The text names the first one.
+    """
+    try:
+        return (kind * max(len(items), 1))(*items)
+    except (TypeError, RuntimeError):
+        for at, item in enumerate(items):
+            if not isinstance(item, kind):
+                raise TypeError(f"at index {at}: {item!r} is no {kind.__name__}") from None
+        raise
+
+
 def has_layout_of(element: type[ctypes.Structure], kind: type[Struct]) -> bool:
     """Returns whether a type is `kind`, or a subclass of it with the same size."""
     return issubclass(element, kind) and ctypes.sizeof(element) == ctypes.sizeof(kind)
+
+
+def item_at(items: "Sequence[Item] | ctypes.Array[Item]", count: int, at: int | None) -> Item | None:
+    """Returns a copy of an item.
+
+    Args:
+        items: The items.
+        count: The number of items. An array without items has one element.
+        at: The index of the item, from 0, or None.
+
+    Returns:
+        The copy, or None if no item has this index.
+    """
+    if at is None or at >= count:
+        return None
+    item = items[at]
+    return type(item).from_buffer_copy(item)
 
 
 def arguments_of(*sets: Pair) -> list[object]:
@@ -441,23 +586,38 @@ def find_library() -> str:
     folder = os.environ.get("PIGYELUND_LIB")
     if folder:
         return os.path.join(os.path.abspath(folder), NAME)
-    beside = Path(__file__).parent / NAME
-    return str(beside) if beside.exists() else NAME
+    return str(BESIDE) if BESIDE.exists() else NAME
 
 
-def load_library(file: str) -> ctypes.CDLL:
+def searched_folders() -> str:
+    """Returns a text that names PIGYELUND_LIB and the folders in which `find_library` searches."""
+    folder = os.environ.get("PIGYELUND_LIB")
+    if folder:
+        return f"PIGYELUND_LIB names the only folder that was searched, {os.path.abspath(folder)}"
+    unset = "PIGYELUND_LIB is not set" if folder is None else "PIGYELUND_LIB is empty"
+    if BESIDE.exists():
+        return f"{unset}, and the library was found in the folder of the package, {BESIDE.parent}"
+    listed = os.environ.get("LD_LIBRARY_PATH")
+    of_loader = f"LD_LIBRARY_PATH ({listed})" if listed else "LD_LIBRARY_PATH (not set)"
+    loader = f"{of_loader}, /etc/ld.so.cache, and its default folders such as /lib and /usr/lib"
+    return f"{unset}; searched: the folder of the package, {BESIDE.parent}, and then by the system's loader: {loader}"
+
+
+def load_library(file: str, searched: str = "") -> ctypes.CDLL:
     """Loads the shared library.
 
     Args:
         file: The path of the library, or its name alone.
+        searched: The text for an error that says where the file was searched. It is empty if a caller named the file.
 
     Raises:
         ImportError: The file is missing, is not the library, or has a version of the calls below `VERSION`. The text
-            names the file and says how to build it.
+            names the file and PIGYELUND_LIB, the folders that were searched, and how to get the library.
     """
 
     def import_error(why: str) -> ImportError:
-        return ImportError(f"{file}: {why}; {HOW_TO_BUILD}", name="pigyelund", path=file)
+        texts = [f"{file}: {why}", searched, HOW_TO_GET]
+        return ImportError("; ".join(filter(None, texts)), name="pigyelund", path=file)
 
     try:
         library = ctypes.CDLL(file)
@@ -489,7 +649,10 @@ class Library:
     """
 
     def __init__(self, path: str | os.PathLike[str] | None = None) -> None:
-        self._library = load_library(find_library() if path is None else os.fspath(path))
+        if path is None:
+            self._library = load_library(find_library(), searched_folders())
+        else:
+            self._library = load_library(os.fspath(path))
         size, number = ctypes.c_size_t, ctypes.c_uint32
         octets = [ctypes.c_char_p, size] * 4
         buffers = [ctypes.c_void_p, size] * 2 + [ctypes.POINTER(size)] * 2
@@ -521,7 +684,7 @@ class Library:
             call.restype, call.argtypes = number, arguments
         self._library.pigy_table_free.restype, self._library.pigy_table_free.argtypes = None, [table]
 
-    def _call(self, name: str, arguments: list[object]) -> int:
+    def _call(self, name: str, arguments: Sequence[object]) -> int:
         """Makes a call and returns its status.
 
         Args:
@@ -533,12 +696,14 @@ class Library:
         """
         call = getattr(self._library, name)
         for kind, argument in zip(call.argtypes, arguments, strict=True):
-            if not fits(argument, 1 << 8 * ctypes.sizeof(kind)):
-                raise OverflowError(f"{name}: {argument}")
-        return call(*arguments)
+            limit = 1 << 8 * ctypes.sizeof(kind)
+            if not fits(argument, limit):
+                raise OverflowError(f"{name}: {argument} is not from 0 to {limit - 1}")
+        status: int = call(*arguments)
+        return status
 
     def _call_with_buffers(
-        self, name: str, arguments: list[object], capacities: Lengths, number: ctypes.c_size_t | None = None
+        self, name: str, arguments: Sequence[object], capacities: Lengths, number: ctypes.c_size_t | None = None
     ) -> CallResult:
         """Makes a call with two output buffers.
 
@@ -558,7 +723,7 @@ class Library:
         return CallResult(status, (lengths[0].value, lengths[1].value), contents, last_output)
 
     def _call_with_buffer(
-        self, name: str, arguments: list[object], capacity: int, number: ctypes.c_size_t | None = None
+        self, name: str, arguments: Sequence[object], capacity: int, number: ctypes.c_size_t | None = None
     ) -> CallResult:
         """Makes a call with one output buffer. Its output is the first of the two contents.
 
@@ -638,8 +803,7 @@ class Library:
         Returns:
             The result. Its `number` is the index of the refused VRP or route.
         """
-        listed = (Vrp * max(len(vrps), 1))(*vrps)
-        asked = (Route * max(len(routes), 1))(*routes)
+        listed, asked = array_of_items(Vrp, vrps), array_of_items(Route, routes)
         arguments = [listed, len(vrps), asked, len(routes)]
         return self._call_with_buffer("pigy_origins", arguments, capacity, ctypes.c_size_t())
 
@@ -667,7 +831,7 @@ class Library:
         arguments = [table, announced, announced_count, withdrawn, withdrawn_count]
         return self._call_for_table("pigy_table_changed", arguments)
 
-    def _call_for_table(self, name: str, arguments: list[object]) -> TableResult:
+    def _call_for_table(self, name: str, arguments: Sequence[object]) -> TableResult:
         """Makes a call that returns a table.
 
         Args:

@@ -2,12 +2,11 @@
 
 from collections.abc import Callable, Iterator
 from enum import IntEnum
-from ipaddress import IPv4Network, IPv6Network
 from typing import NamedTuple, NoReturn, TypeVar
 
 from . import raw
 from .errors import error_for_status
-from .raw import Mismatch, Route, Status, Vrp
+from .raw import Mismatch, Network, Route, Routes, Status, Vrp, Vrps
 
 
 class Validity(IntEnum):
@@ -34,7 +33,7 @@ class Covering(NamedTuple):
         mismatch: Why the VRP does not match the route. `Mismatch(0)` is a match.
     """
 
-    prefix: IPv4Network | IPv6Network
+    prefix: Network
     max_len: int
     asn: int
     mismatch: Mismatch
@@ -89,9 +88,11 @@ class Table:
 
     _owner: _Owner | None = None
 
-    def __init__(self, library: raw.Library, vrps: object) -> None:
+    def __init__(self, library: raw.Library, vrps: Vrps) -> None:
         self._library = library
-        self._owner = _owner_of(library, library.table_new(*raw.array_of(Vrp, vrps)))
+        array, count = raw.array_of(Vrp, vrps)
+        found = library.table_new(array, count)
+        self._owner = _owner_of(library, found, raw.item_at(array, count, found.index))
 
     @classmethod
     def _from_owner(cls, library: raw.Library, owner: _Owner) -> "Table":
@@ -141,7 +142,7 @@ class Table:
 
     __copy__ = __deepcopy__ = __reduce__ = __reduce_ex__ = _refuse_copy
 
-    def changed(self, announced: object = (), withdrawn: object = ()) -> "Table":
+    def changed(self, announced: Vrps = (), withdrawn: Vrps = ()) -> "Table":
         """Returns a new table: this one without `withdrawn`, and then with `announced` (RFC 8210, 5.3).
 
         This table stays as it is. VRPs are the same if prefix, maximum length and AS are the same. A VRP that is both
@@ -163,11 +164,13 @@ class Table:
             TypeError: An argument is neither an iterable nor a buffer, or an item of it is no `Vrp`.
             ValueError: The table is closed, or the length of a buffer is no multiple of 24 octets.
         """
-        arrays = (*raw.array_of(Vrp, announced), *raw.array_of(Vrp, withdrawn))
-        result = self._with_handle(lambda handle: self._library.table_changed(handle, *arrays))
-        return self._from_owner(self._library, _owner_of(self._library, result))
+        added, removed = raw.array_of(Vrp, announced), raw.array_of(Vrp, withdrawn)
+        found = self._with_handle(lambda handle: self._library.table_changed(handle, *added, *removed))
+        is_withdrawn = found.status >= Status.SECOND or found.status == Status.UNKNOWN_WITHDRAWAL
+        array, count = removed if is_withdrawn else added
+        return self._from_owner(self._library, _owner_of(self._library, found, raw.item_at(array, count, found.index)))
 
-    def origins(self, routes: object) -> list[Validity]:
+    def origins(self, routes: Routes) -> list[Validity]:
         """Validates routes (RFC 6811, 2).
 
         Args:
@@ -183,7 +186,7 @@ class Table:
         """
         return [_VALIDITIES[octet] for octet in self.origin_octets(routes)]
 
-    def origin_octets(self, routes: object) -> bytes:
+    def origin_octets(self, routes: Routes) -> bytes:
         """Validates routes like `origins`, and returns one octet for each route. Use it for millions of routes.
 
         Args:
@@ -200,7 +203,7 @@ class Table:
         asked, count = raw.array_of(Route, routes)
         result = self._with_handle(lambda handle: self._library.table_origins(handle, asked, count, count))
         if result.status != Status.OK:
-            raise error_for_status(result.status, index=result.number)
+            raise error_for_status(result.status, index=result.number, item=raw.item_at(asked, count, result.number))
         return result.contents[0]
 
     def origin(self, route: Route) -> Validity:
@@ -242,7 +245,7 @@ class Table:
                 lambda handle: self._library.table_covering(handle, route, capacity)
             )
         if status != Status.OK:
-            raise error_for_status(status, index=0)
+            raise error_for_status(status, index=0, item=raw.item_at([route], 1, 0))
         return [Covering(it.prefix, it.max_len, it.asn, Mismatch(it.mismatch)) for it in contents[:length]]
 
     def __len__(self) -> int:
@@ -268,8 +271,14 @@ class Table:
 _VALIDITIES = list(Validity)
 
 
-def _owner_of(library: raw.Library, found: raw.TableResult) -> _Owner:
-    """Returns the owner of a table that a call made. Raises a `PigyelundError` if the call made none."""
+def _owner_of(library: raw.Library, found: raw.TableResult, item: Vrp | None) -> _Owner:
+    """Returns the owner of a table that a call made. Raises a `PigyelundError` if the call made none.
+
+    Args:
+        library: The library.
+        found: The result of the call.
+        item: The VRP that the call refused, if it refused one.
+    """
     if found.status != Status.OK or found.table is None:
-        raise error_for_status(found.status, index=found.index)
+        raise error_for_status(found.status, index=found.index, item=item)
     return _Owner(library, found.table)

@@ -177,6 +177,9 @@ END
     finds env PIGYELUND_LIB="$prefix/lib"
     finds env -C "$prefix/lib" PIGYELUND_LIB=.
     finds env -u PIGYELUND_LIB LD_LIBRARY_PATH="$prefix/lib"
+    mkdir "$out/runtime" && cp "$prefix/lib/libpigyelund.so" "$out/runtime/libpigyelund.so.1" || fail "a library alone"
+    finds env PIGYELUND_LIB="$out/runtime"
+    finds env -u PIGYELUND_LIB LD_LIBRARY_PATH="$out/runtime"
     names "$out/older" env PIGYELUND_LIB="$out/older" LD_LIBRARY_PATH="$prefix/lib"
     cp "$out/older/libpigyelund.so" "$package"
     finds env PIGYELUND_LIB="$prefix/lib"

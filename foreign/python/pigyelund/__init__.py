@@ -182,9 +182,10 @@ class Pigyelund:
 
     Without a path, the first case that applies says which library is loaded:
 
-    1. The variable PIGYELUND_LIB is set and not empty: `libpigyelund.so` in the folder that it names.
+    1. The variable PIGYELUND_LIB is set and not empty: `libpigyelund.so` in the folder that it names, or
+       `libpigyelund.so.1` if the folder has only that file.
     2. The folder of the package has `libpigyelund.so`: that file.
-    3. Otherwise: `libpigyelund.so` where the system's loader searches.
+    3. Otherwise: `libpigyelund.so` where the system's loader searches, or else `libpigyelund.so.1`.
 
     Each call lists the exceptions of its own. Each call except `version` may also raise these:
 

@@ -26,6 +26,7 @@ if TYPE_CHECKING:
     from _typeshed import ReadableBuffer
 
 NAME = "libpigyelund.so"
+SONAME = "libpigyelund.so.1"  # the name that an installation for programs alone has
 BESIDE = Path(__file__).parent / NAME
 VERSION = 4  # the version of the calls below; a library of a later version has them too
 HOW_TO_GET = (
@@ -579,13 +580,15 @@ def arguments_of(*sets: Pair) -> list[object]:
 def find_library() -> str:
     """Returns the file of the shared library. The first case that applies decides:
 
-    1. The variable PIGYELUND_LIB is set and not empty: `libpigyelund.so` in the folder that it names.
+    1. The variable PIGYELUND_LIB is set and not empty: `libpigyelund.so` in the folder that it names, or
+       `libpigyelund.so.1` if the folder has only that file.
     2. The folder of this package has `libpigyelund.so`: that file.
     3. Otherwise: the name alone. The system's loader searches for it.
     """
     folder = os.environ.get("PIGYELUND_LIB")
     if folder:
-        return os.path.join(os.path.abspath(folder), NAME)
+        files = [os.path.join(os.path.abspath(folder), name) for name in (NAME, SONAME)]
+        return files[0] if os.path.exists(files[0]) or not os.path.exists(files[1]) else files[1]
     return str(BESIDE) if BESIDE.exists() else NAME
 
 
@@ -601,6 +604,23 @@ def searched_folders() -> str:
     of_loader = f"LD_LIBRARY_PATH ({listed})" if listed else "LD_LIBRARY_PATH (not set)"
     loader = f"{of_loader}, /etc/ld.so.cache, and its default folders such as /lib and /usr/lib"
     return f"{unset}; searched: the folder of the package, {BESIDE.parent}, and then by the system's loader: {loader}"
+
+
+def open_library(file: str) -> ctypes.CDLL:
+    """Opens a shared library. If `file` is `NAME`, the loader also searches for `SONAME`.
+
+    Raises:
+        OSError: The loader does not open the file. The text is that for `file`.
+    """
+    try:
+        return ctypes.CDLL(file)
+    except OSError:
+        if file == NAME:
+            try:
+                return ctypes.CDLL(SONAME)
+            except OSError:
+                pass
+        raise
 
 
 def load_library(file: str, searched: str = "") -> ctypes.CDLL:
@@ -620,7 +640,7 @@ def load_library(file: str, searched: str = "") -> ctypes.CDLL:
         return ImportError("; ".join(filter(None, texts)), name="pigyelund", path=file)
 
     try:
-        library = ctypes.CDLL(file)
+        library = open_library(file)
         library.pigy_version.restype, library.pigy_version.argtypes = ctypes.c_uint32, []
         version = library.pigy_version()
     except OSError as fault:

@@ -58,7 +58,7 @@ pub(crate) fn folder_of(named: &str, usual: &[&str]) -> Result<String, String> {
     if named.is_empty() {
         let found = usual.iter().find(|folder| has_library(folder));
         return found.map(|folder| String::from(*folder)).ok_or(format!(
-            "{LIBRARY} is not in {}: expected it there, or its folder as an absolute path in PIGYELUND_LIB",
+            "{LIBRARY} is not in {}: expected it there, or the absolute path of its folder in PIGYELUND_LIB",
             usual.join(" or ")
         ));
     }

@@ -29,8 +29,30 @@
 //!
 //! # Errors
 //!
-//! Each error has a [`Reason`]. [`ResourceError`] also has the overclaimed resources, [`PathError`] the number of
-//! verified certificates, and [`OriginError`] the index of the refused VRP or route.
+//! Each error of a call has a [`Reason`]:
+//!
+//! - [`ResourceError`] also has the overclaimed resources.
+//! - [`PathError`] also has the number of verified certificates.
+//! - [`OriginError`] also has the index of the refused VRP or route.
+//!
+//! [`ValueError`] is the error of the checked constructors, and [`ParseError`] that of `FromStr`.
+//!
+//! All errors implement `Error`. If an error wraps another, `source()` returns the wrapped error. Print only the outer
+//! error: its text has the reason.
+//!
+//! # VRPs, routes and prefixes
+//!
+//! [`Vrp`], [`Route`] and [`Prefix`] are read from text and written as text: `10.0.0.0/8-16 AS64496`,
+//! `10.0.0.0/8 AS64496` and `10.0.0.0/8`. `new` of a VRP and of a route does not check the values. `try_new` does.
+//!
+//! ```
+//! use pigyelund::{Route, Vrp};
+//!
+//! let vrp: Vrp = "10.0.0.0/8-16 AS64496".parse().unwrap();
+//! assert_eq!((vrp.prefix().len, vrp.max_len(), vrp.asn()), (8, 16, 64496));
+//! let route = Route::try_new("10.1.0.0".parse().unwrap(), 8, 64496).unwrap_err();
+//! assert_eq!(route.to_string(), "prefix 10.1.0.0/8 has host bits set: expected 10.0.0.0/8");
+//! ```
 //!
 //! # Other interfaces
 //!
@@ -57,21 +79,29 @@
 #![no_std]
 #![warn(missing_docs)]
 extern crate alloc;
+#[cfg(test)]
+extern crate std;
 
+mod buffers;
+mod payload;
+mod prefix;
 pub mod raw;
 mod reason;
 mod table;
+#[cfg(test)]
+mod tests;
 
+pub use prefix::{ParseError, Prefix, ValueError};
 pub use raw::{version, Comparison, Octets, Operation, Route, Vrp};
 pub use reason::{Fault, OriginError, PathError, Reason, ResourceError, Side};
 pub use table::{Covering, Table};
 
 use alloc::string::String;
 use alloc::vec::Vec;
-use core::fmt::{Display, Formatter};
 use core::net::{IpAddr, Ipv4Addr, Ipv6Addr};
 
-use raw::{HAS_AS, HAS_IP, NO, OK, TOO_SMALL};
+use buffers::{der_capacity, with_buffers, with_items};
+use raw::{HAS_AS, HAS_IP, NO, OK};
 
 /// The two resource extensions of a certificate, as DER.
 ///
@@ -150,7 +180,7 @@ pub enum Overclaim {
 }
 
 /// An address family (RFC 3779, 2.2.3.3).
-#[derive(Clone, Copy, Debug, PartialEq, Eq)]
+#[derive(Clone, Copy, Debug, PartialEq, Eq, Hash)]
 pub enum Family {
     /// IPv4.
     V4 = raw::IPV4 as isize,
@@ -158,18 +188,13 @@ pub enum Family {
     V6 = raw::IPV6 as isize,
 }
 
-/// An address prefix.
-#[derive(Clone, Copy, Debug, PartialEq, Eq, Hash)]
-pub struct Prefix {
-    /// The first address of the prefix.
-    pub address: IpAddr,
-    /// The length in bits: 0 to 32 for IPv4, 0 to 128 for IPv6.
-    pub len: u8,
-}
-
-impl Display for Prefix {
-    fn fmt(&self, out: &mut Formatter<'_>) -> core::fmt::Result {
-        write!(out, "{}/{}", self.address, self.len)
+/// The family of the address.
+impl From<IpAddr> for Family {
+    fn from(address: IpAddr) -> Family {
+        match address {
+            IpAddr::V4(_) => Family::V4,
+            IpAddr::V6(_) => Family::V6,
+        }
     }
 }
 
@@ -184,41 +209,26 @@ pub enum Validity {
     Invalid = raw::INVALID as isize,
 }
 
-/// Runs a call that returns a set. The buffers grow to the lengths that the call reports.
-fn with_buffers(
-    mut call: impl FnMut(&mut [u8], &mut [u8]) -> (u32, usize, usize),
-) -> Result<Resources, ResourceError> {
-    let mut set = Resources::default();
-    loop {
-        let (status, as_len, ip_len) = call(&mut set.asn, &mut set.ip);
-        if status == TOO_SMALL {
-            set.asn.resize(as_len, 0);
-            set.ip.resize(ip_len, 0);
-            continue;
-        }
-        set.asn.truncate(as_len);
-        set.ip.truncate(ip_len);
-        return if status == OK {
-            Ok(set)
-        } else {
-            Err(ResourceError {
-                reason: Reason::of_status(status),
-                excess: set,
-            })
-        };
+/// Returns the set that a call wrote, or the error of its status.
+fn set_or_error((status, set): (u32, Resources)) -> Result<Resources, ResourceError> {
+    if status == OK {
+        return Ok(set);
     }
+    Err(ResourceError {
+        reason: Reason::of_status(status),
+        excess: set,
+    })
 }
 
-/// Runs a call with one buffer, which grows to the length that the call reports. Returns the status and the octets.
-fn with_buffer(call: impl Fn(&mut [u8]) -> (u32, usize)) -> (u32, Vec<u8>) {
-    let mut octets = Vec::new();
-    loop {
-        let (status, len) = call(&mut octets);
-        octets.resize(len, 0);
-        if status != TOO_SMALL {
-            return (status, octets);
-        }
-    }
+/// Runs a call on two sets that returns a set, with buffers that suffice in nearly all cases.
+fn of_two(
+    a: Octets<'_>,
+    b: Octets<'_>,
+    call: impl FnMut(&mut [u8], &mut [u8]) -> (u32, usize, usize),
+) -> Result<Resources, ResourceError> {
+    let asn = der_capacity(a.asn.len() + b.asn.len());
+    let ip = der_capacity(a.ip.len() + b.ip.len());
+    set_or_error(with_buffers(asn, ip, call))
 }
 
 /// Computes the resources of a certificate from its issuer's set (RFC 3779, 2.3 and 3.3).
@@ -256,7 +266,7 @@ pub fn verify(
     mode: Overclaim,
 ) -> Result<Resources, ResourceError> {
     let (present, octets) = (certificate.present(), certificate.octets());
-    with_buffers(|asn, ip| {
+    of_two(issuer, octets, |asn, ip| {
         raw::verify(
             issuer,
             present,
@@ -315,13 +325,16 @@ pub fn verify_path(
 ) -> Result<Resources, PathError> {
     let (run, positions) = concatenate(certificates);
     let mut count = 0;
-    with_buffers(|asn, ip| {
+    let as_len: usize = positions.iter().map(|position| position.as_len).sum();
+    let asn = der_capacity(anchor.asn.len() + as_len);
+    let ip = der_capacity(anchor.ip.len() + run.len() - as_len);
+    let found = with_buffers(asn, ip, |asn, ip| {
         let (status, as_len, ip_len, verified) =
             raw::verify_path(anchor, &run, &positions, encoding as u32, asn, ip);
         count = verified;
         (status, as_len, ip_len)
-    })
-    .map_err(|error| PathError {
+    });
+    set_or_error(found).map_err(|error| PathError {
         verified: count,
         error,
     })
@@ -360,11 +373,13 @@ fn address_of(octets: &[u8]) -> IpAddr {
 /// The call may return [`Reason::Memory`] instead of any other result.
 pub fn cover(ip: &[u8], encoding: Encoding, family: Family) -> Result<Vec<Prefix>, ResourceError> {
     let (encoding, number) = (encoding as u32, family as u32);
-    let (status, octets) = with_buffer(|out| raw::cover(ip, encoding, number, out));
+    let width = if family == Family::V4 { 4 } else { 16 };
+    // A prefix has at least three octets of DER. One range can have many prefixes: up to 62 of IPv4, 254 of IPv6.
+    let capacity = (width + 1) * (ip.len() / 3 + 256);
+    let (status, octets) = with_items(capacity, |out| raw::cover(ip, encoding, number, out));
     if status != OK {
         return Err(ResourceError::of_status(status));
     }
-    let width = if family == Family::V4 { 4 } else { 16 };
     let prefixes = octets.chunks_exact(width + 1).map(|prefix| Prefix {
         address: address_of(&prefix[..width]),
         len: prefix[width],
@@ -423,7 +438,10 @@ pub fn origins(vrps: &[Vrp], routes: &[Route]) -> Result<Vec<Validity>, OriginEr
 ///
 /// [`Reason::Memory`] only.
 pub fn answer(line: &[u8]) -> Result<String, Reason> {
-    let (status, octets) = with_buffer(|out| raw::answer(line, out));
+    // The answer can be longer than the line: most of all the prefixes of an IPv6 range.
+    let capacity = der_capacity(line.len()) + 4096;
+    let (status, mut octets) = with_items(capacity, |out| raw::answer(line, out));
+    octets.shrink_to_fit();
     match String::from_utf8(octets) {
         Ok(text) if status == OK => Ok(text),
         _ => Err(Reason::of_status(status)),
@@ -454,7 +472,9 @@ pub fn combine(
     b: Octets<'_>,
     encoding: Encoding,
 ) -> Result<Resources, ResourceError> {
-    with_buffers(|asn, ip| raw::combine(operation, a, b, encoding as u32, asn, ip))
+    of_two(a, b, |asn, ip| {
+        raw::combine(operation, a, b, encoding as u32, asn, ip)
+    })
 }
 
 /// Returns the union of `a` and `b`.

@@ -320,7 +320,7 @@ pub struct Certificate {
 /// The fields are not checked until a call reads them. Comparisons and hashes read all 16 octets of the address, also
 /// for IPv4. `Vrp::new` sets the other 12 octets of an IPv4 address to 0.
 #[repr(C)]
-#[derive(Clone, Copy, Debug, Default, PartialEq, Eq, Hash)]
+#[derive(Clone, Copy, Default, PartialEq, Eq, Hash)]
 pub struct Vrp {
     /// The address in network byte order. An IPv4 address is the first four octets; calls ignore the others.
     pub address: [u8; 16],
@@ -335,7 +335,8 @@ pub struct Vrp {
 }
 
 impl Vrp {
-    /// Returns a VRP. This function does not check the values. A call that reads the VRP does.
+    /// Returns a VRP. This function does not check the values. A call that reads the VRP does, and so does
+    /// [`Vrp::try_new`].
     ///
     /// # Parameters
     ///
@@ -360,7 +361,7 @@ impl Vrp {
 /// The fields are not checked until a call reads them. Comparisons and hashes read all 16 octets of the address, also
 /// for IPv4. `Route::new` sets the other 12 octets of an IPv4 address to 0.
 #[repr(C)]
-#[derive(Clone, Copy, Debug, PartialEq, Eq, Hash)]
+#[derive(Clone, Copy, PartialEq, Eq, Hash)]
 pub struct Route {
     /// The address in network byte order. An IPv4 address is the first four octets; calls ignore the others.
     pub address: [u8; 16],
@@ -373,7 +374,8 @@ pub struct Route {
 }
 
 impl Route {
-    /// Returns a route. This function does not check the values. A call that reads the route does.
+    /// Returns a route. This function does not check the values. A call that reads the route does, and so does
+    /// [`Route::try_new`].
     ///
     /// # Parameters
     ///

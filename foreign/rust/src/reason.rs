@@ -281,7 +281,12 @@ impl Display for ResourceError {
     }
 }
 
-impl Error for ResourceError {}
+impl Error for ResourceError {
+    /// Returns the [`Reason`]. Its text is that of this error.
+    fn source(&self) -> Option<&(dyn Error + 'static)> {
+        Some(&self.reason)
+    }
+}
 
 /// The reason why a path is not verified, and the number of verified certificates.
 #[derive(Clone, Debug, PartialEq, Eq)]
@@ -300,7 +305,12 @@ impl Display for PathError {
     }
 }
 
-impl Error for PathError {}
+impl Error for PathError {
+    /// Returns the [`ResourceError`]. Its text is the end of the text of this error.
+    fn source(&self) -> Option<&(dyn Error + 'static)> {
+        Some(&self.error)
+    }
+}
 
 /// The reason why a call on VRPs or routes returns no validities, or no table.
 #[derive(Clone, Copy, Debug, PartialEq, Eq)]
@@ -325,4 +335,9 @@ impl Display for OriginError {
     }
 }
 
-impl Error for OriginError {}
+impl Error for OriginError {
+    /// Returns the [`Reason`]. Its text is the end of the text of this error.
+    fn source(&self) -> Option<&(dyn Error + 'static)> {
+        Some(&self.reason)
+    }
+}

@@ -1,9 +1,11 @@
 //! A table of VRPs that is built once and queried many times.
 use alloc::vec;
 use alloc::vec::{IntoIter, Vec};
+use core::fmt::{Debug, Formatter};
 use core::net::IpAddr;
 
-use crate::raw::{self, OK, OTHER_AS, TOO_LONG, TOO_SMALL};
+use crate::buffers::with_items;
+use crate::raw::{self, OK, OTHER_AS, TOO_LONG};
 use crate::{address_of, validity_of, OriginError, Prefix, Reason, Route, Validity, Vrp};
 
 /// A table of VRPs (validated ROA payloads) for route origin validation (RFC 6811, 2).
@@ -19,16 +21,16 @@ use crate::{address_of, validity_of, OriginError, Prefix, Reason, Route, Validit
 /// use pigyelund::{Route, Table, Validity, Vrp};
 ///
 /// fn main() -> Result<(), pigyelund::OriginError> {
-///     let net = "10.0.0.0".parse().unwrap();
-///     let table = Table::new(&[Vrp::new(net, 8, 16, 64496)])?;
-///     let route = Route::new(net, 24, 64497);
+///     let table = Table::new(&["10.0.0.0/8-16 AS64496".parse().unwrap()])?;
+///     let route: Route = "10.0.0.0/24 AS64497".parse().unwrap();
 ///     assert_eq!(table.origin(&route).unwrap(), Validity::Invalid);
 ///     // Why: the VRP has another AS, and the route is longer than its maximum length.
 ///     for vrp in table.covering(&route).unwrap() {
 ///         assert!(vrp.is_other_as() && vrp.is_too_long());
 ///     }
 ///     // The next table has a second VRP, which matches.
-///     let next = table.changed(&[Vrp::new(net, 8, 24, 64497)], &[])?;
+///     let fresh: Vrp = "10.0.0.0/8-24 AS64497".parse().unwrap();
+///     let next = table.changed(&[fresh], &[])?;
 ///     assert_eq!(next.origin(&route).unwrap(), Validity::Valid);
 ///     Ok(())
 /// }
@@ -42,8 +44,17 @@ use crate::{address_of, validity_of, OriginError, Prefix, Reason, Route, Validit
 /// fn copy<T: Clone>(_: T) {}
 /// copy(pigyelund::Table::new(&[]).unwrap());
 /// ```
-#[derive(Debug)]
 pub struct Table(raw::Table);
+
+/// The number of covering VRPs for which one call of the library is enough. More than this many are rare in practice.
+const COVERING: usize = 16;
+
+/// Writes the number of VRPs, for example `Table { len: 3 }`.
+impl Debug for Table {
+    fn fmt(&self, out: &mut Formatter<'_>) -> core::fmt::Result {
+        out.debug_struct("Table").field("len", &self.len()).finish()
+    }
+}
 
 /// Returns the table if the status is [`OK`], or else the reason.
 fn table_or_error((status, table, index): (u32, raw::Table, usize)) -> Result<Table, OriginError> {
@@ -54,20 +65,12 @@ fn table_or_error((status, table, index): (u32, raw::Table, usize)) -> Result<Ta
     Err(OriginError { reason, index })
 }
 
-/// Runs a call that returns elements. The buffer grows to the length that the call reports.
-fn with_items<T: Copy + Default>(
-    mut call: impl FnMut(&mut [T]) -> (u32, usize),
-) -> Result<Vec<T>, Reason> {
-    let mut items = Vec::new();
-    loop {
-        let (status, len) = call(&mut items);
-        items.resize(len, T::default());
-        match status {
-            OK => return Ok(items),
-            TOO_SMALL => {}
-            _ => return Err(Reason::of_status(status)),
-        }
+/// Returns the elements if the status is [`OK`], or else the reason.
+fn items_or_error<T>((status, items): (u32, Vec<T>)) -> Result<Vec<T>, Reason> {
+    if status == OK {
+        return Ok(items);
     }
+    Err(Reason::of_status(status))
 }
 
 impl Table {
@@ -168,12 +171,9 @@ impl Table {
     ///
     /// The reasons of [`Table::origins`], for this route.
     pub fn covering(&self, route: &Route) -> Result<IntoIter<Covering>, Reason> {
-        let found = with_items(|out: &mut [raw::Covering]| self.0.covering(route, out))?;
-        Ok(found
-            .iter()
-            .map(Covering::of)
-            .collect::<Vec<_>>()
-            .into_iter())
+        let found = items_or_error(with_items(COVERING, |out| self.0.covering(route, out)))?;
+        let found: Vec<Covering> = found.iter().map(Covering::of).collect();
+        Ok(found.into_iter())
     }
 
     /// Returns the number of VRPs, duplicates included.
@@ -195,7 +195,7 @@ impl Table {
     ///
     /// [`Reason::Memory`] only.
     pub fn vrps(&self) -> Result<IntoIter<Vrp>, Reason> {
-        let found = with_items(|out| self.0.vrps(out))?;
+        let found = items_or_error(with_items(self.len(), |out| self.0.vrps(out)))?;
         Ok(found.into_iter())
     }
 }

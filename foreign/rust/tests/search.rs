@@ -36,7 +36,7 @@ fn order_of_folders() {
 fn wrong_folders() {
     let [one, none] = [("right", true), ("empty", false)].map(|(name, has)| folder(name, has));
     let why = format!(
-        "libpigyelund.a is not in {none} or {none}: expected it there, or its folder as an absolute path in \
+        "libpigyelund.a is not in {none} or {none}: expected it there, or the absolute path of its folder in \
          PIGYELUND_LIB"
     );
     assert_eq!(folder_of("", &[&none, &none]), Err(why));

@@ -83,6 +83,7 @@ extern crate alloc;
 extern crate std;
 
 mod buffers;
+mod debug;
 mod payload;
 mod prefix;
 pub mod raw;
@@ -108,7 +109,7 @@ use raw::{HAS_AS, HAS_IP, NO, OK};
 /// `None` means that the certificate does not have the extension, and claims no resources of its kind. An extension
 /// that is present but empty, `Some(&[])`, is invalid. A certificate has at least one extension (RFC 6487, 4.8.10 and
 /// 4.8.11).
-#[derive(Clone, Copy, Debug, Default, PartialEq, Eq)]
+#[derive(Clone, Copy, Default, PartialEq, Eq)]
 pub struct Extensions<'a> {
     /// The value of the extension of AS identifiers (RFC 3779, 3.2.3).
     pub asn: Option<&'a [u8]>,
@@ -141,7 +142,7 @@ pub struct Certificate<'a> {
 }
 
 /// A set of resources, as the DER of both extensions.
-#[derive(Clone, Debug, Default, PartialEq, Eq)]
+#[derive(Clone, Default, PartialEq, Eq)]
 pub struct Resources {
     /// The AS identifiers (RFC 3779, 3.2.3), or empty if the set has no AS numbers.
     pub asn: Vec<u8>,

@@ -1,5 +1,5 @@
 //! Accessors, checked constructors and texts of VRPs and routes.
-use core::fmt::{Debug, Display, Formatter, Result as Written};
+use core::fmt::{Display, Formatter, Result as Written};
 use core::net::IpAddr;
 use core::str::FromStr;
 
@@ -208,36 +208,4 @@ impl FromStr for Route {
         let prefix: Prefix = prefix.parse()?;
         Ok(Route::new(prefix.address, prefix.len, asn))
     }
-}
-
-/// Writes the values, for example `Vrp { prefix: 10.0.0.0/8, max_len: 16, asn: 64496 }`. An unknown family comes first.
-impl Debug for Vrp {
-    fn fmt(&self, out: &mut Formatter<'_>) -> Written {
-        let mut out = out.debug_struct("Vrp");
-        if !is_known(self.family) {
-            out.field("family", &self.family);
-        }
-        out.field("prefix", &format_args!("{}", self.prefix()))
-            .field("max_len", &self.max_len)
-            .field("asn", &self.asn)
-            .finish()
-    }
-}
-
-/// Writes the values, for example `Route { prefix: 10.0.0.0/8, asn: 64496 }`. An unknown family comes first.
-impl Debug for Route {
-    fn fmt(&self, out: &mut Formatter<'_>) -> Written {
-        let mut out = out.debug_struct("Route");
-        if !is_known(self.family) {
-            out.field("family", &self.family);
-        }
-        out.field("prefix", &format_args!("{}", self.prefix()))
-            .field("asn", &self.asn)
-            .finish()
-    }
-}
-
-/// Returns whether a number is that of IPv4 or IPv6.
-fn is_known(family: u8) -> bool {
-    matches!(u32::from(family), raw::IPV4 | raw::IPV6)
 }

@@ -285,7 +285,7 @@ extern "C" {
 }
 
 /// A set of resources, as the borrowed DER of both extensions.
-#[derive(Clone, Copy, Debug, Default, PartialEq, Eq)]
+#[derive(Clone, Copy, Default, PartialEq, Eq)]
 pub struct Octets<'a> {
     /// The AS identifiers (RFC 3779, 3.2.3), or empty if the set has no AS numbers.
     pub asn: &'a [u8],

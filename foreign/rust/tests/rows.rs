@@ -655,6 +655,13 @@ fn a_table_has_copies() {
     let table = Table::new(&[twice, other, twice]).unwrap();
     let listed = |table: Table| table.vrps().unwrap().collect::<Vec<_>>();
     assert_eq!(table.covering(&Route::new(ten, 8, 1)).unwrap().len(), 3);
+    assert_eq!(format!("{table:?}"), "Table { len: 3 }");
+    let covering: Vec<_> = table.covering(&Route::new(ten, 8, 1)).unwrap().collect();
+    assert_eq!(
+        covering.iter().map(|it| Vrp::from(*it)).collect::<Vec<_>>(),
+        [twice, twice, other]
+    );
+    assert_eq!(covering[2].to_string(), "10.0.0.0/8-8 AS2");
     assert_eq!(listed(table.changed(&[], &[twice]).unwrap()), [other]);
     assert_eq!(
         listed(table.changed(&[twice], &[twice]).unwrap()),

@@ -1,7 +1,9 @@
 //! Tests prefixes, VRPs and routes: texts, checked constructors, conversions, accessors and errors. No test calls the
 //! library.
-use pigyelund::{raw, Family, OriginError, ParseError, PathError, Prefix, Reason, ResourceError};
-use pigyelund::{Resources, Route, ValueError, Vrp};
+use pigyelund::{
+    raw, Extensions, Family, Octets, OriginError, ParseError, PathError, Prefix, Reason,
+};
+use pigyelund::{ResourceError, Resources, Route, ValueError, Vrp};
 use std::error::Error;
 use std::fmt::{Debug, Display};
 use std::net::{IpAddr, Ipv4Addr, Ipv6Addr};
@@ -301,6 +303,32 @@ fn unknown_families() {
         "Route { family: 0, prefix: a00::/8, asn: 1 }"
     );
     assert_eq!(raw::IPV4 as u8, Vrp::new(ip("10.0.0.0"), 8, 8, 1).family);
+}
+
+/// DER is printed as hexadecimal digits, which the program `respath` reads.
+#[test]
+fn debug_of_der() {
+    let ip = [0x30, 0x00];
+    let octets = Octets { asn: &[], ip: &ip };
+    assert_eq!(format!("{octets:?}"), "Octets { asn: -, ip: 3000 }");
+    let extensions = Extensions {
+        asn: None,
+        ip: Some(&ip),
+    };
+    assert_eq!(
+        format!("{extensions:?}"),
+        "Extensions { asn: None, ip: Some(3000) }"
+    );
+    let excess = Resources {
+        asn: vec![0xff],
+        ip: Vec::new(),
+    };
+    let error = ResourceError {
+        reason: Reason::OverclaimedAs,
+        excess,
+    };
+    let text = "ResourceError { reason: OverclaimedAs, excess: Resources { asn: ff, ip: - } }";
+    assert_eq!(format!("{error:?}"), text);
 }
 
 /// Returns the texts of the errors that an error wraps, from the outside in.

@@ -1,9 +1,10 @@
 #!/usr/bin/env bash
 # Tests release in two parts. The first part runs it in a copy of the tree, beside a kit that proves nothing: what
-# release refuses, and that the same commit makes the same archive. The second part makes a release and a Debian package
-# of this tree, if its programs are built and it has no changes: the sums hold, each line of the manual's examples gives
-# the output that the page shows, a program in C builds by what is unpacked, and the package installs below a clean
-# root. What isn't there to test with is named. The status is 0 if nothing failed.
+# release refuses, and that the same commit makes the same archive and the same Debian packages. The second part makes a
+# release and the packages of this tree, if its programs are built and it has no changes: the sums hold, each line of
+# the manual's examples gives the output that the page shows, a program in C builds by what is unpacked. In both parts
+# each package installs below a clean root, and lintian finds no error and no warning. What isn't there to test with is
+# named. The status is 0 if nothing failed. tests/debian_packages.sh installs the packages in a Debian system.
 cd "$(dirname "$0")/.." || exit 1
 unset LIB KIT MAINTAINER
 top=$PWD
@@ -55,8 +56,12 @@ END
         printf '#!/bin/sh\necho %s\n' "$name" >"$kit/proved/$name"
         chmod +x "$kit/proved/$name"
     done
-    echo 'unsigned pigy_version(void) { return 4; }' | gcc -fPIC -c -x c - -o "$out/one.o" &&
-        echo 'unsigned of_kit(void) { return 1; }' | gcc -fPIC -c -x c - -o "$out/two.o" &&
+    {
+        echo 'unsigned pigy_version(void) { return 4; }'
+        sed -n '/ pigy_version@/d; s/^ \(pigy_[a-z_]*\)@.*/void \1(void) {}/p' packaging/libpigyelund1.symbols
+    } | gcc -fPIC -c -x c - -o "$out/one.o" &&
+        printf '#include <stdlib.h>\nvoid *of_kit(size_t n) { return malloc(n); }\n' |
+        gcc -fPIC -c -x c - -o "$out/two.o" &&
         ar rcs "$kit/proved/libpigyelund_c.a" "$out/one.o" && ar rcs "$kit/c/liblibc_c.a" "$out/two.o"
 }
 
@@ -65,7 +70,7 @@ make_copy() {
     rm -rf "$copy" "$out/made" "$kit/meanwhile" "$kit/tools"
     mkdir -p "$copy/crates/respath" "$copy/crates/origins" "$kit/tools"
     tar -cf - --exclude=out --exclude=rows.txt --exclude=__pycache__ .gitignore release program.sh respath origins \
-        README.md CHANGELOG.md LICENSE VERSION foreign tests/foreign_page.py tests/foreign.sh tests/logic.sh \
+        README.md CHANGELOG.md LICENSE VERSION foreign packaging tests/foreign_page.py tests/foreign.sh tests/logic.sh \
         tests/versions.py tests/release.sh crates/origins/src docs/PROVED.md docs/FOREIGN.md docs/CONFORMANCE.md \
         docs/respath.1 docs/origins.1 crates/pigyelund_c/src crates/pigyelund_c/specs crates/pigyelund_routes/src \
         crates/pigyelund_routes/specs vectors | tar -xf - -C "$copy"
@@ -73,7 +78,8 @@ make_copy() {
         cd "$copy" || exit
         printf 'respath:\norigins:\n' >crates.txt
         git init -q && git add -A &&
-            GIT_COMMITTER_DATE=@1700000000 git -c user.name=nobody -c user.email=nobody commit -q -m copy || exit
+            GIT_COMMITTER_DATE=@1700000000 git -c user.name=Nobody -c user.email=nobody@rpki.net commit -q -m copy ||
+            exit
         for program in respath origins; do
             mkdir -p "crates/$program/out" && cp "$kit/proved/$program" "crates/$program/out/$program" &&
                 PATH=$kit/bin:$PATH "./$program" --note-kit
@@ -81,15 +87,19 @@ make_copy() {
     )
 }
 
-# In the copy: runs a release with these variables, to out/made.
+# In the copy: runs a release with these variables, to out/made, or makes the packages.
 released() { (cd "$copy" && PATH=$kit/tools:$kit/bin:$PATH "$@" ./release "$version" "$out/made" 2>&1); }
+released_packages() {
+    (cd "$copy" && PATH=$kit/tools:$kit/bin:$PATH "$@" ./release --deb "$version" "$out/made" 2>&1)
+}
+making=released
 
 # refuses WHAT TEXT COMMAND: after the command in the copy the release says this and makes nothing
 refuses() {
     local said status
     make_copy || { fail "a copy for $1"; return; }
     (cd "$copy" && eval "$3") || fail "what should make a refusal: $1"
-    said=$(released env)
+    said=$("$making" env)
     status=$?
     [ "$status" -eq 1 ] && [ "$(printf '%s\n' "$said" | tail -n 1)" = "release: $2" ] ||
         fail "$1: status $status, $said"
@@ -214,23 +224,29 @@ makes_the_same() {
 
 # modes FOLDER BIN: programs and folders have mode 755, other files 644; runners of the vectors have one of the two
 modes() {
-    [ -n "$(find "$1/$2" -type f)" ] && [ -z "$(find "$1" -type d ! -perm 0755 -print -o \
+    [ "$2" = none ] || [ -n "$(find "$1/$2" -type f)" ] && [ -z "$(find "$1" -type d ! -perm 0755 -print -o \
         -type f -path "*/vectors/run/*" ! -perm 0755 ! -perm 0644 -print -o -path "*/vectors/run/*" -o \
         -type f -path "*/$2/*" ! -perm 0755 -print -o -type f ! -path "*/$2/*" ! -perm 0644 -print)" ]
 }
 
-# try_package PACKAGE NAME BIN: its fields, owners and modes; and it installs below a clean root, whose libc6 is this
-# system's. dpkg --verify finds nothing wrong there, and finds each file that is changed.
+# try_package PACKAGE NAME BIN: its fields, owners and modes; and it installs below a clean root, whose libc6 and
+# python3 are this system's. dpkg --verify finds nothing wrong there, and finds each file that is changed.
 try_package() {
     local package=$1 name=$2 bin=$3 said file
     [ "$(dpkg-deb -f "$package" Package Version)" = "Package: $name
 Version: $version" ] || fail "the fields of the package $name"
     dpkg-deb -c "$package" >"$out/list"
-    [ -s "$out/list" ] && ! grep -Ev '^(drwxr-xr-x|-rw-r--r--|-rwxr-xr-x) root/root ' "$out/list" ||
+    [ -s "$out/list" ] && ! grep -Ev '^(drwxr-xr-x|-rw-r--r--|-rwxr-xr-x|lrwxrwxrwx) root/root ' "$out/list" ||
         fail "owners and modes in the package"
     rm -rf "$out/root"
-    mkdir -p "$out/root/var/lib/dpkg/info" "$out/root/var/lib/dpkg/updates" && : >"$out/root/var/lib/dpkg/status"
-    to_root() { dpkg --root="$out/root" --log="$out/dpkg" --force-not-root --force-depends "$@"; }
+    mkdir -p "$out/root/var/lib/dpkg/info" "$out/root/var/lib/dpkg/updates" "$out/no" &&
+        : >"$out/root/var/lib/dpkg/status"
+    # There is no Python in the root, so its modules are not compiled there.
+    ln -sf "$(type -P true)" "$out/no/py3compile"
+    to_root() {
+        PATH=$out/no:$PATH dpkg --root="$out/root" --log="$out/dpkg" --force-not-root --force-depends \
+            --force-script-chrootless "$@"
+    }
     to_root -i "$package" >"$out/log" 2>&1 || { cat "$out/log"; fail "dpkg --install"; }
     said=$(to_root --verify "$name" 2>&1) && [ -z "$said" ] || fail "dpkg --verify: $said"
     modes "$out/root/usr" "$bin" || fail "modes of the installed files of $name"
@@ -263,21 +279,99 @@ END
     chmod +x "$kit/tools/install"
 }
 
-# The same commit makes the same package.
-makes_the_same_package() {
-    make_copy
-    released_package env && mv "$out/made" "$out/first_package" && sleep 1.1 && install_as_other &&
-        find "$copy" -name .git -prune -o -type f -exec touch -d '2001-01-01' {} + &&
-        (umask 077 && released_package env TZ=Asia/Tokyo) || { fail "a package in a copy"; return; }
-    cmp "$out"/first_package/pigyelund_*.deb "$out"/made/pigyelund_*.deb || fail "the same commit makes the same package"
-    cmp "$out"/first_package/pigyelund-vectors_*.deb "$out"/made/pigyelund-vectors_*.deb ||
-        fail "the same commit makes the same package of vectors"
-    try_package "$out"/made/pigyelund_*.deb pigyelund bin
-    try_vectors "$out"/made/pigyelund-vectors_*.deb
+# same_packages FOLDER OTHER: both have the same packages, and there are five of them.
+same_packages() {
+    diff -r "$1" "$2" && [ "$(cd "$1" && echo *.deb | sed 's/_[^ ]*//g')" = "$packages" ]
 }
-released_package() {
-    (cd "$copy" && PATH=$kit/tools:$kit/bin:$PATH "$@" ./release --deb "$version" "$out/made" >"$out/said" 2>&1) ||
-        { cat "$out/said"; return 1; }
+packages="libpigyelund-dev libpigyelund1 pigyelund-vectors pigyelund python3-pigyelund"
+
+# field PACKAGE FIELD: prints a field of a package
+field() { dpkg-deb -f "$made/$1"_*.deb "$2"; }
+# member PACKAGE FILE: prints a control file of a package
+member() { dpkg-deb --ctrl-tarfile "$made/$1"_*.deb | tar -xOf - "./$2"; }
+
+# try_packages FOLDER: each package installs; the fields, control files, copyright and changelogs are as they should be.
+try_packages() {
+    made=$1
+    local name folder lib so=libpigyelund.so.1
+    for name in $packages; do
+        folder=none
+        [ "$name" != pigyelund ] || folder=bin
+        [ "$name" = pigyelund-vectors ] || try_package "$made/${name}"_*.deb "$name" "$folder"
+        [ "$(field "$name" Source)" = pigyelund ] || [ "$name" = pigyelund ] || fail "the source of $name"
+        dpkg-deb --fsys-tarfile "$made/$name"_*.deb | tar -xOf - "./usr/share/doc/$name/changelog.gz" |
+            gzip -d >"$out/changelog" && dpkg-parsechangelog -l "$out/changelog" >"$out/parsed" 2>&1 &&
+            grep -qx "Version: $version" "$out/parsed" && ! grep -q warning "$out/parsed" ||
+            { cat "$out/parsed"; fail "the changelog of $name"; }
+        dpkg-deb --fsys-tarfile "$made/$name"_*.deb | tar -xOf - "./usr/share/doc/$name/copyright" >"$out/copyright" &&
+            grep -q '^Copyright: 2026, the Pigyelund authors$' "$out/copyright" &&
+            grep -q '^           2018, NLnet Labs' "$out/copyright" &&
+            [ "$(grep -c '^License: ' "$out/copyright")" -eq 3 ] || fail "the copyright of $name"
+    done
+    try_vectors "$made"/pigyelund-vectors_*.deb
+    # The library, and what is computed of it.
+    rm -rf "$out/lib" && dpkg-deb -x "$made"/libpigyelund1_*.deb "$out/lib" &&
+        dpkg-deb -x "$made"/libpigyelund-dev_*.deb "$out/lib" || fail "the files of the library"
+    lib=$out/lib/usr/lib/$(gcc -print-multiarch)
+    [ "$(objdump -p "$lib/$so" | sed -n 's/^  SONAME *//p')" = "$so" ] || fail "the soname"
+    [ "$(readlink "$lib/libpigyelund.so")" = "$so" ] || fail "the link for the linker"
+    grep -qx "Version: $version" "$lib/pkgconfig/pigyelund.pc" || fail "the version of pigyelund.pc"
+    [ "$(member libpigyelund1 shlibs)" = "libpigyelund 1 libpigyelund1 (>= 0.1.0)" ] || fail "shlibs"
+    [ "$(member libpigyelund1 triggers)" = "activate-noawait ldconfig" ] || fail "triggers"
+    case $(field libpigyelund1 Depends) in "libc6 (>= 2."*) ;; *) fail "Depends of the library" ;; esac
+    [ "$(field libpigyelund-dev Depends)" = "libpigyelund1 (= $version)" ] || fail "Depends of libpigyelund-dev"
+    [ "$(field python3-pigyelund Depends)" = "python3 (>= 3.10), libpigyelund1 (>= 0.1.0)" ] ||
+        fail "Depends of python3-pigyelund"
+    [ "$(field libpigyelund1 Multi-Arch) $(field libpigyelund-dev Multi-Arch) $(field pigyelund Multi-Arch)" = \
+        "same same foreign" ] || fail "Multi-Arch"
+    if has "the symbols of the library" dpkg-gensymbols; then
+        mkdir -p "$out/symbols/debian"
+        printf 'Source: x\n\nPackage: libpigyelund1\nArchitecture: any\n' >"$out/symbols/debian/control"
+        member libpigyelund1 symbols >"$out/symbols/there"
+        (cd "$out/symbols" && dpkg-gensymbols -plibpigyelund1 -v"$version" -e"$lib/$so" -Ithere -O -c4 -q >made) &&
+            diff "$out/symbols/there" "$out/symbols/made" || fail "symbols"
+    fi
+    # Both ways to compute what a library requires.
+    if has "what a library requires" dpkg-shlibdeps; then
+        (
+            # shellcheck disable=SC2034,SC2030 # debian.sh reads these
+            top=$PWD work=$out/computed
+            mkdir -p "$work"
+            stop() { echo "$1"; exit 1; }
+            # shellcheck source=packaging/debian.sh
+            . packaging/debian.sh
+            [ "$(by_dpkg "$lib/$so")" = "$(by_objdump "$lib/$so")" ] &&
+                [ "$(by_dpkg "$lib/$so")" = "$(field libpigyelund1 Depends)" ]
+        ) || fail "dpkg-shlibdeps and objdump differ"
+    fi
+    if has "the rules of Debian" lintian; then
+        lintian --allow-root --fail-on error,warning "$made"/*.deb >"$out/log" 2>&1 ||
+            { cat "$out/log"; fail "lintian"; }
+    fi
+}
+
+# The same commit makes the same packages.
+makes_the_same_packages() {
+    make_copy
+    released_packages env >"$out/said" && mv "$out/made" "$out/first_packages" && sleep 1.1 && install_as_other &&
+        find "$copy" -name .git -prune -o -type f -exec touch -d '2001-01-01' {} + &&
+        (umask 077 && released_packages env TZ=Asia/Tokyo LANG=C.UTF-8 GZIP=-1 XZ_DEFAULTS=-0 XZ_OPT=-0) >"$out/said" ||
+        { cat "$out/said"; fail "packages in a copy"; return; }
+    same_packages "$out/first_packages" "$out/made" || fail "the same commit makes the same packages"
+    try_packages "$out/made"
+}
+
+# Other symbols or another soname than those of the symbols file.
+refuses_other_symbols() {
+    local file=packaging/libpigyelund1.symbols commit="git -c user.name=n -c user.email=e commit -q -a -m more"
+    making=released_packages
+    refuses "a library without a call" "libpigyelund.so.1 has other symbols than $file" \
+        "echo ' pigy_more@PIGYELUND_1 0.1.0' >>$file && $commit"
+    refuses "a library with a call more" "libpigyelund.so.1 has other symbols than $file" \
+        "sed -i '/ pigy_union@/d' $file && $commit"
+    refuses "another soname" "the shared library isn't libpigyelund.so.2" \
+        "sed -i '1s/so.1/so.2/' $file && $commit"
+    making=released
 }
 
 if has "what a release refuses" git gcc make ar tar gzip python3; then
@@ -290,7 +384,10 @@ release: versions differ" ] || fail "another version is refused: $said"
     refuses_what_is_not_proved
     refuses_what_is_not_committed
     refuses_other_sums
-    if has "a package of Debian" dpkg-deb dpkg; then makes_the_same_package; fi
+    if has "the packages of Debian" dpkg-deb dpkg dpkg-parsechangelog; then
+        makes_the_same_packages
+        refuses_other_symbols
+    fi
 fi
 rm -rf "$copy" "$out/made"
 
@@ -330,22 +427,22 @@ of_archive() {
     fi
 }
 
-# Makes a package, and compares it with the archive and with a second package.
-of_package() {
+# Makes the packages, and compares them with the archive and with a second run.
+of_packages() {
+    local part
     ./release --deb "$version" "$out/deb" >"$out/log" 2>&1 || { cat "$out/log"; fail "release --deb"; return; }
-    try_vectors "$out"/deb/pigyelund-vectors_*.deb
+    try_packages "$out/deb"
     diff -r "$tree/share/pigyelund" "$out/root/usr/share/pigyelund" || fail "the same tree makes the same vectors"
+    diff -r "$tree/include" "$out/lib/usr/include" || fail "the same tree makes the same header"
+    cmp "$tree/lib/libpigyelund.a" "$out/lib/usr/lib/$(gcc -print-multiarch)/libpigyelund.a" ||
+        fail "the same tree makes the same static library"
     try_package "$out"/deb/pigyelund_*.deb pigyelund bin
+    diff -r "$tree/bin" "$out/root/usr/bin" || fail "the same tree makes the same programs"
     for program in respath origins; do
         gzip -d <"$out/root/usr/share/man/man1/$program.1.gz" >"$out/page"
         answers "$out/root/usr/bin" "$out/page" || fail "the installed $program"
     done
-    for part in bin include lib; do
-        diff -r "$tree/$part" "$out/root/usr/$part" || fail "the same tree makes the same $part"
-    done
-    ./release --deb "$version" "$out/again" >"$out/log" 2>&1 &&
-        cmp "$out"/deb/pigyelund_*.deb "$out"/again/pigyelund_*.deb &&
-        cmp "$out"/deb/pigyelund-vectors_*.deb "$out"/again/pigyelund-vectors_*.deb ||
+    ./release --deb "$version" "$out/again" >"$out/log" 2>&1 && same_packages "$out/deb" "$out/again" ||
         fail "the same tree makes the same packages"
 }
 
@@ -355,6 +452,6 @@ elif [ -n "$(git status --porcelain 2>&1)" ]; then
     echo "left out: a release needs a tree without changes"
 else
     of_archive
-    if has "the package of Debian" dpkg-deb dpkg; then of_package; fi
+    if has "the packages of Debian" dpkg-deb dpkg dpkg-parsechangelog; then of_packages; fi
 fi
 exit "$failed"

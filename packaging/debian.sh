@@ -1,0 +1,265 @@
+# shellcheck shell=sh
+# The script release reads this file for --deb. It makes the Debian packages without debhelper, from the files that
+# release has proved:
+#
+#   pigyelund           the programs, their man pages, and the prover's verdicts
+#   libpigyelund1       the shared library, by the number of its ABI
+#   libpigyelund-dev    the header, the static library, the link for the linker, pigyelund.pc, the examples
+#   python3-pigyelund   the Python package
+#   pigyelund-vectors   the conformance vectors
+#
+# MAINTAINER in the environment is the maintainer of the packages, as `Name <address>`. If it is not set, the author of
+# the commit is. The same commit and the same MAINTAINER make the same packages.
+# shellcheck disable=SC2154 # release sets version, folder, work, date, library and top
+packaging=$top/packaging
+symbols=$packaging/libpigyelund1.symbols
+soname=$(sed -n '1s/ .*//p' "$symbols")
+# The first version of the library that has all calls.
+newest=$(sed -n 's/^ .* //p' "$symbols" | sort -V | tail -n 1)
+
+# is_elf FILE: whether the file is a program or a library that objdump reads.
+is_elf() { objdump -p "$1" >/dev/null 2>&1; }
+
+# Prints the packages that ELF files require, with versions, from the tables of dpkg.
+by_dpkg() {
+    mkdir -p "$work/depends/debian"
+    printf 'Source: pigyelund\n\nPackage: pigyelund\nArchitecture: any\n' >"$work/depends/debian/control"
+    (cd "$work/depends" && dpkg-shlibdeps -O -xlibpigyelund1 "$@") >"$work/shlibs" 2>"$work/log" ||
+        { cat "$work/log" >&2; stop "dpkg-shlibdeps fails"; }
+    sed -n 's/^shlibs:Depends=//p' "$work/shlibs"
+}
+
+# greatest NODE: prints the greatest version of the symbols of that name among the lines of the standard input.
+greatest() { sed -n "s/.*(\{0,1\}$1_\([0-9.]*\)).*/\1/p" | sort -uV | tail -n 1; }
+
+# Prints the same from the versions of the symbols that the files use: the C library, and the library of gcc.
+by_objdump() {
+    for file; do objdump -T "$file" | grep -F '*UND*'; done >"$work/used" || :
+    for file; do objdump -p "$file" | sed -n 's/^  NEEDED *//p'; done | sort -u >"$work/needed"
+    known='^(libc|libm|libdl|libpthread|librt|ld-linux[-a-z0-9]*|libgcc_s)\.so\.[0-9]+$'
+    unknown=$(grep -vE "$known" "$work/needed") || :
+    [ -z "$unknown" ] || stop "the package of a library isn't known: $unknown"
+    needs=
+    if grep -q '^libc\.' "$work/needed"; then needs="libc6 (>= $(greatest GLIBC <"$work/used"))"; fi
+    if grep -q '^libgcc_s\.' "$work/needed"; then needs="$needs, libgcc-s1 (>= $(greatest GCC <"$work/used"))"; fi
+    printf '%s\n' "$needs"
+}
+
+# depends_of FILE ..: prints the packages that the ELF files among these require.
+depends_of() {
+    for file; do
+        shift
+        ! is_elf "$file" || set -- "$@" "$file"
+    done
+    if [ $# -eq 0 ]; then return; fi
+    if command -v dpkg-shlibdeps >/dev/null; then by_dpkg "$@"; else by_objdump "$@"; fi
+}
+
+# Prints the symbols that a library exports, in the form of a symbols file and without the versions of packages.
+symbols_of() {
+    objdump -T "$1" | awk '$2 == "g" && !/\*UND\*/ { version = $(NF - 1); gsub(/[()]/, "", version)
+        print " " $NF "@" version }' | sort
+}
+
+# Stops unless the library has exactly the symbols of the symbols file. A symbol that is missing breaks programs that
+# use it; a new one needs its line, with the version in which it is new.
+require_symbols() {
+    [ "$(objdump -p "$1" | sed -n 's/^  SONAME *//p')" = "$soname" ] || stop "the shared library isn't $soname"
+    sed -n 's/^\( .*\) .*/\1/p' "$symbols" | sort >"$work/listed"
+    symbols_of "$1" >"$work/exported"
+    diff "$work/listed" "$work/exported" >&2 || stop "$soname has other symbols than ${symbols#"$top/"}"
+}
+
+# tree_of NAME: prints the folder of a package's files, and makes it.
+tree_of() {
+    mkdir -p "$work/deb/$1/DEBIAN" "$work/deb/$1/usr/share/doc/$1"
+    echo "$work/deb/$1"
+}
+
+# build_package NAME ARCHITECTURE SECTION FIELD ..: makes a package of the files in its tree. The standard input has its
+# description, and each FIELD that isn't empty is a line of the control file.
+build_package() {
+    name=$1 built_for=$2 section=$3
+    shift 3
+    tree=$(tree_of "$name")
+    doc=$tree/usr/share/doc/$name
+    "$packaging/texts.py" copyright >"$doc/copyright"
+    "$packaging/texts.py" changelog "$maintainer" "${date#@}" | gzip -9n >"$doc/changelog.gz"
+    if [ -e "$packaging/overrides/$name" ]; then
+        install -d "$tree/usr/share/lintian/overrides"
+        install -m 644 "$packaging/overrides/$name" "$tree/usr/share/lintian/overrides"
+    fi
+    chmod 644 "$doc/copyright" "$doc/changelog.gz"
+    find "$tree" -type d -exec chmod 00755 {} +
+    # The installed size counts each file in KiB, rounded up, and each folder or link as one.
+    size=$(find "$tree/usr" -type f -printf '%s\n' -o -printf '1\n' |
+        awk '{ all += int(($1 + 1023) / 1024) } END { print all }')
+    {
+        printf '%s\n' "Package: $name" "Source: pigyelund" "Version: $version" "Architecture: $built_for" \
+            "Maintainer: $maintainer" "Section: $section" "Priority: optional" "Installed-Size: $size"
+        for field; do case $field in *": ") ;; *) printf '%s\n' "$field" ;; esac; done
+        cat
+    } | sed "/^Source: $name\$/d" >"$tree/DEBIAN/control"
+    (cd "$tree" && find usr -type f | sort | xargs -d '\n' md5sum >DEBIAN/md5sums)
+    chmod 644 "$tree/DEBIAN/control" "$tree/DEBIAN/md5sums"
+    made=$work/${name}_${version}_$built_for.deb
+    SOURCE_DATE_EPOCH=${date#@} dpkg-deb --root-owner-group -Zxz --build "$tree" "$made" >/dev/null
+    dpkg-deb -x "$made" "$work/again/$name" && diff -r --no-dereference "$tree/usr" "$work/again/$name/usr" >&2 ||
+        stop "the package doesn't have the files whose sums were noted"
+    mv "$made" "$folder"
+    echo "$folder/${made##*/}"
+}
+
+# Installs the libraries for C in the folders of the system's architecture, and stops if their symbols are others.
+stage_library() {
+    stage=$work/stage
+    make -s -C foreign/c install OUT="$work/c" DESTDIR="$stage" PREFIX=/usr LIBDIR="/usr/lib/$triplet" \
+        INCLUDEDIR=/usr/include DOCDIR=/usr/share/doc/pigyelund LIB="$library" KIT="$KIT" >&2
+    same_sum "$library"
+    require_symbols "$stage/usr/lib/$triplet/$soname"
+    grep -qx "Version: $version" "$stage/usr/lib/$triplet/pkgconfig/pigyelund.pc" || stop "pigyelund.pc has no version"
+}
+
+# The library without the names of its private functions, which no program needs.
+library_package() {
+    tree=$(tree_of libpigyelund1)
+    lib=$tree/usr/lib/$triplet
+    install -d "$lib"
+    cp -P "$stage/usr/lib/$triplet/$soname"* "$lib"
+    file=$(readlink -f "$lib/$soname")
+    strip --strip-unneeded --remove-section=.comment --remove-section=.note "$file"
+    require_symbols "$file"
+    install -m 644 "$work/VERDICTS" "$tree/usr/share/doc/libpigyelund1"
+    install -m 644 "$symbols" "$tree/DEBIAN/symbols"
+    stem=${soname%%.so.*}
+    printf '%s %s libpigyelund1 (>= %s)\n' "$stem" "${soname##*.so.}" "$newest" >"$tree/DEBIAN/shlibs"
+    echo 'activate-noawait ldconfig' >"$tree/DEBIAN/triggers"
+    chmod 644 "$tree/DEBIAN/shlibs" "$tree/DEBIAN/triggers"
+    depends=$(depends_of "$file")
+    build_package libpigyelund1 "$architecture" libs "Multi-Arch: same" "Depends: $depends" <<END_OF_TEXT
+Description: RPKI resource sets and route origin validation (C library)
+ Calls on the resources of RPKI certificates (RFC 3779) and on routes: canonical
+ sets and their DER, verification along certification paths (RFC 6487, RFC
+ 8360), shortest lists of prefixes, tables of VRPs, and route origin validation
+ (RFC 6811). The code that computes the answers is formally verified.
+ .
+ This package has the shared library.
+END_OF_TEXT
+}
+
+development_package() {
+    tree=$(tree_of libpigyelund-dev)
+    doc=$tree/usr/share/doc/libpigyelund-dev
+    install -d "$tree/usr/include" "$tree/usr/lib/$triplet/pkgconfig" "$doc/examples"
+    install -m 644 "$stage/usr/include/pigyelund.h" "$tree/usr/include"
+    install -m 644 "$stage/usr/lib/$triplet/libpigyelund.a" "$tree/usr/lib/$triplet"
+    install -m 644 "$stage/usr/lib/$triplet/pkgconfig/pigyelund.pc" "$tree/usr/lib/$triplet/pkgconfig"
+    ln -s "$soname" "$tree/usr/lib/$triplet/libpigyelund.so"
+    install -m 644 foreign/c/example.c foreign/rtr/router.c "$doc/examples"
+    build_package libpigyelund-dev "$architecture" libdevel "Multi-Arch: same" \
+        "Depends: libpigyelund1 (= $version)" <<END_OF_TEXT
+Description: RPKI resource sets and route origin validation (development files)
+ Calls on the resources of RPKI certificates (RFC 3779) and on routes: canonical
+ sets and their DER, verification along certification paths (RFC 6487, RFC
+ 8360), shortest lists of prefixes, tables of VRPs, and route origin validation
+ (RFC 6811). The code that computes the answers is formally verified.
+ .
+ This package has the header, the static library, the file that pkg-config
+ reads, and two examples in C.
+END_OF_TEXT
+}
+
+# The package has no library of its own: it loads the one of libpigyelund1 by its soname. The scripts compile the modules,
+# and remove what was compiled, as those of other Python packages do.
+python_package() {
+    tree=$(tree_of python3-pigyelund)
+    modules=$tree/usr/lib/python3/dist-packages
+    least=$(sed -n 's/^requires-python = ">=\(.*\)"$/\1/p' foreign/python/pyproject.toml)
+    mkdir "$work/python" "$work/wheel"
+    git archive HEAD foreign/python LICENSE VERSION | tar -xf - -C "$work/python"
+    (cd "$work/python/foreign/python" &&
+        PYTHONDONTWRITEBYTECODE=1 python3 -c "import wheel_of; print(wheel_of.build_wheel('$work/wheel'))") >&2
+    install -d "$modules"
+    (cd "$modules" && python3 -m zipfile -e "$work/wheel/"*.whl .)
+    rm -r "$modules"/pigyelund-*.dist-info/RECORD "$modules"/pigyelund-*.dist-info/licenses
+    echo dpkg >"$(echo "$modules"/pigyelund-*.dist-info)/INSTALLER"
+    grep -q "\"$soname\"" "$modules/pigyelund/raw.py" || stop "the Python package doesn't load $soname"
+    find "$modules" -type f -exec chmod 00644 {} +
+    cat >"$tree/DEBIAN/postinst" <<'END_OF_TEXT'
+#!/bin/sh
+set -e
+if [ "$1" = configure ] && command -v py3compile >/dev/null 2>&1; then
+    py3compile -p python3-pigyelund
+fi
+END_OF_TEXT
+    cat >"$tree/DEBIAN/prerm" <<'END_OF_TEXT'
+#!/bin/sh
+set -e
+if command -v py3clean >/dev/null 2>&1; then
+    py3clean -p python3-pigyelund
+else
+    rm -rf /usr/lib/python3/dist-packages/pigyelund/__pycache__
+fi
+END_OF_TEXT
+    chmod 755 "$tree/DEBIAN/postinst" "$tree/DEBIAN/prerm"
+    build_package python3-pigyelund all python \
+        "Depends: python3 (>= $least), libpigyelund1 (>= $newest)" <<END_OF_TEXT
+Description: RPKI resource sets and route origin validation (Python 3)
+ Calls on the resources of RPKI certificates (RFC 3779) and on routes: canonical
+ sets and their DER, verification along certification paths (RFC 6487, RFC
+ 8360), shortest lists of prefixes, tables of VRPs, and route origin validation
+ (RFC 6811). The code that computes the answers is formally verified.
+ .
+ This package has the Python module pigyelund, which calls the C library.
+END_OF_TEXT
+}
+
+programs_package() {
+    tree=$(tree_of pigyelund)
+    put_programs "$tree/usr"
+    gzip -9n "$tree/usr/share/man/man1/"*.1
+    install -m 644 "$work/VERDICTS" "$tree/usr/share/doc/pigyelund"
+    depends=$(depends_of "$tree/usr/bin/"*)
+    build_package pigyelund "$architecture" net "Multi-Arch: foreign" "Depends: $depends" \
+        "Suggests: pigyelund-vectors" <<END_OF_TEXT
+Description: RPKI resource sets and route origin validation (programs)
+ The program respath computes with sets of AS numbers and IP addresses of RPKI
+ certificates (RFC 3779): canonical sets, their DER, shortest lists of prefixes,
+ and certification paths (RFC 6487, RFC 8360). The program origins prints the
+ validity of routes by the VRPs of a validator's file (RFC 6811), and what
+ changes between two files. The code that computes the answers is formally
+ verified.
+END_OF_TEXT
+}
+
+vectors_package() {
+    tree=$(tree_of pigyelund-vectors)
+    put_vectors "$tree/usr" pigyelund-vectors
+    build_package pigyelund-vectors all net "Multi-Arch: foreign" "Recommends: python3" \
+        "Suggests: python3-jsonschema, python3-netaddr, python3-pyasn1-modules, libssl-dev, librtr-dev" <<END_OF_TEXT
+Description: RPKI resource sets and route origin validation (test vectors)
+ Test cases as JSON for any implementation: the resource extensions of
+ certificates (RFC 3779, RFC 6487), set operations, certification paths (RFC
+ 6487, RFC 8360), route origin validation (RFC 6811), files of VRPs and changes
+ of a table of VRPs (RFC 8210). Schemas and runners for several implementations
+ come with them.
+END_OF_TEXT
+}
+
+# Makes all packages. The last one has the programs.
+debian() {
+    for tool in dpkg dpkg-deb objdump strip; do
+        command -v "$tool" >/dev/null || stop "$tool isn't there"
+    done
+    architecture=$(dpkg --print-architecture)
+    triplet=$(${CC:-cc} -print-multiarch)
+    [ -n "$triplet" ] || stop "the C compiler names no folder of the architecture"
+    maintainer=${MAINTAINER:-$(git log -1 --format='%an <%ae>')}
+    mkdir "$work/again"
+    stage_library
+    vectors_package
+    library_package
+    development_package
+    python_package
+    programs_package
+}

@@ -17,20 +17,31 @@ JSON. rpki-client -c and routinator vrps --format csv write such a file. The pro
 from the standard input and prints one line for each line of ROUTES:
 
   valid            a VRP matches the route
-  invalid-length   a VRP covers the route and has its AS, but the route is longer than its maxLength
-  invalid-as       VRPs cover the route, and none of them has its AS
+  invalid-length   a VRP with the AS of the route covers the route, but the route is longer than the
+                   maxLength of this VRP
+  invalid-as       VRPs cover the route, and none of them has the AS of the route. A covered route
+                   with AS0 or without an origin AS is invalid-as too
   not-found        no VRP covers the route
   error: ..        the line is not a route
 
 A route is a prefix, a space and an AS number, for example 192.0.2.0/24 AS64496, or a line of
-bgpdump -m.
+bgpdump -m. The origin AS of a line of bgpdump -m is the last AS of its path. A route has no origin
+AS if its path is empty, or ends in a set of AS numbers or in a segment of a confederation.
+
+Warning: if a path is empty or ends in a segment of a confederation, RFC 6811 takes the AS of the
+router itself as the origin AS. The program does not know this AS. Your own routes can therefore be
+invalid-as by mistake. Replace such a path by the AS of the router before you run the program. The
+manual page origins(1) has the commands in its examples.
+
+The program collects up to 64 KiB of answers before it writes them, and writes the rest at the end.
 
 Options:
 
   --why        print after the result each VRP that covers the route, the longest prefix first. The
                reason is in front of the VRP, as in match:192.0.2.0/23-24:AS64496. The reasons are:
                match:   the VRP matches the route
-               length:  the VRP has the AS of the route, but the route is longer than its maxLength
+               length:  the VRP has the AS of the route, but the route is longer than the
+                        maxLength of the VRP
                as:      the VRP has another AS, or AS0
   --check      exit with status 3 if a route is invalid or a line is not a route. Without this
                option the status is 0 in these cases too
@@ -38,12 +49,14 @@ Options:
   --of ASN     with --table: print only the VRPs of this AS
   --diff       compare two files: print a line that begins with withdraw for each VRP that only OLD
                has, and then a line that begins with announce for each VRP that only NEW has
+  --           end the options: each word after it is the name of a file
   -h, --help   print the help
   --version    print the version
 
 The program prints on standard error how many VRPs it read. Check this number: the program cannot
-detect that a CSV file was cut at the end of a line, or after the maxLength of a line. The program
-ignores the date at which a VRP expires: an old file is used like a new one.
+detect that the last lines of a CSV file are missing. If the last line was cut, the program reports
+this only if the rest of the line is invalid. The program ignores the date at which a VRP expires:
+an old file is used like a new one.
 
 Exit status:
 

@@ -24,7 +24,7 @@ has() {
 
 # The first tool that a command names and that isn't there.
 missing_tool() {
-    for tool in openssl parallel xargs split nproc paste awk cksum; do
+    for tool in openssl parallel xargs split nproc paste awk cksum jq; do
         if grep -qw "$tool" "$1" && ! has "$tool"; then
             echo "$tool"
             return

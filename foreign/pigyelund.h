@@ -92,6 +92,20 @@
 extern "C" {
 #endif
 
+/* Attributes, by which GCC and Clang warn. They are empty for other compilers.
+ *
+ * - PIGY_NODISCARD: A program that ignores the result gets a warning. pigy_table_len does not have it, since its only
+ *   error is a NULL handle.
+ * - PIGY_NONNULL(...): No pointer with one of these numbers is NULL. The first parameter has number 1. Without numbers
+ *   this holds for all pointers. A program that passes the constant NULL gets a warning. */
+#ifdef __GNUC__
+#define PIGY_NODISCARD __attribute__((__warn_unused_result__))
+#define PIGY_NONNULL(...) __attribute__((__nonnull__(__VA_ARGS__)))
+#else
+#define PIGY_NODISCARD
+#define PIGY_NONNULL(...)
+#endif
+
 /* Statuses. The meaning of a released number never changes. The codes of RFC 8210 are those of its section 12. */
 #define PIGY_OK 0u            /* Success. For pigy_contains and pigy_equal: yes. */
 #define PIGY_TOO_SMALL 1u     /* A buffer is too small. No buffer is changed, and the lengths are the required ones. */
@@ -233,7 +247,7 @@ uint32_t pigy_verify(const uint8_t *issuer_as, size_t issuer_as_len, const uint8
                      uint32_t present, const uint8_t *cert_as, size_t cert_as_len, const uint8_t *cert_ip,
                      size_t cert_ip_len, uint32_t encoding, uint32_t mode,
                      uint8_t *as_out, size_t as_capacity, uint8_t *ip_out, size_t ip_capacity, size_t *as_len,
-                     size_t *ip_len);
+                     size_t *ip_len) PIGY_NODISCARD PIGY_NONNULL();
 
 /* A certificate of a path, as pigy_verify_path takes it. Its extensions are ranges of `run`, a parameter of that call.
  *
@@ -291,7 +305,7 @@ uint32_t pigy_verify_path(const uint8_t *anchor_as, size_t anchor_as_len, const 
                           size_t anchor_ip_len, const uint8_t *run, size_t run_len,
                           const pigy_certificate *certificates, size_t count, uint32_t encoding, uint8_t *as_out,
                           size_t as_capacity, uint8_t *ip_out, size_t ip_capacity, size_t *as_len, size_t *ip_len,
-                          size_t *verified);
+                          size_t *verified) PIGY_NODISCARD PIGY_NONNULL();
 
 /**
  * Lists the fewest prefixes that have exactly the addresses of one family in IP address blocks, in ascending order.
@@ -316,7 +330,7 @@ uint32_t pigy_verify_path(const uint8_t *anchor_as, size_t anchor_as_len, const 
  * With 1 to 4 and with PIGY_MEMORY *len is 0 and the buffer is unchanged.
  */
 uint32_t pigy_cover(const uint8_t *ip, size_t ip_len, uint32_t encoding, uint32_t family, uint8_t *out, size_t capacity,
-                    size_t *len);
+                    size_t *len) PIGY_NODISCARD PIGY_NONNULL();
 
 /* A VRP (validated ROA payload): a prefix, its maximum length, and the AS that may originate it.
  *
@@ -365,7 +379,7 @@ typedef struct {
  * With 1, 2 and PIGY_MEMORY *len is 0 and the buffer is unchanged.
  */
 uint32_t pigy_origins(const pigy_vrp *vrps, size_t vrp_count, const pigy_route *routes, size_t route_count,
-                      uint8_t *out, size_t capacity, size_t *len, size_t *index);
+                      uint8_t *out, size_t capacity, size_t *len, size_t *index) PIGY_NODISCARD PIGY_NONNULL();
 
 /* A table of VRPs. The caller owns it until pigy_table_free. */
 typedef struct pigy_table pigy_table;
@@ -396,7 +410,8 @@ typedef struct {
  *
  * With 1 and with PIGY_MEMORY *table is NULL.
  */
-uint32_t pigy_table_new(const pigy_vrp *vrps, size_t count, pigy_table **table, size_t *index);
+uint32_t pigy_table_new(const pigy_vrp *vrps, size_t count, pigy_table **table, size_t *index)
+    PIGY_NODISCARD PIGY_NONNULL();
 
 /**
  * Makes the next table: `table` without the withdrawn VRPs, and then with the announced ones.
@@ -431,7 +446,8 @@ uint32_t pigy_table_new(const pigy_vrp *vrps, size_t count, pigy_table **table, 
  * *next is NULL.
  */
 uint32_t pigy_table_changed(const pigy_table *table, const pigy_vrp *announced, size_t announced_count,
-                            const pigy_vrp *withdrawn, size_t withdrawn_count, pigy_table **next, size_t *index);
+                            const pigy_vrp *withdrawn, size_t withdrawn_count, pigy_table **next, size_t *index)
+    PIGY_NODISCARD PIGY_NONNULL(2, 4, 6, 7);
 
 /**
  * Validates routes by a table, as pigy_origins does. It makes no table, so a call for one route is cheap.
@@ -452,7 +468,7 @@ uint32_t pigy_table_changed(const pigy_table *table, const pigy_vrp *announced, 
  * With 1, 2 and PIGY_MEMORY *len is 0 and the buffer is unchanged.
  */
 uint32_t pigy_table_origins(const pigy_table *table, const pigy_route *routes, size_t count, uint8_t *out,
-                            size_t capacity, size_t *len, size_t *index);
+                            size_t capacity, size_t *len, size_t *index) PIGY_NODISCARD PIGY_NONNULL(2, 4, 6, 7);
 
 /**
  * Lists the VRPs of a table that cover a route, each with the reason why it does not match.
@@ -474,7 +490,7 @@ uint32_t pigy_table_origins(const pigy_table *table, const pigy_route *routes, s
  * With 1, 2 and PIGY_MEMORY *len is 0 and the buffer is unchanged.
  */
 uint32_t pigy_table_covering(const pigy_table *table, const pigy_route *route, pigy_covering *out, size_t capacity,
-                             size_t *len);
+                             size_t *len) PIGY_NODISCARD PIGY_NONNULL(2, 3, 5);
 
 /**
  * Counts the VRPs of a table.
@@ -484,7 +500,7 @@ uint32_t pigy_table_covering(const pigy_table *table, const pigy_route *route, p
  *
  * @return PIGY_NO_TABLE if the handle is NULL, or else PIGY_OK.
  */
-uint32_t pigy_table_len(const pigy_table *table, size_t *len);
+uint32_t pigy_table_len(const pigy_table *table, size_t *len) PIGY_NONNULL(2);
 
 /**
  * Lists all VRPs of a table. The last 12 octets of an IPv4 address are 0.
@@ -504,7 +520,8 @@ uint32_t pigy_table_len(const pigy_table *table, size_t *len);
  *
  * With 1 and with PIGY_MEMORY *len is 0 and the buffer is unchanged.
  */
-uint32_t pigy_table_vrps(const pigy_table *table, pigy_vrp *out, size_t capacity, size_t *len);
+uint32_t pigy_table_vrps(const pigy_table *table, pigy_vrp *out, size_t capacity, size_t *len)
+    PIGY_NODISCARD PIGY_NONNULL(2, 4);
 
 /**
  * Frees a table. The handle is invalid afterwards.
@@ -527,7 +544,8 @@ void pigy_table_free(pigy_table *table);
  *
  * @return PIGY_TOO_SMALL, PIGY_MEMORY or PIGY_OK. With PIGY_MEMORY *len is 0 and the buffer is unchanged.
  */
-uint32_t pigy_answer(const uint8_t *line, size_t line_len, uint8_t *out, size_t capacity, size_t *len);
+uint32_t pigy_answer(const uint8_t *line, size_t line_len, uint8_t *out, size_t capacity, size_t *len)
+    PIGY_NODISCARD PIGY_NONNULL();
 
 /**
  * Computes the union of two sets: the resources that the first or the second set has.
@@ -561,7 +579,7 @@ uint32_t pigy_answer(const uint8_t *line, size_t line_len, uint8_t *out, size_t 
 uint32_t pigy_union(const uint8_t *a_as, size_t a_as_len, const uint8_t *a_ip, size_t a_ip_len, const uint8_t *b_as,
                     size_t b_as_len, const uint8_t *b_ip, size_t b_ip_len, uint32_t encoding,
                     uint8_t *as_out, size_t as_capacity, uint8_t *ip_out, size_t ip_capacity, size_t *as_len,
-                    size_t *ip_len);
+                    size_t *ip_len) PIGY_NODISCARD PIGY_NONNULL();
 
 /**
  * Computes the intersection of two sets: the resources that both sets have.
@@ -595,7 +613,7 @@ uint32_t pigy_union(const uint8_t *a_as, size_t a_as_len, const uint8_t *a_ip, s
 uint32_t pigy_intersection(const uint8_t *a_as, size_t a_as_len, const uint8_t *a_ip, size_t a_ip_len,
                            const uint8_t *b_as, size_t b_as_len, const uint8_t *b_ip, size_t b_ip_len,
                            uint32_t encoding, uint8_t *as_out, size_t as_capacity, uint8_t *ip_out, size_t ip_capacity,
-                           size_t *as_len, size_t *ip_len);
+                           size_t *as_len, size_t *ip_len) PIGY_NODISCARD PIGY_NONNULL();
 
 /**
  * Computes the difference of two sets: the resources that the first set has and the second does not.
@@ -629,7 +647,7 @@ uint32_t pigy_intersection(const uint8_t *a_as, size_t a_as_len, const uint8_t *
 uint32_t pigy_difference(const uint8_t *a_as, size_t a_as_len, const uint8_t *a_ip, size_t a_ip_len,
                          const uint8_t *b_as, size_t b_as_len, const uint8_t *b_ip, size_t b_ip_len, uint32_t encoding,
                          uint8_t *as_out, size_t as_capacity, uint8_t *ip_out, size_t ip_capacity, size_t *as_len,
-                         size_t *ip_len);
+                         size_t *ip_len) PIGY_NODISCARD PIGY_NONNULL();
 
 /**
  * Returns whether the first set has each AS number and each address of the second.
@@ -653,7 +671,8 @@ uint32_t pigy_difference(const uint8_t *a_as, size_t a_as_len, const uint8_t *a_
  *   4. PIGY_OK for yes, PIGY_NO for no.
  */
 uint32_t pigy_contains(const uint8_t *a_as, size_t a_as_len, const uint8_t *a_ip, size_t a_ip_len, const uint8_t *b_as,
-                       size_t b_as_len, const uint8_t *b_ip, size_t b_ip_len, uint32_t encoding);
+                       size_t b_as_len, const uint8_t *b_ip, size_t b_ip_len, uint32_t encoding)
+    PIGY_NODISCARD PIGY_NONNULL();
 
 /**
  * Returns whether both sets have the same AS numbers and the same addresses.
@@ -677,55 +696,28 @@ uint32_t pigy_contains(const uint8_t *a_as, size_t a_as_len, const uint8_t *a_ip
  *   4. PIGY_OK for yes, PIGY_NO for no.
  */
 uint32_t pigy_equal(const uint8_t *a_as, size_t a_as_len, const uint8_t *a_ip, size_t a_ip_len, const uint8_t *b_as,
-                    size_t b_as_len, const uint8_t *b_ip, size_t b_ip_len, uint32_t encoding);
+                    size_t b_as_len, const uint8_t *b_ip, size_t b_ip_len, uint32_t encoding)
+    PIGY_NODISCARD PIGY_NONNULL();
 
-/* ---- The rest of this file is inline C, and is not proved. ---- */
+/* ---- The rest of this file is C code that is not proved. ---- */
 
 /**
- * Returns the English text of a status. The text is never NULL, and is valid as long as the program runs.
+ * Returns the version of the linked library: the text of the file VERSION of its release. It is not PIGY_VERSION.
+ *
+ * @return a text that is never NULL, and is valid as long as the library is loaded.
+ */
+const char *pigy_version_string(void);
+
+/**
+ * Returns the English text of a status.
  *
  * @param status  Any number. For a number that is not a status the text is "unknown status".
+ *
+ * @return a text that is never NULL, and is valid as long as the library is loaded.
  */
-static inline const char *pigy_status_text(uint32_t status) {
-#define PIGY_TEXTS(of)                                                                                                 \
-  {of "truncated", of "wrong tag", of "bad length", of "bad integer", of "bad bit string", of "bad NULL",              \
-   of "trailing data", of "bad prefix", of "bad family", of "reversed range", of "no blocks", of "family twice",       \
-   of "no family", of "not canonical"}
-  static const char *const faults[4][14] = {
-      PIGY_TEXTS("AS identifiers: "), PIGY_TEXTS("IP address blocks: "),
-      PIGY_TEXTS("AS identifiers of the certificate or of the second set: "),
-      PIGY_TEXTS("IP address blocks of the certificate or of the second set: ")};
-#undef PIGY_TEXTS
-  static const char *const others[19] = {"done",
-                                         "a buffer is too small",
-                                         "out of memory",
-                                         "inherited resources in place of a set",
-                                         "unknown mode",
-                                         "overclaimed AS resources",
-                                         "overclaimed IPv4 resources",
-                                         "overclaimed IPv6 resources",
-                                         "no",
-                                         "unknown encoding",
-                                         "the certificate has neither extension",
-                                         "octets of a certificate outside of the run",
-                                         "unknown number of extensions",
-                                         "unknown family",
-                                         "bad prefix of a VRP",
-                                         "bad maximum length of a VRP",
-                                         "no table",
-                                         "withdrawal of an unknown VRP",
-                                         "duplicate announcement of a VRP"};
-  uint32_t fault = PIGY_FAULT(status), kind = status - fault, second = kind >= PIGY_SECOND ? 1u : 0u;
-  uint32_t octets = kind - second * PIGY_SECOND;
-  if (status < 19u) return others[status];
-  if (octets == PIGY_BAD_AS || octets == PIGY_BAD_IP)
-    if (fault >= 1u && fault <= 14u) return faults[2u * second + (octets == PIGY_BAD_IP ? 1u : 0u)][fault - 1u];
-  if (status == PIGY_SECOND + PIGY_INHERITED) return "inherited resources in place of the second set";
-  if (status == PIGY_SECOND + PIGY_BAD_FAMILY) return "unknown family of a route or of a withdrawn VRP";
-  if (status == PIGY_SECOND + PIGY_BAD_PREFIX) return "bad prefix of a route or of a withdrawn VRP";
-  if (status == PIGY_SECOND + PIGY_BAD_MAX_LEN) return "bad maximum length of a withdrawn VRP";
-  return "unknown status";
-}
+const char *pigy_status_text(uint32_t status);
+
+/* The short forms are inline functions. */
 
 /* A resource set, or the extensions of a certificate, as an input of the short forms below.
  *
@@ -775,6 +767,7 @@ static inline size_t pigy_len_or_zero(const uint8_t *octets, size_t len) { retur
  *
  * @return a status of pigy_verify.
  */
+PIGY_NODISCARD PIGY_NONNULL(5)
 static inline uint32_t pigy_verify_set(pigy_set issuer, pigy_set cert, uint32_t encoding, uint32_t mode,
                                        pigy_buffers *out) {
   uint8_t spare[2];
@@ -806,6 +799,7 @@ typedef uint32_t pigy_comparison(const uint8_t *, size_t, const uint8_t *, size_
  *
  * @return a status of pigy_union.
  */
+PIGY_NODISCARD PIGY_NONNULL(1, 5)
 static inline uint32_t pigy_combine(pigy_operation *call, pigy_set a, pigy_set b, uint32_t encoding,
                                     pigy_buffers *out) {
   uint8_t spare[2];
@@ -826,6 +820,7 @@ static inline uint32_t pigy_combine(pigy_operation *call, pigy_set a, pigy_set b
  *
  * @return a status of pigy_contains.
  */
+PIGY_NODISCARD PIGY_NONNULL(1)
 static inline uint32_t pigy_compare(pigy_comparison *call, pigy_set a, pigy_set b, uint32_t encoding) {
   return call(pigy_non_null(a.as), pigy_len_or_zero(a.as, a.as_len), pigy_non_null(a.ip),
               pigy_len_or_zero(a.ip, a.ip_len), pigy_non_null(b.as), pigy_len_or_zero(b.as, b.as_len),

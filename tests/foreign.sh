@@ -50,6 +50,48 @@ of_symbols() {
         diff "$out/exports" - || fail "the shared library exports its calls, with the version PIGYELUND_1"
 }
 
+# warns TEXT WARNING: each compiler refuses this statement, by this warning
+warns() {
+    printf '#include <pigyelund.h>\nuint32_t f(pigy_table *table, pigy_set set, size_t *len, pigy_buffers *out);\n%s\n' \
+        "uint32_t f(pigy_table *table, pigy_set set, size_t *len, pigy_buffers *out) { (void)out; (void)set; $1 }" \
+        >"$out/warns.c"
+    for compiler in gcc clang; do
+        command -v "$compiler" >/dev/null || continue
+        "$compiler" -Iforeign -Wall -Wextra -c "$out/warns.c" -o "$out/warns.o" 2>"$out/log" || fail "$compiler: $1"
+        grep -q "\[-W$2\]" "$out/log" || fail "$compiler warns by -W$2: $1"
+    done
+}
+
+# The header compiles as each language, without warnings, and also without the attributes. Its names begin with pigy_ or
+# PIGY. The attributes make warnings.
+of_header() {
+    for language in c99 c11 c17 c++11 c++17; do
+        case $language in c++*) compilers="g++ clang++" ;; *) compilers="gcc clang" ;; esac
+        for compiler in $compilers; do
+            has "the header as $language" "$compiler" || continue
+            for words in "-Wshadow -Wconversion" -U__GNUC__; do
+                # shellcheck disable=SC2086 # several words
+                echo '#include "foreign/pigyelund.h"' | "$compiler" -x "${language%%[0-9]*}" -std="$language" $words \
+                    -pedantic -Wall -Wextra -Werror -I. -fsyntax-only - || fail "the header by $compiler as $language $words"
+            done
+        done
+    done
+    printf '#include <stddef.h>\n#include <stdint.h>\n' | gcc -dM -E - | sort >"$out/macros_before"
+    gcc -dM -E foreign/pigyelund.h | sort | comm -13 "$out/macros_before" - | grep -v '^#define PIGY' &&
+        fail "the header defines a macro without PIGY"
+    gcc -E -P foreign/pigyelund.h | sed -n '/pigy_/,$p' | grep -E '^(typedef .*[;(]|\} .*;)' | grep -v '[ *]pigy_' &&
+        fail "the header defines a type without pigy_"
+    warns "(void)table; pigy_answer((const uint8_t *)len, 1, 0, 0, len); return 0;" nonnull
+    warns "pigy_table_vrps(table, 0, 0, len); return 0;" unused-result
+    warns "pigy_table_vrps(table, 0, 0, len); return 0;" nonnull
+    warns "(void)table; (void)len; pigy_verify_set(set, set, 0, 0, out); return 0;" unused-result
+    warns "(void)table; (void)len; return pigy_verify_set(set, set, 0, 0, 0);" nonnull
+    warns "(void)table; return pigy_table_len(0, 0) + *len;" nonnull
+    echo '#include "foreign/pigyelund.h"
+        uint32_t f(size_t *len) { pigy_table_free(0); pigy_table_len(0, len); return pigy_version(); }' |
+        gcc -x c -Wall -Wextra -Werror -I. -c - -o "$out/warns.o" || fail "a NULL handle without a warning"
+}
+
 # A program may define the symbols that the kit has. The static library does not use them.
 of_collisions() {
     {
@@ -68,6 +110,12 @@ of_collisions() {
 of_c() {
     made all || fail "C is compiled"
     made check || fail "make check: the example and the test in C"
+    of_header
+    echo '#include <pigyelund.h>
+        int puts(const char *);
+        int main(void) { return puts(pigy_version_string()) < 0; }' |
+        gcc -x c -Iforeign - -x none "$spaced/libpigyelund.a" -o "$out/version" || fail "the version is compiled"
+    [ "$("$out/version")" = "$(cat VERSION)" ] || fail "pigy_version_string returns the text of VERSION"
     of_symbols
     of_collisions
     if has "the example as C++" g++; then

@@ -398,7 +398,7 @@ if has "C, and all that is installed," gcc make ar objcopy nm readelf; then
     of_install
     has_python && { tests/foreign_page.py C "$prefix" || fail "the program in C"; of_python; }
     has_python && { tests/foreign_page.py "A table in C" "$prefix" || fail "the table in C"; }
-    has "Rust" cargo cc && of_rust
+    has "Rust" cargo cc tar && of_rust
 fi
 if [ $# -eq 0 ]; then
     tests/release.sh || fail "a release"

@@ -2,7 +2,7 @@
 """Makes docs/API.md and docs/api from the sources, and `crates/test_paths` with a `use` line of each path on the pages.
 
 A page shows the public types of a library, their calls, and the signatures and contracts of these. Each call has a
-heading. The text of a doc comment is below the signature. The internal API and the lemmas have parts of their own. With
+heading. The text of a doc comment is above the signature. The internal API and the lemmas have parts of their own. With
 --write the files are written. Without it they are compared with what would be written, and the status is 1 if one
 differs. The sources are read as `rt fmt` leaves them: an item begins at its indent, and a body at a brace of the same
 indent.
@@ -10,13 +10,13 @@ indent.
 
 import re
 import sys
-import textwrap
 from collections.abc import Iterator
 from dataclasses import dataclass, field, replace
 from functools import cache
 from pathlib import Path
 
 from api_paths import ITEM, Key, Module, meant_by, public_paths, root_of
+from api_text import anchor, laid_out, wrapped
 from groups import GROUPS, about, crates_of, group_of, is_program, stands_on
 
 TOP = Path(__file__).resolve().parent.parent
@@ -69,6 +69,12 @@ A page has up to four parts:
 | Internal API | Items that are public only because other crates of this repository call them. Users call an item of the first part instead, which does the same with a whole value. |
 | Lemmas | functions that do nothing when they run ([CALLING.md](CALLING.md#lemmas)), in the modules called `laws` |
 
+An item has its text first, and then its signature with the contract. A type has its constructors (`new`, `from_..` and
+`with_..`) before its other calls, which are in the order of the source.
+
+The pages leave out lines that have no meaning for callers: bodies of functions, private fields, `ghost use` lines, the
+ghost members of impls that are proofs, as `ghost laws`, and the member `ghost inverse`.
+
 `tests/api_page.py --write` makes this page and those below from the sources. `./check` fails if one of them isn't
 current.
 
@@ -80,6 +86,7 @@ The last three columns count the items of three parts of the library's page. Re-
 |---|---|---|---|---|---|"""
 # The call that the index shows, with its crate and its type.
 EXAMPLE = "rpki_as", "AsBlocks", "union"
+HEADER = TOP / "foreign" / "pigyelund.h"
 CRATE_HEAD = """{about}
 
 Contents: {parts}
@@ -92,7 +99,6 @@ OF_C = """No item of this library has a path that a `use` line can name. C calls
 `foreign/pigyelund.h` declares them.
 """
 NO_PATH = "This item has no public path: a `use` line can't name it. You get its values from calls."
-WIDTH = 120
 PATHS_HEAD = """//! A `use` line of each public path that docs/api shows. `tests/api_page.py --write` makes this file.
 #![tactic(auto)]
 
@@ -147,6 +153,14 @@ INTERNAL = (
     "rpki_family::iter::BlockOfSet",
     "pigyelund_routes",
 )
+# Ghost lines that are left out, since they have no meaning for callers: imports, proofs, and how a value is stored.
+PROOFS = "use laws total matches_partial_cmp matches_eq respects_eq one_item no_gaps in_order form_bounds has_family \
+has_width is_reading is_modal has_octets inverse"
+LEFT_OUT = re.compile(rf"    ghost (?:use |(?:{'|'.join(PROOFS.split())}) =)")
+CONSTRUCTOR = re.compile(r"pub (?:const )?fn (?:new|from|with)(?:_\w+)?\b(?!.*\bself\b)")
+# A link of rustdoc, and the line that has the target of one.
+LINK = re.compile(r"\[`([\w:()]+)`\](?:\(((?:[\w:@]|\(\))*)\))?")
+TARGET = re.compile(r"\[`([\w:()]+)`\]: (\S+)")
 CLAUSE = re.compile(r"^\s*(?:ensures|requires|decreases|ghost)\b")
 MEMBER = re.compile(r"    pub (?:(const (?=[A-Z])|type )|(?:const )?fn )(\w+)")
 
@@ -168,7 +182,11 @@ class Item:
 
     def heading(self) -> str:
         """The heading of the item on its page."""
-        return f"{'Internal calls of ' if self.is_part else ''}{self.path or self.name}"
+        return f"{'Internal calls of ' if self.is_part else ''}{self.path or self.place()}"
+
+    def place(self) -> str:
+        """The path of an item without a public one: that of its module. C knows an item by its name alone."""
+        return self.name if is_from_c(self.home.path[0]) else "::".join([*self.home.path, self.name])
 
 
 def indent_of(line: str) -> int:
@@ -227,10 +245,9 @@ def without_bodies(lines: list[str]) -> list[str]:
     while at < len(lines) - 1:
         text = lines[at].strip()
         if text.startswith("ghost "):
-            while not lines[at].endswith("};"):
-                kept.append(lines[at])
-                at += 1
-            kept.append(lines[at])
+            end = ghost_end(lines, at)
+            kept += [] if LEFT_OUT.match(lines[at]) else lines[at:end]
+            at = end - 1
         elif re.match(r"    (?:type|const) [A-Z]", lines[at]):
             end = next(k for k in range(at, len(lines)) if lines[k].endswith(";"))
             kept += lines[at : end + 1]
@@ -242,10 +259,26 @@ def without_bodies(lines: list[str]) -> list[str]:
     return [*kept, "}"] if len(kept) > 1 else [f"{lines[0].removesuffix(' {}').removesuffix(' {')} {{}}"]
 
 
+def ghost_end(lines: list[str], at: int) -> int:
+    """The line after the ghost member that begins at a line."""
+    return next(k for k in range(at, len(lines)) if lines[k].endswith("};")) + 1
+
+
+def without_proofs(block: list[str]) -> list[str]:
+    """A type or a trait without the ghost lines that have no meaning for callers."""
+    kept, end = [], 0
+    for at, line in enumerate(block):
+        if LEFT_OUT.match(line):
+            end = ghost_end(block, at)
+        if at >= end:
+            kept.append(line)
+    return kept
+
+
 def type_code(block: list[str]) -> list[str]:
     """A type as it is declared, without its private fields."""
     if not block[0].startswith("pub struct"):
-        return block
+        return without_proofs(block)
     if len(block) == 1:
         return [re.sub(r"\((?!pub).*\)", "(..)", block[0])]
     shown = [line for line in block[1:-1] if re.match(r"    (?:pub |///)", line)]
@@ -306,7 +339,7 @@ def read_impls(module: Module, items: dict[Key, Item]) -> None:
             if found := MEMBER.match(inner):
                 code = [it[4:] for it in block[k : member_end(block, k)]] if found[1] else signature(block, k)
                 own = doc_above(block, k)
-                said = [*doc, *([""] if doc and own else []), *own]
+                said = [*own, *([""] if doc and own else []), *doc]
                 items[key].calls.append(Item(found[2], of=line.removesuffix(" {"), home=module, doc=said, code=code))
                 doc = []
 
@@ -386,36 +419,84 @@ def call_heading(item: Item, call: Item) -> str:
     return f"{kind.replace(', A>', '>')}::{call.name}"
 
 
-def code_and_text(item: Item) -> Iterator[str]:
-    """A block of code, and below it the text of its doc comment. Headings of the text are bold words."""
-    yield from ["```rust", *item.code, "```", ""] if item.code else []
+def text_and_code(item: Item) -> Iterator[str]:
+    """The text of a doc comment, and below it a block of the code. Headings of the text are bold words."""
+    said: list[str] = []
     in_code = False
-    for line in item.doc:
+    for line in paragraphs(item):
         in_code ^= line.startswith("```")
-        if in_code or line.startswith("```"):
-            yield line
-        else:
-            indent = " " * indent_of(line) + ("  " if line.lstrip().startswith("- ") else "")
-            yield from wrapped(linked(re.sub(r"^#+ (.*)", r"**\1**", line), item), indent) or [""]
-    yield ""
+        said.append(line if in_code else linked(re.sub(r"^#+ (.*)", r"**\1**", line), item))
+    yield from [*laid_out(said), ""]
+    yield from ["```rust", *item.code, "```", ""] if item.code else []
+
+
+def paragraphs(item: Item) -> list[str]:
+    """The doc comment of an item with the targets of its links, and with the name that a constant has in the C header."""
+    targets = {found[1]: found[2] for line in item.doc if (found := TARGET.fullmatch(line))}
+    doc = [line for line in item.doc if not TARGET.fullmatch(line)]
+    doc = [LINK.sub(lambda it: f"[`{it[1]}`]({targets.get(it[1], it[2] or it[1])})", line) for line in doc]
+    name = c_name(item)
+    return [*doc, "", f"The C header `foreign/pigyelund.h` names this constant `{name}`."] if name else doc
+
+
+def c_name(item: Item) -> str:
+    """The name of a constant of the libraries for C in the C header, if the header has one of the same value."""
+    found = re.match(r"pub const (\w+): u32 = (\d+);", item.code[0]) if item.code else None
+    if not found or not item.home.path[0].startswith("pigyelund_"):
+        return ""
+    value = re.search(rf"^#define PIGY_{found[1]} (\w+)u\b", HEADER.read_text(), re.M)
+    return f"PIGY_{found[1]}" if value and int(value[1], 0) == int(found[2]) else ""
+
+
+def in_reading_order(calls: list[Item]) -> list[Item]:
+    """The named calls of a type: constants, constructors, and then the others as the source has them."""
+    kinds = {call.name: 0 if is_constant(call) else 2 - bool(CONSTRUCTOR.match(" ".join(call.code))) for call in calls}
+    return sorted((it for it in calls if it.name), key=lambda it: kinds[it.name])
+
+
+def is_constant(call: Item) -> bool:
+    """Whether a call of a type is one of its constants."""
+    return call.code[0].startswith("pub const ") and "fn " not in call.code[0]
 
 
 def calls_of(item: Item) -> Iterator[str]:
-    """The calls on a type, each with a heading, then its traits: those without a doc comment and without members in one
-    block."""
-    named = [it for it in item.calls if it.name]
-    if len(named) > 1:
-        yield from wrapped("Calls: " + " · ".join(f"[{it.name}]({anchor(call_heading(item, it))})" for it in named))
-        yield ""
+    """The calls on a type, each with a heading, and then its traits."""
+    named = in_reading_order(item.calls)
+    for word, some in (("Constants", [it for it in named if is_constant(it)]),
+                       ("Calls", [it for it in named if not is_constant(it)])):
+        if some and len(named) > 1:
+            yield from wrapped(f"{word}: " + " · ".join(f"[{it.name}]({anchor(call_heading(item, it))})" for it in some))
+            yield ""
     for call in named:
-        yield from [f"#### `{call_heading(item, call)}`", "", *code_and_text(call)]
-    if traits := [it for it in item.calls if not it.name]:
-        yield from [f"#### Traits of `{item.name}`", ""]
-    for it in traits:
-        if it.doc or len(it.code) > 1:
-            yield from code_and_text(it)
-    if plain := [it.code[0] for it in traits if not it.doc and len(it.code) == 1]:
-        yield from ["```rust", *plain, "```", ""]
+        yield from [f"#### `{call_heading(item, call)}`", "", *text_and_code(call)]
+    yield from traits_of(item)
+
+
+def traits_of(item: Item) -> Iterator[str]:
+    """The traits of a type, or the impls of a trait: each one with a text has a heading, and one block has the others."""
+    traits = [it for it in item.calls if not it.name]
+    is_trait = any(line.startswith("pub trait ") for line in item.code)
+    yield from [f"#### {'Impls' if is_trait else 'Traits'} of `{item.name}`", ""] if traits else []
+    said = [it for it in traits if it.doc]
+    for it in said:
+        yield from [f"##### `{title_of(it.code[0])}`", "", *text_and_code(it)]
+    plain = sorted((it.code for it in traits if not it.doc), key=lambda it: len(it) == 1)
+    yield from [f"##### Other impls of `{item.name}`", ""] if said and plain else []
+    for at, code in enumerate(plain):
+        yield from ["```rust"] if at == 0 else [""] if len(plain[at - 1]) > 1 else []
+        yield from code
+    yield from ["```", ""] if plain else []
+
+
+def title_of(head: str) -> str:
+    """The trait and the type of an impl, without the parameters of the impl and its body."""
+    text = re.sub(r"^(?:unsafe )?impl|\s*(?:\bwhere\b.*|\{\}?)$", "", head)
+    depth = 0
+    for at, letter in enumerate(text):
+        depth += {"<": 1, ">": -1}.get(letter, 0)
+        if depth == 0:
+            return text[at + (letter == ">") :].strip()
+    return text
 
 
 def part(title: str, items: list[Item], no_path: str = NO_PATH) -> Iterator[str]:
@@ -426,23 +507,14 @@ def part(title: str, items: list[Item], no_path: str = NO_PATH) -> Iterator[str]
     for item in items:
         paragraph = " ".join([*item.doc, ""]).split("  ")[0].strip()
         first = re.split(r"(?<=\.) |$", paragraph, maxsplit=1)[0]
-        text = f": {linked(first, item)}" if first else ""
+        text = f": {linked(first, item)}" if first else ": the internal calls of this type." if item.is_part else ""
+        text = f" (`{name}` in C){text}" if (name := c_name(item)) else text
         yield from wrapped(f"- [{item.name}]({anchor(item.heading())}){text}", "  ")
     yield ""
     for item in items:
         yield from [f"### {item.heading()}", ""]
         yield from [] if item.path else [no_path, ""]
-        yield from [*code_and_text(item), *calls_of(item)]
-
-
-def wrapped(text: str, indent: str = "") -> list[str]:
-    """The lines of a text; links are not cut."""
-    return textwrap.wrap(text, WIDTH, subsequent_indent=indent, break_long_words=False, break_on_hyphens=False)
-
-
-def anchor(path: str) -> str:
-    """The link to a heading, as GitHub makes it."""
-    return "#" + re.sub(r"[^a-z0-9_ -]", "", path.lower()).replace(" ", "-")
+        yield from [*text_and_code(item), *calls_of(item)]
 
 
 def linked(line: str, item: Item) -> str:
@@ -451,14 +523,16 @@ def linked(line: str, item: Item) -> str:
 
     def link(found: re.Match[str]) -> str:
         words = (found[2] or found[1]).removeprefix("fn@").removesuffix("()").split("::")
-        place = place_of(item, words)
-        return f"[`{found[1]}`]({place.removeprefix(f'{item.home.path[0]}.md')})" if place else f"`{found[1]}`"
+        place, name = place_of(item, words)
+        shown = name if re.match("(?:crate|self|super)::", found[1]) else found[1]
+        return f"[`{shown}`]({place.removeprefix(f'{item.home.path[0]}.md')})" if place else f"`{shown}`"
 
-    return re.sub(r"\[`([\w:()]+)`\](?:\(([^)]*)\))?", link, line)
+    return LINK.sub(link, line)
 
 
-def place_of(item: Item, words: list[str]) -> str | None:
-    """The link to the heading of an item or of a call on it, by the words of its path in a doc comment."""
+def place_of(item: Item, words: list[str]) -> tuple[str, str]:
+    """The link to the heading of an item or of a call on it, by the words of its path in a doc comment, and its shortest
+    name; no link if no page shows it."""
     for count in range(len(words), 0, -1):
         key = meant_by(item.home, tuple(words[:count]))
         if not isinstance(key, tuple) and count == 1:
@@ -466,9 +540,11 @@ def place_of(item: Item, words: list[str]) -> str | None:
             key = own[0] if len(own) == 1 else None
         if isinstance(key, tuple) and (place := heading_of(key)):
             shown = shown_items(key[0][0])[key]
-            calls = [it for it in shown.calls if words[count:] == [it.name]]
-            return f"{place.split('#')[0]}{anchor(call_heading(shown, calls[0]))}" if calls else place
-    return None
+            for call in (it for it in shown.calls if words[count:] == [it.name]):
+                heading = call_heading(shown, call)
+                return f"{place.split('#')[0]}{anchor(heading)}", heading
+            return place, "::".join([shown.name, *words[count:]])
+    return "", "::".join(it for it in words if it not in ("crate", "self", "super"))
 
 
 @cache
@@ -476,7 +552,7 @@ def heading_of(key: Key) -> str | None:
     """The link to an item, if the page of its library shows it."""
     crate = key[0][0]
     item = shown_items(crate).get(key) if crate in libraries() else None
-    return f"{crate}.md{anchor(item.path or item.name)}" if item else None
+    return f"{crate}.md{anchor(item.heading())}" if item else None
 
 
 def re_exports(crate: str) -> Iterator[str]:
@@ -502,7 +578,7 @@ def page(crate: str) -> str:
     text = (TOP / "crates" / crate / "src" / "lib.rt").read_text()
     first = re.match(r"(?://! ?(?!\n)[^\n]*\n)*", text)[0]
     head = Item(crate, home=root_of(crate))
-    said = "\n".join(linked(line[3:].strip(), head) for line in first.splitlines())
+    said = "\n".join(laid_out([linked(line[3:].strip(), head) for line in first.splitlines()])).strip()
     parts = [*part("Types and calls", offered, "" if is_from_c(crate) else NO_PATH), *re_exports(crate)]
     parts += [*part("Internal API", internal), *part("Lemmas", laws)]
     titles = [line.removeprefix("## ") for line in parts if line.startswith("## ")]

@@ -106,7 +106,7 @@ CASES = (
     Case("tests/unused_imports.py", "crates/rpki_cover/src/cover.rt", "{IsShortestCover}", "{IsShortestCover, Moon}",
          "Moon is used by no clause"),
     Case("tests/api_page.py", "docs/api/rpki_cover.md", "ascending", "descending", "docs/api/rpki_cover.md is not"),
-    Case("tests/api_page.py", "crates/rpki_cover/src/cover.rt", "/// The first number.", "/// The first moon.",
+    Case("tests/api_page.py", "crates/rpki_cover/src/cover.rt", "/// Returns the first number", "/// Returns the first moon",
          "docs/api/rpki_cover.md is not"),
     Case("tests/api_page.py", "tests/api_page.py", '"rpki_text::list"', '"rpki_text::moon"', "is no rpki_text::moon"),
     Case("tests/layers_picture.py", "docs/layers.svg", "<line x1=", "<line x2=", "is not what crates.txt says"),
@@ -117,8 +117,8 @@ CASES = (
          "cover_by_one_enclosing_prefix.edit: "),
     Case("tests/edits_apply.py", "crates/rpki_cover/edits/last_number_is_left_out.edit", "file: ", "file: moon/",
          "last_number_is_left_out.edit: "),
-    Case("tests/wide_comments.py", "crates/rpki_cover/src/cover.rt", "/// The first number.",
-         f"/// The first number, {'far ' * 30}", "rpki_cover/src/cover.rt: comments wider"),
+    Case("tests/wide_comments.py", "crates/rpki_cover/src/cover.rt", "/// Returns the first number",
+         f"/// Returns the first number, {'far ' * 30}", "rpki_cover/src/cover.rt: comments wider"),
     Case("tests/wide_statements.py", "crates/rpki_cover/specs/Walk.antt", "pub free_bits : ",
          f"pub free_bits : {'(n : ℕ) → ' * 12}", "rpki_cover/specs/Walk.antt: 1 lines of statements"),
     Case(OF_C, "foreign/rows.txt", " 10 - - -\n", " 11 - - -\n", "row 1: another status"),
@@ -132,7 +132,8 @@ CASES = (
     Case(API, "crates/rpki_base/src/asn.rt", "PartialOrd, Ord, Hash)]", "PartialOrd, Ord)]", "api/rpki_base.md is not"),
     Case(API, "crates/rpki_base/src/asn.rt", "pub const MIN: Asn", "pub const LEAST: Asn", "api/rpki_base.md is not"),
     Case(API, "crates/rpki_base/src/asn.rt", "type Err = ParseAsnError;", "type Err = Asn;", "api/rpki_base.md is not"),
-    Case(API, "crates/rpki_as/src/blocks.rt", "/// The default is the empty set.\nimpl", "impl", "api/rpki_as.md is not"),
+    Case(API, "crates/rpki_as/src/blocks.rt", "/// Returns the empty set as the default.\nimpl", "impl", "api/rpki_as.md is not"),
+    Case(API, "foreign/pigyelund.h", "PIGY_ABSENT 10u", "PIGY_ABSENT 11u", "api/pigyelund_c.md is not"),
 )
 
 

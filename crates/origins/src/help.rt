@@ -28,8 +28,8 @@ A route is a prefix, a space and an AS number, for example 192.0.2.0/24 AS64496,
 bgpdump -m. The origin AS of a line of bgpdump -m is the last AS of its path. A route has no origin
 AS if its path is empty, or ends in a set of AS numbers or in a segment of a confederation.
 
-Warning: if a path is empty or ends in a segment of a confederation, RFC 6811 takes the AS of the
-router itself as the origin AS. The program does not know this AS. Your own routes can therefore be
+Warning: if a path is empty or ends in a segment of a confederation, the origin AS is the AS of the
+router itself (RFC 6811, 2). The program does not know this AS. Your own routes can therefore be
 invalid-as by mistake. Replace such a path by the AS of the router before you run the program. The
 manual page origins(1) has the commands in its examples.
 

@@ -1,34 +1,47 @@
-/* router PORT TABLES SECONDS: the router side of the RPKI to Router protocol, version 1 (RFC 8210), with the tables of
- * pigyelund.h. It is an example for programmers of routers and monitors. docs/FOREIGN.md says how to build it.
+/* router PORT TABLES SECONDS [UNIT]: the router side of the RPKI to Router protocol, versions 1 (RFC 8210) and 0 (RFC
+ * 6810), with the tables of pigyelund.h. It is an example for programmers of routers and monitors. docs/FOREIGN.md says
+ * how to build it. Sections without an RFC are those of RFC 8210.
  *
  * The program connects to a cache at PORT of 127.0.0.1 and asks for all VRPs. It asks for the changes when the cache
- * sends a Serial Notify, and for all VRPs after a Cache Reset. It prints each table: a line with its number, a line for
- * each VRP, and the line "end". It stops after TABLES tables or after SECONDS. In one response it accepts at most
- * 8,388,608 announced and as many withdrawn VRPs. It changes its table at End of Data: it removes all withdrawn VRPs,
- * and then adds all announced ones. The order of the VRPs in the response has no effect on the table.
+ * sends a Serial Notify, and when the Refresh Interval has passed. It asks for all VRPs after a Cache Reset. It prints
+ * each table to the standard output: a line with its number, a line for each VRP, and the line "end". It stops after
+ * TABLES tables or after SECONDS. In one response it accepts at most 8,388,608 announced and as many withdrawn VRPs. It
+ * changes its table at End of Data: it removes all withdrawn VRPs, and then adds all announced ones. The order of the
+ * VRPs in the response has no effect on the table.
  *
- * - It ignores the intervals in End of Data (RFC 8210, 6): it does not poll the cache, and its table does not expire.
+ * - Intervals (6): End of Data of version 1 has three intervals. The router replaces an interval outside of its range
+ *   by the nearest bound. With version 0 it uses the defaults. UNIT is the number of milliseconds that the router counts
+ *   as one second of an interval. It is 1000 unless it is given. Tests pass less, so that they need not wait.
+ * - The table expires if no later End of Data arrives within the Expire Interval. Then the router drops the table. It
+ *   also ends the session. A router without a table waits for a response for the default Expire Interval.
+ * - When a session or the connection is over, the router connects again after the Retry Interval. If no error ended the
+ *   session, it asks for the changes since its table, or else for all VRPs.
+ * - If the cache has no data (8.4), the router asks for all VRPs after the Retry Interval.
+ * - Versions (7): The router asks in version 1. If the cache answers in version 0, the router uses this version too. It
+ *   connects again at once if the answer is an Error Report, or if the question was about a session of version 1.
+ * - An Error Report of the cache ends the session, except for "No Data Available". The router keeps its table.
  * - It ignores Router Keys (5.10).
- * - It does not negotiate the version (7): a PDU of another version ends the session, also a Serial Notify.
- * - An Error Report of the cache ends the session. The router keeps its table.
- * - It connects again 0.2 seconds after a session is over. If an error ended the session, it asks for all VRPs.
  *
- * The status is 0 if it printed all tables, and 1 if it did not. It is 2 if the number of arguments is wrong. It is
- * also 2 if memory runs out before the first connection or while a table is printed. */
+ * The status is 0 if it printed all tables, and 1 if it did not. It is 2 if the arguments are wrong. It is also 2 if
+ * memory runs out before the first connection or while a table is printed. */
+#define _POSIX_C_SOURCE 200809L
 #include "../pigyelund.h"
 #include <arpa/inet.h>
 #include <poll.h>
 #include <stdio.h>
 #include <stdlib.h>
 #include <string.h>
+#include <sys/socket.h>
 #include <time.h>
 #include <unistd.h>
 
-/* PDU types (RFC 8210, 5) */
+/* PDU types (5) */
 enum { NOTIFY = 0, SERIAL_QUERY, RESET_QUERY, RESPONSE, V4 = 4, V6 = 6, END_OF_DATA, RESET, KEY, ERROR };
-enum { VERSION = 1, HEADER = 8, LONGEST = 1 << 16, QUOTED = 32, MOST = 10000000, ANNOUNCED = 1 };
-/* error codes (RFC 8210, 12) */
-enum { CORRUPT = 0, INTERNAL, BAD_VERSION = 4, BAD_TYPE, UNKNOWN_RECORD, DUPLICATE, OTHER_VERSION };
+enum { NEWEST = 1, HEADER = 8, LONGEST = 1 << 16, QUOTED = 1024, MOST = 10000000, ANNOUNCED = 1 };
+/* error codes (12) */
+enum { CORRUPT = 0, INTERNAL, NO_DATA, BAD_VERSION = 4, BAD_TYPE, UNKNOWN_RECORD, DUPLICATE, OTHER_VERSION };
+/* the default intervals in seconds (6) */
+enum { REFRESH = 3600, RETRY = 600, EXPIRE = 7200 };
 
 /* An array of VRPs that grows. The first count elements are in use. */
 typedef struct {
@@ -39,7 +52,9 @@ typedef struct {
 /* The state of a router.
  *
  * - to_cache: The connection.
- * - has_version: Whether a PDU of this version has arrived on the connection.
+ * - version: The version of the PDUs that the router sends, and of the session if has_session.
+ * - is_settled: Whether the cache has answered in this version on the connection.
+ * - is_downgraded: Whether the router has to connect again at once, with version 0.
  * - has_session: Whether the table belongs to session and serial.
  * - is_asked: Whether a query is open: it is sent, and its End of Data has not arrived.
  * - is_answered: Whether the response to this query has begun.
@@ -51,19 +66,25 @@ typedef struct {
  * - tables: The number of printed tables.
  * - table: The current table, or NULL.
  * - announced, withdrawn: The VRPs of the response.
- * - pdu, length: The PDU that is being read, and the number of its octets that have been read. */
+ * - pdu, length: The PDU that is being read, and the number of its octets that have been read.
+ * - retry: The Retry Interval in seconds.
+ * - due: The time of the next query if none is open. Between connections: the time of the next one.
+ * - expiry: The time when the table expires. Without a table: when the router stops to wait for a response. */
 typedef struct {
-  int to_cache, has_version, has_session, is_asked, is_answered, is_full, has_notice;
+  int to_cache, is_settled, is_downgraded, has_session, is_asked, is_answered, is_full, has_notice;
+  uint8_t version;
   uint16_t session, answering;
   uint32_t serial, notice;
   unsigned tables;
   pigy_table *table;
   list announced, withdrawn;
   const uint8_t *pdu;
-  uint32_t length;
+  uint32_t length, retry;
+  int64_t due, expiry;
 } router;
 
-static time_t deadline; /* The program stops at this time. */
+static int64_t deadline; /* The program stops at this time. */
+static int64_t unit;     /* The milliseconds of one second of an interval. */
 
 static uint32_t u32(const uint8_t *at) {
   return (uint32_t)at[0] << 24 | (uint32_t)at[1] << 16 | (uint32_t)at[2] << 8 | at[3];
@@ -75,17 +96,38 @@ static void put32(uint8_t *at, uint32_t number) {
   for (int i = 0; i < 4; i++) at[i] = (uint8_t)(number >> (24 - 8 * i));
 }
 
-/* Returns whether something can be read before the deadline. */
-static int is_readable(int from) {
-  struct pollfd one = {from, POLLIN, 0};
-  time_t left = deadline - time(0);
-  return left > 0 && poll(&one, 1, (int)left * 1000) == 1;
+/* Returns whether a serial is after another one, which may be before the wrap to 0 (RFC 1982, 3.2). */
+static int is_after(uint32_t serial, uint32_t other) { return serial != other && serial - other < 0x80000000u; }
+
+static int64_t least(int64_t one, int64_t other) { return one < other ? one : other; }
+
+/* Returns the number, or the nearest bound if the number is outside of them. */
+static uint32_t bounded(uint32_t number, uint32_t low, uint32_t high) {
+  return number < low ? low : number > high ? high : number;
 }
 
-/* Reads exactly count octets. Returns 0 if the connection ends or the deadline passes first. */
-static int read_all(int from, uint8_t *to, size_t count) {
+/* Returns the time of the monotonic clock in milliseconds. */
+static int64_t now(void) {
+  struct timespec time;
+  clock_gettime(CLOCK_MONOTONIC, &time);
+  return (int64_t)time.tv_sec * 1000 + time.tv_nsec / 1000000;
+}
+
+/* Returns the time at which the session ends, also in the middle of a PDU. */
+static int64_t end_of(const router *r) { return r->table || r->is_asked ? least(deadline, r->expiry) : deadline; }
+
+/* Waits for the events of poll on the connection. Returns 0 if there is none before the time. */
+static int is_ready(const router *r, short events, int64_t until) {
+  struct pollfd one = {r->to_cache, events, 0};
+  for (int64_t left; (left = until - now()) > 0;)
+    if (poll(&one, 1, (int)least(left, 60000)) > 0) return 1;
+  return 0;
+}
+
+/* Reads exactly count octets. Returns 0 if the connection or the session ends first. */
+static int read_all(const router *r, uint8_t *to, size_t count) {
   while (count) {
-    ssize_t got = is_readable(from) ? read(from, to, count) : 0;
+    ssize_t got = is_ready(r, POLLIN, end_of(r)) ? recv(r->to_cache, to, count, 0) : 0;
     if (got <= 0) return 0;
     to += got;
     count -= (size_t)got;
@@ -93,28 +135,45 @@ static int read_all(int from, uint8_t *to, size_t count) {
   return 1;
 }
 
-/* Sends a PDU. The body has at most 56 octets. Returns 0 if not all of it is sent. */
+/* Sends a PDU. The body has at most QUOTED + 8 octets. Returns 0 if not all of it is sent. MSG_NOSIGNAL: without it
+ * SIGPIPE ends the program if the cache has closed the connection. */
 static int send_pdu(const router *r, uint8_t type, uint16_t field, const uint8_t *body, uint32_t length) {
-  uint8_t pdu[64] = {VERSION, type, (uint8_t)(field >> 8), (uint8_t)field};
+  uint8_t pdu[HEADER + QUOTED + 8] = {r->version, type, (uint8_t)(field >> 8), (uint8_t)field};
+  size_t sent = 0;
   put32(pdu + 4, HEADER + length);
   memcpy(pdu + HEADER, body, length);
-  return write(r->to_cache, pdu, HEADER + length) == (ssize_t)(HEADER + length);
+  while (sent < HEADER + length) {
+    ssize_t more =
+        is_ready(r, POLLOUT, end_of(r)) ? send(r->to_cache, pdu + sent, HEADER + length - sent, MSG_NOSIGNAL) : 0;
+    if (more <= 0) return 0;
+    sent += (size_t)more;
+  }
+  return 1;
 }
 
-/* Asks for the changes since the last serial, or for all VRPs if the router has no session (RFC 8210, 5.3 and 5.4).
- * Returns 0 if the query is not sent. */
+/* Asks for the changes since the last serial, or for all VRPs if the router has no session (5.3 and 5.4). Returns 0 if
+ * the query is not sent. */
 static int ask(router *r) {
   uint8_t serial[4];
   put32(serial, r->serial);
   r->is_asked = 1;
-  r->is_answered = 0;
+  r->is_answered = r->has_notice = 0;
   r->is_full = !r->has_session;
+  if (!r->table) r->expiry = now() + EXPIRE * unit;
   return r->is_full ? send_pdu(r, RESET_QUERY, 0, serial, 0) : send_pdu(r, SERIAL_QUERY, r->session, serial, 4);
 }
 
-/* Sends an Error Report with the wrong PDU and without text (RFC 8210, 5.11). Sends nothing if the PDU that is being
- * read is an Error Report. The report has at most QUOTED octets of the wrong PDU. Returns 0, because the session is
- * over. */
+/* Drops all data of the cache. */
+static void drop_table(router *r, const char *why) {
+  fprintf(stderr, "%s: the table is dropped\n", why);
+  pigy_table_free(r->table);
+  r->table = 0;
+  r->has_session = 0;
+}
+
+/* Sends an Error Report with the wrong PDU and without text (5.11). Sends nothing if the PDU that is being read is an
+ * Error Report. The report has at most QUOTED octets of the wrong PDU. No legal PDU is longer, except for an Error
+ * Report and for a Router Key with a key of an unusual size. Returns 0, because the session is over. */
 static int refuse_pdu(router *r, uint16_t code, const uint8_t *pdu, uint32_t length) {
   uint8_t body[4 + QUOTED + 4] = {0};
   if (length > QUOTED) length = QUOTED;
@@ -127,14 +186,12 @@ static int refuse_pdu(router *r, uint16_t code, const uint8_t *pdu, uint32_t len
   return 0;
 }
 
-/* Refuses the PDU that is being read. The report of an internal error has no PDU (RFC 8210, 5.11). */
+/* Refuses the PDU that is being read. The report of an internal error has no PDU (5.11). */
 static int refuse(router *r, uint16_t code) { return refuse_pdu(r, code, r->pdu, code == INTERNAL ? 0 : r->length); }
 
-/* Refuses a PDU of another session, and drops all data of the cache (RFC 8210, 5.1). */
+/* Refuses a PDU of another session, and drops all data of the cache (5.1). */
 static int refuse_session(router *r) {
-  fputs("another session: the table is dropped\n", stderr);
-  pigy_table_free(r->table);
-  r->table = 0;
+  drop_table(r, "another session");
   return refuse(r, CORRUPT);
 }
 
@@ -152,7 +209,7 @@ static int add(list *to, const pigy_vrp *vrp) {
   return 1;
 }
 
-/* Reads the VRP of a Prefix PDU (RFC 8210, 5.6 and 5.7). Returns 0 if the session is over. */
+/* Reads the VRP of a Prefix PDU (5.6 and 5.7). Returns 0 if the session is over. */
 static int take_prefix(router *r, const uint8_t *body, uint32_t length, uint8_t family) {
   size_t width = family == PIGY_IPV4 ? 4 : 16;
   pigy_vrp vrp = {{0}, 0, family, 0, 0};
@@ -167,7 +224,7 @@ static int take_prefix(router *r, const uint8_t *body, uint32_t length, uint8_t 
 /* Refuses a VRP: makes its Prefix PDU again, and sends it in an Error Report. Returns 0. */
 static int refuse_vrp(router *r, uint16_t code, const pigy_vrp *vrp, uint8_t flags) {
   uint32_t width = vrp->family == PIGY_IPV4 ? 4 : 16, length = HEADER + 8 + width;
-  uint8_t pdu[QUOTED] = {VERSION, vrp->family == PIGY_IPV4 ? V4 : V6};
+  uint8_t pdu[HEADER + 8 + 16] = {r->version, vrp->family == PIGY_IPV4 ? V4 : V6};
   put32(pdu + 4, length);
   pdu[HEADER] = flags;
   pdu[HEADER + 1] = vrp->len;
@@ -215,12 +272,25 @@ static int change(router *r, pigy_table **next) {
                             : refuse_vrp(r, CORRUPT, r->withdrawn.all + index, 0);
 }
 
-/* Ends a response (RFC 8210, 5.8). The session has to be that of the Cache Response. Asks again if the cache notified a
- * later serial while the query was open. Returns 0 if the session is over. */
+/* Sets the times of the next query and of the expiry, and the Retry Interval, from the intervals of an End of Data PDU
+ * that was received at a time (6). That of version 0 has no intervals. */
+static void set_times(router *r, const uint8_t *intervals, int64_t received) {
+  uint32_t refresh = r->version ? bounded(u32(intervals), 1, 86400) : REFRESH;
+  uint32_t expire = r->version ? bounded(u32(intervals + 8), 600, 172800) : EXPIRE;
+  r->retry = r->version ? bounded(u32(intervals + 4), 1, 7200) : RETRY;
+  r->due = received + refresh * unit;
+  r->expiry = received + expire * unit;
+  fprintf(stderr, "intervals: refresh %u, retry %u, expire %u\n", refresh, r->retry, expire);
+}
+
+/* Ends a response (5.8). The session has to be that of the Cache Response, and changes do not lead to an earlier
+ * serial. Asks again if the cache notified a later serial while the query was open. Returns 0 if the session is over. */
 static int end_of_data(router *r, uint16_t session, const uint8_t *body, uint32_t length) {
+  int64_t received = now();
   pigy_table *next = 0;
-  if (!r->is_answered || length != 16) return refuse(r, CORRUPT);
+  if (!r->is_answered || length != (r->version ? 16 : 4)) return refuse(r, CORRUPT);
   if (session != r->answering) return refuse_session(r);
+  if (!r->is_full && is_after(r->serial, u32(body))) return refuse(r, CORRUPT);
   if (!change(r, &next)) return 0;
   pigy_table_free(r->table);
   r->table = next;
@@ -228,15 +298,14 @@ static int end_of_data(router *r, uint16_t session, const uint8_t *body, uint32_
   r->serial = u32(body);
   r->has_session = 1;
   r->is_asked = r->is_answered = r->is_full = 0;
+  set_times(r, body + 4, received);
   r->tables++;
   print_table(r);
-  if (!r->has_notice) return 1;
-  r->has_notice = 0;
-  return (int32_t)(r->notice - r->serial) > 0 ? ask(r) : 1;
+  return r->has_notice && is_after(r->notice, r->serial) ? ask(r) : 1;
 }
 
-/* Asks for the changes that the cache notifies (RFC 8210, 5.2), or stores the notice while a query is open. Returns 0
- * if the session is over. */
+/* Asks for the changes that the cache notifies (5.2), or stores the notice while a query is open. Returns 0 if the
+ * session is over. */
 static int take_notice(router *r, uint16_t session, uint32_t serial) {
   if (!r->is_answered && !r->has_session) return 1;
   if (session != (r->is_answered ? r->answering : r->session)) return refuse_session(r);
@@ -245,8 +314,8 @@ static int take_notice(router *r, uint16_t session, uint32_t serial) {
   return r->is_asked || serial == r->serial ? 1 : ask(r);
 }
 
-/* Begins a response (RFC 8210, 5.5). After a Serial Query the session has to be that of the table. Returns 0 if the
- * session is over. */
+/* Begins a response (5.5). After a Serial Query the session has to be that of the table. Returns 0 if the session is
+ * over. */
 static int take_response(router *r, uint16_t session, uint32_t length) {
   if (!r->is_asked || r->is_answered || length) return refuse(r, CORRUPT);
   if (!r->is_full && session != r->session) return refuse_session(r);
@@ -256,69 +325,136 @@ static int take_response(router *r, uint16_t session, uint32_t length) {
   return 1;
 }
 
+/* Asks for all VRPs, because the cache has no changes since the serial (5.9). The router keeps its table until it has
+ * the next one. Only a Serial Query has this answer. Returns 0 if the session is over. */
+static int take_reset(router *r, uint32_t length) {
+  if (!r->is_asked || r->is_answered || r->is_full || length) return refuse(r, CORRUPT);
+  fprintf(stderr, "cache reset\n");
+  r->has_session = 0;
+  return ask(r);
+}
+
+/* Reads an Error Report (5.11). If the cache has no data, the router asks for all VRPs later (8.4). Any other error ends
+ * the session, and so does a report whose two lengths are wrong. Returns 0 if the session is over. */
+static int take_report(router *r, uint16_t code, const uint8_t *body, uint32_t length) {
+  uint32_t quoted = length < 8 ? 0 : u32(body);
+  int is_correct = length >= 8 && quoted <= length - 8 && u32(body + 4 + quoted) == length - 8 - quoted;
+  fprintf(stderr, "error report %u\n", code);
+  r->has_session = 0;
+  if (code != NO_DATA || !r->is_asked || !is_correct) return 0;
+  r->is_asked = r->is_answered = 0;
+  r->due = now() + r->retry * unit;
+  return 1;
+}
+
+/* Settles the version of the connection by the first PDU of the cache, and compares that of each later PDU (7). If the
+ * cache has only version 0, the session goes on in this version after a Reset Query. After a Serial Query it does not:
+ * sessions of different versions are separate (5.1). Returns 0 if the session is over. */
+static int settle_version(router *r, const uint8_t *pdu) {
+  if (pdu[0] == r->version) return r->is_settled = 1;
+  if (pdu[0] > NEWEST && !r->is_settled) return refuse(r, BAD_VERSION);
+  if (pdu[0] > r->version || r->is_settled) return refuse(r, OTHER_VERSION);
+  fputs("version 0\n", stderr);
+  r->version = 0;
+  r->is_settled = 1;
+  if (r->is_full && (pdu[1] != ERROR || u16(pdu + 2) == NO_DATA)) return 1;
+  r->has_session = 0;
+  r->is_downgraded = 1;
+  return 0;
+}
+
 /* Reads one PDU of the cache. Returns 0 if the session is over. */
 static int take(router *r) {
   static uint8_t pdu[LONGEST];
   const uint8_t *body = pdu + HEADER;
   uint32_t length;
   uint16_t field;
+  int is_legal;
   r->pdu = pdu;
   r->length = HEADER;
-  if (!read_all(r->to_cache, pdu, HEADER)) return 0;
+  if (!read_all(r, pdu, HEADER)) return 0;
   field = u16(pdu + 2);
   length = u32(pdu + 4);
-  if (pdu[0] != VERSION) return refuse(r, r->has_version ? OTHER_VERSION : BAD_VERSION);
-  r->has_version = 1;
-  if (length < HEADER || length > LONGEST) return refuse(r, CORRUPT);
-  if (!read_all(r->to_cache, pdu + HEADER, length - HEADER)) return 0;
-  r->length = length;
+  is_legal = length >= HEADER && length <= LONGEST;
+  if (is_legal && !read_all(r, pdu + HEADER, length - HEADER)) return 0;
+  if (is_legal) r->length = length;
   length -= HEADER;
+  /* Before the version is settled, a Serial Notify of any version is ignored (7). */
+  if (is_legal && pdu[1] == NOTIFY && !r->is_settled) return 1;
+  if (!settle_version(r, pdu)) return 0;
+  if (!is_legal) return refuse(r, CORRUPT);
   switch (pdu[1]) {
     case NOTIFY: return length == 4 ? take_notice(r, field, u32(body)) : refuse(r, CORRUPT);
     case RESPONSE: return take_response(r, field, length);
     case V4: return take_prefix(r, body, length, PIGY_IPV4);
     case V6: return take_prefix(r, body, length, PIGY_IPV6);
     case END_OF_DATA: return end_of_data(r, field, body, length);
-    case RESET: /* the cache has no changes since the serial (5.9); the router keeps its table until the next one */
-      fprintf(stderr, "cache reset\n");
-      r->has_session = 0;
-      return ask(r);
-    case KEY: return 1;
-    case ERROR:
-      fprintf(stderr, "error report %u\n", field);
-      r->has_session = 0;
-      return 0;
+    case RESET: return take_reset(r, length);
+    case KEY: /* its body has a key identifier of 20 octets, an AS and a key; version 0 does not have this type */
+      return !r->version ? refuse(r, BAD_TYPE) : r->is_answered && length >= 24 ? 1 : refuse(r, CORRUPT);
+    case ERROR: return take_report(r, field, body, length);
+    case SERIAL_QUERY: case RESET_QUERY: return refuse(r, CORRUPT); /* known types, but no cache sends them */
     default: return refuse(r, BAD_TYPE);
   }
 }
 
-/* Connects to the cache, and runs the session until it is over or all tables are printed. */
+/* Runs a session until it is over, or all tables are printed, or the table expires. Asks when a query is due. */
+static void converse(router *r, unsigned wanted) {
+  if (!ask(r)) return;
+  while (r->tables < wanted) {
+    if (is_ready(r, POLLIN, r->is_asked ? end_of(r) : least(r->due, end_of(r)))) {
+      if (!take(r)) return;
+    } else if (now() >= end_of(r) || !ask(r)) {
+      return;
+    }
+  }
+}
+
+/* Connects to the cache, and runs a session. Then sets the time of the next connection (6). Without a session the next
+ * connection starts with the newest version again, except for a downgrade. */
 static void meet(router *r, uint16_t port, unsigned wanted) {
   struct sockaddr_in cache;
   memset(&cache, 0, sizeof cache);
   cache.sin_family = AF_INET;
   cache.sin_port = htons(port);
   cache.sin_addr.s_addr = htonl(INADDR_LOOPBACK);
-  r->has_version = r->has_notice = 0;
+  r->is_settled = r->is_downgraded = 0;
   r->to_cache = socket(AF_INET, SOCK_STREAM, 0);
-  if (r->to_cache < 0) return;
-  if (connect(r->to_cache, (struct sockaddr *)&cache, sizeof cache) == 0 && ask(r))
-    while (r->tables < wanted && take(r)) continue;
-  close(r->to_cache);
+  if (r->to_cache >= 0) {
+    if (connect(r->to_cache, (struct sockaddr *)&cache, sizeof cache) == 0) converse(r, wanted);
+    close(r->to_cache);
+  }
+  r->due = now() + (r->is_downgraded ? 0 : r->retry * unit);
+  if (!r->has_session && !r->is_downgraded) r->version = NEWEST;
+}
+
+/* Waits until the next connection is due. Drops the table when it expires. */
+static void rest(router *r) {
+  for (;;) {
+    int64_t time = now(), until = least(r->due, deadline);
+    if (r->table && time >= r->expiry) drop_table(r, "expired");
+    if (r->table) until = least(until, r->expiry);
+    if (until <= time) return;
+    poll(0, 0, (int)least(until - time, 60000));
+  }
 }
 
 int main(int count, char **words) {
   router r;
   unsigned wanted;
-  if (count != 4) return 2;
+  if (count != 4 && count != 5) return 2;
   memset(&r, 0, sizeof r);
+  r.version = NEWEST;
+  r.retry = RETRY;
   wanted = (unsigned)atoi(words[2]);
-  deadline = time(0) + atoi(words[3]);
+  deadline = now() + atoi(words[3]) * (int64_t)1000;
+  unit = count == 5 ? atoi(words[4]) : 1000;
+  if (unit < 1) return 2;
   /* Each array gets memory for at least one VRP, since no pointer to VRPs may be NULL. */
   if (!add(&r.announced, &(pigy_vrp){{0}, 0, 0, 0, 0}) || !add(&r.withdrawn, r.announced.all)) return 2;
-  while (r.tables < wanted && time(0) < deadline) {
+  while (r.tables < wanted && now() < deadline) {
     meet(&r, (uint16_t)atoi(words[1]), wanted);
-    if (r.tables < wanted) nanosleep(&(struct timespec){0, 200000000}, 0);
+    if (r.tables < wanted) rest(&r);
   }
   pigy_table_free(r.table);
   free(r.announced.all);

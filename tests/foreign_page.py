@@ -5,7 +5,8 @@ page's programs.
 Without arguments: foreign/numbers.txt has each number of crates/pigyelund_c, the header defines these names and no
 others, and each row of the table of statuses in docs/FOREIGN.md has the number of its name. The package for Python
 requires the first Python that has all that its sources use, and pages and tests name the same Python. The header and
-the page state the stack on which foreign/c/test.c makes its calls. tests/versions.py compares the versions.
+the page state the stack on which foreign/c/test.c makes its calls. The package of the shared library lists the symbols
+of foreign/c/exports.map, each with the first version that has it. tests/versions.py compares the versions.
 
 With SECTION PREFIX, as C or `A table in C`: the program of that section, in an empty folder, built by its commands with
 the library that is installed under PREFIX, prints what the page says. The status is 1 if something differs.
@@ -24,6 +25,7 @@ PAGE = TOP / "docs" / "FOREIGN.md"
 HEADER = TOP / "foreign" / "pigyelund.h"
 CRATE = TOP / "crates" / "pigyelund_c"
 ROUTES = TOP / "crates" / "pigyelund_routes"
+SYMBOLS = TOP / "packaging" / "libpigyelund1.symbols"
 # Which name in pigyelund.h is which one in the library's definitions.
 CHOICES = {
     "LENIENT": "encoding_number Any",
@@ -170,6 +172,21 @@ def of_stack() -> list[str]:
     ]
 
 
+def of_symbols() -> list[str]:
+    """Returns what differs between the symbols that the linker exports and those that the package lists."""
+    nodes = re.findall(r"^(\w[\w.]*) \{(.*?)\}", (TOP / "foreign" / "c" / "exports.map").read_text(), re.M | re.S)
+    exported = {f"{name}@{node}" for node, body in nodes for name in (node, *re.findall(r"^ *(pigy_\w+);", body, re.M))}
+    lines = re.findall(r"^ (\S+) (\S+)$", SYMBOLS.read_text(), re.MULTILINE)
+    file, last = SYMBOLS.relative_to(TOP), numbered((TOP / "VERSION").read_text())
+    faults = [f"{file} and exports.map: {it} is in one alone" for it in sorted(exported ^ {name for name, _ in lines})]
+    return faults + [f"{file}: {name} is new in {it}, after VERSION" for name, it in lines if numbered(it) > last]
+
+
+def numbered(version: str) -> list[int]:
+    """Returns the numbers of a version."""
+    return [int(it) for it in version.strip().split(".")]
+
+
 def numbers_differ() -> list[str]:
     """What differs in numbers and names."""
     numbers, own = stored(), of_library()
@@ -179,7 +196,7 @@ def numbers_differ() -> list[str]:
         if own.get(name) != numbers.get(name)
     ]
     faults += [f"pigyelund.h and numbers.txt: {name} is in one alone" for name in sorted(of_header() ^ numbers.keys())]
-    return faults + of_page(numbers) + of_python() + of_stack()
+    return faults + of_page(numbers) + of_python() + of_stack() + of_symbols()
 
 
 def section(title: str) -> list[tuple[str, str]]:

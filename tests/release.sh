@@ -56,9 +56,13 @@ END
         printf '#!/bin/sh\necho %s\n' "$name" >"$kit/proved/$name"
         chmod +x "$kit/proved/$name"
     done
+    # The calls of the library, except those in C, which the Makefile adds.
     {
         echo 'unsigned pigy_version(void) { return 4; }'
-        sed -n '/ pigy_version@/d; s/^ \(pigy_[a-z_]*\)@.*/void \1(void) {}/p' packaging/libpigyelund1.symbols
+        sed -n 's/^ \(pigy_[a-z_]*\)@.*/\1/p' packaging/libpigyelund1.symbols | while IFS= read -r name; do
+            [ "$name" = pigy_version ] || grep -q "^[a-z][a-z0-9_ *]*\b$name(" foreign/c/*.c ||
+                echo "void $name(void) {}"
+        done
     } | gcc -fPIC -c -x c - -o "$out/one.o" &&
         printf '#include <stdlib.h>\nvoid *of_kit(size_t n) { return malloc(n); }\n' |
         gcc -fPIC -c -x c - -o "$out/two.o" &&
@@ -266,7 +270,8 @@ try_vectors() {
     for file in vectors/*.json vectors/schemas/*.json vectors/README.md vectors/run/*.*; do
         cmp "$file" "$out/root/usr/share/pigyelund/$file" || fail "$file in the package"
     done
-    "$out/root/usr/share/pigyelund/vectors/run/validate.py" >"$out/log" || { cat "$out/log"; fail "the installed vectors"; }
+    "$out/root/usr/share/pigyelund/vectors/run/validate.py" >"$out/log" ||
+        { cat "$out/log"; fail "the installed vectors"; }
 }
 
 # Makes a tool that installs files of another owner, as whoever isn't root does.
@@ -366,9 +371,13 @@ refuses_other_symbols() {
     local file=packaging/libpigyelund1.symbols commit="git -c user.name=n -c user.email=e commit -q -a -m more"
     making=released_packages
     refuses "a library without a call" "libpigyelund.so.1 has other symbols than $file" \
-        "echo ' pigy_more@PIGYELUND_1 0.1.0' >>$file && $commit"
-    refuses "a library with a call more" "libpigyelund.so.1 has other symbols than $file" \
-        "sed -i '/ pigy_union@/d' $file && $commit"
+        "sed -i 's/^ *pigy_union;/    pigy_more;\n&/' foreign/c/exports.map &&
+        echo ' pigy_more@PIGYELUND_1 0.1.0' >>$file && $commit"
+    refuses "a call without its line" "numbers or names differ" "sed -i '/ pigy_union@/d' $file && $commit"
+    refuses "a line without its call" "numbers or names differ" \
+        "sed -i '/ pigy_union;/d' foreign/c/exports.map && $commit"
+    refuses "a call of a later version" "numbers or names differ" \
+        "sed -i '/ pigy_union@/s/0[.]/1000./' $file && $commit"
     refuses "another soname" "the shared library isn't libpigyelund.so.2" \
         "sed -i '1s/so.1/so.2/' $file && $commit"
     making=released

@@ -72,6 +72,7 @@
  *   and nothing else reads outputs.
  * - malloc, realloc and free belong to one allocator. It aligns each block by its size: if the size is a multiple of
  *   16, 8, 4 or 2 octets, the address is a multiple of the same number. The C library's allocator does this.
+ * - The processor has the instructions of x86-64-v2: SSE3, SSSE3, SSE4.1, SSE4.2, POPCNT, CMPXCHG16B, LAHF and SAHF.
  * - The stack has 128 KiB left. The calls of foreign/c/test.c use less than 8 KiB of it. This is measured on x86-64,
  *   and is not proved.
  * - No call is made in a signal handler, or in the forked child of a process with threads.

@@ -159,6 +159,26 @@ of_folders() {
     find "$spaced" -path "$staged" -prune -o ! -type d -print | sort | diff "$out/others" - || fail "make uninstall $*"
 }
 
+# of_level FILE: the file notes that it needs x86-64-v2. If it notes a level that no processor has, the loader does not
+# start the example.
+of_level() {
+    LC_ALL=C readelf -nW "$1" | grep -q "x86 ISA needed: .*x86-64-v2" || fail "$1 notes that it needs x86-64-v2"
+    cp "$1" "$out/of_level" && python3 - "$1" <<'END' || fail "the level that $1 notes"
+import struct
+import sys
+from pathlib import Path
+
+file = Path(sys.argv[1])
+octets = bytearray(file.read_bytes())
+# GNU_PROPERTY_X86_ISA_1_NEEDED, the length of its value, and the value
+octets[octets.index(struct.pack("<II", 0xC0008002, 4)) + 11] |= 0x80
+file.write_bytes(octets)
+END
+    LC_ALL=C LD_LIBRARY_PATH="$prefix/lib" "$out/by_pkg_config" 2>&1 | grep -q "CPU ISA level is lower" ||
+        fail "the loader refuses the level that $1 notes"
+    cp "$out/of_level" "$1"
+}
+
 # The tools and all options are those of the command.
 of_variables() {
     made -n all install CC="a-cc -x" AR=an-ar OBJCOPY=an-objcopy INSTALL=an-install CPPFLAGS=-Dcpp CFLAGS=-Dc \
@@ -190,7 +210,11 @@ of_install() {
     grep -q TEXTREL "$out/dynamic" && fail "the shared library has text relocations"
     readelf -lW "$prefix/lib/libpigyelund.so" | awk '/GNU_RELRO/ { relro = 1 } /GNU_STACK/ { stack = $7 }
         END { exit !(relro && stack == "RW") }' || fail "the shared library has relro, and no executable stack"
-    has "pigyelund.pc" pkg-config && by_pkg_config "$prefix/lib/pkgconfig"
+    if has "pigyelund.pc" pkg-config && by_pkg_config "$prefix/lib/pkgconfig" && has_python; then
+        of_level "$prefix/lib/libpigyelund.so"
+        gcc -Iforeign foreign/c/example.c "$prefix/lib/libpigyelund.a" -o "$out/by_pkg_config" || fail "a static example"
+        of_level "$out/by_pkg_config"
+    fi
     of_variables
     of_folders "own prefix"
     of_folders "multiarch" LIBDIR="$spaced/multiarch/lib/x86_64-linux-gnu"

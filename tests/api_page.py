@@ -264,13 +264,18 @@ def ghost_end(lines: list[str], at: int) -> int:
     return next(k for k in range(at, len(lines)) if lines[k].endswith("};")) + 1
 
 
-def without_proofs(block: list[str]) -> list[str]:
-    """A type or a trait without the ghost lines that have no meaning for callers."""
+def declared(block: list[str]) -> list[str]:
+    """A type or a trait without the bodies of functions, and without the ghost lines that have no meaning for callers."""
     kept, end = [], 0
     for at, line in enumerate(block):
+        if at < end:
+            continue
         if LEFT_OUT.match(line):
             end = ghost_end(block, at)
-        if at >= end:
+        elif re.match(r"    (?:\).*|.*\bfn .*)?\{$", line) and "    }" in block[at:]:
+            end = block.index("    }", at) + 1
+            kept.append(f"{line} .. }}")
+        else:
             kept.append(line)
     return kept
 
@@ -278,7 +283,7 @@ def without_proofs(block: list[str]) -> list[str]:
 def type_code(block: list[str]) -> list[str]:
     """A type as it is declared, without its private fields."""
     if not block[0].startswith("pub struct"):
-        return without_proofs(block)
+        return declared(block)
     if len(block) == 1:
         return [re.sub(r"\((?!pub).*\)", "(..)", block[0])]
     shown = [line for line in block[1:-1] if re.match(r"    (?:pub |///)", line)]
@@ -419,14 +424,14 @@ def call_heading(item: Item, call: Item) -> str:
     return f"{kind.replace(', A>', '>')}::{call.name}"
 
 
-def text_and_code(item: Item) -> Iterator[str]:
-    """The text of a doc comment, and below it a block of the code. Headings of the text are bold words."""
+def text_and_code(item: Item, note: str = "") -> Iterator[str]:
+    """The text of a doc comment with a note, and below it a block of the code. Headings of the text are bold words."""
     said: list[str] = []
     in_code = False
     for line in paragraphs(item):
         in_code ^= line.startswith("```")
         said.append(line if in_code else linked(re.sub(r"^#+ (.*)", r"**\1**", line), item))
-    yield from [*laid_out(said), ""]
+    yield from [*laid_out([*said, "", note]), ""]
     yield from ["```rust", *item.code, "```", ""] if item.code else []
 
 
@@ -448,22 +453,21 @@ def c_name(item: Item) -> str:
     return f"PIGY_{found[1]}" if value and int(value[1], 0) == int(found[2]) else ""
 
 
-def in_reading_order(calls: list[Item]) -> list[Item]:
-    """The named calls of a type: constants, constructors, and then the others as the source has them."""
-    kinds = {call.name: 0 if is_constant(call) else 2 - bool(CONSTRUCTOR.match(" ".join(call.code))) for call in calls}
-    return sorted((it for it in calls if it.name), key=lambda it: kinds[it.name])
-
-
 def is_constant(call: Item) -> bool:
     """Whether a call of a type is one of its constants."""
     return call.code[0].startswith("pub const ") and "fn " not in call.code[0]
 
 
+def kind_of(call: Item) -> int:
+    """The number by which the calls of a type are sorted: constants, constructors, and then the others."""
+    return 0 if is_constant(call) else 1 if CONSTRUCTOR.match(" ".join(call.code)) else 2
+
+
 def calls_of(item: Item) -> Iterator[str]:
     """The calls on a type, each with a heading, and then its traits."""
-    named = in_reading_order(item.calls)
-    for word, some in (("Constants", [it for it in named if is_constant(it)]),
-                       ("Calls", [it for it in named if not is_constant(it)])):
+    named = sorted((it for it in item.calls if it.name), key=kind_of)
+    for word in ("Constants", "Calls"):
+        some = [it for it in named if is_constant(it) == (word == "Constants")]
         if some and len(named) > 1:
             yield from wrapped(f"{word}: " + " · ".join(f"[{it.name}]({anchor(call_heading(item, it))})" for it in some))
             yield ""
@@ -513,8 +517,7 @@ def part(title: str, items: list[Item], no_path: str = NO_PATH) -> Iterator[str]
     yield ""
     for item in items:
         yield from [f"### {item.heading()}", ""]
-        yield from [] if item.path else [no_path, ""]
-        yield from [*text_and_code(item), *calls_of(item)]
+        yield from [*text_and_code(item, "" if item.path else no_path), *calls_of(item)]
 
 
 def linked(line: str, item: Item) -> str:

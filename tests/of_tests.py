@@ -106,7 +106,7 @@ CASES = (
     Case("tests/unused_imports.py", "crates/rpki_cover/src/cover.rt", "{IsShortestCover}", "{IsShortestCover, Moon}",
          "Moon is used by no clause"),
     Case("tests/api_page.py", "docs/api/rpki_cover.md", "ascending", "descending", "docs/api/rpki_cover.md is not"),
-    Case("tests/api_page.py", "crates/rpki_cover/src/cover.rt", "/// Returns the first number", "/// Returns the first moon",
+    Case(API, "crates/rpki_cover/src/cover.rt", "/// Returns the first number", "/// Returns the first moon",
          "docs/api/rpki_cover.md is not"),
     Case("tests/api_page.py", "tests/api_page.py", '"rpki_text::list"', '"rpki_text::moon"', "is no rpki_text::moon"),
     Case("tests/layers_picture.py", "docs/layers.svg", "<line x1=", "<line x2=", "is not what crates.txt says"),
@@ -132,7 +132,8 @@ CASES = (
     Case(API, "crates/rpki_base/src/asn.rt", "PartialOrd, Ord, Hash)]", "PartialOrd, Ord)]", "api/rpki_base.md is not"),
     Case(API, "crates/rpki_base/src/asn.rt", "pub const MIN: Asn", "pub const LEAST: Asn", "api/rpki_base.md is not"),
     Case(API, "crates/rpki_base/src/asn.rt", "type Err = ParseAsnError;", "type Err = Asn;", "api/rpki_base.md is not"),
-    Case(API, "crates/rpki_as/src/blocks.rt", "/// Returns the empty set as the default.\nimpl", "impl", "api/rpki_as.md is not"),
+    Case(API, "crates/rpki_as/src/blocks.rt", "/// Returns the empty set as the default.\nimpl", "impl",
+         "api/rpki_as.md is not"),
     Case(API, "foreign/pigyelund.h", "PIGY_ABSENT 10u", "PIGY_ABSENT 11u", "api/pigyelund_c.md is not"),
 )
 

@@ -178,7 +178,7 @@ impl From<Ipv6Addr> for IpAddr {
     }
 }
 
-/// Why a text was refused: it is not an address of the expected kind.
+/// The error for a text that is not an address of the expected kind.
 #[derive(Clone, Copy, Debug, PartialEq, Eq)]
 pub enum AddrParseError {
     /// The text is not an IPv4 address.

@@ -7,7 +7,7 @@ use rpki_base::asn::ParseAsnError;
 use std::error::Error;
 use std::fmt;
 
-/// Why a text is not a block of AS numbers, or not a list of such blocks.
+/// The reason why a text is not a block of AS numbers, or not a list of such blocks.
 #[derive(Clone, Copy, Debug, PartialEq, Eq)]
 pub enum FromStrError {
     /// A text without a dash is not an AS number.

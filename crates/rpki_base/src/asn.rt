@@ -100,7 +100,7 @@ impl From<Asn> for u32 {
     }
 }
 
-/// Why a text was refused: it is not an AS number.
+/// The error for a text that is not an AS number.
 #[derive(Clone, Copy, Debug, PartialEq, Eq)]
 pub struct ParseAsnError;
 

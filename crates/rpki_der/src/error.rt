@@ -7,7 +7,7 @@ use rpki_text::memory::OrMemory;
 use std::error::Error;
 use std::fmt;
 
-/// Why octets are refused: the first fault from left to right.
+/// The reason why octets are refused: the first fault from left to right.
 #[derive(Clone, Copy, Debug, PartialEq, Eq)]
 pub enum DerError {
     /// Octets are missing: the tag, the length or the content of a value is not complete.

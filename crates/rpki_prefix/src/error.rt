@@ -6,7 +6,7 @@ use rpki_text::number::ParseIntError;
 use std::fmt;
 use thiserror::Error;
 
-/// Why an address and a length are not a prefix.
+/// The reason why an address and a length are not a prefix.
 #[derive(Clone, Copy, Debug, PartialEq, Eq)]
 pub enum PrefixError {
     /// The length is above the longest one of the family: 32 for IPv4, 128 for IPv6.
@@ -51,7 +51,7 @@ impl fmt::Display for PrefixError {
 
 impl std::error::Error for PrefixError {}
 
-/// Why a text is not a prefix. The variants are in the order of the checks, and the first fault is reported.
+/// The reason why a text is not a prefix. The variants are in the order of the checks, and the first fault is reported.
 #[derive(Clone, Copy, Debug, PartialEq, Eq)]
 pub enum ParsePrefixError {
     /// The text is empty.
@@ -114,7 +114,7 @@ impl From<PrefixError> for ParsePrefixError {
     }
 }
 
-/// Why a number is not a maximum length of a prefix.
+/// The reason why a number is not a maximum length of a prefix.
 #[derive(Clone, Copy, Debug, PartialEq, Eq)]
 pub enum MaxLenError {
     /// The number is above the longest prefix length of the family: 32 for IPv4, 128 for IPv6.
@@ -159,8 +159,8 @@ impl fmt::Display for MaxLenError {
 
 impl std::error::Error for MaxLenError {}
 
-/// Why a text is not a prefix with an optional maximum length. The variants are in the order of the checks, and the
-/// first fault is reported.
+/// The reason why a text is not a prefix with an optional maximum length. The variants are in the order of the checks,
+/// and the first fault is reported.
 #[derive(Clone, Copy, Debug, PartialEq, Eq, Error)]
 pub enum ParseMaxLenPrefixError {
     /// The text before the first dash, or the whole text if it has no dash, is not a prefix.

@@ -7,7 +7,7 @@ use std::alloc::{AllocError, AllocFailed};
 use std::error::Error;
 use std::fmt;
 
-/// Why a call that also allocates returned no value.
+/// The reason why a call that also allocates returned no value.
 #[derive(Clone, Copy, Debug, PartialEq, Eq, Drop)]
 pub enum OrMemory<E> {
     /// The call refuses its input, for this reason.

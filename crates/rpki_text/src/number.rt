@@ -7,7 +7,7 @@ ghost use Rattle.rpki_text.specs.Numbers.{IsNumberText, HasNumberFault, IsValueU
 use std::error::Error;
 use std::fmt;
 
-/// Why a text is not a number: its first fault from left to right.
+/// The reason why a text is not a number: its first fault from left to right.
 #[derive(Clone, Copy, Debug, PartialEq, Eq)]
 pub enum ParseIntError {
     /// The text is empty.

@@ -355,12 +355,12 @@ END
 fn main() {
     assert!(std::path::Path::new(env!("INCLUDE")).join("pigyelund.h").is_file());
     assert_eq!(env!("CALLS"), pigyelund::version().to_string());
+    assert_eq!(env!("VERSION"), pigyelund::version_string());
     println!("{} {} {}", env!("ROOT"), env!("LIB"), env!("VERSION"));
 }
 END
-    version=$(sed -n 's/^Version: //p' foreign/pigyelund.pc)
-    [ "$(cargo run -q --offline --manifest-path "$out/dependent/Cargo.toml")" = "$prefix $prefix/lib $version" ] ||
-        fail "a crate that depends on the package gets DEP_PIGYELUND_.."
+    said=$(cargo run -q --offline --manifest-path "$out/dependent/Cargo.toml")
+    [ "$said" = "$prefix $prefix/lib $(cat VERSION)" ] || fail "a crate that depends on the package gets DEP_PIGYELUND_.."
 }
 
 # The package for crates.io is made without a warning, has the files of the repository, and passes its tests alone.

@@ -11,8 +11,9 @@
 //! The build script of a crate that depends directly on this one gets these variables:
 //!
 //! - `DEP_PIGYELUND_LIB`: the folder of the library.
-//! - `DEP_PIGYELUND_ROOT`, `DEP_PIGYELUND_INCLUDE`, `DEP_PIGYELUND_CALLS`: the folder above, the folder of the header,
-//!   and `PIGY_VERSION` of the header. They are set if `include/pigyelund.h` is beside the library's folder.
+//! - `DEP_PIGYELUND_ROOT`, `DEP_PIGYELUND_INCLUDE`, `DEP_PIGYELUND_CALLS`: the first folder above the library's folder,
+//!   or the second one, that has `include/pigyelund.h`; the folder of this header; and `PIGY_VERSION` of the header.
+//!   They are set if there is such a header.
 //! - `DEP_PIGYELUND_VERSION`: the version of the library. It is set if the library's folder has
 //!   `pkgconfig/pigyelund.pc`.
 use std::env::{var, VarError};
@@ -20,7 +21,7 @@ use std::fs::read_to_string;
 use std::path::Path;
 
 /// The folders into which `make install` and packages put the library, in the order in which they are searched.
-pub(crate) const USUAL: [&str; 2] = ["/usr/local/lib", "/usr/lib"];
+pub(crate) const USUAL: [&str; 3] = ["/usr/local/lib", "/usr/lib/x86_64-linux-gnu", "/usr/lib"];
 
 /// The variables that switch off the search. Cargo sets the second one if `rustc` gets `--cfg docsrs`.
 const DOCS: [&str; 2] = ["DOCS_RS", "CARGO_CFG_DOCSRS"];
@@ -78,12 +79,16 @@ fn rest_of_line(file: &Path, start: &str) -> Option<String> {
 /// Returns the names and values that build scripts of direct dependents get, each as a variable `DEP_PIGYELUND_NAME`.
 pub(crate) fn metadata_of(folder: &str) -> Vec<(&'static str, String)> {
     let mut found = vec![("lib", String::from(folder))];
-    let root = Path::new(folder).parent().unwrap_or(Path::new("/"));
-    let include = root.join("include");
-    if let Some(number) = rest_of_line(&include.join("pigyelund.h"), "#define PIGY_VERSION ") {
-        found.push(("root", root.display().to_string()));
-        found.push(("include", include.display().to_string()));
-        found.push(("calls", String::from(number.trim_end_matches('u'))));
+    // The library is in `lib`, or in a folder of `lib` that has the name of the architecture.
+    for root in Path::new(folder).ancestors().skip(1).take(2) {
+        let include = root.join("include");
+        let number = rest_of_line(&include.join("pigyelund.h"), "#define PIGY_VERSION ");
+        if let Some(number) = number {
+            found.push(("root", root.display().to_string()));
+            found.push(("include", include.display().to_string()));
+            found.push(("calls", String::from(number.trim_end_matches('u'))));
+            break;
+        }
     }
     let package = Path::new(folder).join("pkgconfig/pigyelund.pc");
     found.extend(rest_of_line(&package, "Version:").map(|version| ("version", version)));

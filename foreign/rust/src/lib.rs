@@ -93,7 +93,7 @@ mod table;
 mod tests;
 
 pub use prefix::{ParseError, Prefix, ValueError};
-pub use raw::{version, Comparison, Octets, Operation, Route, Vrp};
+pub use raw::{version, version_string, Comparison, Octets, Operation, Route, Vrp};
 pub use reason::{Fault, OriginError, PathError, Reason, ResourceError, Side};
 pub use table::{Covering, Table};
 
@@ -554,3 +554,8 @@ pub fn contains(a: Octets<'_>, b: Octets<'_>, encoding: Encoding) -> Result<bool
 pub fn equal(a: Octets<'_>, b: Octets<'_>, encoding: Encoding) -> Result<bool, ResourceError> {
     compare(Comparison::Equal, a, b, encoding)
 }
+
+/// Tests the example of the README.
+#[cfg(doctest)]
+#[doc = include_str!("../README.md")]
+struct Readme;

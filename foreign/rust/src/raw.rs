@@ -21,6 +21,7 @@
 //!
 //! You may pass any values. The library checks them, and this module does not. The library also has preconditions on
 //! pointers. Rust's references meet these: a `&[u8]` is never null, and a `&mut` buffer overlaps no other argument.
+use core::ffi::{c_char, CStr};
 use core::net::IpAddr;
 
 use crate::Family;
@@ -180,6 +181,7 @@ comparisons!(pigy_contains pigy_equal);
 
 extern "C" {
     fn pigy_version() -> u32;
+    fn pigy_version_string() -> *const c_char;
     fn pigy_verify(
         issuer_as: *const u8,
         issuer_as_len: usize,
@@ -584,6 +586,15 @@ impl Comparison {
 pub fn version() -> u32 {
     // SAFETY: the call takes no argument.
     unsafe { pigy_version() }
+}
+
+/// Calls `pigy_version_string`. Returns the version of the linked library, for example `0.1.0`.
+///
+/// This is not the version of the crate, and not [`version`].
+pub fn version_string() -> &'static str {
+    // SAFETY: the call takes no argument. Its text ends with a NUL, and is valid as long as the program runs.
+    let text = unsafe { CStr::from_ptr(pigy_version_string()) };
+    text.to_str().unwrap_or_default()
 }
 
 /// Calls `pigy_verify`: computes the resources of a certificate from its issuer's set.

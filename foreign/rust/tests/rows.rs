@@ -7,9 +7,9 @@ use pigyelund::raw;
 use pigyelund::raw::{NO, OK, TOO_SMALL};
 use pigyelund::{
     answer, contains, cover, difference, equal, intersection, origins, union, verify, verify_path,
-    version, Certificate, Comparison, Encoding, Extensions, Family, Fault, Octets, Operation,
-    OriginError, Overclaim, PathError, Reason, ResourceError, Resources, Route, Side, Table,
-    Validity, Vrp,
+    version, version_string, Certificate, Comparison, Encoding, Extensions, Family, Fault, Octets,
+    Operation, OriginError, Overclaim, PathError, Reason, ResourceError, Resources, Route, Side,
+    Table, Validity, Vrp,
 };
 use std::collections::{BTreeMap, HashSet};
 use std::error::Error;
@@ -526,6 +526,13 @@ fn names_have_their_numbers() {
         .map(|(name, number)| (name, number.parse().unwrap()))
         .collect();
     assert_eq!(named().into_iter().collect::<BTreeMap<_, _>>(), stored);
+    let numbers = version_string().split('.').map(str::parse::<u32>);
+    assert_eq!(
+        numbers.filter(Result::is_ok).count(),
+        3,
+        "{}",
+        version_string()
+    );
 }
 
 #[test]

@@ -65,8 +65,10 @@ fn wrong_folders() {
 
 #[test]
 fn usual_folders() {
-    // A library that an administrator installed comes before that of a package (FHS 3.0, 4.9).
-    assert_eq!(USUAL, ["/usr/local/lib", "/usr/lib"]);
+    // A library that an administrator installed comes before that of a package (FHS 3.0, 4.9). The second folder is
+    // that of a Debian package.
+    let wanted = ["/usr/local/lib", "/usr/lib/x86_64-linux-gnu", "/usr/lib"];
+    assert_eq!(USUAL, wanted);
 }
 
 #[test]
@@ -93,4 +95,12 @@ fn metadata() {
         ("version", String::from("0.1.0")),
     ];
     assert_eq!(metadata_of(&lib), wanted);
+    // The folder of an architecture has a library of its own. The header is for all architectures.
+    let multiarch = format!("{lib}/x86_64-linux-gnu");
+    fs::create_dir_all(&multiarch).unwrap();
+    let [_, root, include, calls, _] = wanted;
+    let wanted = [("lib", multiarch.clone()), root, include, calls];
+    assert_eq!(metadata_of(&multiarch), wanted);
+    let below = format!("{multiarch}/below");
+    assert_eq!(metadata_of(&below), [("lib", below.clone())]);
 }

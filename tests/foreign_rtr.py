@@ -1,11 +1,11 @@
 #!/usr/bin/env python3
 """Tests foreign/rtr/router.c against caches of the RPKI to Router protocol: foreign_rtr.py LIBRARY.
 
-First a cache in this file plays scripts (SCRIPTS), many at the same time. Each script names what the router has to send,
-by RFC 8210 and RFC 6810, which tables it has to print, and how many tables of the library it may hold at once. All
-tables are freed at the end. The cache waits for what the router sends and prints. A script states times only as lower
-bounds: the router does not send too early. In these scripts the router sends at most 3 octets and receives at most 5 at
-once.
+First a cache in this file plays scripts (SCRIPTS), many at the same time. Each script names what the router has to
+send, by RFC 8210 and RFC 6810, which tables it has to print, and how many tables of the library it may hold at once.
+All tables are freed at the end. The cache waits for what the router sends and prints. A script states times only as
+lower bounds: the router does not send too early. In these scripts the router sends at most 3 octets and receives at
+most 5 at once.
 
 Then StayRTR serves a file of VRPs on a free port of 127.0.0.1: all of them, then changes, which it notifies; then more
 changes than it keeps while the router is stopped, so that it sends a Cache Reset; then a file of its next session.
@@ -569,6 +569,15 @@ SCRIPTS = [
         "version 0",
         [[*ASKED_BY_0, response(prefix(WITHDRAW, A, 0), *announced(C, version=0), serial=8, version=0)]],
         [[A, B], [B, C]],
+        2,
+    ),
+    Script(
+        "a notice while a response of version 0 comes",
+        [
+            [ALL, pdu(RESPONSE, SESSION, version=0) + notify(9, version=0) + end_of_data(7, version=0)]
+            + [changes(7, version=0), response(*announced(A, version=0), serial=9, version=0)]
+        ],
+        [[], [A]],
         2,
     ),
     # The Retry Interval is longer than the test: the router does not wait for it.

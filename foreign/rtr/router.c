@@ -10,8 +10,8 @@
  * VRPs in the response has no effect on the table.
  *
  * - Intervals (6): End of Data of version 1 has three intervals. The router replaces an interval outside of its range
- *   by the nearest bound. With version 0 it uses the defaults. UNIT is the number of milliseconds that the router counts
- *   as one second of an interval. It is 1000 unless it is given. Tests pass less, so that they need not wait.
+ *   by the nearest bound. With version 0 it uses the defaults. UNIT is the number of milliseconds that the router
+ *   counts as one second of an interval. The default is 1000. Tests pass less, so that they need not wait.
  * - The table expires if no later End of Data arrives within the Expire Interval. Then the router drops the table. It
  *   also ends the session. A router without a table waits for a response for the default Expire Interval.
  * - When a session or the connection is over, the router connects again after the Retry Interval. If no error ended the
@@ -283,8 +283,9 @@ static void set_times(router *r, const uint8_t *intervals, int64_t received) {
   fprintf(stderr, "intervals: refresh %u, retry %u, expire %u\n", refresh, r->retry, expire);
 }
 
-/* Ends a response (5.8). The session has to be that of the Cache Response, and changes do not lead to an earlier
- * serial. Asks again if the cache notified a later serial while the query was open. Returns 0 if the session is over. */
+/* Ends a response (5.8). The session has to be that of the Cache Response. The serial after changes may not be before
+ * that of the table. Asks again if the cache notified a later serial while the query was open. Returns 0 if the session
+ * is over. */
 static int end_of_data(router *r, uint16_t session, const uint8_t *body, uint32_t length) {
   int64_t received = now();
   pigy_table *next = 0;
@@ -334,8 +335,8 @@ static int take_reset(router *r, uint32_t length) {
   return ask(r);
 }
 
-/* Reads an Error Report (5.11). If the cache has no data, the router asks for all VRPs later (8.4). Any other error ends
- * the session, and so does a report whose two lengths are wrong. Returns 0 if the session is over. */
+/* Reads an Error Report (5.11). If the cache has no data, the router asks for all VRPs later (8.4). Any other error
+ * ends the session, and so does a report with wrong lengths in its body. Returns 0 if the session is over. */
 static int take_report(router *r, uint16_t code, const uint8_t *body, uint32_t length) {
   uint32_t quoted = length < 8 ? 0 : u32(body);
   int is_correct = length >= 8 && quoted <= length - 8 && u32(body + 4 + quoted) == length - 8 - quoted;

@@ -65,14 +65,21 @@ warns() {
 # The header compiles as each language, without warnings, and also without the attributes. Its names begin with pigy_ or
 # PIGY. The attributes make warnings.
 of_header() {
+    echo '#include "pigyelund.h"
+        uint32_t f(pigy_set a, pigy_set b, pigy_buffers *out);
+        uint32_t f(pigy_set a, pigy_set b, pigy_buffers *out) {
+          pigy_operation *operation = pigy_version() ? pigy_union : pigy_difference;
+          uint32_t status = pigy_combine(operation, a, b, PIGY_STRICT, out);
+          return status ? status : pigy_compare(&pigy_equal, a, b, PIGY_STRICT);
+        }' >"$out/header.c"
     for language in c99 c11 c17 c++11 c++17; do
         case $language in c++*) compilers="g++ clang++" ;; *) compilers="gcc clang" ;; esac
         for compiler in $compilers; do
             has "the header as $language" "$compiler" || continue
             for words in "-Wshadow -Wconversion" -U__GNUC__; do
                 # shellcheck disable=SC2086 # several words
-                echo '#include "foreign/pigyelund.h"' | "$compiler" -x "${language%%[0-9]*}" -std="$language" $words \
-                    -pedantic -Wall -Wextra -Werror -I. -fsyntax-only - || fail "the header by $compiler as $language $words"
+                "$compiler" -x "${language%%[0-9]*}" -std="$language" $words -O2 -pedantic -Wall -Wextra -Werror \
+                    -Iforeign -c "$out/header.c" -o "$out/header.o" || fail "the header: $compiler, $language, $words"
             done
         done
     done

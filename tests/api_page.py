@@ -328,7 +328,7 @@ def read_items(module: Module, items: dict[Key, Item]) -> None:
 
 
 def read_impls(module: Module, items: dict[Key, Item]) -> None:
-    """Adds what the impls of a module offer to their types."""
+    """Adds what the impls of a module offer to their types. The text of an impl without a trait is one of its type."""
     lines = module.file.read_text().split("\n")
     for at, line in enumerate(lines):
         if not line.startswith(("impl", "unsafe impl")):
@@ -340,13 +340,12 @@ def read_impls(module: Module, items: dict[Key, Item]) -> None:
         if owner_of(line)[1]:
             items[key].calls.append(Item("", home=module, doc=doc, code=without_bodies(block)))
             continue
+        items[key].doc += ["", *doc] if doc else []
         for k, inner in enumerate(block):
             if found := MEMBER.match(inner):
                 code = [it[4:] for it in block[k : member_end(block, k)]] if found[1] else signature(block, k)
-                own = doc_above(block, k)
-                said = [*own, *([""] if doc and own else []), *doc]
-                items[key].calls.append(Item(found[2], of=line.removesuffix(" {"), home=module, doc=said, code=code))
-                doc = []
+                head = line.removesuffix(" {")
+                items[key].calls.append(Item(found[2], of=head, home=module, doc=doc_above(block, k), code=code))
 
 
 def member_end(lines: list[str], at: int) -> int:
@@ -453,6 +452,12 @@ def c_name(item: Item) -> str:
     return f"PIGY_{found[1]}" if value and int(value[1], 0) == int(found[2]) else ""
 
 
+def label_of(item: Item, call: Item) -> str:
+    """The name of a call in the list of its type; its heading if several calls have that name."""
+    heading = call_heading(item, call)
+    return call.name if heading == f"{item.name}::{call.name}" else f"`{heading}`"
+
+
 def is_constant(call: Item) -> bool:
     """Whether a call of a type is one of its constants."""
     return call.code[0].startswith("pub const ") and "fn " not in call.code[0]
@@ -469,7 +474,8 @@ def calls_of(item: Item) -> Iterator[str]:
     for word in ("Constants", "Calls"):
         some = [it for it in named if is_constant(it) == (word == "Constants")]
         if some and len(named) > 1:
-            yield from wrapped(f"{word}: " + " · ".join(f"[{it.name}]({anchor(call_heading(item, it))})" for it in some))
+            links = (f"[{label_of(item, it)}]({anchor(call_heading(item, it))})" for it in some)
+            yield from wrapped(f"{word}: {' · '.join(links)}")
             yield ""
     for call in named:
         yield from [f"#### `{call_heading(item, call)}`", "", *text_and_code(call)]

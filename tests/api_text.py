@@ -22,7 +22,7 @@ def wrapped(text: str, indent: str = "") -> list[str]:
 
 def filled(lines: list[str]) -> list[str]:
     """The lines of one paragraph or of one item of a list, filled as a whole."""
-    indent = re.match(r"\s*", lines[0])[0]
+    indent = lines[0][: len(lines[0]) - len(lines[0].lstrip())]
     mark = MARK.match(lines[0])
     text = " ".join(line.strip() for line in lines)
     return wrapped(indent + text, " " * len(mark[0]) if mark else indent)

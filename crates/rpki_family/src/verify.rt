@@ -15,9 +15,8 @@ use rpki_ipres::verify::IpStep;
 use rpki_text::memory::OrMemory;
 use std::alloc::{AllocError, Allocator};
 
-/// Checks of claims. In IPv4 they require that a listed claim consists of whole addresses.
-///
-/// A claim that was read for IPv4, or made by a set of IPv4, meets this precondition.
+/// The checks of claims have a precondition: in IPv4 a listed claim consists of whole addresses. A claim that was read
+/// for IPv4, or made by a set of IPv4, meets this precondition.
 impl<F: Family, A: Allocator> FamilyBlocks<F, A> {
     /// Returns the part of the set that a claim leaves (RFC 3779, 2.3).
     ///

@@ -2,7 +2,7 @@
 # The script release reads this file for --deb. It makes the Debian packages without debhelper, from the files that
 # release has proved:
 #
-#   pigyelund           the programs, their man pages, and the prover's verdicts
+#   pigyelund           the programs, their man pages, and the prover's verdicts on them and on the library
 #   libpigyelund1       the shared library, by the number of its ABI
 #   libpigyelund-dev    the header, the static library, the link for the linker, pigyelund.pc, the examples
 #   python3-pigyelund   the Python package
@@ -129,7 +129,6 @@ library_package() {
     file=$(readlink -f "$lib/$soname")
     strip --strip-unneeded --remove-section=.comment --remove-section=.note "$file"
     require_symbols "$file"
-    install -m 644 "$work/VERDICTS" "$tree/usr/share/doc/libpigyelund1"
     install -m 644 "$symbols" "$tree/DEBIAN/symbols"
     stem=${soname%%.so.*}
     printf '%s %s libpigyelund1 (>= %s)\n' "$stem" "${soname##*.so.}" "$newest" >"$tree/DEBIAN/shlibs"
@@ -178,7 +177,7 @@ python_package() {
     mkdir "$work/python" "$work/wheel"
     git archive HEAD foreign/python LICENSE VERSION | tar -xf - -C "$work/python"
     (cd "$work/python/foreign/python" &&
-        PYTHONDONTWRITEBYTECODE=1 python3 -c "import wheel_of; print(wheel_of.build_wheel('$work/wheel'))") >&2
+        PYTHONDONTWRITEBYTECODE=1 python3 -c "import wheel_of; wheel_of.build_wheel('$work/wheel')")
     install -d "$modules"
     (cd "$modules" && python3 -m zipfile -e "$work/wheel/"*.whl .)
     rm -r "$modules"/pigyelund-*.dist-info/RECORD "$modules"/pigyelund-*.dist-info/licenses

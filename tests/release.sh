@@ -206,6 +206,8 @@ makes_the_same() {
     make_copy
     released env >"$out/said" || { cat "$out/said"; fail "a release in a copy"; return; }
     [ "$(tail -n 1 "$out/said")" = "$out/made/$archive" ] || fail "the last line: $(tail -n 1 "$out/said")"
+    head -n 1 "$out/said" | grep -qx 'release: ./check --all has to pass at this commit, [0-9a-f]*' ||
+        fail "the first line: $(head -n 1 "$out/said")"
     mv "$out/made" "$out/first"
     sleep 1.1
     printf '#!/bin/sh\necho planted\n' >"$copy/crates/respath/out/respath"
@@ -360,7 +362,7 @@ makes_the_same_packages() {
     make_copy
     released_packages env >"$out/said" && mv "$out/made" "$out/first_packages" && sleep 1.1 && install_as_other &&
         find "$copy" -name .git -prune -o -type f -exec touch -d '2001-01-01' {} + &&
-        (umask 077 && released_packages env TZ=Asia/Tokyo LANG=C.UTF-8 GZIP=-1 XZ_DEFAULTS=-0 XZ_OPT=-0) >"$out/said" ||
+        (umask 077 && released_packages env TZ=Asia/Tokyo LANG=C.UTF-8 GZIP=-1 XZ_OPT=-0 taskset -c 0) >"$out/said" ||
         { cat "$out/said"; fail "packages in a copy"; return; }
     same_packages "$out/first_packages" "$out/made" || fail "the same commit makes the same packages"
     try_packages "$out/made"
@@ -393,7 +395,7 @@ release: versions differ" ] || fail "another version is refused: $said"
     refuses_what_is_not_proved
     refuses_what_is_not_committed
     refuses_other_sums
-    if has "the packages of Debian" dpkg-deb dpkg dpkg-parsechangelog; then
+    if has "the packages of Debian" dpkg-deb dpkg dpkg-parsechangelog taskset; then
         makes_the_same_packages
         refuses_other_symbols
     fi

@@ -343,7 +343,8 @@ def of_rust(folder: Path) -> Iterator[tuple[str, str | None]]:
         print(f"left out: {OF_RUST} needs {LIBRARY}, which rt lib builds there")
         return
     shutil.copytree(TOP / "foreign", folder / "foreign", symlinks=True)
-    shutil.copy(TOP / "LICENSE", folder)
+    for file in ("LICENSE", "VERSION"):
+        shutil.copy(TOP / file, folder)
     where = [f"OUT={folder}", f"LIB={TOP / LIBRARY}", f"KIT={kit()}"]
     subprocess.run(["make", "-s", "-C", folder / "foreign" / "c", "CC=gcc", *where, "static"], check=True)
     places = (f"PIGYELUND_LIB={folder}", f"CARGO_TARGET_DIR={folder / 'target'}")

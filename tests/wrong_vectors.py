@@ -94,6 +94,7 @@ def copied(folder: Path) -> Path:
     """A copy of what the two tests read."""
     for part in PARTS:
         shutil.copytree(TOP / part, folder / part, ignore=shutil.ignore_patterns("out", "__pycache__"))
+    shutil.copy2(TOP / "VERSION", folder)
     for program in BUILT:
         if (TOP / program).is_file():
             (folder / program).parent.mkdir(parents=True)

@@ -734,12 +734,11 @@ SCRIPTS = [
     Script(
         "a table expires while the cache has no data",
         [
-            [*first(intervals=(86400, 1200, 600)), notify(8), changes(7), report(NO_DATA, b""), CLOSED, EXPIRED],
+            [*first(intervals=(86400, 700, 600)), notify(8), changes(7), report(NO_DATA, b""), CLOSED, EXPIRED],
             LAST,
         ],
         [[A, B], [C]],
         2,
-        20,
     ),
     Script(
         "a later End of Data makes the table expire later",

@@ -14,12 +14,13 @@
  *   counts as one second of an interval. The default is 1000. Tests pass less, so that they need not wait.
  * - The table expires if no later End of Data arrives within the Expire Interval. Then the router drops the table. It
  *   also ends the session. A router without a table waits for a response for the default Expire Interval.
- * - When a session or the connection is over, the router connects again after the Retry Interval. If no error ended the
- *   session, it asks for the changes since its table, or else for all VRPs.
- * - If the cache has no data (8.4), the router asks for all VRPs after the Retry Interval.
- * - Versions (7): The router asks in version 1. If the cache answers in version 0, the router uses this version too. It
- *   connects again at once if the answer is an Error Report, or if the question was about a session of version 1.
- * - An Error Report of the cache ends the session, except for "No Data Available". The router keeps its table.
+ * - When a session or the connection is over, the router connects again after the Retry Interval. It asks for the
+ *   changes since its table. After an error or the expiry it asks for all VRPs.
+ * - An Error Report of the cache ends the session. The router keeps its table. The code "No Data Available" does not end
+ *   the session (8.4): the router asks for all VRPs after the Retry Interval.
+ * - Versions (7): The router asks in version 1. If the cache answers a Reset Query in version 0, the router uses this
+ *   version too. If it answers a Serial Query in version 0, or by an Error Report with another code than "No Data
+ *   Available", the router connects again at once and asks for all VRPs in version 0.
  * - It ignores Router Keys (5.10).
  *
  * The status is 0 if it printed all tables, and 1 if it did not. It is 2 if the arguments are wrong. It is also 2 if
@@ -69,7 +70,7 @@ typedef struct {
  * - pdu, length: The PDU that is being read, and the number of its octets that have been read.
  * - retry: The Retry Interval in seconds.
  * - due: The time of the next query if none is open. Between connections: the time of the next one.
- * - expiry: The time when the table expires. Without a table: when the router stops to wait for a response. */
+ * - expiry: The time when the table expires. Without a table: when the router gives up an open query. */
 typedef struct {
   int to_cache, is_settled, is_downgraded, has_session, is_asked, is_answered, is_full, has_notice;
   uint8_t version;

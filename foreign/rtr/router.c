@@ -15,9 +15,9 @@
  * - The table expires if no later End of Data arrives within the Expire Interval. Then the router drops the table. It
  *   also ends the session. A router without a table waits for a response for the default Expire Interval.
  * - When a session or the connection is over, the router connects again after the Retry Interval. It asks for the
- *   changes since its table. After an error or the expiry it asks for all VRPs.
- * - An Error Report of the cache ends the session. The router keeps its table. The code "No Data Available" does not end
- *   the session (8.4): the router asks for all VRPs after the Retry Interval.
+ *   changes since its table. Without a table, and after an error, it asks for all VRPs.
+ * - An Error Report of the cache ends the session. The router keeps its table. The code "No Data Available" does not
+ *   end the session (8.4): the router asks for all VRPs after the Retry Interval.
  * - Versions (7): The router asks in version 1. If the cache answers a Reset Query in version 0, the router uses this
  *   version too. If it answers a Serial Query in version 0, or by an Error Report with another code than "No Data
  *   Available", the router connects again at once and asks for all VRPs in version 0.

@@ -275,15 +275,45 @@ of_python_types() {
     foreign/python/test_types.py "$out/there/bin/python" || fail "the type hints of the installed package"
 }
 
-# The first Python that the package wants runs its test, and the one before can't import it.
-of_least_python() {
+# What the backend makes has the right metadata, sums and tags, and the same octets each time. pip installs the package
+# in place, the source archive, and a wheel with the library inside, which finds the library by itself.
+of_python_wheels() {
+    PYTHONDONTWRITEBYTECODE=1 python3 foreign/python/test_wheel.py "$prefix/lib/libpigyelund.so" || fail "the wheels"
+    cp -rL foreign/python "$out/package" || { fail "a copy of the package"; return; }
+    pip_installs -e "$out/package" && finds env PIGYELUND_LIB="$prefix/lib"
+    imported=$("$out/there/bin/python" -c 'import pigyelund; print(pigyelund.__file__)')
+    [ "$imported" = "$out/package/pigyelund/__init__.py" ] ||
+        fail "pip install -e imports the package in place"
+    python3 -c 'import sys; sys.path[0] = sys.argv[1]; import wheel_of; wheel_of.build_sdist(sys.argv[2])' \
+        "$out/package" "$out" || fail "build_sdist"
+    pip_installs "$out"/pigyelund-*.tar.gz && finds env PIGYELUND_LIB="$prefix/lib"
+    cp "$prefix/lib/libpigyelund.so" "$out/package/pigyelund"
+    "$out/there/bin/pip" wheel -q --no-deps -w "$out/wheels" "$out/package" || fail "pip wheel"
+    ls "$out"/wheels/pigyelund-*-py3-none-manylinux_*.whl >/dev/null ||
+        fail "the wheel with the library has a manylinux tag"
+    pip_installs "$out"/wheels/pigyelund-*.whl && finds env -u PIGYELUND_LIB LD_LIBRARY_PATH="$out/older"
+}
+
+# pip_installs ARGUMENT ..: pip installs the package from there, in place of the one that is installed
+pip_installs() {
+    "$out/there/bin/pip" uninstall -q -y pigyelund && rm -rf "$package" && "$out/there/bin/pip" install -q "$@" ||
+        fail "pip install $*"
+}
+
+# Each Python that the package names runs its test, and the one before the first can't import it.
+of_each_python() {
     least=$(sed -n 's/^requires-python = ">=3\.\(.*\)"$/\1/p' foreign/python/pyproject.toml)
+    named=$(sed -n 's/^ *"Programming Language :: Python :: \(3\.[0-9]*\)",$/\1/p' foreign/python/pyproject.toml)
+    [ "$(echo "$named" | head -n 1)" = "3.$least" ] || fail "the first Python of the package is 3.$least: $named"
+    for version in $named; do
+        if ! "python$version" -c '' 2>/dev/null; then
+            echo "left out: the test of the package in Python $version needs python$version"
+        elif ! PYTHONPATH=foreign/python "python$version" foreign/python/test.py "$prefix/lib/libpigyelund.so" \
+            foreign; then
+            fail "the test in Python $version"
+        fi
+    done
     before=python3.$((least - 1))
-    if ! "python3.$least" -c '' 2>/dev/null; then
-        echo "left out: the package's first Python needs python3.$least"
-    elif ! PYTHONPATH=foreign/python "python3.$least" foreign/python/test.py "$prefix/lib/libpigyelund.so" foreign; then
-        fail "the test in Python 3.$least"
-    fi
     if ! "$before" -c '' 2>/dev/null; then
         echo "left out: the Python before the package's first needs $before"
     elif PYTHONPATH=foreign/python "$before" -c 'import pigyelund' 2>/dev/null; then
@@ -294,11 +324,12 @@ of_least_python() {
 of_python() {
     PYTHONPATH=foreign/python python3 foreign/python/test.py "$prefix/lib/libpigyelund.so" foreign ||
         fail "the test in Python"
-    of_least_python
+    of_each_python
     python3 -c 'import ensurepip, venv' 2>/dev/null || { echo "left out: pip needs python3-venv"; return; }
     python3 -m venv "$out/there" && "$out/there/bin/pip" install -q foreign/python || { fail "pip install"; return; }
     of_python_search
     of_python_types
+    of_python_wheels
     tests/foreign_page.py Python "$prefix" || fail "the program in Python"
     tests/foreign_page.py "A table in Python" "$prefix" || fail "the table in Python"
 }

@@ -136,7 +136,7 @@ def first_of_node(node: ast.AST) -> int:
 def of_python() -> list[str]:
     """Returns what differs in the first Python that the package requires."""
     folder = TOP / "foreign" / "python"
-    sources = [*sorted((folder / "pigyelund").glob("*.py")), folder / "wheel_of.py"]
+    sources = [*sorted((folder / "pigyelund").glob("*.py")), *sorted(folder.glob("*_of.py"))]
     used = max(first_of_node(node) for file in sources for node in ast.walk(ast.parse(file.read_text())))
     wanted = {
         folder / "pyproject.toml": f'requires-python = ">=3.{used}"',

@@ -14,10 +14,10 @@ MACHINES = {62: "x86_64", 183: "aarch64"}
 LEAST = {"x86_64": (2, 5), "aarch64": (2, 17)}
 OF_GLIBC = {"libc.so.6", "libdl.so.2", "libm.so.6", "libpthread.so.0", "librt.so.1"}
 OF_GLIBC |= {"ld-linux-x86-64.so.2", "ld-linux-aarch64.so.1"}
-# glibc has this version since 2.36: it says that the loader can read compact relative relocations.
+# glibc has this version since 2.36. It says that the loader reads compact relative relocations.
 RELATIVE = "GLIBC_ABI_DT_RELR"
 LOAD, DYNAMIC = 1, 2
-NEEDED, STRING_TABLE, RUN_PATH_OLD, RUN_PATH, VERSIONS, VERSION_COUNT = 1, 5, 15, 29, 0x6FFFFFFE, 0x6FFFFFFF
+NEEDED, STRING_TABLE, RUN_PATH_OLD, RUN_PATH, RELOCATIONS, VERSIONS = 1, 5, 15, 29, 36, 0x6FFFFFFE
 
 
 class Required(NamedTuple):
@@ -83,12 +83,14 @@ class Elf:
 
     def versions(self) -> Iterator[str]:
         """Yields the names of the symbol versions that the library needs."""
-        for address, count in zip(self.values(VERSIONS), self.values(VERSION_COUNT)):
-            file = self.offset_of(address)
-            for _ in range(count):
-                names, first, following = struct.unpack_from("<2xH4xII", self.octets, file)
-                entry = file + first
-                for _ in range(names):
+        if self.values(RELOCATIONS):
+            yield RELATIVE
+        for address in self.values(VERSIONS):
+            file, following = self.offset_of(address), 1
+            while following:
+                first, following = struct.unpack_from("<8xII", self.octets, file)
+                entry, after = file + first, 1
+                while after:
                     name, after = struct.unpack_from("<8xII", self.octets, entry)
                     yield self.text(name)
                     entry += after

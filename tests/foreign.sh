@@ -288,7 +288,8 @@ of_python_wheels() {
         "$out/package" "$out" || fail "build_sdist"
     pip_installs "$out"/pigyelund-*.tar.gz && finds env PIGYELUND_LIB="$prefix/lib"
     cp "$prefix/lib/libpigyelund.so" "$out/package/pigyelund"
-    "$out/there/bin/pip" wheel -q --no-deps -w "$out/wheels" "$out/package" || fail "pip wheel"
+    "$out/there/bin/pip" wheel -q --no-deps --config-settings=processor=x86-64-v2 -w "$out/wheels" "$out/package" ||
+        fail "pip wheel"
     ls "$out"/wheels/pigyelund-*-py3-none-manylinux_*.whl >/dev/null ||
         fail "the wheel with the library has a manylinux tag"
     pip_installs "$out"/wheels/pigyelund-*.whl && finds env -u PIGYELUND_LIB LD_LIBRARY_PATH="$out/older"

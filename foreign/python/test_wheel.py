@@ -53,11 +53,12 @@ class Tree:
         """Puts a library into the package."""
         (self.folder / "pigyelund" / wheel_of.LIBRARY).write_bytes(library)
 
-    def build(self, kind: str, to: str, **variables: str) -> "subprocess.CompletedProcess[str]":
-        """Runs the backend as pip does: in the folder, with a folder for the result."""
+    def build(self, kind: str, to: str, *settings: str, **variables: str) -> "subprocess.CompletedProcess[str]":
+        """Runs the backend as pip does: in the folder, with a folder for the result, and with settings."""
         target = self.folder.parent / to
         target.mkdir(exist_ok=True)
-        words = [sys.executable, "-c", f"import wheel_of; print(wheel_of.build_{kind}({str(target)!r}))"]
+        given = dict(it.split("=") for it in settings)
+        words = [sys.executable, "-c", f"import wheel_of; print(wheel_of.build_{kind}({str(target)!r}, {given}))"]
         names = {name: it for name, it in os.environ.items() if name != "SOURCE_DATE_EPOCH"}
         environment = names | {"PYTHONDONTWRITEBYTECODE": "1"} | variables
         return subprocess.run(words, cwd=self.folder, env=environment, capture_output=True, text=True, check=False)
@@ -97,19 +98,17 @@ def same_octets(folder: Path) -> Iterator[str]:
 def times(folder: Path) -> Iterator[str]:
     """Each file has the time in SOURCE_DATE_EPOCH, or else 1980. A time that no wheel can have is refused."""
     tree = Tree(folder / "tree")
-    for text, year in (("", 1980), ("1000000000", 2001), ("0", 1980), ("-7", 1980), ("4294967294", 2106)):
-        for kind in ("wheel", "editable"):
-            with zipfile.ZipFile(tree.made(kind, f"{kind}{text}", SOURCE_DATE_EPOCH=text)) as wheel:
-                if {it.date_time[0] for it in wheel.infolist()} != {year}:
-                    yield f"{kind}: SOURCE_DATE_EPOCH={text} gives {wheel.infolist()[0].date_time}"
+    for text, year in (("", 1980), ("-7", 1980), ("4294967294", 2106)):
+        with zipfile.ZipFile(tree.made("wheel", f"wheel{text}", SOURCE_DATE_EPOCH=text)) as wheel:
+            if {it.date_time[0] for it in wheel.infolist()} != {year}:
+                yield f"wheel: SOURCE_DATE_EPOCH={text} gives {wheel.infolist()[0].date_time}"
         with tarfile.open(tree.made("sdist", f"sdist{text}", SOURCE_DATE_EPOCH=text)) as archive:
             if {it.mtime for it in archive} != {max(int(text or "0"), wheel_of.FIRST)}:
                 yield f"sdist: SOURCE_DATE_EPOCH={text}"
-    for text in ("4294967296", "now", "1.5", "9" * 30):
-        for kind in KINDS:
-            done = tree.build(kind, "none", SOURCE_DATE_EPOCH=text)
-            if not done.returncode or f"SOURCE_DATE_EPOCH is {text!r}, and a number of seconds " not in done.stderr:
-                yield f"{kind}: SOURCE_DATE_EPOCH={text}: {done.stderr[-200:]}"
+    for kind, text in (("wheel", "4294967296"), ("editable", "now"), ("sdist", "1.5"), ("wheel", "9" * 30)):
+        done = tree.build(kind, "none", SOURCE_DATE_EPOCH=text)
+        if not done.returncode or f"SOURCE_DATE_EPOCH is {text!r}, and a number of seconds " not in done.stderr:
+            yield f"{kind}: SOURCE_DATE_EPOCH={text}: {done.stderr[-200:]}"
 
 
 def of_metadata(octets: bytes) -> Iterator[str]:
@@ -238,6 +237,15 @@ def tag_by_readelf(octets: bytes, folder: Path) -> str:
     return "manylinux_{}_{}_x86_64".format(*max([(2, 5), *((int(major), int(minor)) for major, minor in found)]))
 
 
+def tag_by_note(octets: bytes, folder: Path) -> tuple[str, str]:
+    """Returns the tag of such a library, and the reason if it is no manylinux tag, also by the level in its note."""
+    tag = tag_by_readelf(octets, folder)
+    words = ["readelf", "-nW", str(folder / "read.so")]
+    printed = subprocess.run(words, capture_output=True, text=True, check=True).stdout
+    levels = re.findall(r"x86 ISA needed: .*(x86-64-v\d)", printed)
+    return ("linux_x86_64", f"it needs a processor of level {levels[0]}, and not each has it") if levels else (tag, "")
+
+
 def libraries(folder: Path) -> Iterator[tuple[str, bytes | None, str, str]]:
     """Yields libraries: a name, the octets, the platform tag, and the text on the standard error."""
     call = "int {0}(); int f(void) {{ return {0}(); }}"
@@ -249,6 +257,9 @@ def libraries(folder: Path) -> Iterator[tuple[str, bytes | None, str, str]]:
     other = compiled(folder, "int f;", "-Wl,--no-as-needed", "-lgcc_s")
     yield "libgcc_s", other, "linux_x86_64", "it needs libgcc_s.so.1, which is not a part of glibc"
     path = compiled(folder, "int f;", "-Wl,-rpath,/opt")
+    level = compiled(folder, "int f;", "-Wl,-z,x86-64-v2")
+    note = "it needs a processor of level x86-64-v2, and not each has it"
+    yield "instructions", level if level and b"GNU\0\2\x80\0\xc0" in level else None, "linux_x86_64", note
     yield "a run path", path, "linux_x86_64", "it names folders in which the loader searches"
 
 
@@ -261,8 +272,8 @@ def with_library(folder: Path) -> Iterator[str]:
         held = []
     if sys.argv[1:]:
         octets = Path(sys.argv[1]).read_bytes()
-        held.append(("LIBRARY", octets, tag_by_readelf(octets, folder), ""))
-        print(f"{sys.argv[1]} has the tag {held[-1][2]}")
+        held.append(("LIBRARY", octets, *tag_by_note(octets, folder)))
+        print(f"{sys.argv[1]} has the tag {held[-1][2]}; readelf gives {tag_by_readelf(octets, folder)}")
     for at, (name, octets, tag, text) in enumerate(held):
         tree.put(octets)
         done = tree.build("wheel", f"wheel{at}")
@@ -274,14 +285,23 @@ def with_library(folder: Path) -> Iterator[str]:
         with zipfile.ZipFile(wheel) as made:
             if made.read(f"pigyelund/{wheel_of.LIBRARY}") != octets:
                 yield f"a library with {name} is changed"
-        if tree.made("wheel", f"again{at}").read_bytes() != wheel.read_bytes():
-            yield f"a wheel with {name} has other octets the second time"
-        with tarfile.open(tree.made("sdist", f"sdist{at}")) as archive:
-            if any(it.endswith(".so") for it in archive.getnames()):
-                yield "the source archive has a library"
+        if name in ("instructions", "LIBRARY"):
+            made_for = tree.build("wheel", f"level{at}", "processor=x86-64-v2")
+            wanted = f"{wheel_of.NAME}-py3-none-{tag_by_readelf(octets, folder)}.whl"
+            if made_for.returncode or made_for.stdout.strip() != wanted or made_for.stderr:
+                yield f"a library with {name}, for x86-64-v2: {made_for.stdout}{made_for.stderr}"
+            if tree.made("wheel", f"again{at}").read_bytes() != wheel.read_bytes():
+                yield f"a wheel with {name} has other octets the second time"
         if not tag.startswith("linux") and tag != tag_by_readelf(octets, folder) and name != "relative relocations":
             yield f"a library with {name}: readelf gives {tag_by_readelf(octets, folder)}"
-    yield from refused_libraries(tree, [it[1] for it in held])
+    with tarfile.open(tree.made("sdist", "sdist")) as archive:
+        if any(it.endswith(".so") for it in archive.getnames()):
+            yield "the source archive has a library"
+    yield from refused_libraries(tree, [it[1] for it in held if it[0] != "LIBRARY"])
+    if held:
+        done = tree.build("wheel", "no level", "processor=x86-64-v9")
+        if not done.returncode or "the processor is 'x86-64-v9', and one of x86-64, x86-64-v2, " not in done.stderr:
+            yield f"a level that is none: {done.stderr[-200:]}"
 
 
 def refused_libraries(tree: Tree, held: list[bytes]) -> Iterator[str]:
@@ -300,8 +320,8 @@ def refused_libraries(tree: Tree, held: list[bytes]) -> Iterator[str]:
         done = tree.build("wheel", "refused")
         if not done.returncode or f"{wheel_of.LIBRARY}: {text}" not in done.stderr:
             yield f"{octets[:20]!r}: {done.stdout}{done.stderr[-200:]}"
-    for octets in held[:1]:
-        for length in range(0, len(octets), 3):
+    for octets in held[:1] + held[-1:]:
+        for length in range(0, len(octets), 7):
             changed = octets[:length] if length % 2 else octets[:length] + b"\xff" + octets[length + 1 :]
             try:
                 platform_of.platform_tag(changed)

@@ -75,19 +75,24 @@ def file_time() -> int:
     return max(int(text), FIRST)
 
 
-def tag_of(package: dict[str, bytes]) -> str:
+def tag_of(package: dict[str, bytes], processor: str) -> str:
     """Returns the tag of a wheel with these files of the package.
 
     If the library is there and the tag is no manylinux tag, this function also prints the reason.
 
+    Args:
+        package: The files of the package by their paths.
+        processor: The level of x86-64 that the systems have for which the wheel is made.
+
     Raises:
-        ValueError: `libpigyelund.so` is no shared library for a processor that `platform_of` knows.
+        ValueError: `libpigyelund.so` is no shared library for a processor that `platform_of` knows, or `processor` is
+            no level.
     """
     octets = package.get(f"pigyelund/{LIBRARY}")
     if octets is None:
         return "py3-none-any"
     try:
-        platform, reason = platform_of.platform_tag(octets)
+        platform, reason = platform_of.platform_tag(octets, processor)
     except ValueError as fault:
         raise ValueError(f"{HERE / 'pigyelund' / LIBRARY}: {fault}") from None
     if reason:
@@ -135,14 +140,21 @@ def write_wheel(folder: str, contents: dict[str, bytes], tag: str) -> str:
 def build_wheel(
     wheel_directory: str, config_settings: object = None, metadata_directory: str | None = None
 ) -> str:
-    """Writes the wheel into a folder and returns its file name. The other arguments of PEP 517 are ignored.
+    """Writes the wheel into a folder and returns its file name.
+
+    Args:
+        wheel_directory: The folder.
+        config_settings: A dict or None. Its item `processor` is the level of x86-64, such as `x86-64-v2`, that the
+            systems have for which the wheel is made. Other items are ignored.
+        metadata_directory: Ignored.
 
     Raises:
-        ValueError: The library in the package is no shared library that `platform_of` knows, or SOURCE_DATE_EPOCH is
-            invalid.
+        ValueError: The library in the package is no shared library that `platform_of` knows. Or `processor` is no level
+            of x86-64, or SOURCE_DATE_EPOCH is invalid.
     """
-    contents = package_files(has_library=True)
-    return write_wheel(wheel_directory, contents, tag_of(contents))
+    files = package_files(has_library=True)
+    settings = config_settings if isinstance(config_settings, dict) else {}
+    return write_wheel(wheel_directory, files, tag_of(files, settings.get("processor", "x86-64")))
 
 
 def build_editable(

@@ -30,7 +30,7 @@ SONAME = "libpigyelund.so.1"  # the name that an installation for programs alone
 BESIDE = Path(__file__).parent / NAME
 VERSION = 4  # the version of the calls below; a library of a later version has them too
 HOW_TO_GET = (
-    "to get the library, install the Debian package pigyelund; or build it by 'rt lib' in crates/pigyelund_c, "
+    "to get the library, install the Debian package libpigyelund1; or build it by 'rt lib' in crates/pigyelund_c, "
     "install it by 'make -C foreign/c install PREFIX=..', and set PIGYELUND_LIB to PREFIX/lib"
 )
 

@@ -66,14 +66,19 @@ A page has up to four parts:
 |---|---|
 | Types and calls | what users need |
 | Re-exports | the items of other libraries that this library offers too |
-| Internal API | Items that are public only because other crates of this repository call them. Users call an item of the first part instead, which does the same with a whole value. |
+| Internal API | Items that are public only because other crates of this repository call them. Users call an item of the first part instead, which does the whole task. Only a crate with a block type of its own needs some of them, for its texts and its DER. |
 | Lemmas | functions that do nothing when they run ([CALLING.md](CALLING.md#lemmas)), in the modules called `laws` |
 
 An item has its text first, and then its signature with the contract. A type has its constructors (`new`, `from_..` and
 `with_..`) before its other calls, which are in the order of the source.
 
-The pages leave out lines that have no meaning for callers: bodies of functions, private fields, `ghost use` lines, the
-ghost members of impls that are proofs, as `ghost laws`, and the member `ghost inverse`.
+A line that begins with `ghost` is for contracts and proofs alone: it adds nothing to the compiled program. The pages
+leave out lines that have no meaning for callers:
+
+- bodies of functions, and private fields
+- `ghost use` lines, which import names for contracts and proofs
+- ghost members that are proofs, such as `ghost laws`
+- the member `ghost inverse`, which computes the fields of a value from its model
 
 `tests/api_page.py --write` makes this page and those below from the sources. `./check` fails if one of them isn't
 current.
@@ -103,7 +108,7 @@ PATHS_HEAD = """//! A `use` line of each public path that docs/api shows. `tests
 #![tactic(auto)]
 
 """
-# The internal API: what is public for the crates above alone. A user has a call that does the same with a whole value.
+# The internal API: what is public for the crates above alone. A user has a call that does the whole task.
 # A path covers all below it.
 INTERNAL = (
     "rpki_text::line",

@@ -402,9 +402,16 @@ END
     [ "$said" = "$prefix $prefix/lib $(cat VERSION)" ] || fail "a crate that depends on the package gets DEP_PIGYELUND_.."
 }
 
+# Copies the test files that all languages share into the crate, where cargo package takes them.
+make_rust_shared() {
+    mkdir -p foreign/rust/tests/shared &&
+        cp foreign/rows.txt foreign/texts.txt foreign/numbers.txt foreign/rust/tests/shared
+}
+
 # The package for crates.io is made without a warning, has the files of the repository, and passes its tests alone.
 of_rust_package() {
     export CARGO_TARGET_DIR="$out/packed"
+    make_rust_shared || { fail "the shared test files are copied"; return; }
     for option in --no-verify ""; do
         cargo package --offline --allow-dirty $option --manifest-path foreign/rust/Cargo.toml >"$out/log" 2>&1 ||
             fail "cargo package $option"

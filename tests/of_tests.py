@@ -184,6 +184,8 @@ OF_VERSIONS = (
     Case(VERSIONS, "docs/PROVED.md", "4: `pigy_version`", "5: `pigy_version`", "PROVED.md: version of the calls 5"),
     Case(VERSIONS, "tests/foreign.sh", "package needs version ", "package needs version 9", "foreign.sh: version of the"),
     Case(VERSIONS, "tests/release.sh", "{ return ", "{ return 9", "release.sh: version of the calls 9"),
+    Case(VERSIONS, "foreign/rust/LICENSE", "2018", "2019", "foreign/rust/LICENSE: not the text of LICENSE"),
+    Case(VERSIONS, "LICENSE", "2018", "2019", "foreign/python/LICENSE: not the text of LICENSE"),
 )
 OF_ORIGINS = (
     # The help is in the program, and is replaced by as many octets.

@@ -1,5 +1,6 @@
 #!/usr/bin/env python3
-"""versions.py [VERSION]: compares each place that has the version with the file VERSION.
+"""versions.py [VERSION]: compares each place that has the version with the file VERSION, and each copy of the license
+with the file LICENSE. A package cannot have a file outside its folder, and `rt ci` accepts no links.
 
 Each place in PLACES has the version itself. Each place in MADE has `@VERSION@`, which the build replaces. The files in
 vectors/ get the version from `tests/source_vectors.py --write`. The version of the calls, PIGY_VERSION, is another
@@ -15,6 +16,7 @@ from collections.abc import Iterator
 from pathlib import Path
 
 TOP = Path(__file__).resolve().parent.parent
+LICENSE = [(TOP / "LICENSE").read_text()]
 # The files with the version, and the pattern whose group is the version. Each pattern matches at least once.
 PLACES = {
     "CHANGELOG.md": r"\A(?:(?!## ).*\n)*## ([^,\n]*)",
@@ -40,6 +42,9 @@ CALLS = {
     "tests/release.sh": r"pigy_version\(void\) \{ return (\d+); \}",
 }
 
+# The copies of the license.
+LICENSES = "foreign/python/LICENSE", "foreign/rust/LICENSE"
+
 
 def found(name: str, pattern: str) -> list[str]:
     """Returns what a pattern finds in a file; nothing if there is no such file."""
@@ -64,6 +69,7 @@ def faults(asked: list[str]) -> Iterator[str]:
     yield from (f"VERSION: version {version}, expected {it}" for it in asked if it != version)
     for name, pattern in PLACES.items():
         yield from differing(name, pattern, version, "version")
+    yield from (f"{name}: not the text of LICENSE" for name in LICENSES if found(name, r"(?s)\A.*") != LICENSE)
     for name, pattern in MADE.items():
         yield from differing(name, pattern, "@VERSION@", "version")
     for file in sorted((TOP / "vectors").glob("*.json")):

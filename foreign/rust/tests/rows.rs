@@ -447,10 +447,13 @@ impl Row<'_> {
     }
 }
 
-/// Returns the text of a test file that all languages share.
+/// Returns the text of a test file that all languages share. The package has it in `tests/shared`, and the repository
+/// in the folder above the crate.
 fn shared(name: &str) -> String {
-    let path = format!("{}/tests/shared/{name}", env!("CARGO_MANIFEST_DIR"));
-    std::fs::read_to_string(path).unwrap()
+    let top = env!("CARGO_MANIFEST_DIR");
+    std::fs::read_to_string(format!("{top}/tests/shared/{name}"))
+        .or_else(|_| std::fs::read_to_string(format!("{top}/../{name}")))
+        .unwrap()
 }
 
 #[test]

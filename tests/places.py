@@ -1,11 +1,14 @@
 #!/usr/bin/env python3
 """Compares the places that `./respath --where` shows with what the program says of each element alone.
 
-It asks the wrong and refused lines of `rows_sets` and docs/ERRORS.md, random ones, and lists of 500 elements and of
-5,000. The place is wanted of the first element that alone is answered by the line's error; in a refused path of the first that
-alone is refused below the steps before; and none where no element is at fault. Ends with status 1 where one differs.
+It asks the wrong and refused lines of `rows_sets` and docs/ERRORS.md, random lines, and lists of 500 and of 5,000
+elements. If UNPROVED is set, the program has run-time checks and is slow: it is asked fewer random lines, and no list
+of 5,000. The expected place is that of the first element which, asked alone, gets the line's error. In a refused path
+it is that of the first element which is refused alone after the steps before. A line without such an element has no
+place. The status is 1 if a place differs.
 """
 
+import os
 import random
 import re
 import subprocess
@@ -21,12 +24,15 @@ LISTED = ("norm", "cover", "der", "path")
 WRONG = ("error: ", "refused at step ")
 GOOD = {"as": "AS64500", "v4": "192.0.2.0/25", "v6": "2001:db8::/33"}
 BAD = {"as": ("AS7-AS3", "x"), "v4": ("10.0.0.0/33", "1.2.3"), "v6": ("::1::", "1.2.3.4")}
+UNPROVED = "UNPROVED" in os.environ
+RANDOM = 200 if UNPROVED else 2_000
+COUNTS = (500,) if UNPROVED else (500, 5_000)
 CONTROL = re.compile("[\x00-\x1f\x7f-\x9f]")
 
 
 def long_lines(made: random.Random) -> Iterator[bytes]:
     """Long lists with one wrong element somewhere, and long claims with one block too many."""
-    for count in (500, 5_000):
+    for count in COUNTS:
         for kind, good in GOOD.items():
             for bad in BAD[kind]:
                 listed = [good] * count
@@ -44,7 +50,7 @@ def asked_lines() -> Iterator[bytes]:
     yield from (it.encode() for it in lines_of(CRATES / "rows_sets" / "stdin"))
     yield from (line for _, line, _ in errors_page.of_errors())
     for command in LISTED:
-        yield from islice(random_lines.lines(command, 1), 2_000)
+        yield from islice(random_lines.lines(command, 1), RANDOM)
     yield from long_lines(random.Random(1))
     yield b"norm as 1, 2\0, x"
     yield b"der as inherit, 1"

@@ -1,6 +1,5 @@
 //! Tests how often the calls of the crate call the library: once for nearly all golden tests of `rows.txt`.
 use core::cell::Cell;
-use std::string::String;
 use std::vec::Vec;
 use std::{println, thread_local};
 

@@ -14,7 +14,7 @@ import tempfile
 from pathlib import Path
 
 HERE = Path(__file__).resolve().parent
-REPORT = re.compile(r"^.*?:(\d+): error: (.*)$")
+REPORT = re.compile(r"^(?:.*/)?wrong_calls\.py:(\d+): error: (.*)$")
 # The codes of mypy for a wrong argument or a wrong use of a result. Which of them a call has depends on the version.
 CODES = ("arg-type", "assignment", "call-arg", "call-overload", "list-item", "misc", "type-var")
 

@@ -72,9 +72,9 @@ fn calls_of_row(words: &[&str]) -> Option<usize> {
 #[test]
 fn one_call_is_enough() {
     let top = std::env!("CARGO_MANIFEST_DIR");
-    // The package has the rows in `tests/shared`, and the repository in the folder above the crate.
-    let text = std::fs::read_to_string(std::format!("{top}/tests/shared/rows.txt"))
-        .or_else(|_| std::fs::read_to_string(std::format!("{top}/../rows.txt")))
+    // The repository has the rows in the folder above the crate, and the package in `tests/shared`.
+    let text = std::fs::read_to_string(std::format!("{top}/../rows.txt"))
+        .or_else(|_| std::fs::read_to_string(std::format!("{top}/tests/shared/rows.txt")))
         .unwrap();
     let mut found = [0; 3];
     for row in text.lines().filter(|row| !row.starts_with("path")) {

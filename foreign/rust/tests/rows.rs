@@ -447,12 +447,12 @@ impl Row<'_> {
     }
 }
 
-/// Returns the text of a test file that all languages share. The package has it in `tests/shared`, and the repository
-/// in the folder above the crate.
+/// Returns the text of a test file that all languages share. The repository has it in the folder above the crate, and
+/// the package in `tests/shared`. A copy that packing left in the repository is not read.
 fn shared(name: &str) -> String {
     let top = env!("CARGO_MANIFEST_DIR");
-    std::fs::read_to_string(format!("{top}/tests/shared/{name}"))
-        .or_else(|_| std::fs::read_to_string(format!("{top}/../{name}")))
+    std::fs::read_to_string(format!("{top}/../{name}"))
+        .or_else(|_| std::fs::read_to_string(format!("{top}/tests/shared/{name}")))
         .unwrap()
 }
 

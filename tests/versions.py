@@ -22,12 +22,12 @@ PLACES = {
     "CHANGELOG.md": r"\A(?:(?!## ).*\n)*## ([^,\n]*)",
     "README.md": r"(?:\bVersion |\./release (?:--deb )?|[a-z\d]_|pigyelund-)(\d+(?:\.\d+)+)",
     "crates/origins/src/help.rt": r'^pub const VERSION: &str = "(.*)";$',
-    "foreign/pigyelund.pc": r"^Version: (.*)$",
     "foreign/python/pyproject.toml": r'^version = "(.*)"$',
     "foreign/rust/Cargo.toml": r'^version = "(.*)"$',
 }
 # The files that the build makes, and what they have in place of the version.
 MADE = {
+    "foreign/pigyelund.pc": r"^Version: (.*)$",
     "docs/origins.1": r'^\.TH ORIGINS 1 "@DATE@" "pigyelund (.*)" "User Commands"$',
     "docs/respath.1": r'^\.TH RESPATH 1 "@DATE@" "pigyelund (.*)" "User Commands"$',
 }

@@ -154,9 +154,10 @@ prove() {
 }
 
 # The seconds of one processor that the proof of each crate took in rt ci on 2026-11-28, beside other work. For respath
-# they add up to 42 minutes, and a whole ./respath used 42. Those of rpki_block, rpki_text, respath and origins are
-# guesses. Only the estimate of the time that is left uses them. A crate that is missing here counts as a minute.
-# PROOF_SECONDS=FILE ./respath measures them anew.
+# they add up to 42 minutes. Those of rpki_block, rpki_text, respath and origins are guesses. On four processors a whole
+# ./respath used 43 processor minutes with nothing else running (15:29 minutes of wall time, 2026-11-28), and 60 beside
+# other work (29:36, rattle-kit-13b, 2026-11-29). Only the estimate of the time that is left uses this table. A crate
+# that is missing here counts as a minute. PROOF_SECONDS=FILE ./respath measures the seconds anew.
 seconds_of_crates() {
     cat <<'END'
 lines_engine 160

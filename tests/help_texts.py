@@ -17,7 +17,7 @@ from pathlib import Path
 TOP = Path(__file__).resolve().parent.parent
 SECONDS = 0.2
 # The installed respath is the program alone, so its page has nothing of the options of the script and their statuses.
-OF_SCRIPT = re.compile(r"-|[0-3]$|norm .*  |cover .*  |read .*  |path as AS1")
+OF_SCRIPT = re.compile(r"-|[0-3]$")
 WRONG = {
     "respath": (["--strange"], ["norm as 1"]),
     "origins": (

@@ -11,6 +11,8 @@ Then StayRTR serves a file of VRPs on a free port of 127.0.0.1: all of them, the
 changes than it keeps while the router is stopped, so that it sends a Cache Reset; then a file of its next session.
 After each step the router has to print what the file lists, and rtrlib has to have the same VRPs of the same cache.
 
+It also passes wrong words to the router, which have to end it with status 2.
+
 LIBRARY is the static library, or any object with the same calls. Each wait ends after LIMIT seconds at the latest. The
 test says what is left out because gcc, stayrtr or rtrlib is missing. The status is 1 if something differs.
 """
@@ -385,6 +387,14 @@ def states(name: str, intervals: Intervals, wanted: Intervals) -> Script:
     return Script(name, [[*first(intervals=intervals), said]], [[A, B]], 2)
 
 
+# Words of the command line after which the status is 2: their number is wrong, or one is not a number in its range.
+WRONG_WORDS = [
+    *(["1"] * count for count in (0, 1, 2, 5)),
+    *([word, "1", "1"] for word in ("x", "0", "65536", "4294967297", "99999999999999999999")),
+    *(["1", word, "1"] for word in ("y", "", "-1", "+1", " 1", "1.", "2147483648")),
+    *(["1", "1", word] for word in ("z", "1s", "-1", "2147483648")),
+    *(["1", "1", "1", word] for word in ("w", "0", "-1", "2147483648")),
+]
 SHORT = pdu(END_OF_DATA, SESSION, struct.pack(">I", 8))
 MANY = 40
 SCRIPTS = [
@@ -664,6 +674,12 @@ SCRIPTS = [
     states("intervals in their ranges", (2, 3, 601), (2, 3, 601)),
     states("intervals below their ranges", (0, 0, 599), (1, 1, 600)),
     states("intervals above their ranges", (86401, 7201, 172801), (86400, 7200, 172800)),
+    # The Expire Interval has to be larger than the other two. If it is not, the router lowers the others.
+    states("a Refresh Interval of one second less than the Expire Interval", (7199, 600, 7200), (7199, 600, 7200)),
+    states("a Refresh Interval as long as the Expire Interval", (7200, 600, 7200), (7199, 600, 7200)),
+    states("a Retry Interval of one second less than the Expire Interval", (60, 6999, 7000), (60, 6999, 7000)),
+    states("a Retry Interval as long as the Expire Interval", (60, 7000, 7000), (60, 6999, 7000)),
+    states("intervals above an Expire Interval below its range", (86401, 7201, 0), (599, 599, 600)),
     Script(
         "intervals of version 0",
         [[*FIRST_BY_0, Says("intervals: refresh 3600, retry 600, expire 7200")]],
@@ -707,8 +723,8 @@ SCRIPTS = [
     Script("no data without a query", [[*FIRST, report(NO_DATA, b""), CLOSED], LAST], [[A, B], [C]], 3),
     # A table that has expired is dropped, so two are held at once.
     Script(
-        "a table expires",
-        [[*first(intervals=(86400, 1, 600)), Wants(b"", 3.0), EXPIRED], LAST],
+        "a table expires while a query is open",
+        [[*first(intervals=(50, 1, 600)), changes(7, after=0.25), Wants(b"", 3.0), EXPIRED], LAST],
         [[A, B], [C]],
         2,
         5,
@@ -716,7 +732,7 @@ SCRIPTS = [
     Script(
         "a table expires in a response",
         [
-            [*first(intervals=(86400, 1, 600)), notify(8), changes(7), pdu(RESPONSE, SESSION) + announced(C)[0][:10]]
+            [*first(intervals=(599, 1, 600)), notify(8), changes(7), pdu(RESPONSE, SESSION) + announced(C)[0][:10]]
             + [CLOSED, EXPIRED],
             LAST,
         ],
@@ -726,7 +742,7 @@ SCRIPTS = [
     ),
     Script(
         "a table expires without a connection",
-        [first(intervals=(86400, 900, 600)), [Wants(ALL.octets, 4.5), EXPIRED, THIRD]],
+        [[*first(intervals=(50, 599, 600)), changes(7), Closes()], [Wants(ALL.octets, 2.995), EXPIRED, THIRD]],
         [[A, B], [C]],
         2,
         5,
@@ -734,7 +750,7 @@ SCRIPTS = [
     Script(
         "a table expires while the cache has no data",
         [
-            [*first(intervals=(86400, 700, 600)), notify(8), changes(7), report(NO_DATA, b""), CLOSED, EXPIRED],
+            [*first(intervals=(50, 599, 600)), changes(7), report(NO_DATA, b""), CLOSED, EXPIRED],
             LAST,
         ],
         [[A, B], [C]],
@@ -743,7 +759,7 @@ SCRIPTS = [
     Script(
         "a later End of Data makes the table expire later",
         [
-            [*first(intervals=(86400, 1, 600)), notify(8), changes(7)]
+            [*first(intervals=(599, 1, 600)), notify(8), changes(7)]
             + [response(serial=8, intervals=(800, 1, 172800)), changes(8, after=16.0)]
             + [response(*announced(C), serial=9)]
         ],
@@ -931,6 +947,18 @@ def of_scripts(program: Path) -> list[str]:
         return [fault for faults in found for fault in faults]
 
 
+def of_words(program: Path) -> list[str]:
+    """Passes wrong words, and the numbers at the bounds. Returns what differs."""
+    faults = list[str]()
+    wanted = [*((words, 2) for words in WRONG_WORDS), (["65535", "0", "2147483647", "2147483647"], 0)]
+    wanted += [(["1", "2147483647", "0", "1"], 1)]
+    for words, status in wanted:
+        ran = subprocess.run([str(program), *words], capture_output=True, text=True, timeout=LIMIT)
+        if (ran.returncode, ran.stdout) != (status, ""):
+            faults.append(f"{words}: status {ran.returncode}, {ran.stdout!r} in place of {status}")
+    return faults
+
+
 def of_stayrtr(folder: Path) -> list[str]:
     """Goes through the steps with StayRTR. Returns what differs."""
     source, faults, port = Random(8210), list[str](), free_port()
@@ -974,14 +1002,14 @@ def of_stayrtr(folder: Path) -> list[str]:
 
 
 def main() -> int:
-    """Runs both tests."""
+    """Runs all tests."""
     if not shutil.which("gcc"):
         print("left out: a router against a cache needs gcc")
         return 0
     with tempfile.TemporaryDirectory() as name:
         folder = Path(name)
         build_router(sys.argv[1], folder)
-        faults = of_scripts(folder / "counted")
+        faults = of_words(folder / "router") + of_scripts(folder / "counted")
         if what := missing():
             print(f"left out: a router against StayRTR needs {what}")
         else:

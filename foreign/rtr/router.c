@@ -3,28 +3,30 @@
  * how to build it. Sections without an RFC are those of RFC 8210.
  *
  * The program connects to a cache at PORT of 127.0.0.1 and asks for all VRPs. It asks for the changes when the cache
- * sends a Serial Notify, and when the Refresh Interval has passed. It asks for all VRPs after a Cache Reset. It prints
- * each table to the standard output: a line with its number, a line for each VRP, and the line "end". It stops after
- * TABLES tables or after SECONDS. In one response it accepts at most 8,388,608 announced and as many withdrawn VRPs. It
- * changes its table at End of Data: it removes all withdrawn VRPs, and then adds all announced ones. The order of the
- * VRPs in the response has no effect on the table.
+ * sends a Serial Notify with a new serial, and when the Refresh Interval has passed. It asks for all VRPs after a Cache
+ * Reset. It prints each table to the standard output: a line with its number, a line for each VRP, and the line "end".
+ * It stops after TABLES tables or after SECONDS. In one response it accepts at most 8,388,608 announced and as many
+ * withdrawn VRPs. It changes its table at End of Data: it removes all withdrawn VRPs, and then adds all announced ones.
+ * The order of the VRPs in the response has no effect on the table.
  *
  * - Intervals (6): End of Data of version 1 has three intervals. The router replaces an interval outside of its range
- *   by the nearest bound. With version 0 it uses the defaults. UNIT is the number of milliseconds that the router
- *   counts as one second of an interval. The default is 1000. Tests pass less, so that they need not wait.
+ *   by the nearest bound. A Refresh or Retry Interval that is not less than the Expire Interval becomes one second less
+ *   than it. With version 0 the router uses the defaults. UNIT is the number of milliseconds that the router counts as
+ *   one second of an interval. The default is 1000. Tests pass less, so that they need not wait.
  * - The table expires if no later End of Data arrives within the Expire Interval. Then the router drops the table. It
  *   also ends the session. A router without a table waits for a response for the default Expire Interval.
  * - When a session or the connection is over, the router connects again after the Retry Interval. It asks for the
  *   changes since its table. Without a table, and after an error, it asks for all VRPs.
  * - An Error Report of the cache ends the session. The router keeps its table. The code "No Data Available" does not
  *   end the session (8.4): the router asks for all VRPs after the Retry Interval.
- * - Versions (7): The router asks in version 1. If the cache answers a Reset Query in version 0, the router uses this
- *   version too. If it answers a Serial Query in version 0, or by an Error Report with another code than "No Data
- *   Available", the router connects again at once and asks for all VRPs in version 0.
+ * - Versions (7): The router asks in version 1. If the first answer of the cache has version 0, the router changes to
+ *   version 0. It goes on with the connection after a Reset Query, unless the answer is an Error Report with another
+ *   code than "No Data Available". In all other cases it connects again at once, and asks for all VRPs in version 0.
  * - It ignores Router Keys (5.10).
  *
- * The status is 0 if it printed all tables, and 1 if it did not. It is 2 if the arguments are wrong. It is also 2 if
- * memory runs out before the first connection or while a table is printed. */
+ * The status is 0 if it printed all tables, and 1 if it did not. It is 2 if an argument is missing, is one too many, or
+ * is not a number in its range. PORT is from 1 to 65535, UNIT from 1 to 2147483647, and each other number from 0 to
+ * 2147483647. The status is also 2 if memory runs out before the first connection or while a table is printed. */
 #define _POSIX_C_SOURCE 200809L
 #include "../pigyelund.h"
 #include <arpa/inet.h>
@@ -114,7 +116,7 @@ static int64_t now(void) {
   return (int64_t)time.tv_sec * 1000 + time.tv_nsec / 1000000;
 }
 
-/* Returns the time at which the session ends, also in the middle of a PDU. */
+/* Returns the time at which the session has to end, even if a PDU has been read only in part. */
 static int64_t end_of(const router *r) { return r->table || r->is_asked ? least(deadline, r->expiry) : deadline; }
 
 /* Waits for the events of poll on the connection. Returns 0 if there is none before the time. */
@@ -253,9 +255,9 @@ static void print_table(const router *r) {
   free(all);
 }
 
-/* Makes the next table from the VRPs of the response. A full response changes an empty table, because pigy_table_new
- * accepts duplicates and pigy_table_changed does not. Returns 0 if the session is over: a VRP is refused, or memory ran
- * out. */
+/* Makes the next table from the VRPs of the response. The VRPs of a full response are passed to pigy_table_changed with
+ * an empty table, which is made for this and then freed. They are not passed to pigy_table_new, because it accepts
+ * duplicates. Returns 0 if the session is over: a VRP is refused, or memory ran out. */
 static int change(router *r, pigy_table **next) {
   pigy_table *empty = 0;
   size_t index = 0;
@@ -274,11 +276,16 @@ static int change(router *r, pigy_table **next) {
 }
 
 /* Sets the times of the next query and of the expiry, and the Retry Interval, from the intervals of an End of Data PDU
- * that was received at a time (6). That of version 0 has no intervals. */
+ * that was received at a time (6). That of version 0 has no intervals.
+ *
+ * A cache has to send an Expire Interval that is larger than both others. If it does not, section 6 does not say what a
+ * router does. It says that a router MUST NOT keep data past the Expire Interval, and that it SHOULD NOT ask sooner
+ * than the other two allow. Therefore the Expire Interval stays, and the others are lowered as little as possible. The
+ * defaults could keep the table for longer than the Expire Interval. */
 static void set_times(router *r, const uint8_t *intervals, int64_t received) {
-  uint32_t refresh = r->version ? bounded(u32(intervals), 1, 86400) : REFRESH;
   uint32_t expire = r->version ? bounded(u32(intervals + 8), 600, 172800) : EXPIRE;
-  r->retry = r->version ? bounded(u32(intervals + 4), 1, 7200) : RETRY;
+  uint32_t refresh = r->version ? bounded(u32(intervals), 1, (uint32_t)least(86400, expire - 1)) : REFRESH;
+  r->retry = r->version ? bounded(u32(intervals + 4), 1, (uint32_t)least(7200, expire - 1)) : RETRY;
   r->due = received + refresh * unit;
   r->expiry = received + expire * unit;
   fprintf(stderr, "intervals: refresh %u, retry %u, expire %u\n", refresh, r->retry, expire);
@@ -441,21 +448,30 @@ static void rest(router *r) {
   }
 }
 
+/* Returns the number of an argument. Ends the program if the argument is not a decimal number from low to high. */
+static int64_t number_of(const char *word, int64_t low, int64_t high) {
+  size_t digits = strspn(word, "0123456789");
+  int64_t number = digits >= 1 && digits <= 10 && !word[digits] ? strtoll(word, 0, 10) : -1;
+  if (number < low || number > high) exit(2);
+  return number;
+}
+
 int main(int count, char **words) {
   router r;
   unsigned wanted;
+  uint16_t port;
   if (count != 4 && count != 5) return 2;
   memset(&r, 0, sizeof r);
   r.version = NEWEST;
   r.retry = RETRY;
-  wanted = (unsigned)atoi(words[2]);
-  deadline = now() + atoi(words[3]) * (int64_t)1000;
-  unit = count == 5 ? atoi(words[4]) : 1000;
-  if (unit < 1) return 2;
+  port = (uint16_t)number_of(words[1], 1, UINT16_MAX);
+  wanted = (unsigned)number_of(words[2], 0, INT32_MAX);
+  deadline = now() + number_of(words[3], 0, INT32_MAX) * 1000;
+  unit = count == 5 ? number_of(words[4], 1, INT32_MAX) : 1000;
   /* Each array gets memory for at least one VRP, since no pointer to VRPs may be NULL. */
   if (!add(&r.announced, &(pigy_vrp){{0}, 0, 0, 0, 0}) || !add(&r.withdrawn, r.announced.all)) return 2;
   while (r.tables < wanted && now() < deadline) {
-    meet(&r, (uint16_t)atoi(words[1]), wanted);
+    meet(&r, port, wanted);
     if (r.tables < wanted) rest(&r);
   }
   pigy_table_free(r.table);

@@ -48,7 +48,8 @@
  * - Pass capacity 0 to get the lengths alone. An output of length 0 fits a buffer of capacity 0.
  *
  * MEMORY. Except for tables, the library keeps nothing between calls and hands out no memory. Each call frees all that
- * it takes from malloc before it returns. PIGY_MEMORY means that malloc failed. It says nothing about the arguments.
+ * it takes from malloc before it returns. PIGY_MEMORY means that malloc failed, that an input is too long for a vector,
+ * or that a table would have 2^32 VRPs or more. It does not say that an argument is invalid.
  *
  * TABLES. pigy_table_new and pigy_table_changed return the handle of a table of VRPs. The caller owns the table until
  * pigy_table_free. A table never changes. With an error these two calls store NULL as the handle. For a NULL handle the
@@ -82,7 +83,8 @@
  * no proof that they may run at the same time.
  *
  * - Any number of threads may use one table, and may make the next table from it at the same time.
- * - Pass a handle from one thread to another by a lock, by the start or join of a thread, or by a seq_cst atomic.
+ * - Pass a handle from one thread to another by a lock, by the start or join of a thread, or by an atomic object. The
+ *   store to this object is release or seq_cst, and the load from it is acquire or seq_cst.
  * - Order the last call with a handle before pigy_table_free by one of these too.
  */
 #ifndef PIGYELUND_H
@@ -110,7 +112,7 @@ extern "C" {
 /* Statuses. The meaning of a released number never changes. The codes of RFC 8210 are those of its section 12. */
 #define PIGY_OK 0u            /* Success. For pigy_contains and pigy_equal: yes. */
 #define PIGY_TOO_SMALL 1u     /* A buffer is too small. No buffer is changed, and the lengths are the required ones. */
-#define PIGY_MEMORY 2u        /* Out of memory: malloc failed. No buffer is changed. */
+#define PIGY_MEMORY 2u        /* Out of memory (see MEMORY above). No buffer is changed. */
 #define PIGY_INHERITED 3u     /* A set says "inherit" where it has to list its resources. */
 #define PIGY_BAD_MODE 4u      /* The mode is neither PIGY_REFUSE nor PIGY_TRIM. */
 #define PIGY_OVERCLAIM_AS 5u  /* Overclaimed AS numbers. The outputs are exactly these, as a set. */
@@ -119,7 +121,7 @@ extern "C" {
 #define PIGY_NO 8u            /* For pigy_contains and pigy_equal: no. */
 #define PIGY_BAD_ENCODING 9u  /* The encoding is neither PIGY_LENIENT nor PIGY_STRICT. */
 #define PIGY_ABSENT 10u       /* The certificate has neither extension. */
-#define PIGY_OUTSIDE 11u      /* The range of a certificate's extension does not lie in `run` (pigy_verify_path). */
+#define PIGY_OUTSIDE 11u      /* pigy_verify_path: an extension is not in the octets that are passed as `run`. */
 #define PIGY_BAD_PRESENT 12u  /* The bit mask of the extensions is above PIGY_HAS_BOTH. */
 #define PIGY_BAD_FAMILY 13u   /* The family is neither PIGY_IPV4 nor PIGY_IPV6. */
 #define PIGY_BAD_PREFIX 14u   /* The prefix is longer than its family allows, or has host bits set. */
@@ -164,7 +166,8 @@ extern "C" {
 
 /* Modes, for a certificate that claims more than its issuer has. PIGY_REFUSE refuses the certificate (RFC 6487, 7.2).
  * PIGY_TRIM reduces the claim to the resources that the issuer has (RFC 8360, 4). It is for certificates with the
- * policy id-cp-ipAddr-asNumber-v2, whose extensions have the OIDs of RFC 8360, 4.2. */
+ * policy id-cp-ipAddr-asNumber-v2, whose extensions have the OIDs of RFC 8360, 4.2. The outputs are
+ * without the resources that PIGY_TRIM removes. docs/FOREIGN.md, "All overclaimed resources", says how to get these. */
 #define PIGY_REFUSE 0u
 #define PIGY_TRIM 1u
 
@@ -509,6 +512,8 @@ uint32_t pigy_table_len(const pigy_table *table, size_t *len) PIGY_NONNULL(2);
  * IPv4 comes before IPv6. Then the order is by address, and then by prefix length, the shorter first. If two VRPs have
  * the same prefix, the greater AS number comes first. If they also have the same AS, the shorter maximum length comes
  * first. pigy_table_covering has another order.
+ *
+ * No call returns the changes between two tables. To compute them, go through the lists of both tables side by side.
  *
  * @param table     The table, which is only read. The status is PIGY_NO_TABLE if it is NULL.
  * @param out       Buffer for the VRPs. Owned by the caller. Not NULL.

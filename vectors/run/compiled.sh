@@ -1,7 +1,8 @@
 #!/bin/sh
 # compiled.sh openssl|rtrlib|rust [OPTION ..]: compiles a runner and compares it with the vectors. The options are those
-# of compare.py. openssl needs libssl-dev, rtrlib needs librtr-dev, rust needs cargo and the crate rpki. The status is
-# 77 if something that the runner needs is missing.
+# of compare.py. openssl needs libssl-dev, rtrlib needs librtr-dev, rust needs cargo and the crate rpki. To use a build
+# of OpenSSL or rtrlib in another folder, set CPATH, LIBRARY_PATH and LD_LIBRARY_PATH. The status is 77 if something
+# that the runner needs is missing.
 set -u
 here=$(CDPATH='' cd -- "$(dirname -- "$(readlink -f -- "$0")")" && pwd) || exit 1
 name=${1-}

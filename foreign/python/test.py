@@ -38,6 +38,7 @@ from pigyelund import (
     Table,
     Validity,
     Vrp,
+    __version__,
     raw,
     status_text,
 )
@@ -282,6 +283,12 @@ def names_and_numbers(library: Pigyelund, folder: Path) -> Iterator[str]:
     for name in sorted(stored.keys() | named.keys()):
         if stored.get(name) != named.get(name):
             yield f"{name} is {named.get(name)}, and {stored.get(name)} in numbers.txt"
+
+
+def same_versions(library: Pigyelund, _: Path) -> Iterator[str]:
+    """The package and the library have the same version."""
+    if library.version_string() != __version__:
+        yield f"the package has version {__version__}, and the library {library.version_string()}"
 
 
 def texts(_: Pigyelund, folder: Path) -> Iterator[str]:
@@ -533,7 +540,7 @@ def copies(library: Pigyelund, _: Path) -> Iterator[str]:
                     yield f"{reason!r} of copies"
 
 
-OTHERS = (names_and_numbers, texts, no_bits_are_dropped, defaults, lenient, reasons, tables)
+OTHERS = (names_and_numbers, same_versions, texts, no_bits_are_dropped, defaults, lenient, reasons, tables)
 OTHERS += (equal_fields, item_texts, changes_by_sets, copies, *OF_PREFIXES, *OF_TABLES)
 
 

@@ -28,7 +28,10 @@ addresses has `b""` as its IP address blocks. The calls return canonical DER. Tw
 and only if their octets are equal.
 
 A call that fails raises a subclass of `PigyelundError`. An argument of a wrong type raises a `TypeError` or another
-exception of Python's own. `pigyelund.raw` has the same calls with the statuses and buffers of `pigyelund.h`.
+exception of Python's own. `status_text` returns the text of a status. `pigyelund.raw` has the same calls with the
+statuses and buffers of `pigyelund.h`.
+
+`pigyelund.__version__` is the version of the package, and `Pigyelund.version_string` returns that of the library.
 """
 
 import os
@@ -99,6 +102,8 @@ __all__ = [
     "status_text",
 ]
 
+__version__ = "0.1.0"
+
 
 class Encoding(IntEnum):
     """The encodings that a call accepts. The choice applies to all DER that the call reads, the issuer's too.
@@ -106,7 +111,7 @@ class Encoding(IntEnum):
     Attributes:
         LENIENT: Canonical DER, and also other encodings, for example blocks in any order. `docs/FOREIGN.md`, "The
             encoding", lists them.
-        STRICT: Canonical DER only (RFC 3779, 2.2.3.6 and 3.2.3.4).
+        STRICT: Canonical DER only (RFC 3779, 2.2.3.3, 2.2.3.6, 2.2.3.9 and 3.2.3.4).
     """
 
     LENIENT = 0
@@ -146,7 +151,11 @@ class Extensions(NamedTuple):
         return found + Present.HAS_IP if self.ip is not None else found
 
     def octets(self) -> Resources:
-        """Returns the DER of both extensions as a set, with `b""` for an absent extension."""
+        """Returns the extensions as a set of resources. Pass it as the set of a trust anchor.
+
+        The DER of an absent extension is `b""` in the set. So is that of an extension that is present but empty, which
+        is invalid in a certificate.
+        """
         return Resources(self.asn or b"", self.ip or b"")
 
 
@@ -187,7 +196,7 @@ class Pigyelund:
     2. The folder of the package has `libpigyelund.so`: that file.
     3. Otherwise: `libpigyelund.so` where the system's loader searches, or else `libpigyelund.so.1`.
 
-    Each call lists the exceptions of its own. Each call except `version` may also raise these:
+    Each call lists the exceptions of its own. Each call except `version` and `version_string` may also raise these:
 
     - `OutOfMemoryError`: It says nothing about the input.
     - `BadNumberError`: You pass a number for an `Encoding`, `Mode` or `Family`, and the number is no member of it.
@@ -209,6 +218,10 @@ class Pigyelund:
     def version(self) -> int:
         """Returns the version of the library's calls, which grows when a call is added."""
         return self.raw.version()
+
+    def version_string(self) -> str:
+        """Returns the version of the library, for example `0.1.0`."""
+        return self.raw.version_string().decode("ascii")
 
     def verify(
         self,

@@ -118,7 +118,10 @@ class OutOfMemoryError(PigyelundError, MemoryError):
 
 
 class InheritedError(PigyelundError):
-    """A set has `inherit` in place of a list: the issuer's set, the trust anchor's set, or one of two sets."""
+    """A set has `inherit` in place of a list of resources.
+
+    The set is the issuer's, the trust anchor's, one of two sets, or that of `cover` or `prefixes`.
+    """
 
 
 class OverclaimedError(PigyelundError):
@@ -169,8 +172,7 @@ class ChangeError(OriginError):
 class BadNumberError(PigyelundError):
     """A number that was passed for an `Encoding`, a `Mode` or a `Family` is no member of it.
 
-    This is also the class of `Status.BAD_PRESENT` and `Status.OUTSIDE`. Only the calls of `raw` have these two
-    statuses. They return the status, and do not raise it.
+    No exception has `Status.BAD_PRESENT` or `Status.OUTSIDE`. Only calls of `raw` return these, as numbers.
     """
 
 

@@ -10,7 +10,9 @@ the output buffers. It returns the status, also if the call fails. The buffers a
     TOO_SMALL                                  not written                            the required capacities
     any other                                  not written                            0
 
-The module makes one check of its own: an integer that does not fit its parameter raises `OverflowError`.
+The calls of `Library` make one check of their own: an integer that does not fit its parameter raises `OverflowError`.
+They do not check handles, and do not compare a count with the length of its array. The structs, `array_of` and
+`network_of` check what their docstrings say.
 """
 
 import ctypes
@@ -64,8 +66,8 @@ class Status(IntEnum):
             12, code 7).
         BAD_AS: The AS identifiers are invalid. The number of the first error is added: 1 to 14, as in `docs/ERRORS.md`.
         BAD_IP: The IP address blocks are invalid. The number of the first error is added, as to BAD_AS.
-        SECOND: Added to another status if the error is in the certificate, the second set, a route, or a withdrawn
-            VRP.
+        SECOND: Added to BAD_AS, BAD_IP, INHERITED, BAD_FAMILY, BAD_PREFIX or BAD_MAX_LEN if the error is in the
+            certificate, the second set, a route, or a withdrawn VRP. It is added to no other status.
     """
 
     OK = 0
@@ -159,7 +161,10 @@ class Comparison(Enum):
 
 
 def fits(value: object, limit: int) -> bool:
-    """Returns whether a value is no integer, or is an integer from 0 to `limit` - 1. Integers of numpy are integers."""
+    """Returns False for an integer that is not from 0 to `limit` - 1, and True for any other value.
+
+    Integers of numpy are integers.
+    """
     return not hasattr(value, "__index__") or 0 <= index(value) < limit
 
 
@@ -168,7 +173,8 @@ class Struct(ctypes.Structure):
 
     ctypes drops the high bits of an integer that does not fit its field. This class raises `OverflowError` instead,
     also for the integers of numpy. Two structs are equal if and only if their types and all their fields are equal.
-    Padding is ignored. Do not set a field of a struct that is in a set or is the key of a dict.
+    Padding is ignored. Do not change a field while the struct is in a `set` or is a key of a `dict`, since its hash
+    would change.
     """
 
     _limits_: ClassVar[dict[str, int]]  # for each integer field the least value that does not fit
@@ -282,8 +288,12 @@ class Vrp(Prefixed, Struct):
         >>> Vrp.of(ip_network("10.0.0.0/8"), asn=64496, max_len=16)
         Vrp.of(prefix=IPv4Network('10.0.0.0/8'), asn=64496, max_len=16)
 
-    A VRP can be compared and hashed, so it can be in a set. `Vrp.of` does not check the ranges below. A call that reads
-    the VRP checks them, and raises `OriginError`.
+    A VRP can be compared and hashed, so it can be in a `set`. Two VRPs are equal if all their fields are. The field
+    `address` has 16 octets for IPv4 too, so VRPs are not equal if they differ in the last 12 octets of an IPv4 address.
+    The library takes such VRPs as the same. `Vrp.of` and `Table` set these octets to 0.
+
+    `Vrp.of` raises `OverflowError` for an `asn` out of range. It does not check whether `max_len` is in the range
+    below. A call that reads the VRP checks all ranges, and raises `OriginError`.
 
     Attributes:
         address: 16 octets in network byte order. An IPv4 address is the first four; calls ignore the others.
@@ -372,7 +382,8 @@ class Route(Prefixed, Struct):
         Route.of(prefix=IPv4Network('10.0.0.0/16'), asn=64496)
 
     This is the struct `pigy_route` of `pigyelund.h`. Its field `asn` is 0 if the path ends in an AS_SET. Then no VRP
-    matches the route. The fields `address`, `family` and `len` are those of `Vrp`.
+    matches the route. If the path is empty or ends in a confederation segment, `asn` is the router's own AS (RFC 6811,
+    2). The fields `address`, `family` and `len` are those of `Vrp`.
     """
 
     _fields_ = [*Vrp._fields_[:-1]]
@@ -395,7 +406,8 @@ class Route(Prefixed, Struct):
         Args:
             prefix: The prefix: a network of `ipaddress`, or an address, which is a prefix of 32 or 128 bits. For text
                 use `ip_network(text)`.
-            asn: The AS that originates the route, 1 to 4294967295, or 0 if the path ends in an AS_SET.
+            asn: The AS that originates the route, 1 to 4294967295, or 0 if the path ends in an AS_SET. The class
+                says what to pass for an empty path.
 
         Raises:
             OverflowError: `asn` is not from 0 to 4294967295.
@@ -432,7 +444,7 @@ def constructor_text(item: Vrp | Route, **numbers: int) -> str:
 
 
 def network_of(prefix: Network | Address) -> Network:
-    """Returns the prefix that a network or an address of `ipaddress` is. An address is a prefix of all its bits.
+    """Returns a network as it is, and an address as the network with this address alone (/32 or /128).
 
     Raises:
         TypeError: `prefix` is neither. An `IPv4Interface` or `IPv6Interface` is refused: it is an address and a network.
@@ -703,6 +715,8 @@ class Library:
             call = getattr(self._library, name)
             call.restype, call.argtypes = number, arguments
         self._library.pigy_table_free.restype, self._library.pigy_table_free.argtypes = None, [table]
+        text = self._library.pigy_version_string
+        text.restype, text.argtypes = ctypes.c_char_p, []
 
     def _call(self, name: str, arguments: Sequence[object]) -> int:
         """Makes a call and returns its status.
@@ -762,6 +776,10 @@ class Library:
     def version(self) -> int:
         """Calls `pigy_version`. Returns the version of the library's calls."""
         return int(self._library.pigy_version())
+
+    def version_string(self) -> bytes:
+        """Calls `pigy_version_string`. Returns the version of the library as text in ASCII."""
+        return bytes(self._library.pigy_version_string())
 
     def verify(
         self, issuer: Pair, present: int, certificate: Pair, encoding: int, mode: int, capacities: Lengths

@@ -189,6 +189,8 @@ class Table:
     def origin_octets(self, routes: Routes) -> bytes:
         """Validates routes like `origins`, and returns one octet for each route. Use it for millions of routes.
 
+        The call copies the routes. While it runs, it needs up to 48 octets for each route beside your buffer.
+
         Args:
             routes: The routes: a buffer of C structs, or an iterable of `Route`.
 
@@ -225,12 +227,15 @@ class Table:
     def covering(self, route: Route) -> list[Covering]:
         """Returns the VRPs that cover a route. They explain its validity: it is VALID if one of them is a match.
 
+        An INVALID route is `invalid-length` for the program `origins` if a VRP of the list does not have
+        `Mismatch.OTHER_AS`, and `invalid-as` otherwise.
+
         Args:
-            route: The route.
+            route: The route. No other thread may change its fields before the call returns.
 
         Returns:
             The VRPs, the longest prefix first. VRPs of the same prefix come by ascending AS number. VRPs of the same
-            prefix and AS come by descending maximum length.
+            prefix and AS come by descending maximum length. The iterator of the table has another order.
 
         Raises:
             OriginError: The route is malformed.
@@ -256,7 +261,11 @@ class Table:
         """Returns an iterator over all VRPs, duplicates included.
 
         IPv4 comes before IPv6. Each family is in the order of the addresses, the shorter prefix first. VRPs of the same
-        prefix come by descending AS number. VRPs of the same prefix and AS come by ascending maximum length.
+        prefix come by descending AS number. VRPs of the same prefix and AS come by ascending maximum length. `covering`
+        has another order.
+
+        The last 12 octets of an IPv4 address are 0, as in a VRP that `Vrp.of` makes. So the VRPs of a table and those
+        of your list can be compared as sets.
 
         Raises:
             ValueError: The table is closed.

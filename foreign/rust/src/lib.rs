@@ -123,8 +123,21 @@ impl<'a> Extensions<'a> {
         HAS_AS * u32::from(self.asn.is_some()) + HAS_IP * u32::from(self.ip.is_some())
     }
 
-    /// Returns the DER of both extensions as a set. The value of an absent extension is empty.
-    fn octets(&self) -> Octets<'a> {
+    /// Returns the extensions as a set of resources. Pass it as the set of a trust anchor.
+    ///
+    /// The value of an absent extension is empty in the set. So is that of an extension that is present but empty,
+    /// which is invalid in a certificate.
+    ///
+    /// # Example
+    ///
+    /// ```
+    /// use pigyelund::{Extensions, Octets};
+    ///
+    /// let ip = [0x30, 0x0c, 0x30, 0x0a, 4, 2, 0, 1, 0x30, 4, 3, 2, 0, 10]; // 10.0.0.0/8
+    /// let anchor = Extensions { asn: None, ip: Some(&ip) };
+    /// assert_eq!(anchor.octets(), Octets { asn: &[], ip: &ip });
+    /// ```
+    pub fn octets(&self) -> Octets<'a> {
         Octets {
             asn: self.asn.unwrap_or_default(),
             ip: self.ip.unwrap_or_default(),
@@ -166,7 +179,7 @@ pub enum Encoding {
     /// Canonical DER, and also other encodings, for example blocks in any order, which may overlap. `docs/FOREIGN.md`,
     /// "The encoding", lists them.
     Lenient = raw::LENIENT as isize,
-    /// Canonical DER only (RFC 3779, 2.2.3.6 and 3.2.3.4).
+    /// Canonical DER only (RFC 3779, 2.2.3.3, 2.2.3.6, 2.2.3.9 and 3.2.3.4).
     Strict = raw::STRICT as isize,
 }
 
@@ -242,8 +255,8 @@ fn of_two(
 ///
 /// # Parameters
 ///
-/// - `issuer`: the issuer's set, without `inherit`. For a trust anchor pass the extensions of its certificate. For any
-///   other issuer pass what `verify` returned for its certificate.
+/// - `issuer`: the issuer's set, without `inherit`. For a trust anchor pass the extensions of its certificate as a set
+///   ([`Extensions::octets`]). For any other issuer pass what `verify` returned for its certificate.
 /// - `certificate`: the extensions of the certificate. They may have `inherit`.
 /// - `encoding`: the encodings that are accepted, for the issuer and for the certificate.
 /// - `mode`: the policy for overclaimed resources.
@@ -310,7 +323,7 @@ fn concatenate(certificates: &[Certificate<'_>]) -> (Vec<u8>, Vec<raw::Certifica
 ///
 /// # Parameters
 ///
-/// - `anchor`: the trust anchor's set, without `inherit`.
+/// - `anchor`: the trust anchor's set, without `inherit`. [`Extensions::octets`] returns that of its certificate.
 /// - `certificates`: the certificates in the order of the path, the one under the anchor first.
 /// - `encoding`: the encodings that are accepted, for the anchor and for all certificates.
 ///

@@ -167,9 +167,10 @@ fn split<'a>(text: &'a str, expected: &'static str) -> Result<(&'a str, u32), Pa
 /// The AS number is checked first:
 ///
 /// - [`ParseError::Form`]: the text has no space, or its prefix has no `/`.
-/// - [`ParseError::Asn`], [`ParseError::Address`], [`ParseError::PrefixLen`], [`ParseError::MaxLen`]: this part of the
-///   text is invalid.
-/// - [`ParseError::Value`]: the error of [`Vrp::try_new`].
+/// - [`ParseError::Asn`]: the AS number is no decimal number from 0 to 4294967295.
+/// - [`ParseError::Address`]: the address is neither an IPv4 address nor an IPv6 address.
+/// - [`ParseError::PrefixLen`], [`ParseError::MaxLen`]: this length is no decimal number, or is above 255.
+/// - [`ParseError::Value`]: the error of [`Vrp::try_new`], for example for the length 33 of an IPv4 prefix.
 impl FromStr for Vrp {
     type Err = ParseError;
 
@@ -198,8 +199,10 @@ impl FromStr for Vrp {
 /// The AS number is checked first:
 ///
 /// - [`ParseError::Form`]: the text has no space, or its prefix has no `/`.
-/// - [`ParseError::Asn`], [`ParseError::Address`], [`ParseError::PrefixLen`]: this part of the text is invalid.
-/// - [`ParseError::Value`]: the error of [`Route::try_new`].
+/// - [`ParseError::Asn`]: the AS number is no decimal number from 0 to 4294967295.
+/// - [`ParseError::Address`]: the address is neither an IPv4 address nor an IPv6 address.
+/// - [`ParseError::PrefixLen`]: the prefix length is no decimal number, or is above 255.
+/// - [`ParseError::Value`]: the error of [`Route::try_new`], for example for the length 33 of an IPv4 prefix.
 impl FromStr for Route {
     type Err = ParseError;
 

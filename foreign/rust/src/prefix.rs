@@ -169,7 +169,8 @@ pub(crate) fn number_of<T: FromStr>(text: &str) -> Option<T> {
 /// # Errors
 ///
 /// - [`ParseError::Form`]: the text has no `/`.
-/// - [`ParseError::Address`], [`ParseError::PrefixLen`]: the part before or after the `/` is invalid.
+/// - [`ParseError::Address`]: the part before the `/` is no address.
+/// - [`ParseError::PrefixLen`]: the part after the `/` is no decimal number, or is above 255.
 /// - [`ParseError::Value`]: the error of [`Prefix::new`].
 impl FromStr for Prefix {
     type Err = ParseError;

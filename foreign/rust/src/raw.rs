@@ -17,10 +17,11 @@
 //!
 //! A second call with buffers of the required lengths does not return [`TOO_SMALL`].
 //!
-//! # Preconditions
+//! # Obligations
 //!
-//! You may pass any values. The library checks them, and this module does not. The library also has preconditions on
-//! pointers. Rust's references meet these: a `&[u8]` is never null, and a `&mut` buffer overlaps no other argument.
+//! You may pass any values. The library checks them, and this module does not. What no call checks are the obligations
+//! of the caller in `docs/FOREIGN.md`. Those about pointers, handles and overlap are met by Rust's references and by
+//! [`Table`]: a `&[u8]` is never null, and a `&mut` buffer overlaps no other argument.
 use core::ffi::{c_char, CStr};
 use core::net::IpAddr;
 
@@ -68,12 +69,13 @@ pub const DUPLICATE_ANNOUNCEMENT: u32 = 18;
 pub const BAD_AS: u32 = 0x100;
 /// The IP address blocks are invalid. The number of the first error is added: 1 to 14, as in [`Fault`](crate::Fault).
 pub const BAD_IP: u32 = 0x200;
-/// Added to another status if the error is in the certificate, the second set, a route, or a withdrawn VRP.
+/// Added to another status if the error is in the certificate, the second set, a route, or a withdrawn VRP. It is added
+/// to [`BAD_AS`], [`BAD_IP`], [`INHERITED`], [`BAD_FAMILY`], [`BAD_PREFIX`] and [`BAD_MAX_LEN`] only.
 pub const SECOND: u32 = 0x1000;
 
 /// Encoding: canonical DER, and also other encodings, for example blocks in any order.
 pub const LENIENT: u32 = 0;
-/// Encoding: canonical DER only (RFC 3779, 2.2.3.6 and 3.2.3.4).
+/// Encoding: canonical DER only (RFC 3779, 2.2.3.3, 2.2.3.6, 2.2.3.9 and 3.2.3.4).
 pub const STRICT: u32 = 1;
 /// Mode: a certificate that overclaims is refused (RFC 6487, 7.2).
 pub const REFUSE: u32 = 0;
@@ -368,6 +370,7 @@ pub struct Route {
     /// The address in network byte order. An IPv4 address is the first four octets; calls ignore the others.
     pub address: [u8; 16],
     /// The AS that originates the route. It is 0 if the path ends in an AS_SET: then no VRP matches (RFC 6811, 2).
+    /// It is the router's own AS if the path is empty or ends in a confederation segment.
     pub asn: u32,
     /// The family: [`IPV4`] or [`IPV6`].
     pub family: u8,

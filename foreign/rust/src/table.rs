@@ -164,8 +164,11 @@ impl Table {
 
     /// Returns the VRPs that cover a route. They explain its validity: the route is valid if one of them matches.
     ///
+    /// An invalid route is `invalid-length` for the program `origins` if [`Covering::is_other_as`] is false for a VRP
+    /// of the list, and `invalid-as` otherwise.
+    ///
     /// The longest prefix comes first. VRPs of the same prefix come by ascending AS number. VRPs of the same prefix and
-    /// AS come by descending maximum length.
+    /// AS come by descending maximum length. [`Table::vrps`] has another order.
     ///
     /// # Errors
     ///
@@ -190,6 +193,9 @@ impl Table {
     ///
     /// IPv4 comes before IPv6. Each family is in the order of the addresses, the shorter prefix first. VRPs of the same
     /// prefix come by descending AS number. VRPs of the same prefix and AS come by ascending maximum length.
+    /// [`Table::covering`] has another order.
+    ///
+    /// The last 12 octets of an IPv4 address are 0, as in a VRP of [`Vrp::new`].
     ///
     /// # Errors
     ///

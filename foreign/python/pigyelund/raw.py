@@ -447,7 +447,7 @@ def network_of(prefix: Network | Address) -> Network:
     """Returns a network as it is, and an address as the network with this address alone (/32 or /128).
 
     Raises:
-        TypeError: `prefix` is neither. An `IPv4Interface` or `IPv6Interface` is refused: it is an address and a network.
+        TypeError: `prefix` is neither. An `IPv4Interface` or `IPv6Interface` is refused: it is both.
         ValueError: `prefix` has a scope, such as `fe80::1%eth0`.
     """
     if isinstance(prefix, (IPv4Interface, IPv6Interface)):

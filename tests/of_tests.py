@@ -173,6 +173,7 @@ OF_VERSIONS = (
     Case(VERSIONS, "foreign/rust/Cargo.toml", '\nversion = "', '\nversion = "9', "rust/Cargo.toml: version 9"),
     Case(VERSIONS, "foreign/rust/Cargo.toml", "\nversion = ", "\nversions = ", f"rust/Cargo.toml: {NONE}"),
     Case(VERSIONS, "foreign/python/pyproject.toml", '\nversion = "', '\nversion = "9', "pyproject.toml: version 9"),
+    Case(VERSIONS, "foreign/python/pigyelund/__init__.py", '__version__ = "', '__version__ = "9', "__.py: version 9"),
     Case(VERSIONS, "foreign/pigyelund.pc", "\nVersion: ", "\nVersion: 9", "foreign/pigyelund.pc: version 9"),
     Case(VERSIONS, "docs/respath.1", "@VERSION@", "0.1.0", "docs/respath.1: version 0.1.0"),
     Case(VERSIONS, "docs/origins.1", "@VERSION@", "0.1.0", "docs/origins.1: version 0.1.0"),

@@ -153,8 +153,8 @@ class Extensions(NamedTuple):
     def octets(self) -> Resources:
         """Returns the extensions as a set of resources. Pass it as the set of a trust anchor.
 
-        The DER of an absent extension is `b""` in the set. So is that of an extension that is present but empty, which
-        is invalid in a certificate.
+        An absent extension is `b""` in the set. An extension that is present but empty is invalid in a certificate. In
+        the set it is `b""` too.
         """
         return Resources(self.asn or b"", self.ip or b"")
 
@@ -187,12 +187,12 @@ def concatenate(certificates: Iterable[Certificate]) -> tuple[bytes, list[raw.Ce
 
 
 class Pigyelund:
-    """The calls of the shared library. Make one object and use it everywhere, from any thread.
+    """The calls of the shared library. One object is enough for a process: use it from any thread.
 
     Without a path, the first case that applies says which library is loaded:
 
-    1. The variable PIGYELUND_LIB is set and not empty: `libpigyelund.so` in the folder that it names, or
-       `libpigyelund.so.1` if the folder has only that file.
+    1. The variable PIGYELUND_LIB is set and not empty: `libpigyelund.so` in the folder that it names, or else
+       `libpigyelund.so.1` there.
     2. The folder of the package has `libpigyelund.so`: that file.
     3. Otherwise: `libpigyelund.so` where the system's loader searches, or else `libpigyelund.so.1`.
 
@@ -231,6 +231,9 @@ class Pigyelund:
         mode: Mode = Mode.REFUSE,
     ) -> Resources:
         """Computes the resources of a certificate from its issuer's set (RFC 3779, 2.3 and 3.3).
+
+        The call raises the first error, in this order: unknown `encoding` or `mode`; the issuer's DER; `inherit` in the
+        issuer's set; a certificate with neither extension; the certificate's DER; overclaimed resources.
 
         Args:
             issuer: The issuer's set, without `inherit`. For a trust anchor pass the extensions of its certificate as a
@@ -298,7 +301,7 @@ class Pigyelund:
 
         Raises:
             DerError: `ip` is invalid.
-            InheritedError: `ip` has `inherit` for a family, which may be another one than `family`.
+            InheritedError: `ip` has `inherit` for IPv4 or IPv6, even if `family` is the other one.
         """
         octets = with_buffers(lambda capacities: self.raw.cover(ip, encoding, family, capacities[0])).asn
         if family == Family.V4:

@@ -127,8 +127,8 @@ class InheritedError(PigyelundError):
 class OverclaimedError(PigyelundError):
     """The certificate claims resources that its issuer does not have (RFC 6487, 7.2).
 
-    The attribute `excess` has the overclaimed resources. They are of one kind: AS numbers, IPv4 or IPv6. If several
-    kinds are overclaimed, they are those of the first kind, in this order.
+    The attribute `excess` has the overclaimed resources of one kind. This is the first kind that is overclaimed, in the
+    order AS numbers, IPv4, IPv6.
     """
 
 
@@ -137,7 +137,10 @@ class NoExtensionError(PigyelundError):
 
 
 class DerError(PigyelundError):
-    """The value of an extension is not valid DER of resources (RFC 3779, 2.2.3 and 3.2.3)."""
+    """The value of an extension is not valid DER of resources (RFC 3779, 2.2.3 and 3.2.3).
+
+    With `Encoding.STRICT` the error is also raised for an encoding that is not canonical. Its `fault` is 14.
+    """
 
     @property
     def fault(self) -> int:
@@ -170,7 +173,7 @@ class ChangeError(OriginError):
 
 
 class BadNumberError(PigyelundError):
-    """A number that was passed for an `Encoding`, a `Mode` or a `Family` is no member of it.
+    """You passed a number as an `Encoding`, a `Mode` or a `Family`, and the number is no member of it.
 
     No exception has `Status.BAD_PRESENT` or `Status.OUTSIDE`. Only calls of `raw` return these, as numbers.
     """

@@ -2,7 +2,8 @@
 
 This module is for callers that need the statuses and the buffers of C. All others use `pigyelund.Pigyelund`. Each
 method of `Library` is one call of the shared library. The method takes the numbers of the header, and the capacities of
-the output buffers. It returns the status, also if the call fails. The buffers and lengths depend on the status:
+the output buffers. Each method except `version`, `version_string` and `table_free` returns the status, also if the call
+fails. The buffers and lengths depend on the status:
 
     status                                     buffers                                lengths
     OK                                         the output, at the beginning           those of the output
@@ -10,9 +11,9 @@ the output buffers. It returns the status, also if the call fails. The buffers a
     TOO_SMALL                                  not written                            the required capacities
     any other                                  not written                            0
 
-The calls of `Library` make one check of their own: an integer that does not fit its parameter raises `OverflowError`.
-They do not check handles, and do not compare a count with the length of its array. The structs, `array_of` and
-`network_of` check what their docstrings say.
+The calls that return a status make one check of their own: an integer that does not fit its parameter raises
+`OverflowError`. No call of `Library` checks handles, or compares a count with the length of its array. The structs,
+`array_of` and `network_of` check what their docstrings say.
 """
 
 import ctypes
@@ -46,7 +47,8 @@ class Status(IntEnum):
     Attributes:
         OK: Success. From a comparison: yes.
         TOO_SMALL: A buffer is too small. Nothing is written, and the lengths are the required capacities.
-        MEMORY: Out of memory: `malloc` failed. Nothing is written, and the status says nothing about the input.
+        MEMORY: Out of memory: `malloc` failed, an input is too long for a vector, or a table would have 2^32 VRPs or
+            more. Nothing is written, and the status does not say whether the input is valid.
         INHERITED: A set has `inherit` in place of a list of resources.
         BAD_MODE: The mode is unknown.
         OVERCLAIM_AS: The certificate claims AS numbers that the issuer does not have. The outputs are these AS numbers.
@@ -58,8 +60,8 @@ class Status(IntEnum):
         OUTSIDE: A certificate of a path has an extension that is not within the array of all octets.
         BAD_PRESENT: The number that says which extensions are present is greater than `Present.HAS_BOTH`.
         BAD_FAMILY: The family is unknown.
-        BAD_PREFIX: A prefix length is above the family's, or address bits after it are set.
-        BAD_MAX_LEN: A maximum length is below the prefix length, or above the family's.
+        BAD_PREFIX: A prefix length is above 32 (IPv4) or 128 (IPv6), or address bits after it are set.
+        BAD_MAX_LEN: A maximum length is below the prefix length, or above 32 (IPv4) or 128 (IPv6).
         NO_TABLE: The handle of the table is null.
         UNKNOWN_WITHDRAWAL: A withdrawn VRP is not in the table, or is withdrawn twice (RFC 8210, 12, code 6).
         DUPLICATE_ANNOUNCEMENT: An announced VRP is in the table and is not withdrawn, or is announced twice (RFC 8210,
@@ -275,7 +277,7 @@ class Prefixed:
         """The prefix, as an object of `ipaddress`. A family other than `Family.V4` is read as IPv6.
 
         Raises:
-            ValueError: The length is above the family's, or address bits after it are set.
+            ValueError: The length is above 32 (IPv4) or 128 (IPv6), or address bits after it are set.
         """
         octets = bytes(self.address)[: 4 if self.family == Family.V4 else 16]
         return ip_network((octets, self.len))
@@ -292,8 +294,8 @@ class Vrp(Prefixed, Struct):
     `address` has 16 octets for IPv4 too, so VRPs are not equal if they differ in the last 12 octets of an IPv4 address.
     The library takes such VRPs as the same. `Vrp.of` and `Table` set these octets to 0.
 
-    `Vrp.of` raises `OverflowError` for an `asn` out of range. It does not check whether `max_len` is in the range
-    below. A call that reads the VRP checks all ranges, and raises `OriginError`.
+    `Vrp.of` raises `OverflowError` if `asn` is out of range, or if `max_len` is not from 0 to 255. It does not check
+    the narrower range of `max_len` below. A call that reads the VRP checks all ranges, and raises `OriginError`.
 
     Attributes:
         address: 16 octets in network byte order. An IPv4 address is the first four; calls ignore the others.
@@ -592,8 +594,8 @@ def arguments_of(*sets: Pair) -> list[object]:
 def find_library() -> str:
     """Returns the file of the shared library. The first case that applies decides:
 
-    1. The variable PIGYELUND_LIB is set and not empty: `libpigyelund.so` in the folder that it names, or
-       `libpigyelund.so.1` if the folder has only that file.
+    1. The variable PIGYELUND_LIB is set and not empty: `libpigyelund.so` in the folder that it names, or else
+       `libpigyelund.so.1` there.
     2. The folder of this package has `libpigyelund.so`: that file.
     3. Otherwise: the name alone. The system's loader searches for it.
     """

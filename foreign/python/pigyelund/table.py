@@ -80,8 +80,8 @@ class Table:
         struct.pack("16sIBBBx", address, asn, family, len, max_len)    a VRP
         struct.pack("16sIBBxx", address, asn, family, len)             a route
 
-    The address is in network byte order, and an IPv4 address is its first four octets. The family is 1 for IPv4 and 2
-    for IPv6. Lengths are in bits.
+    The address is in network byte order, and an IPv4 address is its first four octets. The AS is in the byte order of
+    the processor. The family is 1 for IPv4 and 2 for IPv6. Lengths are in bits.
 
     Calls that return validities, VRPs or a table may raise `OutOfMemoryError`. This error says nothing about the input.
     """
@@ -227,8 +227,8 @@ class Table:
     def covering(self, route: Route) -> list[Covering]:
         """Returns the VRPs that cover a route. They explain its validity: it is VALID if one of them is a match.
 
-        An INVALID route is `invalid-length` for the program `origins` if a VRP of the list does not have
-        `Mismatch.OTHER_AS`, and `invalid-as` otherwise.
+        The program `origins` has two words for an INVALID route. The route is `invalid-as` if each VRP of the list has
+        `Mismatch.OTHER_AS`, and `invalid-length` otherwise.
 
         Args:
             route: The route. No other thread may change its fields before the call returns.

@@ -8,7 +8,7 @@
 //! - [`verify`] computes the resources of a certificate. [`verify_path`] computes those of the last certificate of a
 //!   path.
 //! - [`union`], [`intersection`], [`difference`], [`contains`] and [`equal`] operate on two sets.
-//! - [`cover`] returns the shortest list of prefixes of a set.
+//! - [`cover`] returns the shortest list of prefixes that has exactly the addresses of one family of a set.
 //! - [`origins`] and [`Table`] validate routes against VRPs (validated ROA payloads, [`Vrp`]). The page of [`Table`]
 //!   has an example.
 //! - [`answer`] returns the answer of the program `respath` to a line.
@@ -18,22 +18,22 @@
 //! The calls take and return the DER of two certificate extensions: AS identifiers (RFC 3779, 3.2.3) and IP address
 //! blocks (RFC 3779, 2.2.3). This DER is the content of the OCTET STRING `extnValue` (RFC 5280, 4.1).
 //!
-//! | type | is | a field is |
+//! | type | is | its fields `asn` and `ip` |
 //! |---|---|---|
-//! | [`Octets`] | a set that you pass, as borrowed DER | `&[]` if the set has no AS numbers, or no addresses |
-//! | [`Resources`] | a set that a call returns, as owned canonical DER | an empty `Vec` in the same case |
-//! | [`Extensions`] | the extensions of a certificate, as borrowed DER | `None` if the extension is absent |
+//! | [`Octets`] | a set that you pass, as borrowed DER | `&[]` means: no AS numbers, no addresses |
+//! | [`Resources`] | a set that a call returns, as owned canonical DER | an empty `Vec` means the same |
+//! | [`Extensions`] | the extensions of a certificate, as borrowed DER | `None` means that the extension is absent |
 //!
 //! [`Resources::octets`] borrows a result, so that you can pass it to another call. Two sets that calls returned are
 //! equal if and only if their octets are equal.
 //!
 //! # Errors
 //!
-//! Each error of a call has a [`Reason`]:
+//! The error of a call is a [`Reason`], or has a [`Reason`] and more:
 //!
-//! - [`ResourceError`] also has the overclaimed resources.
-//! - [`PathError`] also has the number of verified certificates.
-//! - [`OriginError`] also has the index of the refused VRP or route.
+//! - [`ResourceError`] has the overclaimed resources.
+//! - [`PathError`] has a [`ResourceError`] and the number of verified certificates.
+//! - [`OriginError`] has the index of the refused VRP or route.
 //!
 //! [`ValueError`] is the error of the checked constructors, and [`ParseError`] that of `FromStr`.
 //!
@@ -125,8 +125,8 @@ impl<'a> Extensions<'a> {
 
     /// Returns the extensions as a set of resources. Pass it as the set of a trust anchor.
     ///
-    /// The value of an absent extension is empty in the set. So is that of an extension that is present but empty,
-    /// which is invalid in a certificate.
+    /// The value of an absent extension is empty in the set. An extension that is present but empty is invalid in a
+    /// certificate. Its value is empty in the set too.
     ///
     /// # Example
     ///
@@ -381,8 +381,8 @@ fn address_of(octets: &[u8]) -> IpAddr {
 /// The first of these, in this order:
 ///
 /// - [`Reason::BadIp`] with [`Side::First`]: `ip` is invalid.
-/// - [`Reason::Inherited`] with [`Side::First`]: `ip` has `inherit` for a family, which may be another one than
-///   `family`.
+/// - [`Reason::Inherited`] with [`Side::First`]: `ip` has `inherit` for IPv4 or IPv6, even if `family` is the other
+///   one.
 ///
 /// The call may return [`Reason::Memory`] instead of any other result.
 pub fn cover(ip: &[u8], encoding: Encoding, family: Family) -> Result<Vec<Prefix>, ResourceError> {

@@ -164,7 +164,7 @@ fn split<'a>(text: &'a str, expected: &'static str) -> Result<(&'a str, u32), Pa
 ///
 /// # Errors
 ///
-/// The AS number is checked first:
+/// The text is split at its first space. The AS number after the space is checked before the prefix:
 ///
 /// - [`ParseError::Form`]: the text has no space, or its prefix has no `/`.
 /// - [`ParseError::Asn`]: the AS number is no decimal number from 0 to 4294967295.
@@ -196,7 +196,7 @@ impl FromStr for Vrp {
 ///
 /// # Errors
 ///
-/// The AS number is checked first:
+/// The text is split at its first space. The AS number after the space is checked before the prefix:
 ///
 /// - [`ParseError::Form`]: the text has no space, or its prefix has no `/`.
 /// - [`ParseError::Asn`]: the AS number is no decimal number from 0 to 4294967295.

@@ -85,8 +85,10 @@ impl Table {
     /// applies to this VRP:
     ///
     /// - [`Reason::BadFamily`] with [`Side::First`]: its family is neither IPv4 nor IPv6.
-    /// - [`Reason::BadPrefix`] with [`Side::First`]: its prefix length is above the family's, or host bits are set.
-    /// - [`Reason::BadMaxLen`]: its maximum length is below its prefix length, or above the family's.
+    /// - [`Reason::BadPrefix`] with [`Side::First`]: its prefix length is above 32 (IPv4) or 128 (IPv6), or host bits
+    ///   are set.
+    /// - [`Reason::BadMaxLen`]: its maximum length is below its prefix length, or above 32 (IPv4) or 128
+    ///   (IPv6).
     ///
     /// The call may return [`Reason::Memory`] instead of any other result.
     ///
@@ -134,7 +136,8 @@ impl Table {
     /// [`OriginError::index`] is the index, from 0, of the first malformed route:
     ///
     /// - [`Reason::BadFamily`] with [`Side::Second`]: its family is neither IPv4 nor IPv6.
-    /// - [`Reason::BadPrefix`] with [`Side::Second`]: its prefix length is above the family's, or host bits are set.
+    /// - [`Reason::BadPrefix`] with [`Side::Second`]: its prefix length is above 32 (IPv4) or 128 (IPv6), or host bits
+    ///   are set.
     ///
     /// The call may return [`Reason::Memory`] instead of any other result.
     ///
@@ -164,8 +167,8 @@ impl Table {
 
     /// Returns the VRPs that cover a route. They explain its validity: the route is valid if one of them matches.
     ///
-    /// An invalid route is `invalid-length` for the program `origins` if [`Covering::is_other_as`] is false for a VRP
-    /// of the list, and `invalid-as` otherwise.
+    /// The program `origins` has two words for an invalid route. The route is `invalid-as` if [`Covering::is_other_as`]
+    /// is true for each VRP of the list, and `invalid-length` otherwise.
     ///
     /// The longest prefix comes first. VRPs of the same prefix come by ascending AS number. VRPs of the same prefix and
     /// AS come by descending maximum length. [`Table::vrps`] has another order.

@@ -5,24 +5,30 @@
  * The program connects to a cache at PORT of 127.0.0.1 and asks for all VRPs. It asks for the changes when the cache
  * sends a Serial Notify with a new serial, and when the Refresh Interval has passed. It asks for all VRPs after a Cache
  * Reset. It prints each table to the standard output: a line with its number, a line for each VRP, and the line "end".
- * It stops after TABLES tables or after SECONDS. In one response it accepts at most 8,388,608 announced and as many
- * withdrawn VRPs. It changes its table at End of Data: it removes all withdrawn VRPs, and then adds all announced ones.
- * The order of the VRPs in the response has no effect on the table.
+ * It prints messages for people to the standard error. It stops after TABLES tables or after SECONDS. For example,
+ * "router 3323 1 60" prints one table of the cache at port 3323, and waits for it at most 60 seconds.
+ *
+ * In one response the program accepts at most 8,388,608 announced and as many withdrawn VRPs. It changes its table at
+ * End of Data: it removes all withdrawn VRPs, and then adds all announced ones. The order of the VRPs in the response
+ * has no effect on the table.
  *
  * - Intervals (6): End of Data of version 1 has three intervals. The router replaces an interval outside of its range
  *   by the nearest bound. A Refresh or Retry Interval that is not less than the Expire Interval becomes one second less
  *   than it. With version 0 the router uses the defaults. UNIT is the number of milliseconds that the router counts as
  *   one second of an interval. The default is 1000. Tests pass less, so that they need not wait.
  * - The table expires if no later End of Data arrives within the Expire Interval. Then the router drops the table. It
- *   also ends the session. A router without a table waits for a response for the default Expire Interval.
+ *   also ends the session. Without a table it ends the session if no End of Data arrives within the default Expire
+ *   Interval after its query.
  * - When a session or the connection is over, the router connects again after the Retry Interval. It asks for the
  *   changes since its table. Without a table, and after an error, it asks for all VRPs.
- * - An Error Report of the cache ends the session. The router keeps its table. The code "No Data Available" does not
- *   end the session (8.4): the router asks for all VRPs after the Retry Interval.
+ * - An Error Report of the cache ends the session. The router keeps its table. There is one exception: if a query is
+ *   open and the code is "No Data Available", the session goes on (8.4). The router asks for all VRPs after the Retry
+ *   Interval.
  * - Versions (7): The router asks in version 1. If the first answer of the cache has version 0, the router changes to
- *   version 0. It goes on with the connection after a Reset Query, unless the answer is an Error Report with another
- *   code than "No Data Available". In all other cases it connects again at once, and asks for all VRPs in version 0.
- * - It ignores Router Keys (5.10).
+ *   version 0. If its query was a Reset Query, it goes on with the connection, unless the answer is an Error Report
+ *   with another code than "No Data Available". In all other cases it connects again at once, and asks for all VRPs in
+ *   version 0.
+ * - It ignores the content of Router Keys (5.10). In version 0 their type is unknown.
  *
  * The status is 0 if it printed all tables, and 1 if it did not. It is 2 if an argument is missing, is one too many, or
  * is not a number in its range. PORT is from 1 to 65535, UNIT from 1 to 2147483647, and each other number from 0 to
@@ -40,6 +46,9 @@
 
 /* PDU types (5) */
 enum { NOTIFY = 0, SERIAL_QUERY, RESET_QUERY, RESPONSE, V4 = 4, V6 = 6, END_OF_DATA, RESET, KEY, ERROR };
+/* NEWEST: the newest version. HEADER: the octets of a header. LONGEST: the octets of the longest PDU that the router
+ * reads; it refuses a longer one. QUOTED: the octets of a PDU that an Error Report quotes, at most. MOST: the bound of
+ * the capacity of a list. ANNOUNCED: the flag of an announcement (5.6). */
 enum { NEWEST = 1, HEADER = 8, LONGEST = 1 << 16, QUOTED = 1024, MOST = 10000000, ANNOUNCED = 1 };
 /* error codes (12) */
 enum { CORRUPT = 0, INTERNAL, NO_DATA, BAD_VERSION = 4, BAD_TYPE, UNKNOWN_RECORD, DUPLICATE, OTHER_VERSION };
@@ -71,7 +80,7 @@ typedef struct {
  * - announced, withdrawn: The VRPs of the response.
  * - pdu, length: The PDU that is being read, and the number of its octets that have been read.
  * - retry: The Retry Interval in seconds.
- * - due: The time of the next query if none is open. Between connections: the time of the next one.
+ * - due: The time of the next query if none is open. Between connections: the time of the next connection.
  * - expiry: The time when the table expires. Without a table: when the router gives up an open query. */
 typedef struct {
   int to_cache, is_settled, is_downgraded, has_session, is_asked, is_answered, is_full, has_notice;
@@ -99,7 +108,7 @@ static void put32(uint8_t *at, uint32_t number) {
   for (int i = 0; i < 4; i++) at[i] = (uint8_t)(number >> (24 - 8 * i));
 }
 
-/* Returns whether a serial is after another one, which may be before the wrap to 0 (RFC 1982, 3.2). */
+/* Returns whether a serial is after another one (RFC 1982, 3.2). The serial after the largest one is 0. */
 static int is_after(uint32_t serial, uint32_t other) { return serial != other && serial - other < 0x80000000u; }
 
 static int64_t least(int64_t one, int64_t other) { return one < other ? one : other; }
@@ -176,7 +185,8 @@ static void drop_table(router *r, const char *why) {
 
 /* Sends an Error Report with the wrong PDU and without text (5.11). Sends nothing if the PDU that is being read is an
  * Error Report. The report has at most QUOTED octets of the wrong PDU. No legal PDU is longer, except for an Error
- * Report and for a Router Key with a key of an unusual size. Returns 0, because the session is over. */
+ * Report and for a Router Key with a key of an unusual size. The next query asks for all VRPs. Returns 0, because the
+ * session is over. */
 static int refuse_pdu(router *r, uint16_t code, const uint8_t *pdu, uint32_t length) {
   uint8_t body[4 + QUOTED + 4] = {0};
   if (length > QUOTED) length = QUOTED;
@@ -276,12 +286,12 @@ static int change(router *r, pigy_table **next) {
 }
 
 /* Sets the times of the next query and of the expiry, and the Retry Interval, from the intervals of an End of Data PDU
- * that was received at a time (6). That of version 0 has no intervals.
+ * (6). This PDU arrived at the time `received`. In version 0 it has no intervals.
  *
  * A cache has to send an Expire Interval that is larger than both others. If it does not, section 6 does not say what a
  * router does. It says that a router MUST NOT keep data past the Expire Interval, and that it SHOULD NOT ask sooner
  * than the other two allow. Therefore the Expire Interval stays, and the others are lowered as little as possible. The
- * defaults could keep the table for longer than the Expire Interval. */
+ * router does not use the defaults instead: with these it could keep its table past the Expire Interval. */
 static void set_times(router *r, const uint8_t *intervals, int64_t received) {
   uint32_t expire = r->version ? bounded(u32(intervals + 8), 600, 172800) : EXPIRE;
   uint32_t refresh = r->version ? bounded(u32(intervals), 1, (uint32_t)least(86400, expire - 1)) : REFRESH;
@@ -313,8 +323,8 @@ static int end_of_data(router *r, uint16_t session, const uint8_t *body, uint32_
   return r->has_notice && is_after(r->notice, r->serial) ? ask(r) : 1;
 }
 
-/* Asks for the changes that the cache notifies (5.2), or stores the notice while a query is open. Returns 0 if the
- * session is over. */
+/* Asks for the changes that the cache notifies (5.2), or stores the notice while a query is open. Ignores the notice if
+ * the router has no session to compare it with. Returns 0 if the session is over. */
 static int take_notice(router *r, uint16_t session, uint32_t serial) {
   if (!r->is_answered && !r->has_session) return 1;
   if (session != (r->is_answered ? r->answering : r->session)) return refuse_session(r);
@@ -343,8 +353,8 @@ static int take_reset(router *r, uint32_t length) {
   return ask(r);
 }
 
-/* Reads an Error Report (5.11). If the cache has no data, the router asks for all VRPs later (8.4). Any other error
- * ends the session, and so does a report with wrong lengths in its body. Returns 0 if the session is over. */
+/* Reads an Error Report (5.11). If the cache has no data for an open query, the router asks for all VRPs later (8.4).
+ * Any other report ends the session, also a report with wrong lengths in its body. Returns 0 if the session is over. */
 static int take_report(router *r, uint16_t code, const uint8_t *body, uint32_t length) {
   uint32_t quoted = length < 8 ? 0 : u32(body);
   int is_correct = length >= 8 && quoted <= length - 8 && u32(body + 4 + quoted) == length - 8 - quoted;

@@ -1,5 +1,5 @@
 /* Pigyelund is a formally verified library for RPKI resource sets (RFC 3779) and route origin validation (RFC 6811).
- * This header declares its calls for C and C++:
+ * This header declares its calls for C and C++. It is tested as C99, C11, C17, C++11 and C++17.
  *
  * - Certificates. pigy_verify and pigy_verify_set compare the resources that a certificate claims with those of its
  *   issuer. pigy_verify_path does this along a path from a trust anchor. No call checks signatures or dates.
@@ -56,9 +56,10 @@
  * calls return PIGY_NO_TABLE, and pigy_table_free does nothing. The obligations for any other handle are below.
  *
  * CHECKS. Each call checks its arguments in the order that its comment lists, and returns the first error.
- * PIGY_TOO_SMALL comes after all checks. PIGY_MEMORY can come instead of any other status, with two exceptions:
- * pigy_table_len never returns it, and no call returns it for a NULL handle. The comments of the calls do not repeat
- * this.
+ * PIGY_TOO_SMALL comes after all checks. There is one exception: if the overclaimed resources of a certificate do not
+ * fit, pigy_verify_path returns it before the checks of the later certificates. PIGY_MEMORY can come instead of any
+ * other status, with two exceptions: pigy_table_len never returns it, and no call returns it for a NULL handle. The
+ * comments of the calls do not repeat this.
  *
  * OBLIGATIONS of the caller, which nothing checks:
  *
@@ -85,7 +86,8 @@
  * - Any number of threads may use one table, and may make the next table from it at the same time.
  * - Pass a handle from one thread to another by a lock, by the start or join of a thread, or by an atomic object. The
  *   store to this object is release or seq_cst, and the load from it is acquire or seq_cst.
- * - Order the last call with a handle before pigy_table_free by one of these too.
+ * - If pigy_table_free is called in another thread than an earlier call with the handle, order the two calls by one of
+ *   these means too.
  */
 #ifndef PIGYELUND_H
 #define PIGYELUND_H
@@ -128,7 +130,8 @@ extern "C" {
 #define PIGY_BAD_MAX_LEN 15u  /* The maximum length is below the prefix length, or is above 32 (IPv4) or 128 (IPv6). */
 #define PIGY_NO_TABLE 16u     /* The handle is NULL. */
 #define PIGY_UNKNOWN_WITHDRAWAL 17u     /* A withdrawn VRP is not in the table, or comes twice (RFC 8210: code 6). */
-#define PIGY_DUPLICATE_ANNOUNCEMENT 18u /* An announced VRP is in the table, or comes twice (RFC 8210: code 7). */
+#define PIGY_DUPLICATE_ANNOUNCEMENT 18u /* An announced VRP is in the table and not withdrawn, or comes twice (RFC
+                                         * 8210: code 7). */
 #define PIGY_BAD_AS 0x100u    /* The AS identifiers are invalid. The number of the first error is added. */
 #define PIGY_BAD_IP 0x200u    /* The IP address blocks are invalid. The number of the first error is added. */
 /* PIGY_SECOND is added to PIGY_BAD_AS + n, PIGY_BAD_IP + n, PIGY_INHERITED, PIGY_BAD_FAMILY, PIGY_BAD_PREFIX and
@@ -343,7 +346,10 @@ uint32_t pigy_cover(const uint8_t *ip, size_t ip_len, uint32_t encoding, uint32_
  * - asn: AS number, in host byte order.
  * - family: PIGY_IPV4 or PIGY_IPV6.
  * - len: Length of the prefix in bits. The bits of the address after it are 0.
- * - max_len: Maximum length (maxLength) in bits: from len to 32 for IPv4, and to 128 for IPv6. */
+ * - max_len: Maximum length (maxLength) in bits: from len to 32 for IPv4, and to 128 for IPv6.
+ *
+ * Compare two VRPs by their members, and not by memcmp. The struct has padding, and 12 octets of an IPv4 address are
+ * not read. */
 typedef struct {
   uint8_t address[16];
   uint32_t asn;
@@ -421,8 +427,12 @@ uint32_t pigy_table_new(const pigy_vrp *vrps, size_t count, pigy_table **table, 
  * Makes the next table: `table` without the withdrawn VRPs, and then with the announced ones.
  *
  * - The next table has a handle of its own, and `table` does not change.
+ * - A change makes a pass over the whole table, even for one VRP. Make one call for all VRPs of a response.
  * - The call applies all withdrawals before all announcements. In general, the response of a cache to a Serial Query
- *   has at most one withdrawal of a VRP, and then at most one announcement of it (RFC 8210, 5.3).
+ *   has at most one withdrawal of a VRP, and then at most one announcement of it (RFC 8210, 5.3). Such a response may
+ *   be passed as one change.
+ * - For the response to a Reset Query pass an empty table, made by pigy_table_new with count 0. A VRP that the response
+ *   announces twice is an error then. pigy_table_new accepts duplicates.
  * - A withdrawal removes all copies of a VRP.
  * - Each array may list a VRP only once, even if the table lists it more than once.
  * - A VRP in both arrays has to be in the table. The next table lists it once.

@@ -31,7 +31,8 @@ use crate::Family;
 pub const OK: u32 = 0;
 /// A buffer is too small. Nothing is written, and the lengths are the required ones.
 pub const TOO_SMALL: u32 = 1;
-/// Out of memory: `malloc` failed. Nothing is written, and the status says nothing about the input.
+/// Out of memory: `malloc` failed, an input is too long for a vector, or a table would have 2^32 VRPs or more. Nothing
+/// is written, and the status does not say whether the input is valid.
 pub const MEMORY: u32 = 2;
 /// A set has `inherit`, and does not list its resources.
 pub const INHERITED: u32 = 3;
@@ -55,9 +56,9 @@ pub const OUTSIDE: u32 = 11;
 pub const BAD_PRESENT: u32 = 12;
 /// The family is neither [`IPV4`] nor [`IPV6`].
 pub const BAD_FAMILY: u32 = 13;
-/// A prefix length is above the family's, or address bits after it are set.
+/// A prefix length is above 32 (IPv4) or 128 (IPv6), or address bits after it are set.
 pub const BAD_PREFIX: u32 = 14;
-/// A maximum length is below the prefix length, or above the family's.
+/// A maximum length is below the prefix length, or above 32 (IPv4) or 128 (IPv6).
 pub const BAD_MAX_LEN: u32 = 15;
 /// The handle of a table is null.
 pub const NO_TABLE: u32 = 16;

@@ -136,11 +136,13 @@ pub enum Reason {
     BadIp(Side, Fault),
     /// The family of a VRP or of a route is neither IPv4 nor IPv6. `Vrp::new` and `Route::new` always set one of these.
     BadFamily(Side),
-    /// The prefix length of a VRP or of a route is above the family's, or address bits after it (host bits) are set.
+    /// The prefix length of a VRP or of a route is above 32 (IPv4) or 128 (IPv6), or address bits
+    /// after it (host bits) are set.
     BadPrefix(Side),
-    /// The maximum length of a VRP or of an announced VRP is below its prefix length, or above the family's.
+    /// The maximum length of a VRP or of an announced VRP is below its prefix length, or above 32 (IPv4) or
+    /// 128 (IPv6).
     BadMaxLen,
-    /// The maximum length of a withdrawn VRP is below its prefix length, or above the family's.
+    /// The maximum length of a withdrawn VRP is below its prefix length, or above 32 (IPv4) or 128 (IPv6).
     BadWithdrawnMaxLen,
     /// A withdrawn VRP is not in the table, or is withdrawn twice (RFC 8210, 12, code 6).
     UnknownWithdrawal,

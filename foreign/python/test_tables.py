@@ -301,7 +301,7 @@ def no_library(library: Pigyelund, folder: Path) -> Iterator[str]:
 
 def searched(_: Pigyelund, folder: Path) -> Iterator[str]:
     """Without a path, an `ImportError` says what PIGYELUND_LIB is, and which folders were searched, in one line."""
-    own, none = Path(raw.__file__).parent, folder / "no folder"
+    own, none = Path(raw.__file__).parent, (folder / "no folder").absolute()
     loader = "/etc/ld.so.cache, and its default folders such as /lib and /usr/lib; "
     package = f"searched: the folder of the package, {own}, and then by the system's loader: LD_LIBRARY_PATH "
     named = f"{none}/{raw.NAME}: cannot open shared object file: No such file or directory; "

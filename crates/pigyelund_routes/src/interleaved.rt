@@ -15,7 +15,7 @@ pub(crate) const BESIDE: usize = 12;
 
 /// Begins a lookup for each route before the first invalid one, and returns the reason why that route is invalid.
 ///
-/// Without an invalid route the result is None.
+/// The call returns None if all routes are valid.
 ///
 /// # Preconditions
 ///

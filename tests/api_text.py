@@ -1,4 +1,4 @@
-"""Lays out the text of tests/api_page.py: fills paragraphs and list items, and makes the links to headings."""
+"""Lays out the text of tests/page_api.py: fills paragraphs and list items, and makes the links to headings."""
 
 import re
 import textwrap

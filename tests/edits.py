@@ -33,7 +33,7 @@ from collections import Counter
 from pathlib import Path
 from types import SimpleNamespace
 
-from edits_apply import FOLDERS, TOP, edits_of, the_kit
+from source_edits import FOLDERS, TOP, edits_of, the_kit
 
 REVISION = TOP / "tests" / "edits.revision"
 JOBS = ["--jobs", "1"]

@@ -6,7 +6,7 @@ Without arguments: foreign/numbers.txt has each number of crates/pigyelund_c, th
 others, and each row of the table of statuses in docs/FOREIGN.md has the number of its name. The package for Python
 requires the first Python that has all that its sources use, and pages and tests name the same Python. The header and
 the page state the stack on which foreign/c/test.c makes its calls. The package of the shared library lists the symbols
-of foreign/c/exports.map, each with the first version that has it. tests/versions.py compares the versions.
+of foreign/c/exports.map, each with the first version that has it. tests/source_versions.py compares the versions.
 
 With SECTION PREFIX, as C or `A table in C`: the program of that section, in an empty folder, built by its commands with
 the library that is installed under PREFIX, prints what the page says. The status is 1 if something differs.

@@ -22,11 +22,12 @@ from functools import partial
 from pathlib import Path
 from queue import SimpleQueue
 
-import versions
+import source_versions
 import wrong_checks
 import wrong_programs
 import wrong_quick
 import wrong_vectors
+from quick import parts_of_check
 
 TOP = Path(__file__).resolve().parent.parent
 COPIES = min(4, os.cpu_count() or 1)
@@ -41,7 +42,7 @@ OF_C, OF_PYTHON, OF_RUST = "foreign/c/test.c", "foreign/python/test.py", "foreig
 # The test in C is compiled anew only if its own text is made wrong.
 OF_REFUSALS = "foreign/c/test.c, compiled anew"
 ORIGINS = Path("crates", "origins", "out", "origins")
-MANUAL = "tests/manual_pages.py"
+MANUAL = "tests/page_manuals.py"
 BUILT = {
     OF_C: ("built/test", "foreign"),
     OF_REFUSALS: ("sh", "-c", "make -s -C foreign/c CC=gcc OUT=$PWD/built LIB=$LIB KIT=$KIT all && built/test foreign"),
@@ -61,9 +62,9 @@ class Case:
 
 
 ROWS = "tests/rows.py"
-PROVED = "tests/proved_page.py"
-NAMES = "tests/names_in_docs.py"
-API = "tests/api_page.py"
+PROVED = "tests/page_proved.py"
+NAMES = "tests/page_names.py"
+API = "tests/page_api.py"
 CASES = (
     Case(ROWS, "crates/rows_values/stdout", "AS7-AS7 ", "AS7-AS8 ", "rows_values/stdin:1: "),
     Case(ROWS, "crates/rows_sets/stdout", "AS7, ", "", "rows_sets/stdin:1: "),
@@ -76,7 +77,7 @@ CASES = (
     Case(ROWS, "crates/example_holdings/stdout", "Added: asn: AS65001", "Added: asn: AS65000", "stdout:1: "),
     Case(ROWS, "crates/example_verified_set/stdout", "AS64502", "AS64503", "example_verified_set/args: "),
     Case(ROWS, "crates/bench_growth/stdout", "2 routes: 2 Valid", "2 routes: 1 Valid", "bench_growth/args: 1 2"),
-    Case("tests/front.sh", "program.sh", "(gone + 120) * (all - planned)", "(gone + 120) * all",
+    Case("tests/program_front.sh", "program.sh", "(gone + 120) * (all - planned)", "(gone + 120) * all",
          "FAILED  an estimate after three crates"),
     Case("tests/page_links.py", "docs/LAYERS.md", "README.md#glossary", "README.md#words",
          "no such heading: ../README.md#words"),
@@ -85,8 +86,8 @@ CASES = (
          "README.md: 1 findings of the kind words"),
     Case("tests/page_prose.py", "crates/rpki_cover/src/cover.rt", "//! ", "//! What is here is none of it. What is more, it is so.\n//! ",
          "crates/rpki_cover/src: 2 findings of the kind inverted"),
-    Case("tests/errors_page.py", "docs/ERRORS.md", "error: bad hex", "error: bad hexa", "is answered 'error: bad hex'"),
-    Case("tests/errors_page.py", "README.md", "\n    10.0.0.0/8\n", "\n    10.0.0.0/9\n", "is answered '10.0.0.0/8'"),
+    Case("tests/page_errors.py", "docs/ERRORS.md", "error: bad hex", "error: bad hexa", "is answered 'error: bad hex'"),
+    Case("tests/page_errors.py", "README.md", "\n    10.0.0.0/8\n", "\n    10.0.0.0/9\n", "is answered '10.0.0.0/8'"),
     Case(PROVED, "docs/PROVED.md", "`flushed`", "`flooded`", "no call has the clause flooded"),
     Case(PROVED, "docs/PROVED.md", "`Source::read`,", "`Source::reads`,", "has no call Source::reads"),
     Case(PROVED, "docs/PROVED.md", "`Run.AnswersAll`", "`Run.AnswersNone`", "has no AnswersNone"),
@@ -101,25 +102,25 @@ CASES = (
     Case(NAMES, "docs/CALLING.md", "Ok(_) => Ok(None),", "Ok(_) => Ok(Moon),", "isn't in crates/example_calls/"),
     Case(NAMES, "docs/CALLING.md", "| `Asn::add` ", "| `Asn::moon` ", "the condition of Asn::add stands nowhere"),
     Case(NAMES, "crates/rpki_cover/src/lib.rt", "//!     list.push(", "//!     moon.push(", "rpki_cover/src/lib.rt:"),
-    Case("tests/words_once.py", "crates/rpki_cover/specs/Walk.antt", "pub free_bits :", "pub Ascends :",
+    Case("tests/source_words.py", "crates/rpki_cover/specs/Walk.antt", "pub free_bits :", "pub Ascends :",
          "Ascends: crates/"),
-    Case("tests/unused_imports.py", "crates/rpki_cover/src/cover.rt", "{IsShortestCover}", "{IsShortestCover, Moon}",
+    Case("tests/source_imports.py", "crates/rpki_cover/src/cover.rt", "{IsShortestCover}", "{IsShortestCover, Moon}",
          "Moon is used by no clause"),
-    Case("tests/api_page.py", "docs/api/rpki_cover.md", "ascending", "descending", "docs/api/rpki_cover.md is not"),
+    Case("tests/page_api.py", "docs/api/rpki_cover.md", "ascending", "descending", "docs/api/rpki_cover.md is not"),
     Case(API, "crates/rpki_cover/src/cover.rt", "/// Returns the first number", "/// Returns the first moon",
          "docs/api/rpki_cover.md is not"),
-    Case("tests/api_page.py", "tests/api_page.py", '"rpki_text::list"', '"rpki_text::moon"', "is no rpki_text::moon"),
-    Case("tests/layers_picture.py", "docs/layers.svg", "<line x1=", "<line x2=", "is not what crates.txt says"),
-    Case("tests/layers_picture.py", "crates.txt", "\nrpki_cover:\n", "\nrpki_cover: rpki_addr\n", "is not what crates"),
-    Case("tests/layers_picture.py", "crates.txt", "\nrpki_text: memchr\n", "\nrpki_text: memchr\nmoon:\n",
+    Case("tests/page_api.py", "tests/page_api.py", '"rpki_text::list"', '"rpki_text::moon"', "is no rpki_text::moon"),
+    Case("tests/page_layers.py", "docs/layers.svg", "<line x1=", "<line x2=", "is not what crates.txt says"),
+    Case("tests/page_layers.py", "crates.txt", "\nrpki_cover:\n", "\nrpki_cover: rpki_addr\n", "is not what crates"),
+    Case("tests/page_layers.py", "crates.txt", "\nrpki_text: memchr\n", "\nrpki_text: memchr\nmoon:\n",
          "moon is in no group"),
-    Case("tests/edits_apply.py", "crates/rpki_cover/must-fail/cover_by_one_enclosing_prefix.edit", "old: ", "old: moon",
+    Case("tests/source_edits.py", "crates/rpki_cover/must-fail/cover_by_one_enclosing_prefix.edit", "old: ", "old: moon",
          "cover_by_one_enclosing_prefix.edit: "),
-    Case("tests/edits_apply.py", "crates/rpki_cover/edits/last_number_is_left_out.edit", "file: ", "file: moon/",
+    Case("tests/source_edits.py", "crates/rpki_cover/edits/last_number_is_left_out.edit", "file: ", "file: moon/",
          "last_number_is_left_out.edit: "),
-    Case("tests/wide_comments.py", "crates/rpki_cover/src/cover.rt", "/// Returns the first number",
+    Case("tests/source_comments.py", "crates/rpki_cover/src/cover.rt", "/// Returns the first number",
          f"/// Returns the first number, {'far ' * 30}", "rpki_cover/src/cover.rt: comments wider"),
-    Case("tests/wide_statements.py", "crates/rpki_cover/specs/Walk.antt", "pub free_bits : ",
+    Case("tests/source_statements.py", "crates/rpki_cover/specs/Walk.antt", "pub free_bits : ",
          f"pub free_bits : {'(n : ℕ) → ' * 12}", "rpki_cover/specs/Walk.antt: 1 lines of statements"),
     Case(OF_C, "foreign/rows.txt", " 10 - - -\n", " 11 - - -\n", "row 1: another status"),
     Case(OF_C, "foreign/texts.txt", "out of memory", "out of mind", "another text of a status"),
@@ -155,7 +156,7 @@ PAGES = (
          "is the standard input"),
 )
 # A version in each of its places: another one, or none.
-VERSIONS = "tests/versions.py"
+VERSIONS = "tests/source_versions.py"
 NONE = "no version at "
 OF_VERSIONS = (
     Case(VERSIONS, "VERSION", "", "9", "CHANGELOG.md: version "),
@@ -228,7 +229,7 @@ def fault_of(case: Case, copy: Path, command: tuple[str, ...] = (), failing: int
 def left_out() -> Iterator[tuple[str, str]]:
     """The tests that can't be asked here, and what they need."""
     if not (TOP / RESPATH).is_file():
-        yield "tests/errors_page.py", f"{RESPATH}, which ./respath builds"
+        yield "tests/page_errors.py", f"{RESPATH}, which ./respath builds"
     for test in (OF_C, OF_REFUSALS, OF_PYTHON):
         for tool in ("gcc", "make", "ar"):
             if not shutil.which(tool):
@@ -309,7 +310,7 @@ def of_pages(folder: Path) -> Iterator[tuple[str, str | None]]:
     status, said = said_by((VERSIONS, "0.0.9"), folder)
     there = "VERSION: version " in said and ", expected 0.0.9\n" in said
     yield f"{VERSIONS} 0.0.9", None if status == 1 and there else said
-    untried = {*versions.PLACES, *versions.MADE, *versions.CALLS} - {it.file for it in OF_VERSIONS}
+    untried = {*source_versions.PLACES, *source_versions.MADE, *source_versions.CALLS} - {it.file for it in OF_VERSIONS}
     yield f"{VERSIONS}: each place is made wrong", f"not {sorted(untried)}" if untried else None
     for case in cases:
         yield f"{case.test}: {case.file}, {case.new[:60]!r}", fault_of(case, folder)
@@ -365,8 +366,7 @@ PART += 'case " $FAILING " in *" ${0##*/} "*) exit 1 ;; esac\n'
 
 def of_check(folder: Path) -> Iterator[tuple[str, str | None]]:
     """What `check` says beside parts that say nothing: each is named, and counted where it fails."""
-    listed = re.search(r"\nfor test in (.*?); do\n", (TOP / "check").read_text(), re.DOTALL)
-    parts = listed[1].replace("\\\n", " ").split() if listed else []
+    parts = parts_of_check(TOP)
     folder.mkdir()
     shutil.copy(TOP / "check", folder)
     foreign = "tests/foreign.sh"
@@ -377,7 +377,7 @@ def of_check(folder: Path) -> Iterator[tuple[str, str | None]]:
         (folder / name).parent.mkdir(exist_ok=True)
         (folder / name).write_text(text)
         (folder / name).chmod(0o755)
-    one, many = "places.py", " ".join([*(Path(it).name for it in parts), "rows.py"])
+    one, many = "program_places.py", " ".join([*(Path(it).name for it in parts), "rows.py"])
     whole, no_words, every = [*parts, foreign], (), ("--all",)
     # The words of check, the parts that run, the names that fail, and the parts that fail then.
     failing = (

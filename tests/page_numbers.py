@@ -3,7 +3,7 @@
 
 A number of rows may be exact or rounded down: the files have at least as many, and less than a tenth more. Each row of
 many elements that docs/TESTS.md quotes has to be in the rows. The numbers of random lines on the pages have to be those
-of `check`. tests/manual_pages.py compares exit statuses, and tests/versions.py versions. The status is 1 if a number
+of `check`. tests/page_manuals.py compares exit statuses, and tests/source_versions.py versions. The status is 1 if a number
 differs, or if no page has it.
 """
 

@@ -1,7 +1,7 @@
 """Cases of tests/of_tests.py in which a test meets programs that do everything wrong: each of its cases has to fail.
 
 A test whose comparison always succeeds prints `ok` here, or ends with status 0. The programs are scripts of a line or
-two, so nothing has to be built. The tests of bench/regress.py and of tests/recipes.sh get figures and a page of their
+two, so nothing has to be built. The tests of bench/regress.py and of tests/page_recipes.sh get figures and a page of their
 own, some of them right.
 """
 
@@ -46,18 +46,18 @@ class Stubbed:
 SCRIPTS = {"respath": AFTER_THE_FIRST, "origins": AFTER_THE_FIRST}
 ALL_FAIL = r"(FAILED .*\n[^\0]*){10}"
 STUBBED = (
-    Stubbed(("tests/front.sh",), {"respath": WRONG, "origins": WRONG, "tests/logic.sh": WRONG}, ALL_FAIL),
-    Stubbed(("tests/streams.sh",), SCRIPTS | {program(it): WRONG for it in ("respath", "origins")}, ALL_FAIL),
-    Stubbed(("tests/origins.sh",), SCRIPTS | {program("origins"): WRONG}, ALL_FAIL),
-    Stubbed(("tests/holdings.sh",), {program("example_holdings"): WRONG}, r"(FAILED .*\n[^\0]*){6}"),
-    Stubbed(("tests/verified_set.py",), {program("example_verified_set"): WRONG},
+    Stubbed(("tests/program_front.sh",), {"respath": WRONG, "origins": WRONG, "tests/page_logic.sh": WRONG}, ALL_FAIL),
+    Stubbed(("tests/program_streams.sh",), SCRIPTS | {program(it): WRONG for it in ("respath", "origins")}, ALL_FAIL),
+    Stubbed(("tests/program_origins.sh",), SCRIPTS | {program("origins"): WRONG}, ALL_FAIL),
+    Stubbed(("tests/program_holdings.sh",), {program("example_holdings"): WRONG}, r"(FAILED .*\n[^\0]*){6}"),
+    Stubbed(("tests/program_verified_set.py",), {program("example_verified_set"): WRONG},
             r": (\d\d+) runs, .* \1 differ\n"),
     # Only the reason differs where a set is refused.
-    Stubbed(("tests/verified_set.py",), {program("example_verified_set"): "#!/bin/sh\nexit 1\n"},
+    Stubbed(("tests/program_verified_set.py",), {program("example_verified_set"): "#!/bin/sh\nexit 1\n"},
             r": (\d\d+) runs, .* \1 differ\n"),
     Stubbed(("tests/random_origins.py", "1", "40"), {program("origins"): WRONG},
             r": (\d\d+) answers compared, \1 differ\n"),
-    Stubbed(("tests/places.py",), {program("respath"): ANSWERS_WRONG, "respath": WITHOUT_PLACES},
+    Stubbed(("tests/program_places.py",), {program("respath"): ANSWERS_WRONG, "respath": WITHOUT_PLACES},
             r": (\d\d+) lines are wrong or refused, .* \1 differ\n"),
 )
 
@@ -177,13 +177,13 @@ def of_exchanged(folder: Path) -> Iterator[tuple[str, str | None]]:
 
 
 def of_recipes(folder: Path) -> Iterator[tuple[str, str | None]]:
-    """Runs tests/recipes.sh on a page with right and wrong answers."""
+    """Runs tests/page_recipes.sh on a page with right and wrong answers."""
     copy = copied(folder)
     written(copy, {"respath": NOTHING, "origins": NOTHING, "docs/RECIPES.md": RECIPES})
-    status, said = run_in(copy, ("tests/recipes.sh",))
+    status, said = run_in(copy, ("tests/page_recipes.sh",))
     found = tuple(re.findall(r"^(?:ok|FAILED) +recipe \d+", said, re.MULTILINE))
     fault = None if (status, found) == (1, RECIPES_SAID) else f"status {status}: {said}"
-    yield "tests/recipes.sh: right and wrong answers", fault
+    yield "tests/page_recipes.sh: right and wrong answers", fault
 
 
 TOOLS = {

@@ -1,4 +1,4 @@
-"""Shows that tests/source_vectors.py and tests/vectors.py report what is wrong with vectors/: an expectation, a stored
+"""Shows that tests/source_vectors.py and tests/program_vectors.py report what is wrong with vectors/: an expectation, a stored
 answer, a flag, a member, a case. tests/of_tests.py calls it. A case that needs a built program is left out by name."""
 
 import os
@@ -9,7 +9,7 @@ from collections.abc import Iterator
 from pathlib import Path
 
 TOP = Path(__file__).resolve().parent.parent
-SOURCES, ASKED = ("tests/source_vectors.py",), "tests/vectors.py"
+SOURCES, ASKED = ("tests/source_vectors.py",), "tests/program_vectors.py"
 BUILT = Path("crates/respath/out/respath"), Path("crates/origins/out/origins")
 PARTS = "tests", "vectors", "docs", "crates/rows_values", "crates/rows_sets", "crates/rows_claims"
 # A test, a file, what is found in it as a pattern, what replaces it, and what has to be printed.

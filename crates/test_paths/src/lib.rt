@@ -1,4 +1,4 @@
-//! A `use` line of each public path that docs/api shows. `tests/api_page.py --write` makes this file.
+//! A `use` line of each public path that docs/api shows. `tests/page_api.py --write` makes this file.
 #![tactic(auto)]
 
 use box_pointer::BoxPointer as _;

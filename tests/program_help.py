@@ -1,5 +1,5 @@
 #!/usr/bin/env python3
-"""help_texts.py: shows that the help of a script, the help of its program and its manual page say the same, and that
+"""program_help.py: shows that the help of a script, the help of its program and its manual page say the same, and that
 help, version and wrong usage of `./respath` and `./origins` are answered at once, without a build.
 
 An entry of a help is a line with two spaces, a term, two or more spaces and its description, which may go on below. The

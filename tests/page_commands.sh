@@ -3,7 +3,7 @@
 # prints with the comment behind its line. In a block `console` it compares what all commands print on standard output
 # with the other lines of the block. Left out, and named: the test command itself, and a check that proves the
 # dependencies of a crate, which --prove runs. A block that needs rt is left out if there is no rt.
-# tests/recipes.sh runs docs/RECIPES.md, tests/errors_page.py the lines of docs/ERRORS.md, tests/streams.sh the options.
+# tests/page_recipes.sh runs docs/RECIPES.md, tests/page_errors.py the lines of docs/ERRORS.md, tests/program_streams.sh the options.
 top=$(CDPATH='' cd -- "$(dirname -- "$0")/.." && pwd) || exit 1
 prove=${1-}
 "$top/respath" </dev/null || exit 1

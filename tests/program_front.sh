@@ -308,7 +308,7 @@ respath: no answers: --try reads at most 64 MiB" $? "$said"
 
 # Another kit may have proved what the README names: its name says nothing, but the logic has to be the README's.
 logic() {
-    PATH=$copy/bin:$copy/tools "$top/tests/logic.sh" "$copy/README.md" >/dev/null
+    PATH=$copy/bin:$copy/tools "$top/tests/page_logic.sh" "$copy/README.md" >/dev/null
 }
 prover "other-kit logic 12" 'exit 1'
 logic

@@ -1,5 +1,5 @@
 #!/usr/bin/env python3
-"""unused_imports.py [--wide] [CRATE..]: names of `ghost use` lines that no clause uses, in the sources of the crates (of all,
+"""source_imports.py [--wide] [CRATE..]: names of `ghost use` lines that no clause uses, in the sources of the crates (of all,
 where none is named). `rt tidy` sees to the files of proofs alone.
 
 A name at the head of a file serves all clauses of that file, one in a block those of the block. Ends with status 1 where there

@@ -16,7 +16,7 @@ import sys
 from collections.abc import Iterator
 from itertools import islice
 
-import errors_page
+import page_errors
 from reference import random_lines, texts
 from rows import CRATES, PROGRAM, TOP, ask, lines_of
 
@@ -48,7 +48,7 @@ def long_lines(made: random.Random) -> Iterator[bytes]:
 def asked_lines() -> Iterator[bytes]:
     """The lines that are asked, right ones among them."""
     yield from (it.encode() for it in lines_of(CRATES / "rows_sets" / "stdin"))
-    yield from (line for _, line, _ in errors_page.of_errors())
+    yield from (line for _, line, _ in page_errors.of_errors())
     for command in LISTED:
         yield from islice(random_lines.lines(command, 1), RANDOM)
     yield from long_lines(random.Random(1))

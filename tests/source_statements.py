@@ -105,7 +105,7 @@ def main() -> int:
         if wide:
             print(f"{path.relative_to(TOP)}: {wide} lines of statements above {WIDTH} columns")
         found += wide
-    print(f"wide lines of statements: {found}; tests/wide_statements.py --write breaks them")
+    print(f"wide lines of statements: {found}; tests/source_statements.py --write breaks them")
     return 1 if found else 0
 
 

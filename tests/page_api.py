@@ -82,7 +82,7 @@ leave out lines that have no meaning for callers:
 - ghost members that are proofs, such as `ghost laws`
 - the member `ghost inverse`, which computes the fields of a value from its model
 
-`tests/api_page.py --write` makes this page and those below from the sources. `./check` fails if one of them isn't
+`tests/page_api.py --write` makes this page and those below from the sources. `./check` fails if one of them isn't
 current.
 
 ## Libraries
@@ -106,7 +106,7 @@ OF_C = """No item of this library has a path that a `use` line can name. C calls
 `foreign/pigyelund.h` declares them.
 """
 NO_PATH = "This item has no public path: a `use` line can't name it. You get its values from calls."
-PATHS_HEAD = """//! A `use` line of each public path that docs/api shows. `tests/api_page.py --write` makes this file.
+PATHS_HEAD = """//! A `use` line of each public path that docs/api shows. `tests/page_api.py --write` makes this file.
 #![tactic(auto)]
 
 """
@@ -656,10 +656,10 @@ def main() -> int:
             path.write_text(text)
     for path in sorted(there | made.keys()):
         if (path.read_text() if path.is_file() else None) != made.get(path):
-            print(f"{path.relative_to(TOP)} is not what the sources say: tests/api_page.py --write makes it anew")
+            print(f"{path.relative_to(TOP)} is not what the sources say: tests/page_api.py --write makes it anew")
             found += 1
     for path in stale_paths():
-        print(f"tests/api_page.py: there is no {path}")
+        print(f"tests/page_api.py: there is no {path}")
         found += 1
     return 1 if found else 0
 

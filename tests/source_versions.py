@@ -1,5 +1,5 @@
 #!/usr/bin/env python3
-"""versions.py [VERSION]: compares each place that has the version with the file VERSION, and each copy of the license
+"""source_versions.py [VERSION]: compares each place that has the version with the file VERSION, and each copy of the license
 with the file LICENSE. A package cannot have a file outside its folder, and `rt ci` accepts no links.
 
 Each place in PLACES has the version itself. Each place in MADE has `@VERSION@`, which the build replaces. The files in
@@ -83,7 +83,7 @@ def faults(asked: list[str]) -> Iterator[str]:
 def main(words: list[str]) -> int:
     """Prints what differs."""
     if len(words) > 1 or any(it.startswith("-") for it in words):
-        print("usage: versions.py [VERSION]", file=sys.stderr)
+        print("usage: source_versions.py [VERSION]", file=sys.stderr)
         return 2
     there = list(faults(words))
     for fault in there:

@@ -67,7 +67,7 @@ def main() -> int:
             wide = [number for number, line in enumerate(lines, 1) if len(line) > WIDTH and COMMENT.match(line)]
             print(f"{path.relative_to(TOP)}: comments wider than {WIDTH} columns, lines {', '.join(map(str, wide))}")
             found += len(wide)
-    print(f"wide lines of comments: {found}; tests/wide_comments.py --write wraps them")
+    print(f"wide lines of comments: {found}; tests/source_comments.py --write wraps them")
     return 1 if found else 0
 
 

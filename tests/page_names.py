@@ -16,9 +16,9 @@ from collections.abc import Iterator
 from functools import cache
 from pathlib import Path
 
-from api_page import items_of, libraries
 from groups import group_of
-from proved_page import defines, definition_at, names_of
+from page_api import items_of, libraries
+from page_proved import defines, definition_at, names_of
 
 TOP = Path(__file__).resolve().parent.parent
 CRATES = TOP / "crates"

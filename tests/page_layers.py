@@ -172,7 +172,7 @@ def steps(upper: str, lower: str) -> list[str]:
         return [lower]
     between = [it for it in stands_on()[upper] if lower in below(it)]
     if not between:
-        raise SystemExit(f"tests/layers_picture.py: {upper} doesn't stand on {lower}")
+        raise SystemExit(f"tests/page_layers.py: {upper} doesn't stand on {lower}")
     ways = ([it, *steps(it, lower)] for it in near(upper) if it in between)
     return max(ways, key=len)
 
@@ -181,7 +181,7 @@ def pairs_of(road: Road) -> list[tuple[str, str]]:
     """The pairs of crates that follow each other on a road."""
     for name in (it for way in road.ways for it in way):
         if name not in stands_on():
-            raise SystemExit(f"tests/layers_picture.py: there is no {name}")
+            raise SystemExit(f"tests/page_layers.py: there is no {name}")
     ways = ([way[0], *(it for upper, lower in pairwise(way) for it in steps(upper, lower))] for way in road.ways)
     return [pair for way in ways for pair in pairwise(way)]
 
@@ -230,7 +230,7 @@ def main() -> int:
     if sys.argv[1:] == ["--write"]:
         PICTURE.write_text(made)
     elif not PICTURE.is_file() or PICTURE.read_text() != made:
-        print("docs/layers.svg is not what crates.txt says: tests/layers_picture.py --write draws it anew")
+        print("docs/layers.svg is not what crates.txt says: tests/page_layers.py --write draws it anew")
         return 1
     return 0
 

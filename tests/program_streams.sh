@@ -1,7 +1,7 @@
 #!/bin/sh
 # Tests what no contract says of the program respath: its status and its line on standard error if a standard stream
 # fails, and streams above 64 MiB, also through origins. It tests the options and files of ./respath and the examples of
-# its help too; tests/front.sh tests what the script does without the program. The status is 0 if every case is as
+# its help too; tests/program_front.sh tests what the script does without the program. The status is 0 if every case is as
 # expected.
 top=$(CDPATH= cd -- "$(dirname -- "$0")/.." && pwd) || exit 1
 printf '' | "$top/respath" || exit 1

@@ -1,5 +1,5 @@
 #!/usr/bin/env python3
-"""words_once.py: words of definitions that specs/ declares twice. A word means one thing, wherever a clause cites it.
+"""source_words.py: words of definitions that specs/ declares twice. A word means one thing, wherever a clause cites it.
 
 A word is what a line `pub NAME :`, `abbrev pub NAME :`, `record pub NAME` and so on declares, at any depth of modules. The
 fields of a record are no such words: a reader sees them behind the record. Ends with status 1 where a word stands in two

@@ -1,5 +1,5 @@
 #!/usr/bin/env python3
-"""edits_apply.py: edits that can't be applied to the code as it stands, in the folders `must-fail/` and `edits/` of
+"""source_edits.py: edits that can't be applied to the code as it stands, in the folders `must-fail/` and `edits/` of
 the crates: by the kit's own reading, so each `old:` stands in its file exactly once. And whether `must-fail/` is as
 small as it has to be: at most ninety edits, in at most twenty libraries, none of them a program or a static library. It
 asks no prover; tests/edits.py does. Ends with status 1 where there is something to mend."""

@@ -1,8 +1,9 @@
 #!/usr/bin/env bash
 # fresh_machine.sh FOLDER [CPUS ..]: times the first commands of a new user in a clean Debian system. It makes the system
 # in FOLDER with debootstrap, with the tools that the README names, and mounts the Rattle kit there read-only. For each
-# CPUS, a list as taskset takes it (0-3 and then 0,1 if none is given), it clones the repository anew and runs
-# ./respath --try, ./origins --try, ./check --quick and ./respath. It prints the wall time of each command.
+# CPUS, a list as taskset takes it (0-3 and then 0,1 if none is given), it clones the repository anew, removes what rt ci
+# stored in the system, and runs ./respath --try, ./origins --try, ./check --quick and ./respath. It prints the wall time
+# of each command.
 # COMMANDS in the environment names other commands, one a line. Run by hand, as root: it takes an hour and more.
 set -u
 folder=${1:?usage: fresh_machine.sh FOLDER [CPUS ..]}
@@ -31,7 +32,7 @@ mount --bind -o ro "$kit" "$folder$kit" && mount -t proc proc "$folder/proc" && 
 status=0
 for cpus; do
     clone=$folder/root/pigyelund
-    rm -rf "$clone"
+    rm -rf "$clone" "$folder${kit%/*}/rattle-kept"
     git clone -q "$top" "$clone" || exit 1
     while IFS= read -r command; do
         began=$(date +%s.%N)

@@ -24,7 +24,7 @@ done
 chmod -R go+rX "$files"
 
 # The tools of the scripts, and no rt
-for tool in sh awk cat cp cut date dirname find grep head id ls mkdir mktemp mv nproc readlink rm sed setsid \
+for tool in sh awk cat chmod cp cut date dirname find grep head id ls mkdir mktemp mv nproc readlink rm sed setsid \
     sha256sum sleep tail tar tee touch tr wc; do
     ln -s "$(command -v "$tool")" "$copy/tools/$tool"
 done
@@ -176,10 +176,10 @@ expect "no rt to try the sources" 1 "$no_rt" $? "$said"
 said=$(run "$copy/respath" "$files" "$files/none")
 expect "files that can't be read where the program isn't built" 1 "respath: $files: read failed
 respath: $files/none: can't be opened" $? "$said"
-no_room="respath: the program is not built, and $copy/crates/rpki_text/out is not writable: copy the sources, or use\
+no_room="respath: the program is not built, and $copy/crates/respath/out is not writable: copy the sources, or use\
  --try"
-chmod a-w "$copy/crates/rpki_text/out"
-if [ -w "$copy/crates/rpki_text/out" ]; then
+chmod a-w "$copy/crates/respath/out"
+if [ -w "$copy/crates/respath/out" ]; then
     nobody='setpriv --reuid=65534 --regid=65534 --clear-groups'
     if $nobody true 2>/dev/null; then
         # shellcheck disable=SC2086 # a command is words
@@ -192,48 +192,74 @@ else
     said=$(run "$copy/respath")
     expect "a folder that can't be written" 1 "$no_room" $? "$said"
 fi
-chmod u+w "$copy/crates/rpki_text/out"
+chmod u+w "$copy/crates/respath/out"
 
-# Proving: what fails is shown, a crate comes behind those that it stands on, and the program is noted.
-# The three crates without dependencies begin side by side.
-prover "a-kit logic 12" 'sleep 1; echo proving; exit 1'
-said=$(run "$copy/respath")
-expect "a proof that fails" 1 "proving
-proving
-proving
-$built_first
-respath: the program was not built" $? "$(echo "$said" | sed '/^respath: proving/s/[0-9][0-9]*/N/g' | LC_ALL=C sort)"
+# Proving: what fails is shown, and nothing behind it.
 # shellcheck disable=SC2016 # the prover's own words
-prover "the-kit logic 12" 'echo "$1 ${PWD##*/}" >>"${0%/*}/../asked"
-for crate in $(sed "/^#/d; s/[ :].*//" ../../crates.txt); do
-    [ -d "../$crate" ] || echo "there is no folder for $crate" >>"${0%/*}/../asked"
-done'
+prover "a-kit logic 12" 'for at in 1 2 3 4 5 6 7 8 9 10 11 12 13 14 15 16 17 18 19 20; do echo "proving $at"; done
+echo "rt: rpki_text NOT PROVED"; echo "0 passed, 1 failed"; exit 1'
+said=$(run "$copy/respath")
+expect "a proof that fails" 1 "$built_first
+proving 2
+rt: rpki_text NOT PROVED
+respath: the program was not built" $? "$(echo "$said" | sed '/^respath: proving/s/[0-9][0-9]*/N/g' | sed '3,20d')"
+
+# A prover that makes the program where it is asked. The first crate is kept from an earlier run. Each of the next four
+# takes two seconds, and the others take none. The file `asked` gets the words, what is there of mutations and of what was
+# built, and HANDLES. Two more files get the crates of crates.txt and the folders.
+# shellcheck disable=SC2016 # the prover's own words
+prover "the-kit logic 12" 'asked=${0%/*}/../asked
+echo "$@" >"$asked"
+sed "/^#/d; s/[ :].*//" crates.txt >"${0%/*}/../listed"
+ls crates >"${0%/*}/../copied"
+find . -name must-fail -o -name edits -o -name out >>"$asked"
+cat HANDLES >>"$asked"
+{ read -r first; echo "rt: $first is kept: an earlier run on this machine proved the same files over the same libraries"
+while read -r crate; do
+    count=$((count + 1))
+    [ "$count" -gt 4 ] || sleep 2
+    echo "rt: $crate proved"
+    echo "rt: $crate: its tests proved"
+done; } <"${0%/*}/../listed"
+mkdir crates/respath/out
+printf "#!/bin/sh\necho made\n" >crates/respath/out/respath
+chmod +x crates/respath/out/respath
+echo "1 passed, 0 failed"'
+mkdir -p "$copy/crates/rpki_text/must-fail" "$copy/crates/rpki_text/edits"
 said=$(run "$copy/respath")
 expect "all that the program needs is proved" 0 "respath: proved and built in N min
-ran
-run respath" $? "$(echo "$said" | tail -n 2 | sed 's/in [01] min/in N min/')
-$(tail -n 1 "$copy/asked")"
-all=$( (top=$copy started=respath && . "$top/program.sh" && needed_crates) | wc -l)
-expect "each crate but the last is reported when it is proved" 0 "$((all - 1))" $? \
-    "$(echo "$said" | grep -cE "^respath: [0-9]+ of $all crates are proved, [0-9]+ min gone, about [0-9]+ min left\$")"
+made" $? "$(echo "$said" | tail -n 2 | sed 's/in [0-9]* min/in N min/')"
+expect "rt ci is asked, over no mutations and nothing that was built" 0 "ci
+$(cat "$copy/HANDLES")" $? "$(cat "$copy/asked")"
+needed=$( (top=$copy started=respath && . "$top/program.sh" && needed_crates) | sort)
+expect "the copy has the crates that the program needs" 0 "$needed" $? "$(cat "$copy/copied")"
+expect "crates.txt of the copy names them" 0 "$needed" $? "$(sort "$copy/listed")"
+all=$(echo "$needed" | wc -l)
+expect "each crate that takes its time is reported when it is proved" 0 "$(seq 1 4)" $? \
+    "$(echo "$said" | sed -n "s/^respath: \([0-9]*\) of $all crates are proved, [0-9]* min gone, about [0-9]* min left\$/\1/p")"
+expect "a program that was proved by the script" 0 "proved here with the-kit logic 12" $? "$(version respath)"
 
 # The estimate: the rest of the plan, slower by as much as the proved crates were and two minutes more. Three are proved,
-# twice as slowly.
+# twice as slowly. A crate that was kept takes a second of the plan.
 estimate() (
-    top=$copy started=respath all=$all work=$copy/tmp marks=$copy/tmp/marks
+    top=$copy started=respath all=$all work=$copy/tmp reported=2
     . "$top/program.sh"
-    mkdir "$marks"
+    : >"$work/kept"
     plan >"$work/plan"
-    for crate in $(head -n 3 "$work/plan" | cut -d ' ' -f 1); do : >"$marks/$crate"; done
+    for crate in $(head -n 3 "$work/plan" | cut -d ' ' -f 1); do echo "rt: $crate proved"; done >"$work/log"
     planned=$(sed -n '3s/.* //p' "$work/plan")
     whole=$(sed -n '$s/.* //p' "$work/plan")
     began=$(($(date +%s) - 2 * planned))
     rest=$(((2 * planned + 120) * (whole - planned) / (planned + 120)))
-    report_proved one 2>&1 | sed "s/about $(((rest + 59) / 60)) min/about the rest/; s/ [0-9]* min gone/ gone/"
-    rm -rf "$marks" "$work/plan" "$work/left-one"
+    report_proved 2>&1 | sed "s/about $(((rest + 59) / 60)) min/about the rest/; s/ [0-9]* min gone/ gone/"
+    sed -i '1s/ proved/ is kept: an earlier run/' "$work/log"
+    report_proved 2>/dev/null
+    sed -n '1s/.* //p' "$work/plan"
+    rm "$work/plan" "$work/log" "$work/kept" "$work/proved"
 )
 said=$(PATH=$copy/bin:$copy/tools estimate)
-expect "an estimate after three crates" 0 "respath: 3 of $all crates are proved, gone, about the rest left" $? "$said"
+expect "an estimate after three crates" 0 "respath: 3 of $all crates are proved, gone, about the rest left
+1" $? "$said"
 
 # Without a build
 touch "$copy/crates/rpki_text/new"
@@ -242,22 +268,15 @@ said=$(run "$copy/respath" --no-build)
 expect "a program that is older than its sources, and no build" 1 "$unbuilt" $? "$said"
 touch "$out/respath"
 said=$(run "$copy/respath" --no-build)
-expect "a program that is current, and no build" 0 "ran" $? "$said"
-said=$(awk 'NR == FNR { at[$2] = FNR; next }
-    !/^#/ && sub(":", "", $1) && $1 in at { for (one = 2; one <= NF; one++) if (at[$one] > at[$1]) print $1, $one }' \
-    "$copy/asked" "$copy/crates.txt")
-expect "crates are proved in turn" 0 "" $? "$said"
-said=$(grep folder "$copy/asked")
-expect "each crate that is named beside one has a folder there" 1 "" $? "$said"
-expect "a program that was proved by the script" 0 "proved here with the-kit logic 12" $? "$(version respath)"
+expect "a program that is current, and no build" 0 "made" $? "$said"
 
-# Signals while it is proved, by a prover that waits for a child of its own; the one of them doesn't heed the signal.
+# Signals while it is proved, by a prover that waits for a child of its own; one of them doesn't heed the signal.
 touch "$copy/crates/rpki_text/new"
 # NAME, signal, status, what the prover runs first, and an option
 interrupt() {
     # shellcheck disable=SC2016 # the prover's own words
-    prover "a-kit logic 12" "$4"' mkdir -p out; : >out/kept; sleep 60 & echo $! >"${0%/*}/child"; wait'
-    rm -f "$copy/bin/child" "$copy"/crates/*/out/kept
+    prover "a-kit logic 12" "$4"' sleep 60 & echo $! >"${0%/*}/child"; wait'
+    rm -f "$copy/bin/child"
     # A shell's job ignores an interrupt; what timeout starts doesn't, and it hands its signals on to all of the group.
     PATH=$copy/bin:$copy/tools TMPDIR=$copy/tmp timeout --preserve-status -k 20 60 "$copy/respath" "$5" \
         </dev/null >/dev/null 2>&1 &
@@ -268,7 +287,6 @@ interrupt() {
     wait $!
     status=$?
     left=$(ls "$copy/tmp")
-    [ "$5" = --try ] || ls "$copy"/crates/*/out/kept >/dev/null 2>&1 || left="$left, and what was proved is lost"
     [ -e "$copy/bin/child" ] || left="$left, and no child was begun"
     # An ended process that nobody has waited for yet is there as a zombie.
     ! grep -qs '^State:.[^ZX]' "/proc/$(cat "$copy/bin/child")/status" || left="$left, and the child of the prover"

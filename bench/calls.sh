@@ -1,8 +1,9 @@
 #!/bin/sh
-# What a call costs from C: thousands of instructions of one call over two sets of N blocks of each kind, octets in and
-# octets out, for N of 1,000 or those that are given, and the share of them that the functions of pigyelund_c take
-# themselves, what is inlined there included: by callgrind, over eleven calls. Needs gcc, python3 and valgrind. A
-# certificate, and a set that is contained, has a block inside each of the issuer's; other sets have blocks that overlap.
+# usage: calls.sh [N ..]
+# Counts by callgrind what a call costs from C: the instructions of one call over two sets of N blocks of each kind, in
+# thousands, and the share of the functions of pigyelund_c with what is inlined there. N is 1,000 if none is given. A
+# count is the mean of eleven calls. bench/calls.py measures. In `verify` and `contains`, each block of the second set is
+# inside one of the first. In the other calls the blocks overlap. Needs gcc, python3 and valgrind.
 top=$(CDPATH='' cd -- "$(dirname -- "$0")/.." && pwd) || exit 1
 library=$top/crates/pigyelund_c/out/libpigyelund_c.a
 kit=${KIT:-$(dirname "$(dirname "$(readlink -f "$(command -v rt)")")")}
@@ -11,87 +12,4 @@ trap 'rm -rf "$folder"' EXIT
 [ -f "$library" ] || (cd "$top/crates/pigyelund_c" && rt lib) || exit 1
 gcc -O2 -o "$folder/calls" "$top/bench/calls.c" "$library" "$kit/c/liblibc_c.a" || exit 1
 [ $# -gt 0 ] || set -- 1000
-python3 - "$folder" "$@" <<'PROGRAM'
-import re, subprocess, sys
-
-folder = sys.argv[1]
-TIMES = 11
-CALLS = ("verify", "union", "intersection", "difference", "contains")
-
-
-def value(tag, content):
-    """A DER value (X.690, 8.1)."""
-    length = len(content)
-    if length < 128:
-        return bytes([tag, length]) + content
-    octets = length.to_bytes((length.bit_length() + 7) // 8, "big")
-    return bytes([tag, 128 + len(octets)]) + octets + content
-
-
-def integer(number):
-    return value(2, number.to_bytes(number.bit_length() // 8 + 1, "big"))
-
-
-def bits(number, width, ones):
-    """An address as a BIT STRING without its last bits, which are 0, or those that are 1 (RFC 3779, 2.2.3.8)."""
-    left = width
-    while left and number >> width - left & 1 == ones:
-        left -= 1
-    kept = number >> width - left << -left % 8
-    return value(3, bytes([-left % 8]) + kept.to_bytes((left + 7) // 8, "big"))
-
-
-def numbers(blocks):
-    """AS identifiers (RFC 3779, 3.2.3)."""
-    listed = b"".join(value(0x30, integer(first) + integer(last)) for first, last in blocks)
-    return value(0x30, value(0xA0, value(0x30, listed)))
-
-
-def family(number, width, shift, blocks):
-    listed = b"".join(
-        value(0x30, bits(first << shift, width, 0) + bits((last + 1 << shift) - 1, width, 1)) for first, last in blocks
-    )
-    return value(0x30, value(4, number.to_bytes(2, "big")) + value(0x30, listed))
-
-
-def addresses(blocks):
-    """IP address blocks (RFC 3779, 2.2.3)."""
-    return value(0x30, family(1, 32, 8, blocks) + family(2, 128, 80, blocks))
-
-
-def written(one, other):
-    """The words for a file of four values: those of one set, and those of the other."""
-    values = [numbers(one), addresses(one), numbers(other), addresses(other)]
-    with open(f"{folder}/octets", "wb") as file:
-        file.write(b"".join(values))
-    return [f"{folder}/octets", *(str(len(it)) for it in values[:3])]
-
-
-def shares(call, words):
-    """The thousands of instructions of one call, and the share of them in the border's own functions."""
-    log = f"{folder}/callgrind"
-    run = ["valgrind", "--tool=callgrind", f"--callgrind-out-file={log}", f"{folder}/calls", call, str(TIMES), *words]
-    subprocess.run(run, check=True, capture_output=True)
-    whole, own = (annotated(log, kind) for kind in ("yes", "no"))
-    all_of_it = sum(count for name, count in whole if re.fullmatch(r"pigy_\w+", name))
-    border = sum(count for name, count in own if name.startswith(("pigy_", "pigyelund_c::")))
-    return all_of_it / TIMES / 1000, border / all_of_it
-
-
-def annotated(log, inclusive):
-    """Each function with its instructions, those of the functions that it calls included or not."""
-    words = ["callgrind_annotate", f"--inclusive={inclusive}", "--threshold=100", log]
-    lines = subprocess.run(words, check=True, capture_output=True, text=True).stdout.splitlines()
-    found = (re.match(r"\s*([\d,]+) \([\d. ]+%\)\s+\S*?:([\w:+<>#.]+)", line) for line in lines)
-    return [(it[2], int(it[1].replace(",", ""))) for it in found if it]
-
-
-print(f"{'call':<14}{'N':>8}{'thousands':>12}{'border':>9}")
-for count in map(int, sys.argv[2:]):
-    one = [(16 * at + 1, 16 * at + 9) for at in range(count)]
-    inside = [(16 * at + 3, 16 * at + 7) for at in range(count)]
-    across = [(16 * at + 5, 16 * at + 12) for at in range(count)]
-    for call in CALLS:
-        took, border = shares(call, written(one, inside if call in ("verify", "contains") else across))
-        print(f"{call:<14}{count:>8}{took:>12.1f}{border:>9.3f}")
-PROGRAM
+python3 "$top/bench/calls.py" "$folder" "$@"

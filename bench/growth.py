@@ -1,0 +1,104 @@
+#!/usr/bin/env python3
+"""growth.py RESPATH: measures how the time and the memory of `norm` and `cover` grow, for bench/growth.sh."""
+
+import os
+import random
+import select
+import subprocess
+import sys
+import tempfile
+
+SIZES = (50_000, 100_000, 200_000)
+RUNS = 15
+
+
+def as_number(number):
+    return f"AS{number}"
+
+
+def ipv4(number):
+    return ".".join(str(number >> shift & 255) for shift in (24, 16, 8, 0))
+
+
+def ipv6(number):
+    return f"2001:db8::{number >> 16:x}:{number & 0xFFFF:x}"
+
+
+def blocks(written, count):
+    """Blocks that neither overlap nor touch, ascending."""
+    return [f"{written(16 * at)}-{written(16 * at + at % 9)}" for at in range(count)]
+
+
+def shuffled(kind, written, count):
+    elements = blocks(written, count)
+    random.Random(count).shuffle(elements)
+    return f"norm {kind} " + ", ".join(elements) + "\n"
+
+
+def ascending(kind, written, count):
+    return f"norm {kind} " + ", ".join(blocks(written, count)) + "\n"
+
+
+def covered(written, count):
+    """Random prefixes of 18 to 32 bits."""
+    chance = random.Random(count)
+    made = ((chance.getrandbits(32), chance.randint(18, 32)) for _ in range(count))
+    return "cover v4 " + ", ".join(f"{written(bits)}/{length}" for bits, length in made) + "\n"
+
+
+def lines(kind, written, count):
+    return "".join(f"norm {kind} {written(at + 1)}, {written(at)}\n" for at in range(count))
+
+
+def peak_of(process):
+    """The peak MiB of a process that runs, as the kernel tells it."""
+    with open(f"/proc/{process.pid}/status") as lines:
+        return next((int(line.split()[1]) / 1024 for line in lines if line.startswith("VmHWM:")), 0.0)
+
+
+def measured(program, path):
+    """Seconds of the processor and peak MiB of one run over the file."""
+    peak = 0.0
+    with open(path) as given:
+        process = subprocess.Popen([program], stdin=given, stdout=subprocess.PIPE)
+    while True:
+        # The program waits while its answers aren't taken, so the last look finds nearly all that it held.
+        select.select([process.stdout], [], [])
+        peak = max(peak, peak_of(process))
+        if not os.read(process.stdout.fileno(), 1 << 16):
+            break
+    _, status, used = os.wait4(process.pid, 0)
+    if status != 0:
+        sys.exit(f"the program ended with status {status}")
+    return used.ru_utime + used.ru_stime, peak
+
+
+def make_inputs(inputs):
+    """Writes a file for each kind, form and size."""
+    for size in SIZES:
+        for kind, written in (("as", as_number), ("v4", ipv4), ("v6", ipv6)):
+            for name, made in (("shuffled", shuffled), ("sorted", ascending), ("lines", lines)):
+                with open(f"{inputs}/{kind}-{name}.{size}", "w") as out:
+                    out.write(made(kind, written, size))
+        with open(f"{inputs}/v4-cover.{size}", "w") as out:
+            out.write(covered(ipv4, size))
+
+
+def compare(program, inputs):
+    """Prints the seconds and the peak memory for each input, and how they grow with its size."""
+    print(f"{'input':<14}{'N':>8}{'MiB in':>8}{'seconds':>9}{'growth':>8}{'peak MiB':>10}{'growth':>8}")
+    for name in [f"{kind}-{made}" for kind in ("as", "v4", "v6") for made in ("shuffled", "sorted", "lines")] + ["v4-cover"]:
+        # In rounds over all sizes, so that a slow moment of the machine doesn't meet one size alone.
+        rounds = [[measured(program, f"{inputs}/{name}.{size}") for size in SIZES] for _ in range(RUNS)]
+        before = None
+        for size, runs in zip(SIZES, zip(*rounds)):
+            seconds, peak = min(run[0] for run in runs), min(run[1] for run in runs)
+            growth = ("", "") if before is None else (f"{seconds / before[0]:.2f}", f"{peak / before[1]:.2f}")
+            mebibytes = os.path.getsize(f"{inputs}/{name}.{size}") / 2**20
+            print(f"{name:<14}{size:>8}{mebibytes:>8.2f}{seconds:>9.3f}{growth[0]:>8}{peak:>10.1f}{growth[1]:>8}")
+            before = (seconds, peak)
+
+
+with tempfile.TemporaryDirectory() as folder:
+    make_inputs(folder)
+    compare(sys.argv[1], folder)

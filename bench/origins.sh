@@ -1,7 +1,7 @@
 #!/bin/sh
-# Times lookups in the tables that slow a lookup most, beside rtrlib's pfx_table (Debian's librtr-dev): 40,000 AS numbers
-# of one prefix, prefixes of all lengths inside one another, and 40,000 VRPs of these. Each table is asked for three
-# routes: one that its longest prefixes don't cover, one that they cover and none matches, and one that an AS may
+# Times lookups in the tables that slow a lookup most, beside rtrlib's pfx_table (Debian's librtr-dev): 40,000 AS
+# numbers of one prefix, prefixes of all lengths inside one another, and 40,000 VRPs of these. Each table is asked for
+# three routes: one that its longest prefixes don't cover, one that they cover and none matches, and one that an AS may
 # originate. A time is in microseconds of the processor, the least of RUNS (5). Both must print the same answers.
 # bench/slowest_tables.py measures. The library of bench/clock.c makes each clock count the time of the processor.
 top=$(CDPATH= cd -- "$(dirname -- "$0")/.." && pwd) || exit 1

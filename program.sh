@@ -5,6 +5,11 @@
 program=$top/crates/$started/out/$started
 noted=${program%/*}/proved-with # the kit that proved the program, and the sum of that program
 
+# Prints the text of a constant of the source that `texts` names, by the constant's name.
+text_of() {
+    sed -n "/^pub const $1: &str = \"/,/\";\$/ { s/^pub const $1: &str = \"//; s/\";\$//; p; }" "$texts"
+}
+
 tell() {
     printf '%s: %s\n' "$started" "$1" >&2
 }

@@ -170,6 +170,7 @@ OF_VERSIONS = (
     Case(VERSIONS, "README.md", "pigyelund_", "pigyelund_9", "README.md: version 9"),
     Case(VERSIONS, "README.md", "/pigyelund-0", "/pigyelund-90", "README.md: version 9"),
     Case(VERSIONS, "crates/origins/src/help.rt", 'VERSION: &str = "', 'VERSION: &str = "9', "help.rt: version 9"),
+    Case(VERSIONS, "crates/respath_files/src/help.rt", 'VERSION: &str = "', 'VERSION: &str = "9', "help.rt: version 9"),
     Case(VERSIONS, "crates/origins/src/help.rt", "pub const VERSION", "const VERSION", f"help.rt: {NONE}"),
     Case(VERSIONS, "foreign/rust/Cargo.toml", '\nversion = "', '\nversion = "9', "rust/Cargo.toml: version 9"),
     Case(VERSIONS, "foreign/rust/Cargo.toml", "\nversion = ", "\nversions = ", f"rust/Cargo.toml: {NONE}"),

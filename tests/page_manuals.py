@@ -86,7 +86,7 @@ def failed_write(folder: Path, words: list[str | Path], given: str) -> int:
 
 
 def pages_of_respath(folder: Path, script: Path) -> Iterator[Page]:
-    """The help of the script, and the manual page of the program, which has no options."""
+    """The help of the script, and the manual page of the program that a release installs as `respath`."""
     wrong = "norm as x\n"
     statuses = {
         "answered": run(folder, [script], wrong).status,
@@ -95,8 +95,14 @@ def pages_of_respath(folder: Path, script: Path) -> Iterator[Page]:
         "check": run(folder, [script, "--check"], wrong).status,
     }
     yield Page("respath --help", in_one_line(run(folder, [script, "--help"]).printed), tuple(statuses), statuses)
-    alone: list[str | Path] = [program("respath")]
-    statuses = {"answered": run(folder, alone, wrong).status, "failed": failed_write(folder, alone, wrong)}
+    if not (installed := program("respath_files")).is_file():
+        return
+    statuses = {
+        "answered": run(folder, [installed], wrong).status,
+        "failed": failed_write(folder, [installed], wrong),
+        "usage": run(folder, [installed, "--strange"]).status,
+        "check": run(folder, [installed, "--check"], wrong).status,
+    }
     yield Page("docs/respath.1", manual("respath"), tuple(statuses), statuses)
 
 
@@ -177,7 +183,7 @@ def faults(folder: Path) -> Iterator[tuple[str, str]]:
 
 def main() -> int:
     """Prints what differs."""
-    for name in ("respath", "origins"):
+    for name in ("respath", "respath_files", "origins"):
         if not program(name).is_file():
             print(f"left out: {name} is not built")
     with tempfile.TemporaryDirectory() as name:

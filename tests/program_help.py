@@ -16,8 +16,8 @@ from pathlib import Path
 
 TOP = Path(__file__).resolve().parent.parent
 SECONDS = 0.2
-# The installed respath is the program alone, so its page has nothing of the options of the script and their statuses.
-OF_SCRIPT = re.compile(r"-|[0-3]$")
+# The program whose texts are those of the script.
+PROGRAMS = {"respath": "respath_files", "origins": "origins"}
 WRONG = {
     "respath": (["--strange"], ["norm as 1"]),
     "origins": (
@@ -74,7 +74,7 @@ def faults_of(name: str) -> list[str]:
     helped = asked(name, "--help")[1]
     page = plain((TOP / "docs" / f"{name}.1").read_text())
     own, _, _ = helped.partition("\nOptions of the script")
-    said = {term: it for term, it in entries(own).items() if name == "origins" or not OF_SCRIPT.match(term)}
+    said = entries(own)
     if len(said) < 8:
         faults.append(f"{name} --help has {len(said)} entries: {', '.join(said)}")
     for term, description in said.items():
@@ -89,17 +89,17 @@ def faults_of(name: str) -> list[str]:
             faults.append(f"{what}: {took:.2f} seconds of the processor, more than {SECONDS}")
         if wanted == 2 and "origins" in what and "\nusage: " not in text:
             faults.append(f"{what}: no usage in {text!r}")
-    program = TOP / "crates" / name / "out" / name
-    if name == "origins" and program.is_file():
-        of_program = subprocess.run([program, "--help"], capture_output=True, text=True).stdout
-        if not helped.startswith(of_program.rstrip("\n")):
-            faults.append("./origins --help does not begin with the help of the program")
-        for words in WRONG[name]:
-            ran = subprocess.run([program, *words], capture_output=True, text=True, stdin=subprocess.DEVNULL)
-            if (ran.returncode, ran.stderr) != asked(name, *words)[:2]:
-                faults.append(f"origins {' '.join(words)}: the script and the program answer differently")
-    elif name == "origins":
-        print("left out: the help of the program origins, which is not built")
+    program = TOP / "crates" / PROGRAMS[name] / "out" / PROGRAMS[name]
+    if not program.is_file():
+        print(f"left out: the help of the program {PROGRAMS[name]}, which is not built")
+        return faults
+    usage, _, of_program = subprocess.run([program, "--help"], capture_output=True, text=True).stdout.partition("\n\n")
+    if of_program.rstrip("\n") not in helped or (name == "origins" and not helped.startswith(usage)):
+        faults.append(f"./{name} --help does not have the help of the program")
+    for words in WRONG[name] if name == "origins" else ():
+        ran = subprocess.run([program, *words], capture_output=True, text=True, stdin=subprocess.DEVNULL)
+        if (ran.returncode, ran.stderr) != asked(name, *words)[:2]:
+            faults.append(f"origins {' '.join(words)}: the script and the program answer differently")
     return faults
 
 

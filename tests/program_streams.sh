@@ -1,11 +1,12 @@
 #!/bin/sh
 # Tests what no contract says of the program respath: its status and its line on standard error if a standard stream
-# fails, and streams above 64 MiB, also through origins. It tests the options and files of ./respath and the examples of
-# its help too; tests/program_front.sh tests what the script does without the program. The status is 0 if every case is as
-# expected.
+# fails, and streams above 64 MiB, also through origins. It tests the options and files of ./respath and of the program
+# that a release installs as respath, and the examples of the help. tests/program_front.sh tests what the script does
+# without the program. The status is 0 if every case is as expected.
 top=$(CDPATH= cd -- "$(dirname -- "$0")/.." && pwd) || exit 1
 printf '' | "$top/respath" || exit 1
 program=$top/crates/respath/out/respath
+installed=$top/crates/respath_files/out/respath_files
 
 # shellcheck source=tests/expect.sh
 . "$top/tests/expect.sh"
@@ -54,7 +55,7 @@ expect "many lines of sources that are not proved" 0 "AS1-AS2
 respath: one of the two runners answered alone, the other one needs too many steps
 respath: these answers come from sources that were not proved here" $? "$said"
 
-examples=$("$top/respath" --help | sed '1,/^For example:/d; s/^  //')
+examples=$("$top/respath" --help | sed -n '/^For example:/,/^$/s/^  //p')
 wanted=$(echo "$examples" | sed 's/.*  //')
 said=$(echo "$examples" | sed 's/  .*//' | "$program")
 expect "the examples of the help" 0 "$wanted" $? "$said"
@@ -63,47 +64,76 @@ files=$(mktemp -d) || exit 1
 trap 'rm -rf "$files"' EXIT
 printf 'norm as 2,1' >"$files/one"
 printf 'norm v4 10.0.0.1\n' >"$files/the other"
-said=$("$top/respath" "$files/one" "$files/the other")
-expect "files in turn" 0 "AS1-AS2
+# Names of files, and --check: of_files COMMAND PREFIX
+of_files() {
+    said=$("$1" "$files/one" "$files/the other")
+    expect "$2files in turn" 0 "AS1-AS2
 10.0.0.1" $? "$said"
 
-said=$("$top/respath" "$files" "$files/none" "$files/one" 2>&1)
-expect "files that can't be read" 1 "respath: $files: read failed
+    said=$("$1" "$files" "$files/none" "$files/one" 2>&1)
+    expect "$2files that can't be read" 1 "respath: $files: read failed
 respath: $files/none: can't be opened
 AS1-AS2" $? "$said"
 
-said=$("$top/respath" "$files/one" 2>&1 >/dev/full)
-expect "answers of a file that can't be written" 1 "respath: write failed" $? "$said"
+    said=$("$1" "$files/one" 2>&1 >/dev/full)
+    expect "$2answers of a file that can't be written" 1 "respath: write failed" $? "$said"
 
-said=$(printf 'norm as 7\n' | "$top/respath" "$files/one" -)
-expect "the standard input among files" 0 "AS1-AS2
+    said=$(printf 'norm as 7\n' | "$1" "$files/one" -)
+    expect "$2the standard input among files" 0 "AS1-AS2
 AS7" $? "$said"
 
-printf 'norm as 9' >"$files/--check"
-said=$(cd "$files" && "$top/respath" -- --check)
-expect "a file named as an option" 0 "AS9" $? "$said"
+    printf 'norm as 9' >"$files/--check"
+    said=$(cd "$files" && "$1" -- --check)
+    expect "$2a file named as an option" 0 "AS9" $? "$said"
 
-said=$("$top/respath" -h)
-expect "the short name of the help" 0 "$("$top/respath" --help)" $? "$said"
+    said=$("$1" -h)
+    expect "$2the short name of the help" 0 "$("$1" --help)" $? "$said"
 
-said=$("$top/respath" --check "$files/one")
-expect "a check of right lines" 0 "AS1-AS2" $? "$said"
+    said=$("$1" --check "$files/one")
+    expect "$2a check of right lines" 0 "AS1-AS2" $? "$said"
 
-said=$(printf 'norm as x\nnorm as 1\n' | "$top/respath" --check)
-expect "a check of a wrong line" 3 "error: Bad AS number. Expected format: AS#
+    said=$(printf 'norm as x\nnorm as 1\n' | "$1" --check)
+    expect "$2a check of a wrong line" 3 "error: Bad AS number. Expected format: AS#
 AS1" $? "$said"
 
-said=$(printf 'path as 1 | refuse 2\n' | "$top/respath" - --check)
-expect "a check of a refused claim" 3 "refused at step 0: overclaimed AS resources: AS2" $? "$said"
+    said=$(printf 'path as 1 | refuse 2\n' | "$1" - --check)
+    expect "$2a check of a refused claim" 3 "refused at step 0: overclaimed AS resources: AS2" $? "$said"
 
-said=$(printf 'path as 1 | inherit | trim 2 | refuse 3\n' | "$top/respath" --check)
-expect "a check of a claim that is refused later" 3 "refused at step 2: overclaimed AS resources: AS3" $? "$said"
+    said=$(printf 'path as 1 | inherit | trim 2 | refuse 3\n' | "$1" --check)
+    expect "$2a check of a claim that is refused later" 3 "refused at step 2: overclaimed AS resources: AS3" $? "$said"
 
-said=$("$top/respath" --check "$files/none" 2>&1)
-expect "a check of no file" 1 "respath: $files/none: can't be opened" $? "$said"
+    said=$("$1" --check "$files/none" 2>&1)
+    expect "$2a check of no file" 1 "respath: $files/none: can't be opened" $? "$said"
 
-said=$("$top/respath" --check "$files/one" 2>&1 >/dev/full)
-expect "a check that can't be written" 1 "respath: write failed" $? "$said"
+    said=$("$1" --check "$files/one" 2>&1 >/dev/full)
+    expect "$2a check that can't be written" 1 "respath: write failed" $? "$said"
+}
+of_files "$top/respath" ""
+
+# The program that a release installs
+if [ -x "$installed" ]; then
+    of_files "$installed" "installed: "
+    said=$(printf 'norm as 2, 1' | "$installed")
+    expect "installed: the standard input" 0 "AS1-AS2" $? "$said"
+    said=$("$installed" --check --where "$files/one" 2>&1)
+    expect "installed: an unknown option" 2 "respath: unknown option: --where
+usage: respath [--check] [--] [FILE ..] | --help | --version" $? "$said"
+    said=$("$installed" --version)
+    expect "installed: the version" 0 "respath, version $(cat "$top/VERSION")" $? "$said"
+    said=$("$installed" --version 2>&1 >/dev/full)
+    expect "installed: a version that can't be written" 1 "respath: write failed" $? "$said"
+    # The answer begins with e, as error: does, and is none. The last line has no end.
+    said=$(printf 'norm v6 e000::/8\nnorm v6 e::\nread as 0' | "$installed" --check -- - "$files/one")
+    expect "installed: an address that begins as an error" 3 "e000::/8
+e::
+error: bad hex
+AS1-AS2" $? "$said"
+    said=$(printf 'norm v6 e000::/8, e::\nder as 1' | "$installed" --check)
+    expect "installed: no error" 0 "e::, e000::/8
+3007a0053003020101" $? "$said"
+else
+    echo "left out  the program that a release installs as respath: it is not built"
+fi
 
 said=$(printf 'norm as 1\npath as 1 | trim 2 | refuse , 2' | "$top/respath" --where --check "$files/one" - 2>&1)
 expect "places of errors" 3 "AS1-AS2

@@ -49,10 +49,10 @@ END
     sed -n 's/^The kit that last proved all crates is `\(.*\)`\.$/\1/p' README.md >"$kit/identity"
     local name
     sum=$(sed 's/.* //' "$kit/identity")
-    for name in respath origins pigyelund_c; do
+    for name in respath respath_files origins pigyelund_c; do
         printf 'axioms %s\nlogic=proved axioms=6 sum=%s native=nat\n' "$name" "$sum" >"$kit/said/$name"
     done
-    for name in respath origins; do
+    for name in respath respath_files origins; do
         printf '#!/bin/sh\necho %s\n' "$name" >"$kit/proved/$name"
         chmod +x "$kit/proved/$name"
     done
@@ -72,11 +72,11 @@ END
 # Makes the copy anew, of the files that a release reads, with the programs that are proved there.
 make_copy() {
     rm -rf "$copy" "$out/made" "$kit/meanwhile" "$kit/tools"
-    mkdir -p "$copy/crates/respath" "$copy/crates/origins" "$kit/tools"
+    mkdir -p "$copy/crates/respath" "$kit/tools"
     tar -cf - --exclude=out --exclude=rows.txt --exclude=__pycache__ .gitignore release program.sh respath origins \
-        README.md CHANGELOG.md LICENSE VERSION foreign packaging tests/foreign_page.py tests/foreign.sh tests/page_logic.sh \
-        tests/source_versions.py tests/release.sh crates/origins/src docs/PROVED.md docs/FOREIGN.md docs/CONFORMANCE.md \
-        docs/respath.1 docs/origins.1 crates/pigyelund_c/src crates/pigyelund_c/specs crates/pigyelund_routes/src \
+        README.md CHANGELOG.md LICENSE VERSION foreign packaging tests/foreign_page.py tests/foreign.sh \
+        tests/page_logic.sh tests/source_versions.py tests/release.sh crates/origins/src crates/respath_files \
+        docs/PROVED.md docs/FOREIGN.md docs/CONFORMANCE.md docs/respath.1 docs/origins.1 crates/pigyelund_c/src crates/pigyelund_c/specs crates/pigyelund_routes/src \
         crates/pigyelund_routes/specs vectors | tar -xf - -C "$copy"
     (
         cd "$copy" || exit
@@ -122,10 +122,12 @@ refuses_what_is_not_proved() {
         refuses "no $program of the prover" "rt run made no $program" "mv '$kit/proved/$program' '$out/away'"
         mv "$out/away" "$kit/proved/$program"
     done
+    refuses "no respath_files of the prover" "rt run made no respath_files" "mv '$kit/proved/respath_files' '$out/away'"
+    mv "$out/away" "$kit/proved/respath_files"
     refuses "a library that the prover didn't make" "rt lib made no libpigyelund_c.a" \
         "mkdir -p crates/pigyelund_c/out && mv '$kit/proved/libpigyelund_c.a' crates/pigyelund_c/out"
     mv "$copy/crates/pigyelund_c/out/libpigyelund_c.a" "$kit/proved" 2>/dev/null || make_kit
-    for crate in respath origins pigyelund_c; do
+    for crate in respath respath_files origins pigyelund_c; do
         verb=check
         [ "$crate" != pigyelund_c ] || verb=lib
         for verdict in "logic=not-proved sum=$sum" "logic=built proved sum=$sum" "proved" ""; do
@@ -186,7 +188,7 @@ refuses_other_sums() {
     local program
     for program in respath origins; do
         refuses "a $program that is changed as it is installed" "$program isn't the one that was proved here" \
-            "tool install '*out/$program*' '\$LAST/$program'"
+            "tool install '*out/$program*/bin/$program*' '\$LAST'"
     done
     refuses "a library that is changed meanwhile" "libpigyelund_c.a isn't the one that was proved here" \
         "tool make '*install*' '$copy/crates/pigyelund_c/out/libpigyelund_c.a'"
@@ -425,7 +427,9 @@ of_archive() {
     (cd "$tree" && sha256sum --quiet -c SHA256SUMS) || fail "the sums of the files"
     for program in respath origins; do
         answers "$tree/bin" "$tree/share/man/man1/$program.1" || fail "the manual's examples of $program"
-        cmp "crates/$program/out/$program" "$tree/bin/$program" || fail "the program $program"
+        crate=$program
+        [ "$program" != respath ] || crate=respath_files
+        cmp "crates/$crate/out/$crate" "$tree/bin/$program" || fail "the program $program"
         "./$program" --version | grep -q '^proved here' || fail "$program is noted"
     done
     grep -q '^logic=proved .*axioms=' "$tree/share/doc/pigyelund/VERDICTS" || fail "the verdicts"

@@ -1,8 +1,8 @@
 #!/usr/bin/env python3
 """Compares what the programs answered with what the reference beside this file answers.
 
-Without options it answers each stored line of the programs of rows, of `example_holdings`, `example_verified_set`
-and of `bench_growth` about origins. With --random SEED COUNT it makes so many lines of each command of `respath`, and
+Without options it answers each stored line of the programs of rows, of `example_holdings`, `example_verified_set`,
+`respath_files`, and of `bench_growth` about origins. With --random SEED COUNT it makes so many lines of each command of `respath`, and
 asks the built program.
 What the reference doesn't say is counted and named. Status 1 where an answer differs.
 """
@@ -153,11 +153,21 @@ def compare_growth() -> bool:
     return comparison.report("bench_growth")
 
 
+def compare_files() -> bool:
+    """Compares what `respath_files` prints of the file and the standard input that it is run with."""
+    comparison = Comparison()
+    folder = CRATES / "respath_files"
+    asked = lines_of(folder / "data" / "lines") + lines_of(folder / "stdin")
+    for line, found in zip(asked, lines_of(folder / "stdout"), strict=True):
+        comparison.add("respath_files/stdout", line, lines.answer(line.encode()), found)
+    return comparison.report("respath_files")
+
+
 def compare_stored() -> bool:
     """Compares all stored answers of the programs that there are."""
     there = [name for name in PROGRAMS if (CRATES / name / "stdin").exists()]
     results = [compare_program(name, PROGRAMS[name]) for name in there]
-    return all([*results, compare_holdings(), compare_verified_set(), compare_growth()])
+    return all([*results, compare_holdings(), compare_verified_set(), compare_growth(), compare_files()])
 
 
 def ask(program: Path, asked: list[bytes]) -> list[str]:

@@ -1,0 +1,132 @@
+//! The program that a release installs as `respath`. It answers the lines of files, or of the standard input.
+#![tactic(auto)]
+
+mod failure;
+mod fault_watch;
+mod help;
+mod options;
+
+use crate::failure::Failure;
+use crate::fault_watch::FaultWatch;
+use crate::help::{HELP, USAGE, VERSION};
+use crate::options::{Misuse, Task, parse};
+use lines_engine::adapters::{FromRead, IntoWrite};
+use lines_engine::error::RunError;
+use respath_lines::run;
+use std::io::{BufWriter, Read, Stdout};
+use std::process::ExitCode;
+use std::{env, fs, io};
+
+/// The number of bytes that are buffered before they are written to the standard output.
+const BUFFER: usize = 64 * 1024;
+
+fn main(rt: HostRuntime) -> ExitCode {
+    let Ok(words) = words(&rt) else {
+        return fail(&rt, Failure::Words);
+    };
+    match parse(&rt, words.as_slice()) {
+        Ok(Task::Answer { check, names }) => answer(&rt, check, names.as_slice()),
+        Ok(Task::Help) => after_print(&rt, println!(rt; "{USAGE}\n{HELP}")),
+        Ok(Task::Version) => after_print(&rt, println!(rt; "respath, version {VERSION}")),
+        Err(Misuse::Memory) => fail(&rt, Failure::Run(None, RunError::Memory)),
+        Err(misuse) => {
+            let _ = eprintln!(rt; "respath: {misuse}\n{USAGE}");
+            ExitCode::from(2)
+        }
+    }
+}
+
+/// Returns the program's name and its arguments.
+fn words(rt: &HostRuntime) -> anyhow::Result<Vec<String>> {
+    let words = env::args(rt)?.collect::<Vec<String>>(rt.alloc())?;
+    Ok(words)
+}
+
+/// Reports a failure. If that fails too, only the exit status reports it.
+fn fail(rt: &HostRuntime, failure: Failure<'_>) -> ExitCode {
+    let _ = eprintln!(rt; "respath: {failure}");
+    ExitCode::FAILURE
+}
+
+/// Returns exit status 0 after a text was printed, or reports that the print failed.
+fn after_print(rt: &HostRuntime, printed: io::Result<()>) -> ExitCode {
+    match printed {
+        Ok(()) => ExitCode::SUCCESS,
+        Err(_) => fail(rt, Failure::Run(None, RunError::Write)),
+    }
+}
+
+/// Answers the named files in turn, or the standard input if none is named, and returns the exit status.
+///
+/// If a file can't be answered, the program reports it and answers the others. If the standard output fails, the
+/// program ends.
+fn answer(rt: &HostRuntime, check: bool, names: &[&str]) -> ExitCode {
+    if names.is_empty() {
+        return match answer_input(rt) {
+            Ok(has_found) => status(check, has_found),
+            Err(failure) => fail(rt, failure),
+        };
+    }
+    let mut has_failed = false;
+    let mut has_found = false;
+    for name in names {
+        match answer_name(rt, name) {
+            Ok(found) => has_found = has_found || found,
+            Err(failure) => {
+                fail(rt, failure);
+                has_failed = true;
+                if failure.is_of_output() {
+                    break;
+                }
+            }
+        }
+    }
+    if has_failed {
+        ExitCode::FAILURE
+    } else {
+        status(check, has_found)
+    }
+}
+
+/// Returns the exit status after all lines were answered. With `--check` it is 3 if an answer is an error or a refusal.
+fn status(check: bool, has_found: bool) -> ExitCode {
+    ExitCode::from(if check && has_found { 3 } else { 0 })
+}
+
+/// Answers a file, or the standard input, whose name is `-`. Returns whether an answer is an error or a refusal.
+fn answer_name<'a>(rt: &HostRuntime, name: &'a str) -> Result<bool, Failure<'a>> {
+    if name == "-" {
+        return answer_input(rt);
+    }
+    match fs::open(rt, name) {
+        Ok(file) => answer_lines(rt, Some(name), file),
+        Err(_) => Err(Failure::NotOpened(name)),
+    }
+}
+
+/// Answers the standard input. Returns whether an answer is an error or a refusal.
+fn answer_input<'a>(rt: &HostRuntime) -> Result<bool, Failure<'a>> {
+    answer_lines(rt, None, rt.stdin())
+}
+
+/// Answers the lines of `reader` on the standard output. Returns whether an answer is an error or a refusal.
+fn answer_lines<'a, R: Read + Drop>(
+    rt: &HostRuntime,
+    name: Option<&'a str>,
+    reader: R,
+) -> Result<bool, Failure<'a>> {
+    let mut reader = FromRead::new(reader);
+    let mut writer = FaultWatch::new(IntoWrite::new(buffered(rt, name)?));
+    match run(rt.alloc(), &mut reader, &mut writer) {
+        Ok(()) => Ok(writer.has_found()),
+        Err(error) => Err(Failure::Run(name, error)),
+    }
+}
+
+/// Returns the standard output with a buffer.
+fn buffered<'a>(rt: &HostRuntime, name: Option<&'a str>) -> Result<BufWriter<Stdout>, Failure<'a>> {
+    match BufWriter::with_capacity(rt.alloc(), BUFFER, rt.stdout()) {
+        Ok(buffered) => Ok(buffered),
+        Err(_) => Err(Failure::Run(name, RunError::Memory)),
+    }
+}

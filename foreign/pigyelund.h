@@ -57,9 +57,9 @@
  *
  * CHECKS. Each call checks its arguments in the order that its comment lists, and returns the first error.
  * PIGY_TOO_SMALL comes after all checks. There is one exception: if the overclaimed resources of a certificate do not
- * fit, pigy_verify_path returns it before the checks of the later certificates. PIGY_MEMORY can come instead of any
- * other status, with two exceptions: pigy_table_len never returns it, and no call returns it for a NULL handle. The
- * comments of the calls do not repeat this.
+ * fit, pigy_verify_path returns PIGY_TOO_SMALL before it checks the later certificates. PIGY_MEMORY can come instead of
+ * any other status, with two exceptions: pigy_table_len never returns PIGY_MEMORY, and no call returns it for a NULL
+ * handle. The comments of the calls do not repeat these rules.
  *
  * OBLIGATIONS of the caller, which nothing checks:
  *
@@ -99,10 +99,10 @@ extern "C" {
 
 /* Attributes, by which GCC and Clang warn. They are empty for other compilers.
  *
- * - PIGY_NODISCARD: A program that ignores the result gets a warning. pigy_table_len does not have it, since its only
- *   error is a NULL handle.
- * - PIGY_NONNULL(...): No pointer with one of these numbers is NULL. The first parameter has number 1. Without numbers
- *   this holds for all pointers. A program that passes the constant NULL gets a warning. */
+ * - PIGY_NODISCARD: A program that ignores the result gets a warning. pigy_table_len does not have this attribute,
+ *   since its only error is a NULL handle.
+ * - PIGY_NONNULL(...): The parameters with these numbers must not be NULL. The first parameter has number 1. Without
+ *   numbers no pointer parameter may be NULL. A program that passes the constant NULL gets a warning. */
 #ifdef __GNUC__
 #define PIGY_NODISCARD __attribute__((__warn_unused_result__))
 #define PIGY_NONNULL(...) __attribute__((__nonnull__(__VA_ARGS__)))
@@ -169,8 +169,8 @@ extern "C" {
 
 /* Modes, for a certificate that claims more than its issuer has. PIGY_REFUSE refuses the certificate (RFC 6487, 7.2).
  * PIGY_TRIM reduces the claim to the resources that the issuer has (RFC 8360, 4). It is for certificates with the
- * policy id-cp-ipAddr-asNumber-v2, whose extensions have the OIDs of RFC 8360, 4.2. The outputs are
- * without the resources that PIGY_TRIM removes. docs/FOREIGN.md, "All overclaimed resources", says how to get these. */
+ * policy id-cp-ipAddr-asNumber-v2, whose extensions have the OIDs of RFC 8360, 4.2. The outputs do not contain the
+ * removed resources. docs/FOREIGN.md, "All overclaimed resources", says how to get the removed resources. */
 #define PIGY_REFUSE 0u
 #define PIGY_TRIM 1u
 
@@ -202,8 +202,8 @@ extern "C" {
 /* The version of the calls of this header. It grows if a call is added. A released call never changes its meaning. */
 #define PIGY_VERSION 4u
 /**
- * Returns the version of the calls in the linked library. The library has all calls of this header if the version is at
- * least PIGY_VERSION.
+ * Returns the version of the calls in the linked library. If the version is at least PIGY_VERSION, the library has all
+ * calls of this header.
  */
 uint32_t pigy_version(void);
 
@@ -317,7 +317,8 @@ uint32_t pigy_verify_path(const uint8_t *anchor_as, size_t anchor_as_len, const 
 /**
  * Lists the fewest prefixes that have exactly the addresses of one family in IP address blocks, in ascending order.
  *
- * Each prefix is its address and then its length in bits, one octet: 5 octets for PIGY_IPV4, 17 for PIGY_IPV6.
+ * A prefix in the output is its address in network byte order, and then one octet with its length in bits. It has 5
+ * octets for PIGY_IPV4, and 17 for PIGY_IPV6.
  *
  * @param ip        IP address blocks: DER. Not NULL.
  * @param ip_len    Length in octets; may be 0.
@@ -431,8 +432,8 @@ uint32_t pigy_table_new(const pigy_vrp *vrps, size_t count, pigy_table **table, 
  * - The call applies all withdrawals before all announcements. In general, the response of a cache to a Serial Query
  *   has at most one withdrawal of a VRP, and then at most one announcement of it (RFC 8210, 5.3). Such a response may
  *   be passed as one change.
- * - For the response to a Reset Query pass an empty table, made by pigy_table_new with count 0. A VRP that the response
- *   announces twice is an error then. pigy_table_new accepts duplicates.
+ * - For the response to a Reset Query, pass an empty table as `table`. pigy_table_new with count 0 makes an empty
+ *   table. A VRP that the response announces twice is then an error. pigy_table_new accepts such duplicates.
  * - A withdrawal removes all copies of a VRP.
  * - Each array may list a VRP only once, even if the table lists it more than once.
  * - A VRP in both arrays has to be in the table. The next table lists it once.
@@ -512,7 +513,7 @@ uint32_t pigy_table_covering(const pigy_table *table, const pigy_route *route, p
  * @param table  The table, which is only read. The status is PIGY_NO_TABLE if it is NULL.
  * @param len    Receives the number of VRPs; 0 with an error. Not NULL.
  *
- * @return PIGY_NO_TABLE if the handle is NULL, or else PIGY_OK.
+ * @return PIGY_NO_TABLE if the handle is NULL, otherwise PIGY_OK.
  */
 uint32_t pigy_table_len(const pigy_table *table, size_t *len) PIGY_NONNULL(2);
 
@@ -549,8 +550,8 @@ void pigy_table_free(pigy_table *table);
 /**
  * Returns the answer of the program respath to one line. README.md lists its commands.
  *
- * Both texts are UTF-8, without the end of a line. If the line is wrong, the status is still PIGY_OK, and the answer
- * begins with "error: ". A line that is not UTF-8 is wrong too.
+ * The line and the answer are UTF-8, without the end of a line. If the line is wrong, the status is still PIGY_OK, and
+ * the answer begins with "error: ". A line that is not UTF-8 is wrong too.
  *
  * @param line      The line, for example "der v4 10.0.0.0/8". Not NULL.
  * @param line_len  Length in octets.

@@ -9,7 +9,7 @@ const ERROR: &[u8] = b"error: ";
 /// The beginning of each answer that reports a refused step of a path.
 const REFUSED: &[u8] = b"refused ";
 
-/// What is known of the line that is being written.
+/// The state of the line that is being written.
 #[derive(Clone, Copy, Debug)]
 enum Line {
     /// It has no bytes yet.
@@ -22,7 +22,7 @@ enum Line {
     Other,
 }
 
-/// What is known of the answers that were written.
+/// The state of a search in the answers that were written.
 #[derive(Clone, Copy, Debug)]
 struct Seen {
     line: Line,
@@ -30,7 +30,7 @@ struct Seen {
 }
 
 impl Seen {
-    /// Returns what is known before any byte.
+    /// Returns the state before any byte.
     fn nothing() -> Seen {
         Seen {
             line: Line::Empty,
@@ -38,7 +38,7 @@ impl Seen {
         }
     }
 
-    /// Returns what is known after one more byte.
+    /// Returns the state after one more byte.
     fn with(self, byte: u8) -> Seen {
         let line = match self.line {
             _ if byte == b'\n' => Line::Empty,
@@ -59,7 +59,7 @@ impl Seen {
         }
     }
 
-    /// Returns what is known after the bytes of `piece`.
+    /// Returns the state after the bytes of `piece`.
     fn with_all(self, piece: &[u8]) -> Seen {
         let mut seen = self;
         for byte in piece {

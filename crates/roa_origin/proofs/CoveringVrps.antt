@@ -1,5 +1,5 @@
 -- The VRPs that cover a route, among the first of a table.
-use Rattle.roa_origin.proofs.Common.{List, [], ap, arith, false, get_or, length, refl, reverse, suc, true, zero, ℕ, ◌+◌, ◌-◌, ◌<◌, ◌↔◌, ◌∙◌, ◌∷◌, ◌≡◌, ◌≤◌, ◌⊎◌, and_parts, eq-eqb, eqb-true, le-leb, leb-true, append-nil, reverse-append, reverse-reverse, take_all, All-filter, filter_more, filter_passes, IsNonDecreasingBy-filter, filter, IsNonDecreasingBy, covers_round, round_covers, FamilyPrefix, IsFamilyPrefix, AreThose, IsWalk, covering_before, covers_route, AreLater, IsInOrder, IsLink, NoneCovers, CoversRoute, Vrp, prefix_len, vrp_place, Link}
+use Rattle.roa_origin.proofs.Common.{List, [], ap, arith, false, get_or, length, refl, reverse, suc, true, zero, ℕ, ◌+◌, ◌-◌, ◌<◌, ◌↔◌, ◌∙◌, ◌∷◌, ◌≡◌, ◌≤◌, ◌⊎◌, and_parts, eq-eqb, eqb-true, le-leb, leb-true, append-nil, reverse-append, reverse-reverse, take_all, All-filter, filter_more, filter_passes, IsNonDecreasingBy-filter, filter, IsNonDecreasingBy, covers_round, round_covers, FamilyPrefix, IsFamilyPrefix, AreThose, IsWalk, covering_before, covers_route, AreLater, IsInOrder, IsLink, NoneCovers, CoversRoute, Vrp, prefix_len, table_place, vrp_place, Link}
 use Rattle.roa_origin.proofs.NestedRoutes.{covers_between, same_width}
 use Rattle.roa_origin.proofs.OrderNumbers.{covers_len, covers_place}
 use Rattle.roa_origin.proofs.LinkWalks.{later_covers_none, no_link, nowhere, passes_none, prefix_of}
@@ -54,6 +54,11 @@ by_length route xs is order i j d before inside =
     let passes = filter_passes (covers_route route) xs in
     let places = IsNonDecreasingBy-filter vrp_place (covers_route route) xs order.ordered i j d before inside in
     grind (arith, passes i d, passes j d, are i d, are j d, covers_between, covers_len, covers_place, covers_if_true)
+
+-- and they are in the table's order
+pub by_place : (route : FamilyPrefix) (xs : List Vrp) → IsInOrder xs
+    → IsNonDecreasingBy table_place (filter (covers_route route) xs)
+by_place route xs is = IsNonDecreasingBy-filter table_place (covers_route route) xs is.ranked
 
 -- the walk's next step: the nearest VRP that covers the route; what is left is what its link leaves
 module _ {xs : List Vrp} {links : List Link} {n : ℕ} {route : FamilyPrefix} (walk : IsWalk xs links n route)

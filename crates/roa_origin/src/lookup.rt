@@ -1,11 +1,13 @@
 //! A lookup of a route in a table, step by step.
 ghost use Rattle.std.specs.Prelude.{◌≡◌, ◌≤◌, ◌↔◌, IsTrue, length, reverse};
-ghost use Rattle.std.specs.List.{filter};
+ghost use Rattle.std.specs.List.Sorted.{IsNonDecreasingBy};
 ghost use Rattle.rpki_prefix.specs.Values.{IsFamilyPrefix};
-ghost use Rattle.roa_origin.specs.Coverings.{covers_route};
-ghost use Rattle.roa_origin.specs.Links.{AreLater, AreUpTo, IsInOrder, IsTable};
+ghost use Rattle.roa_origin.specs.Coverings.{AreThose};
+ghost use Rattle.roa_origin.specs.Links.{AreLater, AreUpTo, IsTable};
+ghost use Rattle.roa_origin.specs.Places.{table_place};
 ghost use Rattle.roa_origin.specs.Starts.{AreStarts};
 ghost use Rattle.roa_origin.specs.Validities.{HasCoveringAsn, IsValidity};
+ghost use Rattle.roa_origin.specs.Vrps.{CoversRoute, prefix_len};
 
 use crate::covering::Covering;
 use crate::links::Link;
@@ -93,6 +95,18 @@ impl<'a> Lookup<'a> {
         }
     }
 
+    /// Takes all steps that are left.
+    ///
+    /// Later calls don't search again: they begin where the search ended. Call it before you ask a lookup for more than
+    /// one result. The results of the lookup stay the same.
+    pub fn advance_to_end(&mut self)
+        ensures { self.new ≡ self.old }
+    {
+        let end = self.count();
+        self.from = end;
+        self.to = end;
+    }
+
     /// Returns how many VRPs come no later than the route's prefix in the table's order.
     pub(crate) fn count(&self) -> usize
         ensures within { result ≤ length self.now.vrps }
@@ -116,16 +130,16 @@ impl<'a> Lookup<'a> {
         has_covering_asn_in(self.vrps, self.links, self.count(), &self.route)
     }
 
-    /// Returns the VRPs of the table that cover the route, the last VRP in the table's order first.
-    #[tactic(auto, using(crate::proofs::CoveringVrps::all_before))]
-    pub(crate) fn covering(self) -> Covering<'a>
-        ensures covering { reverse result
-            ≡ filter (covers_route self.entry.route) self.entry.vrps }
-        ensures in_order { IsInOrder self.entry.vrps }
-        ensures is_prefix { IsFamilyPrefix self.entry.route }
+    /// Returns an iterator over the VRPs of the table that cover the route (RFC 6811, 2).
+    ///
+    /// The order is that of [`OriginTable::covering`](crate::OriginTable::covering). The call allocates nothing.
+    #[tactic(auto, using(crate::proofs::CoveringVrps::all_before, crate::proofs::CoveringVrps::are_those, crate::proofs::CoveringVrps::by_length))]
+    pub fn covering(&self) -> Covering<'a>
+        ensures covering { AreThose (CoversRoute self.now.route) self.now.vrps (reverse result) }
+        ensures longest_first { IsNonDecreasingBy prefix_len (reverse result) }
+        ensures order { IsNonDecreasingBy table_place (reverse result) }
     {
-        let at = self.count();
-        Covering::from(self.vrps, self.links, at, self.route)
+        Covering::from(self.vrps, self.links, self.count(), self.route)
     }
 }
 

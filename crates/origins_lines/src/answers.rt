@@ -7,7 +7,7 @@ use crate::explanation::push_why;
 use crate::outcome::{asked_asn, outcome_of};
 use crate::route::{Route, read_route};
 use lines_engine::answers::Answers;
-use roa_origin::OriginTable;
+use roa_origin::{Lookup, OriginTable};
 use rpki_base::Asn;
 use rpki_prefix::Prefix;
 use std::alloc::{AllocError, Allocator, Global};
@@ -51,6 +51,17 @@ impl<B: Allocator> Answers for Routes<'_, B> {
     }
 }
 
+/// Returns the lookup of the route to `route` that `asn` originates, with no step left.
+fn ended_lookup<B: Allocator>(table: &OriginTable<B>, route: Prefix, asn: Asn) -> Lookup<'_>
+    ensures vrps { result.vrps ≡ table.now }
+    ensures route { result.route ≡ route }
+    ensures asn { result.asn ≡ asn }
+{
+    let mut lookup = table.lookup(route, asn);
+    lookup.advance_to_end();
+    lookup
+}
+
 /// Appends the outcome for the route to `route` that `asn` originates. If `why` is true, it also appends the
 /// explanation.
 ///
@@ -67,10 +78,11 @@ fn write_answer<A: Allocator, B: Allocator>(
     requires { string_bytes text.old ≡ [] }
     ensures { OnOk result (IsRouteAnswer why table.now route asn (string_bytes text.new)) }
 {
-    let outcome = outcome_of(table, route, asn);
+    let lookup = ended_lookup(table, route, asn);
+    let outcome = outcome_of(&lookup);
     write!(text, "{outcome}")?;
     if !why {
         return Ok(());
     }
-    push_why(text, table, route, asn)
+    push_why(text, &lookup, route, asn)
 }

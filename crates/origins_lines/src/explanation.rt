@@ -6,7 +6,7 @@ ghost use Rattle.origins_lines.specs.Explanations.{IsReason, IsSentAgain, IsNext
 ghost use Rattle.origins_lines.specs.declared.explanation.Reason.{Reason};
 
 use crate::outcome::has_as;
-use roa_origin::{OriginTable, Vrp};
+use roa_origin::{Lookup, Vrp};
 use rpki_base::Asn;
 use rpki_prefix::Prefix;
 use std::alloc::{AllocError, Allocator};
@@ -54,18 +54,23 @@ fn reason_for(route: Prefix, asn: Asn, vrp: &Vrp) -> Reason
 }
 
 /// Appends each VRP that covers the route to `route`, once, with its relation to the route that `asn` originates.
-pub(crate) fn push_why<A: Allocator, B: Allocator>(
+///
+/// # Preconditions
+///
+/// `lookup` is a lookup of `route`.
+pub(crate) fn push_why<A: Allocator>(
     text: &mut String<A>,
-    table: &OriginTable<B>,
+    lookup: &Lookup<'_>,
     route: Prefix,
     asn: Asn,
 ) -> Result<(), AllocError>
-    ensures { OnOk result ((why : List ℕ) × IsExplanationText route asn table.now why
+    requires { lookup.now.route ≡ route }
+    ensures { OnOk result ((why : List ℕ) × IsExplanationText route asn lookup.now.vrps why
         × (string_bytes text.new ≡ string_bytes text.old ++ why)) }
 {
     route.recall_invariant();
     let mut last = None;
-    for vrp in table.covering(route) {
+    for vrp in lookup.covering() {
         vrp.0.recall_invariant();
         vrp.1.recall_invariant();
         push_next(text, route, asn, &last, &vrp)?;

@@ -3,10 +3,8 @@ ghost use Rattle.std.specs.Prelude.{◌≡◌, ◌↔◌, IsTrue};
 ghost use Rattle.roa_origin.specs.Vrps.{HasAs};
 ghost use Rattle.origins_lines.specs.Outcomes.{IsOutcomeOf, asked_asn};
 
-use roa_origin::{OriginTable, Validity, Vrp};
+use roa_origin::{Lookup, Validity, Vrp};
 use rpki_base::Asn;
-use rpki_prefix::Prefix;
-use std::alloc::Allocator;
 use std::fmt;
 
 /// The validity of a route (RFC 6811, 2).
@@ -48,15 +46,18 @@ pub fn asked_asn(origin: Option<Asn>) -> Asn
     origin.unwrap_or(Asn::MIN)
 }
 
-/// Returns the outcome by the VRPs of `table` for the route to `route` that `asn` originates.
-pub fn outcome_of<B: Allocator>(table: &OriginTable<B>, route: Prefix, asn: Asn) -> Outcome
-    ensures { IsOutcomeOf route asn table.now result }
+/// Returns the outcome for the route that is looked up, by the VRPs of the table.
+///
+/// An invalid route needs two results of the lookup. Call [`Lookup::advance_to_end`] before, so that both begin where
+/// one search ended.
+pub fn outcome_of(lookup: &Lookup<'_>) -> Outcome
+    ensures { IsOutcomeOf lookup.now.route lookup.now.asn lookup.now.vrps result }
 {
-    match table.origin(route, asn) {
+    match lookup.validity() {
         Validity::Valid => Outcome::Valid,
         Validity::NotFound => Outcome::NotFound,
         Validity::Invalid => {
-            if table.has_covering_asn(route, asn) {
+            if lookup.has_covering_asn() {
                 Outcome::InvalidLength
             } else {
                 Outcome::InvalidAs

@@ -11,6 +11,7 @@ pub loop-vrp-preserved : goal.loop-vrp-preserved
 loop-vrp-preserved g c =
     let all : List Vrp = c.covering-vrp-items.result in
     let covering = c.covering-vrp-items.ensures in
+    let those = rw c.requires at covering.covering in
     let done : List Vrp = c.loop-vrp.yielded in
     let x : Vrp = c.in-Some.vrp in
     let rest : List Vrp = c.next.new.self in
@@ -21,9 +22,9 @@ loop-vrp-preserved g c =
     sym c.into_iter-vrp-iterator.ensures.into_iter_gives ∙ given
     ∙ ap (λ left. done ++ left) c.in-Some.ensures.steps in (
       had.0 ++ next.0,
-      explained_next c.args.route c.recall_invariant.ensures c.args.asn c.args.table.now all done rest x
+      explained_next c.args.route c.recall_invariant.ensures c.args.asn c.args.lookup.now.vrps all done rest x
           (record { prefix = c.recall_invariant-in-loop-vrp.ensures; number = c.recall_invariant-in-loop-vrp-2.ensures })
-          covering.covering covering.longest_first covering.order cut c.loop-vrp.last had.0 next.0 had.1 next.1,
+          those covering.longest_first covering.order cut c.loop-vrp.last had.0 next.0 had.1 next.1,
       next.2 ∙ ap (λ t. t ++ next.0) had.2 ∙ append_assoc _ had.0 next.0,
     )
 
@@ -37,6 +38,6 @@ returns g c =
     sym (ap (λ left. done ++ left) c.in-None.ensures.steps.0 ∙ append-nil done) ∙ sym given
     ∙ c.into_iter-vrp-iterator.ensures.into_iter_gives in
     let explained = subst (λ ys. IsExplainedSo c.args.route c.args.asn ys c.loop-vrp.last had.0) whole had.1 in
-    let those = c.covering-vrp-items.ensures.covering in
-    let explains = all_explained c.args.route c.args.asn c.args.table.now all c.loop-vrp.last had.0 those explained in
+    let those = rw c.requires at c.covering-vrp-items.ensures.covering in
+    let explains = all_explained c.args.route c.args.asn c.args.lookup.now.vrps all c.loop-vrp.last had.0 those explained in
     (had.0, (explained.explained, explains, explained.texts), had.2)

@@ -444,7 +444,7 @@ of_rust() {
     export PIGYELUND_LIB="$prefix/lib" CARGO_TARGET_DIR="$out/rust"
     says "is a relative path" lib
     says "does not exist" "$spaced/none"
-    says "has no file libpigyelund.a" "$spaced"
+    says "has no file libpigyelund.a" "$prefix/include"
     says "is a file" "$prefix/lib/libpigyelund.a"
     same "the example in Rust" rust run --example verify
     of_rust_variables

@@ -333,6 +333,7 @@ of_python() {
     of_python_wheels
     tests/foreign_page.py Python "$prefix" || fail "the program in Python"
     tests/foreign_page.py "A table in Python" "$prefix" || fail "the table in Python"
+    tests/foreign_dask.py "$prefix/lib" || fail "routes in partitions by Dask"
 }
 
 # rust COMMAND ..: cargo runs a command on the package of Rust, without a network

@@ -136,6 +136,16 @@ of_c() {
     fi
 }
 
+# The program of the page for certificates of OpenSSL, if there are the command and the headers.
+of_openssl() {
+    has "certificates of OpenSSL" openssl || return
+    if echo '#include <openssl/x509v3.h>' | gcc -E - >/dev/null 2>&1; then
+        tests/foreign_page.py "Extensions of an OpenSSL certificate" "$prefix" || fail "certificates of OpenSSL"
+    else
+        echo "left out: certificates of OpenSSL need its headers (libssl-dev)"
+    fi
+}
+
 # by_pkg_config FOLDER: the example is built by the pigyelund.pc of that folder, and runs with the shared library
 by_pkg_config() {
     flags=$(PKG_CONFIG_PATH="$1" pkg-config --cflags --libs pigyelund) || fail "pkg-config $1"
@@ -469,6 +479,7 @@ if has "C, and all that is installed," gcc make ar objcopy nm readelf; then
     of_install
     has_python && { tests/foreign_page.py C "$prefix" || fail "the program in C"; of_python; }
     has_python && { tests/foreign_page.py "A table in C" "$prefix" || fail "the table in C"; }
+    has_python && of_openssl
     has "Rust" cargo cc tar && of_rust
 fi
 if [ $# -eq 0 ]; then

@@ -8,8 +8,8 @@ folder of the shared library. The test needs Debian's python3-distributed, and i
 - With made VRPs and routes, one worker, two workers and four workers print the same lines. The reference has the same
   validities (tests/reference). Each worker makes the table once.
 
-ROUTES is the number of made routes. With it the test also prints the seconds by one, two and four workers. The status is
-1 if something differs.
+ROUTES is the number of made routes. With it the test also prints the seconds by one, two and four workers.
+The status is 1 if something differs.
 """
 
 import os
@@ -57,7 +57,8 @@ def write_programs(folder: Path) -> None:
 
 def write_example(folder: Path) -> str:
     """Writes the files of the page's first recipe. Returns what the page shows for them."""
-    for name, text in re.findall(r"^cat >(\w+) <<'END'\n(.*?)^END$", section("## Validate routes (`origins`)\n"), re.M | re.S):
+    first = section("## Validate routes (`origins`)\n")
+    for name, text in re.findall(r"^cat >(\w+) <<'END'\n(.*?)^END$", first, re.MULTILINE | re.DOTALL):
         (folder / name).write_text(text)
     return re.findall(r"^\$ python3 validate_routes\.py [^\n]*\n(.*?)^```$", section(TITLE), re.MULTILINE | re.DOTALL)[0]
 
@@ -77,7 +78,9 @@ def write_made(folder: Path, count: int) -> None:
         for _ in range(1000):
             prefix = network(source, source.choice((16, 18, 20, 22, 24)))
             out.write(f"AS{source.randrange(8)},{prefix},{prefix.prefixlen + source.choice((0, 0, 2, 4))}\n")
-    some = [f"{network(source, source.choice((8, 20, 22, 24)))} AS{source.randrange(8)}\n" for _ in range(min(count, 4000))]
+    lengths = 8, 20, 22, 24
+    distinct = range(min(count, 4000))
+    some = [f"{network(source, source.choice(lengths))} AS{source.randrange(8)}\n" for _ in distinct]
     with (folder / "routes").open("w") as out:
         for at in range(count):
             out.write(some[at % len(some)])

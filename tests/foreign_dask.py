@@ -60,7 +60,8 @@ def write_example(folder: Path) -> str:
     first = section("## Validate routes (`origins`)\n")
     for name, text in re.findall(r"^cat >(\w+) <<'END'\n(.*?)^END$", first, re.MULTILINE | re.DOTALL):
         (folder / name).write_text(text)
-    return re.findall(r"^\$ python3 validate_routes\.py [^\n]*\n(.*?)^```$", section(TITLE), re.MULTILINE | re.DOTALL)[0]
+    shown = r"^\$ python3 validate_routes\.py [^\n]*\n(.*?)^```$"
+    return re.findall(shown, section(TITLE), re.MULTILINE | re.DOTALL)[0]
 
 
 def network(source: Random, length: int) -> IPv4Network | IPv6Network:
@@ -111,7 +112,7 @@ def expected(folder: Path) -> tuple[list[str], dict[str, int]]:
 
 @contextmanager
 def cluster(folder: Path, environment: dict[str, str], count: int) -> Iterator[str]:
-    """Starts a scheduler and some workers. Yields the address of the scheduler, and ends all processes."""
+    """Starts a scheduler and some workers. Yields the address of the scheduler, and kills all processes."""
     address = folder / f"scheduler-{count}.json"
     own = ["--scheduler-file", str(address)]
     logs = (folder / f"dask-{count}.log").open("w")
@@ -134,9 +135,8 @@ def cluster(folder: Path, environment: dict[str, str], count: int) -> Iterator[s
         yield re.findall(r'"address": "([^"]*)"', text)[0]
     finally:
         for it in reversed(started):
-            it.terminate()
-        for it in started:
-            it.wait(30)
+            it.kill()  # a worker can take a minute to end by SIGTERM, and keeps nothing outside of the folder
+            it.wait()
         logs.close()
 
 

@@ -136,6 +136,16 @@ of_c() {
     fi
 }
 
+# The program of the page for certificates of OpenSSL, if there are the command and the headers.
+of_openssl() {
+    has "certificates of OpenSSL" openssl || return
+    if echo '#include <openssl/x509v3.h>' | gcc -E - >/dev/null 2>&1; then
+        tests/foreign_page.py "Extensions of an OpenSSL certificate" "$prefix" || fail "certificates of OpenSSL"
+    else
+        echo "left out: certificates of OpenSSL need its headers (libssl-dev)"
+    fi
+}
+
 # by_pkg_config FOLDER: the example is built by the pigyelund.pc of that folder, and runs with the shared library
 by_pkg_config() {
     flags=$(PKG_CONFIG_PATH="$1" pkg-config --cflags --libs pigyelund) || fail "pkg-config $1"
@@ -333,6 +343,7 @@ of_python() {
     of_python_wheels
     tests/foreign_page.py Python "$prefix" || fail "the program in Python"
     tests/foreign_page.py "A table in Python" "$prefix" || fail "the table in Python"
+    tests/foreign_dask.py "$prefix/lib" || fail "routes in partitions by Dask"
 }
 
 # rust COMMAND ..: cargo runs a command on the package of Rust, without a network
@@ -444,7 +455,7 @@ of_rust() {
     export PIGYELUND_LIB="$prefix/lib" CARGO_TARGET_DIR="$out/rust"
     says "is a relative path" lib
     says "does not exist" "$spaced/none"
-    says "has no file libpigyelund.a" "$spaced"
+    says "has no file libpigyelund.a" "$prefix/include"
     says "is a file" "$prefix/lib/libpigyelund.a"
     same "the example in Rust" rust run --example verify
     of_rust_variables
@@ -468,6 +479,7 @@ if has "C, and all that is installed," gcc make ar objcopy nm readelf; then
     of_install
     has_python && { tests/foreign_page.py C "$prefix" || fail "the program in C"; of_python; }
     has_python && { tests/foreign_page.py "A table in C" "$prefix" || fail "the table in C"; }
+    has_python && of_openssl
     has "Rust" cargo cc tar && of_rust
 fi
 if [ $# -eq 0 ]; then

@@ -34,6 +34,7 @@ DEFINITION = re.compile(r"[a-z]\w*\.[A-Z]\w*\.(?:[\w']+|\{[\w',]+\})")
 MADE = {"crates/mine", "crates/mine/src/lib.rt", "start_lib", "try_reserve", "GLIBC_TUNABLES"}
 MADE |= {"LD_PRELOAD", "clock_gettime", "pfx_table", "pfx_table_validate"}
 MADE |= {"include/pigyelund.h", "foreign/c/out", "program.c", "program.py", "/usr/lib", "/usr/local/lib"}
+MADE |= {"part_of_routes.py", "validate_routes.py"}
 MADE.add("/usr/lib/x86_64-linux-gnu")
 
 

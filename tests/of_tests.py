@@ -194,7 +194,7 @@ OF_ORIGINS = (
     # The help is in the program, and is replaced by as many octets.
     Case(MANUAL, str(ORIGINS), "--diff OLD NEW", "--diff NEW OLD", "origins --help: says of withdraw"),
     Case(MANUAL, "docs/origins.1", ".I OLD NEW", ".I NEW OLD", "docs/origins.1: says of withdraw"),
-    Case(MANUAL, "docs/origins.1", "\nis a file of that name", "\nis the standard input", "does not say that - is"),
+    Case(MANUAL, "docs/origins.1", "\nis the standard input", "\nis a file of that name", "does not say that - is"),
 )
 
 

@@ -150,18 +150,20 @@ def faults_of_diff(page: Page, folder: Path) -> Iterator[str]:
 
 
 def faults_of_dash(folder: Path, text: str) -> Iterator[str]:
-    """Whether `-` is a file's name to `origins`, and its manual page says so."""
-    origins = program("origins")
-    if not re.search(r"(?<!\S)- is (?:a|the name of a) file\b", text):
-        yield "does not say that - is a file"
-    (folder / "-").unlink(missing_ok=True)
-    found = run(folder, [origins, "-"], "AS1,10.0.0.0/8,8\n")
-    if (found.status, found.printed, found.errors) != (1, "", "origins: -: can't be opened\n"):
-        yield f"`origins -` without such a file: {found}"
-    shutil.copy(folder / "OLD", folder / "-")
-    found = run(folder, [origins, "--table", "-"])
+    """Whether `-` is the standard input to `origins` with --table and --diff alone, and its manual page says so."""
+    origins, vrps = program("origins"), "AS1,10.0.0.0/8,8\n"
+    if not re.search(r"(?<!\S)- is the standard input\b", text):
+        yield "does not say that - is the standard input"
+    shutil.copy(folder / "NEW", folder / "-")
+    found = run(folder, [origins, "-"], vrps)
+    if (found.status, found.printed) != (2, ""):
+        yield f"`origins -`, whose standard input has the routes: {found}"
+    found = run(folder, [origins, "--table", "-"], vrps)
     if (found.status, found.printed) != (0, "10.0.0.0/8-8 AS1\n"):
-        yield f"`origins --table -` with such a file: {found}"
+        yield f"`origins --table -`: {found}"
+    found = run(folder, [origins, "--table", "./-"], vrps)
+    if (found.status, found.printed) != (0, "10.0.0.0/8-8 AS2\n"):
+        yield f"`origins --table ./-`: {found}"
 
 
 def faults(folder: Path) -> Iterator[tuple[str, str]]:

@@ -24,6 +24,7 @@ WRONG = {
         [], ["--strange"], ["--table"], ["--table", "--of", "ASX", "a"], ["--diff", "a"], ["a", "b"], ["a", "b", "c"],
         ["--table", "--of"], ["--of", "1", "a"], ["--table", "--diff", "a", "b"], ["--why", "--table", "a"],
         ["--why", "--diff", "a", "b"], ["--check", "--table", "a"], ["--check", "--diff", "a", "b"],
+        ["-"], ["--", "-"], ["--diff", "-", "-"],
     ),  # fmt: skip
 }
 

@@ -45,6 +45,17 @@ expect "a comma for the space, and segments of a confederation" 0 "error: a comm
 invalid-as
 invalid-as
 valid" $? "$said"
+said=$("$program" --check vrps 2>/dev/null <<'END'
+BGP4MP|1732579200|A|203.0.113.1|64500|192.0.2.0/24|64500 64496|IGP
+BGP4MP_ET_AP|1732579200.000001|W|203.0.113.1|64500|192.0.2.0/24|7
+BGP4MP|1732579200|STATE|203.0.113.1|64500|6|1
+TABLE_DUMP|1732579200|B|203.0.113.1|64500|192.0.2.0/24|64500 64496|IGP
+END
+)
+expect "a check of updates and of an older table" 0 "valid
+skipped
+skipped
+valid" $? "$said"
 said=$("$program" vrps </dev/null 2>&1)
 expect "no route" 0 "origins: 2 VRPs" $? "$said"
 said=$("$program" vrps --check <fine 2>/dev/null)
@@ -78,6 +89,35 @@ announce 198.51.100.0/24-24 AS64498
 origins: 2 VRPs in vrps, 3 in next" $? "$said"
 said=$("$program" --diff next next 2>/dev/null)
 expect "nothing changes" 0 "" $? "$said"
+
+# VRPs from the standard input
+cp next ./-
+said=$("$program" --table - 2>&1 <vrps)
+expect "the table of the standard input" 0 "192.0.2.0/23-24 AS64496
+2001:db8::/32-48 AS64497
+origins: 2 VRPs" $? "$said"
+said=$(cat vrps | "$program" --table --of AS64497 -- - 2>/dev/null)
+expect "the table of a pipe" 0 "2001:db8::/32-48 AS64497" $? "$said"
+said=$("$program" --diff - next 2>&1 <vrps)
+expect "what changes from the standard input" 0 "withdraw 2001:db8::/32-48 AS64497
+announce 198.51.100.0/24-24 AS64498
+origins: 2 VRPs in standard input, 3 in next" $? "$said"
+said=$(cat next | "$program" --diff vrps - 2>&1)
+expect "what changes to a pipe" 0 "withdraw 2001:db8::/32-48 AS64497
+announce 198.51.100.0/24-24 AS64498
+origins: 2 VRPs in vrps, 3 in standard input" $? "$said"
+said=$("$program" --table ./- 2>/dev/null <vrps)
+expect "the table of a file named -" 0 "192.0.2.0/23-24 AS64496
+198.51.100.0/24-24 AS64498" $? "$said"
+rm ./-
+said=$("$program" --table - 2>&1 <wrong)
+expect "a wrong line of the standard input" 1 \
+    "origins: standard input: line 2: invalid prefix: non-zero host portion" $? "$said"
+for words in "--table -" "--diff vrps -"; do
+    # shellcheck disable=SC2086 # the words
+    said=$("$program" $words 2>&1 <&-)
+    expect "no standard input: $words" 1 "origins: standard input: read failed" $? "$said"
+done
 
 # One VRP is no plural.
 printf 'AS64496,192.0.2.0/23,24\n' >single
@@ -223,6 +263,9 @@ vrps next wrong: too many file names: wrong
 --of 1 vrps: --of needs --table
 --diff --of 1 vrps next: --of needs --table
 --table vrps --of: --of needs an AS number
+-: - needs --table or --diff: the standard input has the routes
+--why -- -: - needs --table or --diff: the standard input has the routes
+--diff - -: - can be only one of the two files
 END
 said=$("$program" --strange vrps <routes 2>&1)
 expect "an unknown option" 2 "origins: unknown option: --strange

@@ -123,6 +123,18 @@ class Maker:
         lines[at] = self.resized(lines[at]) if self.one_in(3) else self.damaged(lines[at])
         return "\n".join(lines).encode()
 
+    def dumped(self, prefix: str, path: str) -> str:
+        """A line as `bgpdump -m` prints it."""
+        name = self.random.choice(("TABLE_DUMP", "TABLE_DUMP2", "BGP4MP", "BGP4MP_ET", "BGP4MP_LOCAL", "BGP4MP_ET_LOCAL"))
+        kind = self.random.choice(("A", "A", "A", "W", "STATE", "B")) if name.startswith("BGP4MP") else "B"
+        has_identifier = self.one_in(3)
+        head = f"{name}{'_AP' if has_identifier else ''}|1732579200|{kind}|203.0.113.1|64500"
+        if kind == "STATE":
+            return f"{head}|6|1"
+        if kind == "W":
+            return f"{head}|{prefix}{'|7' if has_identifier else ''}"
+        return f"{head}|{prefix}|{'7|' if has_identifier else ''}{path}|IGP|203.0.113.1|0|0||NAG||"
+
     def line(self) -> bytes:
         """A line of a route."""
         prefix, origin = self.prefix(), self.asn()
@@ -134,8 +146,8 @@ class Maker:
                 f"\t{prefix.text()}  as{origin}\r",
                 f"{prefix.text()},AS{origin}",
                 f"{prefix.text()}{self.random.choice((',', ', ', ' ,', ',,', ';', chr(9) + ','))}{origin}",
-                f"TABLE_DUMP2|1732579200|B|203.0.113.1|64500|{prefix.text()}|{path}|IGP|203.0.113.1|0|0||NAG||",
-                f"TABLE_DUMP2_AP|1732579200|B|203.0.113.1|64500|{prefix.text()}|7|{path}|IGP|203.0.113.1|0|0||NAG||",
+                self.dumped(prefix.text(), path),
+                self.dumped(prefix.text(), path),
             )
         )
         octets = (self.damaged(text) if self.one_in(6) else text).encode().replace(b"\n", b"")

@@ -6,9 +6,18 @@ from . import asn, prefixes, texts
 from .faults import Fault
 from .prefixes import Prefix, Vrp
 
-# Behind how many fields of a dump's line its path stands, by its first field.
-PATHS = {"TABLE_DUMP2": 6, "TABLE_DUMP2_AP": 7}
+# Behind how many fields of a dump's line its path stands, by its first field: of a table, and of a message or a state.
+PATHS = {"TABLE_DUMP": 6, "TABLE_DUMP2": 6, "TABLE_DUMP2_AP": 7}
+PATHS_OF_UPDATES = {
+    f"BGP4MP{time}{sender}{identifier}": place
+    for time in ("", "_ET")
+    for sender in ("", "_LOCAL")
+    for identifier, place in (("", 6), ("_AP", 7))
+}
 PREFIX_PLACE = 5
+KIND_PLACE = 2
+# What the third field of an update is that announces no route.
+KINDS_WITHOUT_ROUTE = ("W", "STATE")
 WORDS = {"Valid": "valid", "NotFound": "not-found"}
 
 
@@ -49,11 +58,20 @@ def _is_route_with_comma(line: str) -> bool:
     return " " not in line
 
 
-def read_route(line: str) -> Route:
-    """The route that a line writes."""
+def _path_place(fields: list[str]) -> int | None:
+    """Behind how many fields the path of a route stands, if they are those of a dump's route."""
+    if fields[KIND_PLACE : KIND_PLACE + 1] == ["A"] and fields[0] in PATHS_OF_UPDATES:
+        return PATHS_OF_UPDATES[fields[0]]
+    return PATHS.get(fields[0])
+
+
+def read_route(line: str) -> Route | None:
+    """The route that a line writes, if it is no line of a dump that has none."""
     line = texts.trim(line)
     fields = line.split("|")
-    place = PATHS.get(fields[0])
+    if fields[0] in PATHS_OF_UPDATES and len(fields) > KIND_PLACE and fields[KIND_PLACE] in KINDS_WITHOUT_ROUTE:
+        return None
+    place = _path_place(fields)
     if place is not None:
         if len(fields) <= place:
             raise Fault("too few fields")
@@ -84,6 +102,8 @@ def answer(vrps: list[Vrp], line: str, is_explained: bool) -> str:
         route = read_route(line)
     except Fault as fault:
         return f"error: {fault}"
+    if route is None:
+        return "skipped"
     covering = [vrp for vrp in vrps if vrp.prefix.prefix.covers(route.prefix)]
     found = prefixes.validity(route.prefix, route.origin, vrps)
     has_covering_asn = any(vrp.asn == route.origin != 0 for vrp in covering)

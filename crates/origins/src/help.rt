@@ -13,8 +13,9 @@ pub const USAGE: &str = "usage: origins [--why] [--check] VRPS < ROUTES
 pub const HELP: &str = "
 Validate the origin of BGP routes (RFC 6811) against validated ROA payloads (VRPs). VRPS, OLD and
 NEW are files of VRPs, which rpki-client, FORT, Routinator or another validator wrote as CSV or
-JSON. rpki-client -c and routinator vrps --format csv write such a file. The program reads ROUTES
-from the standard input and prints one line for each line of ROUTES:
+JSON. rpki-client -c and routinator vrps --format csv write such a file. With --table and for one of
+the two files of --diff, the file name - is the standard input. The program reads ROUTES from the
+standard input and prints one line for each line of ROUTES:
 
   valid            a VRP matches the route
   invalid-length   a VRP with the AS of the route covers the route, but the route is longer than the
@@ -22,11 +23,14 @@ from the standard input and prints one line for each line of ROUTES:
   invalid-as       VRPs cover the route, and none of them has the AS of the route. A covered route
                    with AS0 or without an origin AS is invalid-as too
   not-found        no VRP covers the route
+  skipped          the line is of bgpdump -m and announces no route: it withdraws a route, or reports
+                   the state of a session
   error: ..        the line is not a route
 
 A route is a prefix, a space and an AS number, for example 192.0.2.0/24 AS64496, or a line of
-bgpdump -m. The origin AS of a line of bgpdump -m is the last AS of its path. A route has no origin
-AS if its path is empty, or ends in a set of AS numbers or in a segment of a confederation.
+bgpdump -m for a table or an announcement. The origin AS of a line of bgpdump -m is the last AS of
+its path. A route has no origin AS if its path is empty, or ends in a set of AS numbers or in a
+segment of a confederation.
 
 Warning: if a path is empty or ends in a segment of a confederation, the origin AS is the AS of the
 router itself (RFC 6811, 2). The program does not know this AS. Your own routes can therefore be
@@ -44,7 +48,7 @@ Options:
                         maxLength of the VRP
                as:      the VRP has another AS, or AS0
   --check      exit with status 3 if a route is invalid or a line is not a route. Without this
-               option the status is 0 in these cases too
+               option the status is 0 in these cases too. A skipped line changes no status
   --table      print the VRPs, sorted and each once: 192.0.2.0/23-24 AS64496
   --of ASN     with --table: print only the VRPs of this AS
   --diff       compare two files: print a line that begins with withdraw for each VRP that only OLD

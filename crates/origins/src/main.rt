@@ -10,7 +10,7 @@ mod vrp_count;
 
 use crate::failure::Failure;
 use crate::help::{HELP, USAGE, VERSION};
-use crate::options::{Task, parse};
+use crate::options::{STANDARD_INPUT, Task, parse};
 use crate::vrp_count::Counted;
 use lines_engine::adapters::{FromRead, IntoWrite};
 use lines_engine::device::Source;
@@ -23,7 +23,7 @@ use origins_lines::tables::{write_changes, write_table};
 use origins_lines::until_end::UntilEnd;
 use rpki_base::Asn;
 use std::fs::File;
-use std::io::{BufWriter, Stdout};
+use std::io::{BufWriter, Stdin, Stdout};
 use std::process::ExitCode;
 use std::{env, fs, io};
 
@@ -83,7 +83,7 @@ fn status_after_print<'a>(printed: io::Result<()>) -> Result<u8, Failure<'a>> {
 /// the standard input was closed when it started.
 fn answer<'a>(rt: &HostRuntime, name: &'a str, why: bool, check: bool) -> Result<u8, Failure<'a>> {
     let mut vrps = open(rt, name)?;
-    let mut routes = FromRead::new(Retrying::new(rt.stdin()));
+    let mut routes = standard_input(rt);
     let mut writer = Watched::new(IntoWrite::new(buffered(rt)?));
     match answer_routes(rt.alloc(), &mut vrps, why, &mut routes, &mut writer) {
         Ok(count) => {
@@ -95,12 +95,27 @@ fn answer<'a>(rt: &HostRuntime, name: &'a str, why: bool, check: bool) -> Result
     }
 }
 
-/// Prints the VRPs of a file.
+/// Prints the VRPs of a file, or of the standard input.
 fn print_table<'a>(rt: &HostRuntime, name: &'a str, of: Option<u32>) -> Result<u8, Failure<'a>> {
+    if name == STANDARD_INPUT {
+        print_table_of(rt, shown(name), &mut standard_input(rt), of)
+    } else {
+        print_table_of(rt, name, &mut open(rt, name)?, of)
+    }
+}
+
+/// Prints the VRPs that `vrps` has.
+fn print_table_of<'a, P: Source>(
+    rt: &HostRuntime,
+    name: &'a str,
+    vrps: &mut P,
+    of: Option<u32>,
+) -> Result<u8, Failure<'a>>
+    requires { P.mark vrps.old ≡ false }
+{
     let of = of.map(Asn::from_u32);
-    let mut vrps = open(rt, name)?;
     let mut writer = IntoWrite::new(buffered(rt)?);
-    match write_table(rt.alloc(), &mut vrps, of, &mut writer) {
+    match write_table(rt.alloc(), vrps, of, &mut writer) {
         Ok(count) => {
             let _ = eprintln!(rt; "origins: {}", Counted(count));
             Ok(0)
@@ -110,12 +125,31 @@ fn print_table<'a>(rt: &HostRuntime, name: &'a str, of: Option<u32>) -> Result<u
     }
 }
 
-/// Prints the changes from one file to another.
+/// Prints the changes from one file to another. The standard input may be one of them.
 fn print_changes<'a>(rt: &HostRuntime, old: &'a str, new: &'a str) -> Result<u8, Failure<'a>> {
-    let mut before = open(rt, old)?;
-    let mut after = open(rt, new)?;
+    let names = (shown(old), shown(new));
+    if old == STANDARD_INPUT {
+        print_changes_of(rt, names, &mut standard_input(rt), &mut open(rt, new)?)
+    } else if new == STANDARD_INPUT {
+        print_changes_of(rt, names, &mut open(rt, old)?, &mut standard_input(rt))
+    } else {
+        print_changes_of(rt, names, &mut open(rt, old)?, &mut open(rt, new)?)
+    }
+}
+
+/// Prints the changes from the VRPs that `before` has to those that `after` has.
+fn print_changes_of<'a, P: Source, N: Source>(
+    rt: &HostRuntime,
+    names: (&'a str, &'a str),
+    before: &mut P,
+    after: &mut N,
+) -> Result<u8, Failure<'a>>
+    requires before { P.mark before.old ≡ false }
+    requires after { N.mark after.old ≡ false }
+{
+    let (old, new) = names;
     let mut writer = IntoWrite::new(buffered(rt)?);
-    match write_changes(rt.alloc(), &mut before, &mut after, &mut writer) {
+    match write_changes(rt.alloc(), before, after, &mut writer) {
         Ok((count, next)) => {
             let _ = eprintln!(rt; "origins: {} in {old}, {next} in {new}", Counted(count));
             Ok(0)
@@ -124,6 +158,22 @@ fn print_changes<'a>(rt: &HostRuntime, old: &'a str, new: &'a str) -> Result<u8,
         Err(ChangesError::New(error)) => Err(Failure::Vrps(new, error)),
         Err(ChangesError::Run(error)) => Err(Failure::Run(error)),
     }
+}
+
+/// Returns a file name as messages have it.
+fn shown(name: &str) -> &str {
+    if name == STANDARD_INPUT {
+        "standard input"
+    } else {
+        name
+    }
+}
+
+/// Returns the standard input, from which a call can read VRPs or routes.
+fn standard_input(rt: &HostRuntime) -> FromRead<Retrying<Stdin>>
+    ensures { ⟦<FromRead<Retrying<Stdin>> as Source>⟧.mark result ≡ false }
+{
+    FromRead::new(Retrying::new(rt.stdin()))
 }
 
 /// Opens a VRP file.

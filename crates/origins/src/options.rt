@@ -3,6 +3,9 @@ use rpki_base::Asn;
 use std::fmt;
 use std::str::FromStr;
 
+/// The file name that stands for the standard input.
+pub const STANDARD_INPUT: &str = "-";
+
 /// A task of the program.
 #[derive(Clone, Copy, Debug)]
 pub enum Task<'a> {
@@ -17,12 +20,12 @@ pub enum Task<'a> {
     },
     /// Print the VRPs of a file.
     Table {
-        /// The VRP file.
+        /// The VRP file, which may be the standard input.
         vrps: &'a str,
         /// The AS whose VRPs alone are printed, if one is requested.
         of: Option<u32>,
     },
-    /// Print the changes from one file to another.
+    /// Print the changes from one file to another. The standard input may be one of them.
     Changes {
         /// The old VRP file.
         old: &'a str,
@@ -52,6 +55,10 @@ pub enum Misuse<'a> {
     TooFewNames,
     /// There are too many file names. The field is one that is too many.
     TooManyNames(&'a str),
+    /// The VRPs are to come from the standard input, which has the routes.
+    RoutesAreThere,
+    /// Both files of `--diff` are the standard input.
+    BothAreThere,
 }
 
 impl fmt::Display for Misuse<'_> {
@@ -64,6 +71,10 @@ impl fmt::Display for Misuse<'_> {
             Misuse::Options(one, other) => write!(f, "{one} does not go with {other}"),
             Misuse::TooFewNames => f.write_str("too few file names"),
             Misuse::TooManyNames(name) => write!(f, "too many file names: {name}"),
+            Misuse::RoutesAreThere => f.write_str(
+                "- needs --table or --diff: the standard input has the routes",
+            ),
+            Misuse::BothAreThere => f.write_str("- can be only one of the two files"),
         }
     }
 }
@@ -169,11 +180,13 @@ fn asked_for<'a>(options: Options, names: Names<'a>) -> Result<Task<'a>, Misuse<
             vrps,
             of: options.of,
         }),
+        Names::One(STANDARD_INPUT) if !options.diff => Err(Misuse::RoutesAreThere),
         Names::One(vrps) if !options.diff => Ok(Task::Answer {
             vrps,
             why: options.why,
             check: options.check,
         }),
+        Names::Two(STANDARD_INPUT, STANDARD_INPUT) if options.diff => Err(Misuse::BothAreThere),
         Names::Two(old, new) if options.diff => Ok(Task::Changes { old, new }),
         Names::None | Names::One(_) => Err(Misuse::TooFewNames),
         Names::Two(_, name) => Err(Misuse::TooManyNames(name)),

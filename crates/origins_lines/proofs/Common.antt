@@ -19,9 +19,9 @@ pub use Rattle.origins_lines.specs.Answers.{IsExplanationIf, IsOriginAnswer, IsR
 pub use Rattle.origins_lines.specs.Checks.{BeginsLine, HasFound, IsFaultInitial, IsSeen}
 pub use Rattle.origins_lines.specs.Explanations.{AreReasonTexts, IsExplainedBefore, IsExplanation, IsNextReasonText, IsReason, reason_and_vrp_text}
 pub use Rattle.origins_lines.specs.Outcomes.{IsOutcomeOf, asked_asn, outcome_text}
-pub use Rattle.origins_lines.specs.Routes.{AreRouteWords, HasDumpFault, HasFaultBy, HasLineFault, HasRouteFault, HasWordFault, HaveWordsFault, IsAsnOrigin, IsDumpRoute, IsFieldAt, IsLineOf, IsNoAsnText, IsNoFieldAt, IsPathPlace, IsRouteBy, IsRouteLine, IsWordOrigin, fields_of, is_bar, last_word, origin_word, prefix_word, route_fault_text}
+pub use Rattle.origins_lines.specs.Routes.{AreRouteWords, HasDumpFault, HasFaultBy, HasLineFault, HasReadFault, HasRouteFault, HasWordFault, HaveWordsFault, IsAsnOrigin, IsDumpRoute, IsFieldAt, IsLineOf, IsNoAsnText, IsNoFieldAt, IsPathPlace, IsReadLine, IsReadOf, IsRouteBy, IsRouteLine, IsSkippedLine, IsWordOrigin, fields_of, is_bar, last_word, origin_word, prefix_word, route_fault_text}
 pub use Rattle.origins_lines.specs.Runs.{ByFile, WritesBetween, change_lines, vrp_line, vrp_lines}
-pub use Rattle.origins_lines.specs.Words.{fault_line}
+pub use Rattle.origins_lines.specs.Words.{fault_line, skipped_text}
 pub use Rattle.origins_lines.specs.declared.explanation.Reason.{Reason}
 pub use Rattle.origins_lines.specs.declared.outcome.Outcome.{Outcome}
 pub use Rattle.origins_lines.specs.declared.route.Route.{Route}

@@ -1,5 +1,5 @@
 -- An answer is the only one, and the same in whatever order the VRPs stand.
-use Rattle.origins_lines.proofs.Common.{Bool, List, [], ap, arith, false, inl, inr, sym, true, ℕ, ◌∙◌, ◌∷◌, ◌≡◌, Contains-permutation, IsPermutation-map, IsPermutation-sym, IsPermutation, Vrp, as_sent, FamilyPrefix, IsOriginAnswer, IsExplanationIf, IsRouteAnswer, IsExplanation, IsReason, IsExplainedBefore, AreReasonTexts, IsOutcomeOf, asked_asn, route_fault_text, fault_line, Reason, Outcome}
+use Rattle.origins_lines.proofs.Common.{Bool, List, None, Some, [], ap, arith, false, inl, inr, sym, true, ℕ, ◌∙◌, ◌∷◌, ◌≡◌, Contains-permutation, IsPermutation-map, IsPermutation-sym, IsPermutation, Vrp, as_sent, FamilyPrefix, IsOriginAnswer, IsExplanationIf, IsRouteAnswer, IsExplanation, IsReason, IsExplainedBefore, AreReasonTexts, IsOutcomeOf, asked_asn, route_fault_text, fault_line, Reason, Outcome}
 use Rattle.roa_origin.specs.declared.validation.Validity.TheVariants as Validities
 use Rattle.roa_origin.proofs.SortedSearch.{any_moved}
 use Rattle.roa_origin.proofs.ListMembers.{same_list}
@@ -40,7 +40,8 @@ any_order why vrps others line text moved (inl (route, is, (outcome, is_outcome,
     let same = outcome_moved route.prefix asn vrps others outcome moved is_outcome in
     let explained = explanation_if_moved why vrps others route.prefix asn behind moved texts in
     inl (route, is, (outcome, same, behind, explained, whole))
-any_order why vrps others line text moved (inr wrong) = inr wrong
+any_order why vrps others line text moved (inr (inl nothing)) = inr (inl nothing)
+any_order why vrps others line text moved (inr (inr wrong)) = inr (inr wrong)
 
 -- ---- one answer alone
 
@@ -80,15 +81,30 @@ route_answer_one : (why : Bool) (vrps : List Vrp) (route : FamilyPrefix) (asn : 
     → IsRouteAnswer why vrps route asn text → IsRouteAnswer why vrps route asn other → text ≡ other
 route_answer_one why vrps route asn text other h h2 = grind (arith, outcome_one, why_one)
 
+none_some : {X : Type 0} {x : X} → None ≡ Some x → ⊥
+none_some e = grind (arith)
+
+some_inj : {X : Type 0} {a b : X} → Some a ≡ Some b → a ≡ b
+some_inj e = cc
+
 pub answer_one : (why : Bool) (vrps : List Vrp) (line text other : List ℕ)
     → IsOriginAnswer why vrps line text → IsOriginAnswer why vrps line other → text ≡ other
 answer_one why vrps line text other (inl (a, is_a, h)) (inl (b, is_b, k)) =
-    let same = (route_decided line).one a b is_a is_b in
+    let same = some_inj ((route_decided line).one (Some a) (Some b) is_a is_b) in
     route_answer_one why vrps b.prefix (asked_asn b.origin) text other (rw same at h) k
-answer_one why vrps line text other (inl (a, is_a, h)) (inr (f, wrong, k)) =
-    absurd ((route_decided line).apart a f is_a wrong)
-answer_one why vrps line text other (inr (f, wrong, h)) (inl (b, is_b, k)) =
-    absurd ((route_decided line).apart b f is_b wrong)
-answer_one why vrps line text other (inr (f, wrong, h)) (inr (g, other_wrong, k)) =
+answer_one why vrps line text other (inl (a, is_a, h)) (inr (inl (nothing, k))) =
+    absurd (none_some ((route_decided line).one None (Some a) nothing is_a))
+answer_one why vrps line text other (inl (a, is_a, h)) (inr (inr (f, wrong, k))) =
+    absurd ((route_decided line).apart (Some a) f is_a wrong)
+answer_one why vrps line text other (inr (inl (nothing, h))) (inl (b, is_b, k)) =
+    absurd (none_some ((route_decided line).one None (Some b) nothing is_b))
+answer_one why vrps line text other (inr (inl (nothing, h))) (inr (inl (nothing_too, k))) = h ∙ sym k
+answer_one why vrps line text other (inr (inl (nothing, h))) (inr (inr (f, wrong, k))) =
+    absurd ((route_decided line).apart None f nothing wrong)
+answer_one why vrps line text other (inr (inr (f, wrong, h))) (inl (b, is_b, k)) =
+    absurd ((route_decided line).apart (Some b) f is_b wrong)
+answer_one why vrps line text other (inr (inr (f, wrong, h))) (inr (inl (nothing, k))) =
+    absurd ((route_decided line).apart None f nothing wrong)
+answer_one why vrps line text other (inr (inr (f, wrong, h))) (inr (inr (g, other_wrong, k))) =
     let same = (route_decided line).same f g wrong other_wrong in
     h ∙ ap (λ fault. fault_line (route_fault_text fault)) same ∙ sym k

@@ -1,10 +1,10 @@
 -- A line writes one route alone, or has one fault.
-use Rattle.origins_lines.proofs.Common.{Err, List, MatchResult, Ok, Option, Result, Some, [], ap, arith, inl, inr, length, ℕ, ◌++◌, ◌+◌, ◌<◌, ◌∙◌, ◌≡◌, ◌⊎◌, length-append, after_first, position_or_len, is_space, IsUtf8, trim, AreRouteWords, HasDumpFault, HasFaultBy, HasLineFault, HasRouteFault, HasWordFault, HaveWordsFault, IsAsnOrigin, IsDumpRoute, IsFieldAt, IsLineOf, IsNoAsnText, IsNoFieldAt, IsPathPlace, IsRouteBy, IsRouteLine, IsWordOrigin, last_word, origin_word, prefix_word, Route}
+use Rattle.origins_lines.proofs.Common.{Err, List, MatchResult, Ok, Option, Result, Some, [], ap, arith, inr, length, ℕ, ◌+◌, ◌<◌, ◌∙◌, ◌≡◌, ◌⊎◌, length-append, position_or_len, is_space, IsUtf8, trim, AreRouteWords, HasDumpFault, HasFaultBy, HasLineFault, HasRouteFault, HasWordFault, HaveWordsFault, IsAsnOrigin, IsDumpRoute, IsFieldAt, IsLineOf, IsNoAsnText, IsNoFieldAt, IsPathPlace, IsReadLine, IsReadOf, IsRouteBy, IsWordOrigin, last_word, origin_word, prefix_word, HasReadFault, Route, None, refl}
 use Rattle.rpki_text.specs.Reading.{Answers}
 use Rattle.rpki_text.proofs.ReadingLemmas.{Answers-from_found}
 use Rattle.rpki_base.proofs.AsnLemmas.{IsAsnText-one}
 use Rattle.rpki_prefix.proofs.PrefixTextLemmas.{IsPrefixText-one, IsPrefixText-no_fault, HasPrefixTextFault-one}
-use Rattle.origins_lines.specs.Routes.{AreDumpTexts, HasCommaForSpace, HasNoOrigin, origin_part, prefix_part}
+use Rattle.origins_lines.specs.Routes.{AreDumpTexts, HasCommaForSpace, origin_part, prefix_part}
 use Rattle.rpki_base.specs.AsnText.{IsAsnText}
 use Rattle.std.specs.Str.Parse.{without_leading_plus}
 use Rattle.std.proofs.lemmas.List.{drop_all, nil_from_length}
@@ -13,9 +13,9 @@ use Rattle.origins_lines.specs.declared.fault.RouteFault.{RouteFault}
 use Rattle.origins_lines.specs.declared.fault.RouteFault.TheVariants.{NotUtf8, TooFewFields, CommaForSpace}
 
 -- a text has one value or one fault at most
-pub record IsDecided (Has : Route → Type 0) (Fails : RouteFault → Type 0) : Type 0 where
-  pub one : (a b : Route) → Has a → Has b → a ≡ b
-  pub apart : (a : Route) (f : RouteFault) → Has a → Fails f → ⊥
+pub record IsDecided {V : Type 0} (Has : V → Type 0) (Fails : RouteFault → Type 0) : Type 0 where
+  pub one : (a b : V) → Has a → Has b → a ≡ b
+  pub apart : (a : V) (f : RouteFault) → Has a → Fails f → ⊥
   pub same : (d e : RouteFault) → Fails d → Fails e → d ≡ e
 
 -- ---- a prefix and what a word says of the origin
@@ -90,7 +90,7 @@ module _ (At : ℕ → Type 0) (at_one : (m n : ℕ) → At m → At n → m ≡
   }
 
 -- where the text is of a kind
-module _ (IsKind : Type 0) (other : RouteFault) {Has : Route → Type 0} {Fails : RouteFault → Type 0}
+module _ (IsKind : Type 0) (other : RouteFault) {V : Type 0} {Has : V → Type 0} {Fails : RouteFault → Type 0}
     (found : IsDecided Has Fails) where
   by_kind : IsDecided (λ a. IsKind × Has a) (λ f. ((¬ IsKind) × (f ≡ other)) ⊎ (IsKind × Fails f))
   by_kind = record {
@@ -152,12 +152,30 @@ module _ (line : List ℕ) where
   line_decided =
       by_place (IsPathPlace line) place_one (comma_decided line) dump_decided
 
-pub route_decided : (line : List ℕ) → IsDecided (IsRouteLine line) (HasRouteFault line)
-route_decided line = by_kind (IsUtf8 line) NotUtf8 (line_decided (trim line))
+  -- a line that announces nothing has no route
+  read_one : (a b : Option Route) → IsReadOf line a → IsReadOf line b → a ≡ b
+  read_one None None h k = refl
+  read_one None (Some b) h k = absurd (k.0 h)
+  read_one (Some a) None h k = absurd (h.0 k)
+  read_one (Some a) (Some b) h k = ap Some (line_decided.one a b h.1 k.1)
+
+  read_apart : (a : Option Route) (f : RouteFault) → IsReadOf line a → HasReadFault line f → ⊥
+  read_apart None f h wrong = wrong.0 h
+  read_apart (Some a) f h wrong = line_decided.apart a f h.1 wrong.1
+
+  read_decided : IsDecided (IsReadOf line) (HasReadFault line)
+  read_decided = record {
+    one = read_one;
+    apart = read_apart;
+    same = λ d e h k. line_decided.same d e h.1 k.1;
+  }
+
+pub route_decided : (line : List ℕ) → IsDecided (IsReadLine line) (HasRouteFault line)
+route_decided line = by_kind (IsUtf8 line) NotUtf8 (read_decided (trim line))
 
 -- so what is found decides the answer
-pub route_answers : (line : List ℕ) (r : Result Route RouteFault)
-    → MatchResult r (IsRouteLine line) (HasRouteFault line) → Answers (IsRouteLine line) (HasRouteFault line) r
+pub route_answers : (line : List ℕ) (r : Result (Option Route) RouteFault)
+    → MatchResult r (IsReadLine line) (HasRouteFault line) → Answers (IsReadLine line) (HasRouteFault line) r
 route_answers line r found =
     let decided = route_decided line in
     Answers-from_found r found decided.one decided.apart decided.same
@@ -181,7 +199,7 @@ dump_found n line prefix path word (Ok route) at there is found = grind (arith)
 dump_found n line prefix path word (Err fault) at there is found =
     inr (prefix, path, record { prefix_is = at; path_is = there }, rw is at found)
 
-pub text_found : (line text : List ℕ) (r : Result Route RouteFault) → IsUtf8 line → text ≡ trim line
-    → MatchResult r (IsLineOf text) (HasLineFault text) → MatchResult r (IsRouteLine line) (HasRouteFault line)
-text_found line text (Ok route) utf8 is found = (utf8, rw is at found)
+pub text_found : (line text : List ℕ) (r : Result (Option Route) RouteFault) → IsUtf8 line → text ≡ trim line
+    → MatchResult r (IsReadOf text) (HasReadFault text) → MatchResult r (IsReadLine line) (HasRouteFault line)
+text_found line text (Ok read) utf8 is found = (utf8, rw is at found)
 text_found line text (Err fault) utf8 is found = inr (utf8, rw is at found)

@@ -1,11 +1,11 @@
 -- The answer to the line of a route by VRPs (RFC 6811, 2).
 use Rattle.std.specs.Prelude.{◌≡◌, ◌⊎◌, ℕ, Bool, true, false, List, [], ◌++◌}
-use Rattle.origins_lines.specs.Words.{fault_line}
+use Rattle.origins_lines.specs.Words.{fault_line, skipped_text}
 use Rattle.rpki_prefix.specs.Values.{FamilyPrefix}
 use Rattle.roa_origin.specs.Vrps.{Vrp}
 use Rattle.origins_lines.specs.Explanations.{IsExplanationText}
 use Rattle.origins_lines.specs.Outcomes.{IsOutcomeOf, asked_asn, outcome_text}
-use Rattle.origins_lines.specs.Routes.{IsRouteLine, HasRouteFault, route_fault_text}
+use Rattle.origins_lines.specs.Routes.{IsRouteLine, IsSkippedLine, HasRouteFault, route_fault_text}
 use Rattle.origins_lines.specs.declared.fault.RouteFault.{RouteFault}
 use Rattle.origins_lines.specs.declared.outcome.Outcome.{Outcome}
 use Rattle.origins_lines.specs.declared.route.Route.{Route}
@@ -20,8 +20,9 @@ abbrev pub IsRouteAnswer : Bool → List Vrp → FamilyPrefix → ℕ → List �
 IsRouteAnswer why vrps route asn text =
     (outcome : Outcome) × IsOutcomeOf route asn vrps outcome × (behind : List ℕ) × IsExplanationIf why vrps route asn behind × (text ≡ outcome_text outcome ++ behind)
 
--- the text is the answer to the route that the line gives, or to the fault of the line
+-- the text is the answer to the route that the line gives, to a line that announces none, or to the fault of the line
 abbrev pub IsOriginAnswer : Bool → List Vrp → List ℕ → List ℕ → Type 0
 IsOriginAnswer why vrps line text =
     ((route : Route) × IsRouteLine line route × IsRouteAnswer why vrps route.prefix (asked_asn route.origin) text)
+    ⊎ (IsSkippedLine line × (text ≡ skipped_text))
     ⊎ ((fault : RouteFault) × HasRouteFault line fault × (text ≡ fault_line (route_fault_text fault)))

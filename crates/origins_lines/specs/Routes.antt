@@ -1,6 +1,6 @@
--- The route of a line: a prefix and an AS number, or a line of `bgpdump -m`, which prints the tables of route
--- collectors (RFC 6396, 4.3; RFC 8050, 4).
-use Rattle.std.specs.Prelude.{◌≡◌, ◌≢◌, ◌⊎◌, ◌==◌, ◌-◌, ◌++◌, ℕ, Bool, List, [], Option, Some, None, codes, length, slice_get, slice_index}
+-- The route of a line: a prefix and an AS number, or a line of `bgpdump -m`, which prints the tables and the updates of
+-- route collectors (RFC 6396, 4.2 to 4.4; RFC 8050, 3 and 4).
+use Rattle.std.specs.Prelude.{◌≡◌, ◌⊎◌, ◌==◌, ◌-◌, ◌++◌, ℕ, Bool, List, [], Option, Some, None, codes, length, slice_get, slice_index}
 use Rattle.std.specs.List.{after_first, after_last, before_first, position_or_len, slice_split}
 use Rattle.std.specs.Str.{IsUtf8, trim}
 use Rattle.rpki_text.specs.Cuts.{is_space}
@@ -10,6 +10,8 @@ use Rattle.rpki_prefix.specs.PrefixText.{IsPrefixText, HasPrefixTextFault, prefi
 use Rattle.rpki_prefix.specs.Values.{FamilyPrefix}
 use Rattle.origins_lines.specs.declared.fault.RouteFault.{RouteFault}
 use Rattle.origins_lines.specs.declared.fault.RouteFault.TheVariants.{NotUtf8, TooFewFields, CommaForSpace, Prefix, Asn}
+use Rattle.origins_lines.specs.declared.route.Kind.{Kind}
+use Rattle.origins_lines.specs.declared.route.Kind.TheVariants.{Dump, Skipped, Words}
 use Rattle.origins_lines.specs.declared.route.Route.{Route}
 
 -- a text is the prefix of the route, and Origin holds for its origin
@@ -86,11 +88,38 @@ IsFieldAt n line text = slice_get (fields_of line) n ≡ Some text
 abbrev pub IsNoFieldAt : ℕ → List ℕ → Type 0
 IsNoFieldAt n line = slice_get (fields_of line) n ≡ None
 
--- The index of the path in a dump's line. The first field says whether an identifier precedes the path (RFC 8050, 4).
+-- The first field of a line of a table whose path has the index n. `_AP` says that an identifier precedes the path (RFC
+-- 8050, 4).
+abbrev pub IsTableName : List ℕ → ℕ → Type 0
+IsTableName name n =
+    (((name ≡ codes "TABLE_DUMP") ⊎ (name ≡ codes "TABLE_DUMP2")) × (n ≡ 6))
+    ⊎ ((name ≡ codes "TABLE_DUMP2_AP") × (n ≡ 7))
+
+-- The first field of a line of a message between two BGP speakers, or of the state of their session (RFC 6396, 4.4). A
+-- path has the index n. `_AP` says that an identifier precedes the path (RFC 8050, 3), `_ET` that the time has a part
+-- of a second, and `_LOCAL` that the collector sent the message.
+abbrev pub IsUpdateName : List ℕ → ℕ → Type 0
+IsUpdateName name n =
+    (((name ≡ codes "BGP4MP") ⊎ (name ≡ codes "BGP4MP_ET") ⊎ (name ≡ codes "BGP4MP_LOCAL")
+    ⊎ (name ≡ codes "BGP4MP_ET_LOCAL")) × (n ≡ 6))
+    ⊎ (((name ≡ codes "BGP4MP_AP") ⊎ (name ≡ codes "BGP4MP_ET_AP") ⊎ (name ≡ codes "BGP4MP_LOCAL_AP")
+    ⊎ (name ≡ codes "BGP4MP_ET_LOCAL_AP")) × (n ≡ 7))
+
+-- the line is from a message or a session, a path has the index n, and the third field is this text
+pub record IsUpdate (line : List ℕ) (n : ℕ) (kind : List ℕ) : Type 0 where
+  pub name : List ℕ
+  pub name_is : IsFieldAt 0 line name
+  pub update : IsUpdateName name n
+  pub kind_is : IsFieldAt 2 line kind
+
+-- the line has a route whose path has the index n: it is from a table, or its third field says that it announces
 abbrev pub IsPathPlace : List ℕ → ℕ → Type 0
 IsPathPlace line n =
-    (IsFieldAt 0 line (codes "TABLE_DUMP2") × (n ≡ 6))
-    ⊎ (IsFieldAt 0 line (codes "TABLE_DUMP2_AP") × (n ≡ 7))
+    ((name : List ℕ) × IsFieldAt 0 line name × IsTableName name n) ⊎ IsUpdate line n (codes "A")
+
+-- the line has no route: it withdraws one, or says how the state of a session changed
+abbrev pub AnnouncesNothing : List ℕ → Type 0
+AnnouncesNothing line = (n : ℕ) × (IsUpdate line n (codes "W") ⊎ IsUpdate line n (codes "STATE"))
 
 -- the texts of the sixth field, which is the prefix, and of the field of the path
 pub record AreDumpTexts (n : ℕ) (line prefix path : List ℕ) : Type 0 where
@@ -138,9 +167,15 @@ HasDumpFault n line fault =
 
 -- ---- any line
 
--- the line is not from a dump
+-- the line has no route of a dump
 abbrev pub IsNoDump : List ℕ → Type 0
 IsNoDump line = (n : ℕ) → ¬ IsPathPlace line n
+
+-- the kind of a line
+abbrev pub IsKindOf : List ℕ → Kind → Type 0
+IsKindOf line (Dump n) = IsPathPlace line n × ¬ AnnouncesNothing line
+IsKindOf line Skipped = AnnouncesNothing line
+IsKindOf line Words = IsNoDump line × ¬ AnnouncesNothing line
 
 -- the route of a line without white space at its ends
 abbrev pub IsLineOf : List ℕ → Route → Type 0
@@ -150,13 +185,30 @@ IsLineOf line route = (IsNoDump line × AreRouteWords line route) ⊎ ((n : ℕ)
 abbrev pub HasLineFault : List ℕ → RouteFault → Type 0
 HasLineFault line fault = (IsNoDump line × HaveWordsFault line fault) ⊎ ((n : ℕ) × IsPathPlace line n × HasDumpFault n line fault)
 
+-- what is read of a line without white space at its ends: its route, or nothing if it announces none
+abbrev pub IsReadOf : List ℕ → Option Route → Type 0
+IsReadOf line None = AnnouncesNothing line
+IsReadOf line (Some route) = (¬ AnnouncesNothing line) × IsLineOf line route
+
+-- the first fault of a line without white space at its ends, which may also announce nothing
+abbrev pub HasReadFault : List ℕ → RouteFault → Type 0
+HasReadFault line fault = (¬ AnnouncesNothing line) × HasLineFault line fault
+
+-- what is read of a line: its route, or nothing if it announces none
+abbrev pub IsReadLine : List ℕ → Option Route → Type 0
+IsReadLine line read = IsUtf8 line × IsReadOf (trim line) read
+
 -- the route of a line
 abbrev pub IsRouteLine : List ℕ → Route → Type 0
-IsRouteLine line route = IsUtf8 line × IsLineOf (trim line) route
+IsRouteLine line route = IsReadLine line (Some route)
+
+-- the line announces no route
+abbrev pub IsSkippedLine : List ℕ → Type 0
+IsSkippedLine line = IsReadLine line None
 
 -- the first fault of a line
 abbrev pub HasRouteFault : List ℕ → RouteFault → Type 0
-HasRouteFault line fault = ((¬ IsUtf8 line) × (fault ≡ NotUtf8)) ⊎ (IsUtf8 line × HasLineFault (trim line) fault)
+HasRouteFault line fault = ((¬ IsUtf8 line) × (fault ≡ NotUtf8)) ⊎ (IsUtf8 line × HasReadFault (trim line) fault)
 
 -- the text printed for a fault
 abbrev pub route_fault_text : RouteFault → List ℕ

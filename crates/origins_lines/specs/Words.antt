@@ -1,4 +1,4 @@
--- The words of a route's line, and the line that reports a fault.
+-- The words of a route's line, and the lines for a line without a route.
 use Rattle.std.specs.Prelude.{ℕ, Bool, ◌==◌, List, ◌++◌, codes}
 
 -- whether a byte is a comma, which some write in place of the space
@@ -8,3 +8,7 @@ is_comma_byte byte = byte == 44
 -- the line that reports a fault: its text, after `error: `
 abbrev pub fault_line : List ℕ → List ℕ
 fault_line fault = codes "error: " ++ fault
+
+-- the line for a line that announces no route
+abbrev pub skipped_text : List ℕ
+skipped_text = codes "skipped"

@@ -14,8 +14,9 @@ use std::alloc::{AllocError, Allocator, Global};
 
 /// Answers lines of routes by a table of VRPs.
 ///
-/// The answer is `valid`, `invalid-length`, `invalid-as` or `not-found` ([`Outcome`](crate::Outcome)). For an invalid
-/// line, which includes a blank one, it is `error: ` and the fault.
+/// The answer is `valid`, `invalid-length`, `invalid-as` or `not-found` ([`Outcome`](crate::Outcome)). For a line of
+/// `bgpdump -m` that announces no route it is `skipped`. For an invalid line, which includes a blank one, it is
+/// `error: ` and the fault.
 #[derive(Drop)]
 pub struct Routes<'a, B: Allocator = Global> {
     /// The VRPs.
@@ -42,10 +43,11 @@ impl<B: Allocator> Answers for Routes<'_, B> {
     ) -> Result<(), AllocError> {
         text.clear();
         match read_route(line) {
-            Ok(route) => {
+            Ok(Some(route)) => {
                 let Route { prefix, origin } = route;
                 write_answer(text, self.table, self.why, prefix, asked_asn(origin))
             }
+            Ok(None) => text.push_str("skipped"),
             Err(fault) => write!(text, "error: {fault}"),
         }
     }

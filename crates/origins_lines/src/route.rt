@@ -1,10 +1,10 @@
 //! The route that a line gives.
-ghost use Rattle.std.specs.Prelude.{◌≡◌, ◌↔◌, ◌∷◌, [], ◌<◌, IsTrue, MatchBool, MatchOption, MatchResult, length};
+ghost use Rattle.std.specs.Prelude.{◌≡◌, ◌↔◌, ◌∷◌, [], ◌<◌, ℕ, List, IsTrue, MatchBool, MatchOption, MatchResult, length};
 ghost use Rattle.std.specs.List.{after_first, after_last, before_first, position_or_len};
 ghost use Rattle.rpki_text.specs.Cuts.{is_space};
 ghost use Rattle.origins_lines.specs.Words.{is_comma_byte};
 ghost use Rattle.rpki_text.specs.Reading.{Answers};
-ghost use Rattle.origins_lines.specs.Routes.{AreRouteWords, HasDumpFault, HasCommaForSpace, HasFaultBy, HasLineFault, HasRouteFault, HasWordFault, HaveWordsFault, IsAsnOrigin, IsConfedWord, IsDumpRoute, IsFieldAt, IsLineOf, IsNoAsnText, IsNoDump, IsNoFieldAt, IsPathPlace, IsRouteLine, IsRouteBy, IsSetWord, IsWordOrigin, HasNoOrigin, fields_of, origin_part, origin_word, prefix_part, prefix_word};
+ghost use Rattle.origins_lines.specs.Routes.{AreRouteWords, HasDumpFault, HasCommaForSpace, HasFaultBy, HasReadFault, HasRouteFault, HasWordFault, HaveWordsFault, IsAsnOrigin, IsConfedWord, IsDumpRoute, IsFieldAt, IsKindOf, IsNoAsnText, IsNoFieldAt, IsReadLine, IsReadOf, IsRouteBy, IsSetWord, IsTableName, IsUpdateName, IsWordOrigin, HasNoOrigin, fields_of, origin_part, origin_word, prefix_part, prefix_word};
 
 use crate::fault::RouteFault;
 use rpki_base::Asn;
@@ -26,12 +26,32 @@ pub struct Route {
     pub origin: Option<Asn>,
 }
 
+/// The kind of a line.
+#[derive(Clone, Copy, Debug, PartialEq, Eq)]
+enum Kind {
+    /// A route of a dump. The field is the index of its path.
+    Dump(usize),
+    /// A line of a dump that announces no route.
+    Skipped,
+    /// Any other line: a prefix and an AS number are expected.
+    Words,
+}
+
 /// Reads the route of a line, which has one of two forms.
 ///
 /// - A prefix, a space and an AS number. White space may precede or follow each.
-/// - A line of `bgpdump -m`, whose fields are separated by `|` (RFC 6396, 4.3; RFC 8050, 4). If the first field is
-///   `TABLE_DUMP2`, the sixth is the prefix and the seventh the path. If it is `TABLE_DUMP2_AP`, the eighth is the
-///   path, which follows its identifier.
+/// - A line of `bgpdump -m`, whose fields are separated by `|`. The first field is one of these:
+///
+///   | first field | line |
+///   |---|---|
+///   | `TABLE_DUMP`, `TABLE_DUMP2` | a route of a table (RFC 6396, 4.2 and 4.3) |
+///   | `BGP4MP`, `BGP4MP_ET`, `BGP4MP_LOCAL`, `BGP4MP_ET_LOCAL` | an update, or the state of a session (RFC 6396, 4.4) |
+///   | `TABLE_DUMP2_AP`, and these names of updates with `_AP` at their ends | the same, with a path identifier (RFC 8050) |
+///
+/// The sixth field is the prefix and the seventh the path. In a line with a path identifier the eighth is the path. The
+/// third field of an update is `A` if the line announces the route. Returns None if the third field is `W` or `STATE`:
+/// the line withdraws a route, or says how the state of a session changed. A line with another third field is none of
+/// `bgpdump -m`.
 ///
 /// The last word of a path is the origin. The origin is unknown for three kinds of paths (RFC 6811, 2):
 ///
@@ -44,16 +64,16 @@ pub struct Route {
 ///
 /// The first [`RouteFault`] of the line.
 #[tactic(auto, using(crate::proofs::RouteLineLemmas::route_answers))]
-pub fn read_route(line: &[u8]) -> Result<Route, RouteFault>
-    ensures { Answers (IsRouteLine line.now) (HasRouteFault line.now) result }
+pub fn read_route(line: &[u8]) -> Result<Option<Route>, RouteFault>
+    ensures { Answers (IsReadLine line.now) (HasRouteFault line.now) result }
 {
     read_route_matched(line)
 }
 
-/// Returns the route of a line, or its first fault.
+/// Returns the route of a line, or None if it announces none, or its first fault.
 #[tactic(auto, using(crate::proofs::RouteLineLemmas::text_found))]
-fn read_route_matched(line: &[u8]) -> Result<Route, RouteFault>
-    ensures { MatchResult result (IsRouteLine line.now) (HasRouteFault line.now) }
+fn read_route_matched(line: &[u8]) -> Result<Option<Route>, RouteFault>
+    ensures { MatchResult result (IsReadLine line.now) (HasRouteFault line.now) }
 {
     let Ok(text) = str::from_utf8(line) else {
         return Err(RouteFault::NotUtf8);
@@ -61,24 +81,64 @@ fn read_route_matched(line: &[u8]) -> Result<Route, RouteFault>
     read_text(text.trim())
 }
 
-/// Returns the route of a text without white space at its ends, or its first fault.
-fn read_text(text: &str) -> Result<Route, RouteFault>
-    ensures { MatchResult result (IsLineOf text.now) (HasLineFault text.now) }
+/// Returns the route of a text without white space at its ends, or None if it announces none, or its first fault.
+fn read_text(text: &str) -> Result<Option<Route>, RouteFault>
+    ensures { MatchResult result (IsReadOf text.now) (HasReadFault text.now) }
 {
-    match path_place(text) {
-        Some(place) => read_dump(text, place),
-        None => read_words(text),
+    match kind_of(text) {
+        Kind::Dump(place) => Ok(Some(read_dump(text, place)?)),
+        Kind::Skipped => Ok(None),
+        Kind::Words => Ok(Some(read_words(text)?)),
     }
 }
 
-/// Returns the index of the path among the fields of a line, or None if the line is not from a dump.
-fn path_place(line: &str) -> Option<usize>
-    ensures { MatchOption result (IsNoDump line.now) (IsPathPlace line.now) }
+/// Returns the kind of a line without white space at its ends.
+fn kind_of(line: &str) -> Kind
+    ensures { IsKindOf line.now result }
 {
-    match field_at(line, 0)? {
-        "TABLE_DUMP2" => Some(6),
+    let Some(name) = field_at(line, 0) else {
+        return Kind::Words;
+    };
+    if let Some(place) = table_place(name) {
+        return Kind::Dump(place);
+    }
+    match update_place(name) {
+        Some(place) => update_kind(line, place),
+        None => Kind::Words,
+    }
+}
+
+/// Returns the index of the path in a line of a table, or None if `name` does not begin such a line.
+fn table_place(name: &str) -> Option<usize>
+    ensures { MatchOption result ((n : ℕ) → ¬ IsTableName name.now n) (IsTableName name.now) }
+{
+    match name {
+        "TABLE_DUMP2" | "TABLE_DUMP" => Some(6),
         "TABLE_DUMP2_AP" => Some(7),
         _ => None,
+    }
+}
+
+/// Returns the index of a path in a line of an update, or None if `name` does not begin such a line.
+fn update_place(name: &str) -> Option<usize>
+    ensures { MatchOption result ((n : ℕ) → ¬ IsUpdateName name.now n) (IsUpdateName name.now) }
+{
+    match name {
+        "BGP4MP" | "BGP4MP_ET" | "BGP4MP_LOCAL" | "BGP4MP_ET_LOCAL" => Some(6),
+        "BGP4MP_AP" | "BGP4MP_ET_AP" | "BGP4MP_LOCAL_AP" | "BGP4MP_ET_LOCAL_AP" => Some(7),
+        _ => None,
+    }
+}
+
+/// Returns the kind of an update's line, whose path has the index `place` if it has one.
+fn update_kind(line: &str, place: usize) -> Kind
+    requires { (name : List ℕ) × IsFieldAt 0 line.now name × IsUpdateName name place }
+    ensures { IsKindOf line.now result }
+{
+    match field_at(line, 2) {
+        Some("A") => Kind::Dump(place),
+        Some("W" | "STATE") => Kind::Skipped,
+        _ => Kind::Words,
     }
 }
 

@@ -15,15 +15,16 @@ _NAMES = {
     "prefix": ("IP Prefix", "Prefix"),
     "max_length": ("Max Length", "Max prefix length"),
 }
+MARK = b"\xef\xbb\xbf"
 _OPENS_OBJECT = re.compile(rb"[\t\n\f\r ]*\{")
 _OPENS_ARRAY = re.compile(rb"[\t\n\f\r ]*\[")
 
 
-class _Number(str):
+class Number(str):
     """A number of JSON, as it is written."""
 
 
-class _Object(list):
+class Object(list):
     """The members of an object, in their order."""
 
     def values(self, name: str) -> list:
@@ -39,7 +40,7 @@ def _depth(value: object) -> int:
     deepest, left = 0, [(value, 1)]
     while left:
         inner, depth = left.pop()
-        if isinstance(inner, _Object):
+        if isinstance(inner, Object):
             inner = [value for _, value in inner]
         elif not isinstance(inner, list):
             continue
@@ -63,24 +64,26 @@ def _is_text(value: object) -> bool:
     return True
 
 
-def _object_of(octets: bytes) -> _Object:
+def object_of(octets: bytes) -> Object:
+    """The members of the object that a text of JSON is."""
     try:
         value = json.loads(
             octets.decode("utf-8"),
-            object_pairs_hook=_Object,
-            parse_int=_Number,
-            parse_float=_Number,
+            object_pairs_hook=Object,
+            parse_int=Number,
+            parse_float=Number,
             parse_constant=_refuse_word,
         )
     except (ValueError, RecursionError):
         raise Fault("not a JSON object") from None
-    if not isinstance(value, _Object) or _depth(value) > _DEEPEST or not _is_text(value):
+    if not isinstance(value, Object) or _depth(value) > _DEEPEST or not _is_text(value):
         raise Fault("not a JSON object")
     return value
 
 
-def _only(item: object, name: str, kinds: tuple[type, ...]) -> object:
-    found = item.values(name) if isinstance(item, _Object) else []
+def only(item: object, name: str, kinds: tuple[type, ...]) -> object:
+    """The value of the only member of this name, which has to be of one of the kinds."""
+    found = item.values(name) if isinstance(item, Object) else []
     if not found:
         raise Fault(f"{name}: missing")
     if len(found) > 1:
@@ -100,11 +103,11 @@ def _vrp(number: str, prefix: str, length: str) -> Vrp:
 
 
 def _of_json(octets: bytes) -> Iterator[Vrp]:
-    for place, item in enumerate(_only(_object_of(octets), "roas", (list,)), 1):
+    for place, item in enumerate(only(object_of(octets), "roas", (list,)), 1):
         try:
-            number = _only(item, "asn", (_Number, str))
-            prefix = _only(item, "prefix", (str,))
-            length = _only(item, "maxLength", (_Number,))
+            number = only(item, "asn", (Number, str))
+            prefix = only(item, "prefix", (str,))
+            length = only(item, "maxLength", (Number,))
             yield _vrp(number, prefix, length)
         except Fault as fault:
             raise Fault(f"item {place}: {fault}") from None
@@ -158,8 +161,9 @@ def _of_lines(octets: bytes) -> Iterator[Vrp]:
             raise Fault(f"line {number}: {fault}") from None
 
 
-def read(octets: bytes) -> list[Vrp]:
-    """The VRPs of a file."""
+def read(file: bytes) -> list[Vrp]:
+    """The VRPs of a file, after the byte order mark with which it may begin (RFC 3629, 6)."""
+    octets = file.removeprefix(MARK)
     if _OPENS_ARRAY.match(octets):
         raise Fault("a JSON array, where an object with the member roas is expected")
     found = list(_of_json(octets) if _OPENS_OBJECT.match(octets) else _of_lines(octets))
@@ -168,6 +172,6 @@ def read(octets: bytes) -> list[Vrp]:
     return found
 
 
-def answer(octets: bytes) -> str:
+def answer(file: bytes) -> str:
     """The VRPs of a file as a list."""
-    return ", ".join(f"{vrp.prefix.text()} AS{vrp.asn}" for vrp in read(octets))
+    return ", ".join(f"{vrp.prefix.text()} AS{vrp.asn}" for vrp in read(file))

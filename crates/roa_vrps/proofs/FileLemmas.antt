@@ -1,48 +1,69 @@
--- A file in either form writes one list of VRPs, or has one fault.
+-- A text in either form writes one list of VRPs, or has one fault, and so does a file.
 use Rattle.roa_vrps.proofs.Common.{List, MatchResult, Result, arith, inl, inr, sym, ℕ, ◌∙◌, ◌≡◌, MaxLenValue, AnswersOrMemory, FileFault}
 use Rattle.std.specs.Prelude.{IfErr}
 use Rattle.rpki_text.specs.Memory.{IfRefused, IsMemory, MatchOrMemory}
 use Rattle.rpki_text.specs.declared.memory.OrMemory.{OrMemory}
 use Rattle.rpki_text.proofs.TextListLemmas.{AnswersOrMemory-from_found}
-use Rattle.roa_vrps.specs.Asking.{MayWantMemory}
-use Rattle.roa_vrps.specs.Files.{HasFileFault, IsVrpFile}
+use Rattle.roa_vrps.specs.Asking.{MayTextWantMemory, MayWantMemory}
+use Rattle.roa_vrps.specs.Files.{HasFileFault, HasVrpTextFault, IsVrpFile, IsVrpText}
+use Rattle.roa_vrps.specs.Marks.{IsUnmarked}
 use Rattle.roa_vrps.proofs.CsvLemmas.{csv_apart, csv_fault_one, csv_one}
 use Rattle.roa_vrps.proofs.ItemLemmas.{Vrps}
 use Rattle.roa_vrps.proofs.JsonLemmas.{json_apart, json_fault_one, json_one}
 
--- so what is found says of the answer, and when memory is wanting
-pub file_found : {V : Type 0} (text : List ℕ) (view : V → List (MaxLenValue × ℕ)) (r : Result V (OrMemory FileFault))
-    → MatchResult r (λ v. IsVrpFile text (view v)) (λ e. MatchOrMemory e (HasFileFault text) (MayWantMemory text))
-    → MatchResult r (λ v. IsVrpFile text (view v)) (IfRefused (HasFileFault text))
-    × IfErr r (λ e. IsMemory e → MayWantMemory text)
-file_found text view r found = grind (arith)
+-- a file has one text
+unmarked_one : (file a b : List ℕ) → IsUnmarked file a → IsUnmarked file b → a ≡ b
+unmarked_one file a b (inl h) (inl k) = cc
+unmarked_one file a b (inl h) (inr (_, none)) = absurd (none a h)
+unmarked_one file a b (inr (_, none)) (inl k) = absurd (none b k)
+unmarked_one file a b (inr (h, _)) (inr (k, _)) = sym h ∙ k
+
+-- what is found in the text says of the answer, and when memory is wanting
+pub file_found : {V : Type 0} (file text : List ℕ) (view : V → List (MaxLenValue × ℕ))
+    (r : Result V (OrMemory FileFault)) → IsUnmarked file text
+    → MatchResult r (λ v. IsVrpText text (view v))
+    (λ e. MatchOrMemory e (HasVrpTextFault text) (MayTextWantMemory text))
+    → MatchResult r (λ v. IsVrpFile file (view v)) (IfRefused (HasFileFault file))
+    × IfErr r (λ e. IsMemory e → MayWantMemory file)
+file_found file text view r is found = grind (arith)
 
 module _ (text : List ℕ) where
   -- the text has one form
-  file_one : (a b : Vrps) → IsVrpFile text a → IsVrpFile text b → a ≡ b
-  file_one a b (inl (_, h)) (inl (_, k)) = json_one text a b h k
-  file_one a b (inl (object, _)) (inr (csv, _)) = absurd (csv.no_object object)
-  file_one a b (inr (csv, _)) (inl (object, _)) = absurd (csv.no_object object)
-  file_one a b (inr (_, h)) (inr (_, k)) = csv_one text a b h k
+  text_one : (a b : Vrps) → IsVrpText text a → IsVrpText text b → a ≡ b
+  text_one a b (inl (_, h)) (inl (_, k)) = json_one text a b h k
+  text_one a b (inl (object, _)) (inr (csv, _)) = absurd (csv.no_object object)
+  text_one a b (inr (csv, _)) (inl (object, _)) = absurd (csv.no_object object)
+  text_one a b (inr (_, h)) (inr (_, k)) = csv_one text a b h k
 
-  file_apart : (a : Vrps) (f : FileFault) → IsVrpFile text a → HasFileFault text f → ⊥
-  file_apart a f (inl (_, h)) (inl (_, k)) = json_apart text a f h k
-  file_apart a f (inl (object, _)) (inr (inl (no_object, _, _))) = no_object object
-  file_apart a f (inl (object, _)) (inr (inr (csv, _))) = csv.no_object object
-  file_apart a f (inr (csv, _)) (inl (object, _)) = csv.no_object object
-  file_apart a f (inr (csv, _)) (inr (inl (_, array, _))) = csv.no_array array
-  file_apart a f (inr (_, h)) (inr (inr (_, k))) = csv_apart text a f h k
+  text_apart : (a : Vrps) (f : FileFault) → IsVrpText text a → HasVrpTextFault text f → ⊥
+  text_apart a f (inl (_, h)) (inl (_, k)) = json_apart text a f h k
+  text_apart a f (inl (object, _)) (inr (inl (no_object, _, _))) = no_object object
+  text_apart a f (inl (object, _)) (inr (inr (csv, _))) = csv.no_object object
+  text_apart a f (inr (csv, _)) (inl (object, _)) = csv.no_object object
+  text_apart a f (inr (csv, _)) (inr (inl (_, array, _))) = csv.no_array array
+  text_apart a f (inr (_, h)) (inr (inr (_, k))) = csv_apart text a f h k
 
-  file_fault_one : (d e : FileFault) → HasFileFault text d → HasFileFault text e → d ≡ e
-  file_fault_one d e (inl (_, h)) (inl (_, k)) = json_fault_one text d e h k
-  file_fault_one d e (inl (object, _)) (inr (inl (no_object, _, _))) = absurd (no_object object)
-  file_fault_one d e (inl (object, _)) (inr (inr (csv, _))) = absurd (csv.no_object object)
-  file_fault_one d e (inr (inl (no_object, _, _))) (inl (object, _)) = absurd (no_object object)
-  file_fault_one d e (inr (inl (_, _, is))) (inr (inl (_, _, iz))) = is ∙ sym iz
-  file_fault_one d e (inr (inl (_, array, _))) (inr (inr (csv, _))) = absurd (csv.no_array array)
-  file_fault_one d e (inr (inr (csv, _))) (inl (object, _)) = absurd (csv.no_object object)
-  file_fault_one d e (inr (inr (csv, _))) (inr (inl (_, array, _))) = absurd (csv.no_array array)
-  file_fault_one d e (inr (inr (_, h))) (inr (inr (_, k))) = csv_fault_one text d e h k
+  text_fault_one : (d e : FileFault) → HasVrpTextFault text d → HasVrpTextFault text e → d ≡ e
+  text_fault_one d e (inl (_, h)) (inl (_, k)) = json_fault_one text d e h k
+  text_fault_one d e (inl (object, _)) (inr (inl (no_object, _, _))) = absurd (no_object object)
+  text_fault_one d e (inl (object, _)) (inr (inr (csv, _))) = absurd (csv.no_object object)
+  text_fault_one d e (inr (inl (no_object, _, _))) (inl (object, _)) = absurd (no_object object)
+  text_fault_one d e (inr (inl (_, _, is))) (inr (inl (_, _, iz))) = is ∙ sym iz
+  text_fault_one d e (inr (inl (_, array, _))) (inr (inr (csv, _))) = absurd (csv.no_array array)
+  text_fault_one d e (inr (inr (csv, _))) (inl (object, _)) = absurd (csv.no_object object)
+  text_fault_one d e (inr (inr (csv, _))) (inr (inl (_, array, _))) = absurd (csv.no_array array)
+  text_fault_one d e (inr (inr (_, h))) (inr (inr (_, k))) = csv_fault_one text d e h k
+
+-- so a file writes one list of VRPs, or has one fault
+module _ (file : List ℕ) where
+  file_one : (a b : Vrps) → IsVrpFile file a → IsVrpFile file b → a ≡ b
+  file_one a b (s, is, h) (t, iz, k) = text_one t a b (rw (unmarked_one file s t is iz) at h) k
+
+  file_apart : (a : Vrps) (f : FileFault) → IsVrpFile file a → HasFileFault file f → ⊥
+  file_apart a f (s, is, h) (t, iz, k) = text_apart t a f (rw (unmarked_one file s t is iz) at h) k
+
+  file_fault_one : (d e : FileFault) → HasFileFault file d → HasFileFault file e → d ≡ e
+  file_fault_one d e (s, is, h) (t, iz, k) = text_fault_one t d e (rw (unmarked_one file s t is iz) at h) k
 
 -- what is found decides the answer
 pub file_answers : {V : Type 0} (text : List ℕ) (view : V → List (MaxLenValue × ℕ)) (r : Result V (OrMemory FileFault))

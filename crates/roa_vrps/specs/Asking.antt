@@ -5,6 +5,7 @@ use Rattle.rpki_text.specs.Lines.{lines_of}
 use Rattle.roa_vrps.specs.Columns.{usual}
 use Rattle.roa_vrps.specs.Csv.{columns_after, vrps_of}
 use Rattle.roa_vrps.specs.Files.{IsCsvText, IsObjectText}
+use Rattle.roa_vrps.specs.Marks.{IsUnmarked}
 use Rattle.roa_vrps.specs.Rows.{IsRow}
 use Rattle.roa_vrps.specs.declared.columns.Columns.{Columns}
 use Rattle.roa_vrps.specs.declared.row.Row.{Row}
@@ -19,6 +20,10 @@ BeginVrps columns (line ∷ lines) =
 abbrev pub HasCsvVrp : List ℕ → Type 0
 HasCsvVrp text = BeginVrps usual (lines_of text)
 
--- the file is UTF-8 and opens an object, or it is CSV with a VRP before its first invalid line
+-- the text is UTF-8 and opens an object, or it is CSV with a VRP before its first invalid line
+abbrev pub MayTextWantMemory : List ℕ → Type 0
+MayTextWantMemory text = (IsObjectText text × IsUtf8 text) ⊎ (IsCsvText text × HasCsvVrp text)
+
+-- the same of the text of a file, without a byte order mark at its beginning
 abbrev pub MayWantMemory : List ℕ → Type 0
-MayWantMemory text = (IsObjectText text × IsUtf8 text) ⊎ (IsCsvText text × HasCsvVrp text)
+MayWantMemory file = (text : List ℕ) × IsUnmarked file text × MayTextWantMemory text

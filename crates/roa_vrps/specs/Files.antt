@@ -4,6 +4,7 @@ use Rattle.std.specs.Str.{IsTrimAsciiStart}
 use Rattle.rpki_prefix.specs.MaxLen.{MaxLenValue}
 use Rattle.roa_vrps.specs.Csv.{IsCsvFile, HasCsvFault}
 use Rattle.roa_vrps.specs.JsonFiles.{IsJsonFile, HasJsonFault}
+use Rattle.roa_vrps.specs.Marks.{IsUnmarked}
 use Rattle.roa_vrps.specs.declared.fault.FileFault.{FileFault}
 use Rattle.roa_vrps.specs.declared.fault.FileFault.TheVariants.{JsonArray}
 
@@ -22,12 +23,20 @@ pub record IsCsvText (text : List ℕ) : Type 0 where
 
 -- The text has these VRPs, at least one: as JSON if it opens an object, as CSV if it opens neither an object nor an
 -- array.
-abbrev pub IsVrpFile : List ℕ → List (MaxLenValue × ℕ) → Type 0
-IsVrpFile text vrps = (IsObjectText text × IsJsonFile text vrps) ⊎ (IsCsvText text × IsCsvFile text vrps)
+abbrev pub IsVrpText : List ℕ → List (MaxLenValue × ℕ) → Type 0
+IsVrpText text vrps = (IsObjectText text × IsJsonFile text vrps) ⊎ (IsCsvText text × IsCsvFile text vrps)
 
 -- the fault of the text as JSON, as an array, or as CSV
-abbrev pub HasFileFault : List ℕ → FileFault → Type 0
-HasFileFault text fault =
+abbrev pub HasVrpTextFault : List ℕ → FileFault → Type 0
+HasVrpTextFault text fault =
     (IsObjectText text × HasJsonFault text fault)
     ⊎ ((¬ IsObjectText text) × IsArrayText text × (fault ≡ JsonArray))
     ⊎ (IsCsvText text × HasCsvFault text fault)
+
+-- the text of the file, without a byte order mark at its beginning, has these VRPs
+abbrev pub IsVrpFile : List ℕ → List (MaxLenValue × ℕ) → Type 0
+IsVrpFile file vrps = (text : List ℕ) × IsUnmarked file text × IsVrpText text vrps
+
+-- the fault of the text of the file
+abbrev pub HasFileFault : List ℕ → FileFault → Type 0
+HasFileFault file fault = (text : List ℕ) × IsUnmarked file text × HasVrpTextFault text fault

@@ -1,4 +1,4 @@
--- Definitions: fields of lines, columns, members of JSON items, and the VRPs of files.
+-- Definitions: fields of lines, columns, members of JSON items, byte order marks, and the VRPs of files.
 pub mod Asking
 pub mod Columns
 pub mod Csv
@@ -6,5 +6,6 @@ pub mod Fields
 pub mod Files
 pub mod Items
 pub mod JsonFiles
+pub mod Marks
 pub mod Members
 pub mod Rows

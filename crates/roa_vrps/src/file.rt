@@ -2,12 +2,13 @@
 ghost use Rattle.std.specs.Prelude.{◌↔◌, IfErr, IsTrue, MatchResult};
 ghost use Rattle.rpki_text.specs.Memory.{IsMemory, MatchOrMemory};
 ghost use Rattle.rpki_text.specs.Reading.{AnswersOrMemory};
-ghost use Rattle.roa_vrps.specs.Asking.{MayWantMemory};
-ghost use Rattle.roa_vrps.specs.Files.{IsArrayText, IsObjectText, IsVrpFile, HasFileFault};
+ghost use Rattle.roa_vrps.specs.Asking.{MayTextWantMemory, MayWantMemory};
+ghost use Rattle.roa_vrps.specs.Files.{IsArrayText, IsObjectText, IsVrpFile, IsVrpText, HasFileFault, HasVrpTextFault};
 
 use crate::csv::read_csv;
 use crate::fault::FileFault;
 use crate::json_file::read_json;
+use crate::mark::without_mark;
 use crate::vrp::Vrp;
 use rpki_base::memory::OrMemory;
 use std::alloc::Allocator;
@@ -16,6 +17,8 @@ use std::alloc::Allocator;
 ///
 /// - `alloc`: the allocator of the list.
 /// - `text`: the whole file.
+///
+/// The reader ignores a byte order mark at the beginning of the file (RFC 3629, 6).
 ///
 /// A file whose first octet that is not white space is `{` is JSON (RFC 8259). Its VRPs are the items of the member
 /// `roas`, an array. An item is an object with the members `asn` (a number or a string), `prefix` (a string) and
@@ -46,16 +49,13 @@ pub fn read_vrps<A: Allocator + Copy>(
     // an object and isn't UTF-8.
     ensures memory { IfErr result (λ error. IsMemory error → MayWantMemory text.now) }
 {
-    read_vrps_matched(alloc, text)
+    read_text(alloc, without_mark(text))
 }
 
-/// Returns the VRPs of a file, or its first fault.
-fn read_vrps_matched<A: Allocator + Copy>(
-    alloc: A,
-    text: &[u8],
-) -> Result<Vec<Vrp, A>, OrMemory<FileFault>>
-    ensures { MatchResult result (λ vrps. IsVrpFile text.now vrps.items)
-        (λ error. MatchOrMemory error (HasFileFault text.now) (MayWantMemory text.now)) }
+/// Returns the VRPs of a text without a byte order mark, or its first fault.
+fn read_text<A: Allocator + Copy>(alloc: A, text: &[u8]) -> Result<Vec<Vrp, A>, OrMemory<FileFault>>
+    ensures { MatchResult result (λ vrps. IsVrpText text.now vrps.items)
+        (λ error. MatchOrMemory error (HasVrpTextFault text.now) (MayTextWantMemory text.now)) }
 {
     if opens_object(text) {
         read_json(alloc, text)

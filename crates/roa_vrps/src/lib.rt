@@ -10,6 +10,7 @@ mod field;
 pub mod file;
 mod item;
 mod json_file;
+pub mod mark;
 pub mod member;
 mod roas;
 pub mod row;

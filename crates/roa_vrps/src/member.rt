@@ -60,8 +60,16 @@ impl fmt::Display for Member {
     }
 }
 
-/// Returns the value of the only member of this name, or Missing or Repeated.
-fn only<'v, 'a, A: Allocator>(
+/// Returns the value of the only member of this name (RFC 8259, 4).
+///
+/// - `members`: the members of an object, as [`Value::Object`] has them.
+/// - `name`: the name.
+///
+/// # Errors
+///
+/// - [`MemberFault::Missing`]: no member has this name.
+/// - [`MemberFault::Repeated`]: several members have it.
+pub fn only<'v, 'a, A: Allocator>(
     members: &'v Vec<(&'a str, Value<'a, A>), A>,
     name: &str,
 ) -> Result<&'v Value<'a, A>, MemberFault>

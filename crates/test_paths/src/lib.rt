@@ -130,6 +130,8 @@ use roa_vrps::Vrp as _;
 use roa_vrps::VrpFault as _;
 use roa_vrps::columns::Column as _;
 use roa_vrps::columns::Columns as _;
+use roa_vrps::mark::without_mark as _;
+use roa_vrps::member::only as _;
 use roa_vrps::read_vrps as _;
 use roa_vrps::row::Row as _;
 use roa_vrps::row::read_row as _;

@@ -97,6 +97,7 @@ respath 40
 respath_lines 239
 roa_origin 301
 roa_vrps 187
+roa_slurm 120
 rpki_addr 135
 rpki_as 167
 rpki_as_block 101

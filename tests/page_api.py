@@ -40,6 +40,7 @@ Contents: [How to read a page](#how-to-read-a-page) · [Libraries](#libraries)
 | the resource extensions of a certificate | [rpki_extensions](api/rpki_extensions.md) |
 | route origin validation | [roa_origin](api/roa_origin.md), [roa_check](api/roa_check.md) |
 | files of VRPs | [roa_vrps](api/roa_vrps.md) |
+| SLURM files | [roa_slurm](api/roa_slurm.md) |
 | the meaning of a word in a contract | [DEFINITIONS.md](DEFINITIONS.md) |
 | the meaning of a sign in a contract | [TRUSTED.md](TRUSTED.md#signs-of-a-contract) |
 

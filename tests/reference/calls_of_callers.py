@@ -2,7 +2,7 @@
 
 from collections.abc import Callable
 
-from . import asn, ip, lines, paths, prefixes, resources, route_lines, sets, texts, vrp_files
+from . import asn, ip, lines, paths, prefixes, resources, route_lines, sets, slurm, texts, vrp_files
 from .addresses import Family
 from .calls_of_sets import print_changes, print_triple, read_triple
 from .faults import DerFault, Fault
@@ -504,6 +504,16 @@ def _vrps_of_octets(text: str) -> str:
     return vrp_files.answer(_octets(text))
 
 
+def _applied(text: str) -> str:
+    listed, file = texts.cut(text, ";")
+    try:
+        vrps = [_vrp(element) for element in _elements(listed)]
+    except Fault:
+        return "no such VRP"
+    found = slurm.read(file.replace("|", "\n").encode()).applied(vrps)
+    return ", ".join(f"{vrp.prefix.text()} AS{vrp.asn}" for vrp in found)
+
+
 _ORIGIN_COMMANDS = {
     "origin": _origin,
     "outside": _outside,
@@ -513,4 +523,5 @@ _ORIGIN_COMMANDS = {
     "why": lambda text: _answered(text, True),
     "vrps": lambda text: vrp_files.answer(text.replace("|", "\n").encode()),
     "octets": _vrps_of_octets,
+    "slurm": _applied,
 }

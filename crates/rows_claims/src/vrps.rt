@@ -7,11 +7,17 @@ use std::alloc::{AllocError, Allocator};
 
 /// Answers `vrps TEXT`, in which `|` is the end of a line.
 pub fn of_text<A: Allocator + Copy>(alloc: A, text: &str) -> Result<String<A>, AllocError> {
+    let octets = with_line_ends(alloc, text)?;
+    answer(alloc, &octets)
+}
+
+/// Returns the octets of a text in which `|` is the end of a line.
+pub fn with_line_ends<A: Allocator + Copy>(alloc: A, text: &str) -> Result<Vec<u8, A>, AllocError> {
     let mut octets = Vec::new(alloc);
     for octet in text.as_bytes() {
         octets.push(if *octet == b'|' { b'\n' } else { *octet })?;
     }
-    answer(alloc, &octets)
+    Ok(octets)
 }
 
 /// Answers `octets HEX`.
@@ -30,7 +36,8 @@ fn answer<A: Allocator + Copy>(alloc: A, file: &[u8]) -> Result<String<A>, Alloc
     }
 }
 
-fn listed<A: Allocator + Copy>(alloc: A, vrps: &[Vrp]) -> Result<String<A>, AllocError> {
+/// Returns VRPs as a list.
+pub fn listed<A: Allocator + Copy>(alloc: A, vrps: &[Vrp]) -> Result<String<A>, AllocError> {
     let mut list = String::new(alloc);
     for (prefix, asn) in vrps {
         append(&mut list, ", ", *prefix)?;

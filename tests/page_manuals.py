@@ -65,9 +65,13 @@ def manual(name: str) -> str:
 
 
 def script_of(folder: Path) -> Path:
-    """A copy of the script `respath` with its program, in a folder without sources, so that it builds nothing."""
+    """A copy of the script `respath` with its program and its texts, in a folder without other sources, so that it builds
+    nothing."""
     for name in ("respath", "program.sh", "crates.txt"):
         shutil.copy(TOP / name, folder)
+    texts = Path("crates", "respath_files", "src", "help.rt")
+    (folder / texts).parent.mkdir(parents=True)
+    shutil.copy(TOP / texts, folder / texts)
     (folder / "crates" / "respath" / "out").mkdir(parents=True)
     shutil.copy(program("respath"), folder / "crates" / "respath" / "out")
     return folder / "respath"

@@ -21,7 +21,7 @@ is_current() {
         done | head -n 1)" ]
 }
 
-# The program's crate and those that it stands on, from the ground up: a line for each, with those that it names.
+# Prints the program's crate and its dependencies, lowest first: a line for each crate, with its direct dependencies.
 needed_lines() {
     awk -v started="$started" '
         !/^#/ { sub(":", "", $1); names[++count] = $1; below[$1] = $0 }
@@ -52,8 +52,8 @@ end_group() {
     kill -s KILL -- "-$1" 2>/dev/null
 }
 
-# Runs rt with these words in a folder. It leads a group, with which it ends where this job is told to end: what it has
-# begun itself ends too.
+# Runs rt with these words in a folder. rt leads a process group. If this job gets a signal, the whole group ends, so
+# the processes that rt started end too.
 run_rt() {
     folder=$1
     shift
@@ -78,16 +78,16 @@ copy_needed() {
         $(needed_crates | sed 's,^,crates/,')) | tar -xf - -C "$work/copy"
 }
 
-# Proves and builds the program in the copy, and brings it to its place. rt ci keeps each crate that it has proved, so
-# the next build and ./check take these proofs from there.
+# Proves and builds the program in the copy, and moves it to its place. rt ci stores the proof of each crate. The next
+# build and ./check use these proofs.
 prove_copy() {
     made=$work/copy/crates/$started/out/$started
     run_rt "$work/copy" ci && [ -x "$made" ] && mkdir -p "${program%/*}" && mv "$made" "$program"
 }
 
 # The seconds of one processor that the proof of each crate took in rt ci on 2026-11-28, beside other work. For respath
-# they add up to 42 minutes. Those of rpki_block, rpki_text, respath and origins are guesses. Only the estimate of the
-# time that is left uses this table. A crate that is missing here counts as a minute.
+# they add up to 42 minutes. The figures of rpki_block, rpki_text, respath and origins are guesses. Only the estimate of
+# the time that is left uses this table. A crate that is missing here counts as a minute.
 seconds_of_crates() {
     cat <<'END'
 lines_engine 160

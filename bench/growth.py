@@ -51,7 +51,7 @@ def lines(kind, written, count):
 
 
 def peak_of(process):
-    """The peak MiB of a process that runs, as the kernel tells it."""
+    """Returns the peak MiB of a running process, as the kernel reports it."""
     with open(f"/proc/{process.pid}/status") as lines:
         return next((int(line.split()[1]) / 1024 for line in lines if line.startswith("VmHWM:")), 0.0)
 

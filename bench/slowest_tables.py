@@ -13,7 +13,7 @@ TABLES = (("one prefix", "one", 40_000), ("all lengths", "chain", 32), ("both", 
 
 
 def asked(*command):
-    """What a program answers, and the microseconds of a lookup of each route."""
+    """Returns what a program answers, and the microseconds of a lookup of each route."""
     run = subprocess.run(command, capture_output=True, text=True, check=True, env=CLOCK)
     times = [int(line.split()[2]) / 1000 for line in run.stderr.splitlines() if line.startswith("routes")]
     return run.stdout, times

@@ -28,7 +28,8 @@ class Route(NamedTuple):
     origin: int
 
 
-def _prefix(text: str) -> Prefix:
+def read_prefix(text: str) -> Prefix:
+    """The prefix of a text; its fault names the prefix as what is invalid."""
     try:
         return prefixes.read_prefix(text)
     except Fault as fault:
@@ -46,7 +47,7 @@ def _origin_of(path: str) -> int:
 
 def _words(line: str, mark: str) -> Route:
     prefix, _, origin = line.partition(mark)
-    return Route(_prefix(texts.trim(prefix)), asn.read_asn(texts.trim(origin)))
+    return Route(read_prefix(texts.trim(prefix)), asn.read_asn(texts.trim(origin)))
 
 
 def _is_route_with_comma(line: str) -> bool:
@@ -75,7 +76,7 @@ def read_route(line: str) -> Route | None:
     if place is not None:
         if len(fields) <= place:
             raise Fault("too few fields")
-        return Route(_prefix(fields[PREFIX_PLACE]), _origin_of(fields[place]))
+        return Route(read_prefix(fields[PREFIX_PLACE]), _origin_of(fields[place]))
     if _is_route_with_comma(line):
         raise Fault("a comma where a space is expected")
     return _words(line, " ")

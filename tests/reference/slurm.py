@@ -3,7 +3,7 @@
 from collections.abc import Callable
 from typing import NamedTuple, TypeVar
 
-from . import asn, prefixes, vrp_files
+from . import asn, prefixes, route_lines, vrp_files
 from .faults import Fault
 from .prefixes import Prefix, Vrp
 from .vrp_files import Number, Object
@@ -46,24 +46,13 @@ def _optional(members: Object, name: str, kind: type) -> object | None:
     return vrp_files.only(members, name, (kind,)) if members.values(name) else None
 
 
-def _read_origin(number: str) -> int:
-    return asn.read_asn(number)
-
-
-def _read_prefix(text: str) -> Prefix:
-    try:
-        return prefixes.read_prefix(text)
-    except Fault as fault:
-        raise Fault(f"invalid prefix: {fault}") from None
-
-
 def _filter(members: Object) -> Filter:
     """RFC 8416, 3.3.1."""
     _check_names(members, ("prefix", "asn", "comment"))
     text = _optional(members, "prefix", str)
-    prefix = None if text is None else _read_prefix(text)
+    prefix = None if text is None else route_lines.read_prefix(text)
     number = _optional(members, "asn", Number)
-    origin = None if number is None else _read_origin(number)
+    origin = None if number is None else asn.read_asn(number)
     _optional(members, "comment", str)
     if prefix is None and origin is None:
         raise Fault("no criterion")
@@ -75,7 +64,7 @@ def _key_filter(members: Object) -> None:
     _check_names(members, ("asn", "SKI", "comment"))
     number = _optional(members, "asn", Number)
     if number is not None:
-        _read_origin(number)
+        asn.read_asn(number)
     identifier = _optional(members, "SKI", str)
     _optional(members, "comment", str)
     if number is None and identifier is None:
@@ -85,8 +74,8 @@ def _key_filter(members: Object) -> None:
 def _assertion(members: Object) -> Vrp:
     """RFC 8416, 3.4.1."""
     _check_names(members, ("prefix", "asn", "maxPrefixLength", "comment"))
-    prefix = _read_prefix(vrp_files.only(members, "prefix", (str,)))
-    origin = _read_origin(vrp_files.only(members, "asn", (Number,)))
+    prefix = route_lines.read_prefix(vrp_files.only(members, "prefix", (str,)))
+    origin = asn.read_asn(vrp_files.only(members, "asn", (Number,)))
     length = _optional(members, "maxPrefixLength", Number)
     whole = prefixes.with_max_len(prefix, str(prefix.length) if length is None else length)
     _optional(members, "comment", str)
@@ -96,7 +85,7 @@ def _assertion(members: Object) -> Vrp:
 def _key(members: Object) -> None:
     """RFC 8416, 3.4.2."""
     _check_names(members, ("asn", "SKI", "routerPublicKey", "comment"))
-    _read_origin(vrp_files.only(members, "asn", (Number,)))
+    asn.read_asn(vrp_files.only(members, "asn", (Number,)))
     vrp_files.only(members, "SKI", (str,))
     vrp_files.only(members, "routerPublicKey", (str,))
     _optional(members, "comment", str)

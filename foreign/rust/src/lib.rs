@@ -84,13 +84,13 @@ extern crate std;
 
 mod buffers;
 mod debug;
-mod payload;
 mod prefix;
 pub mod raw;
 mod reason;
 mod table;
 #[cfg(test)]
 mod tests;
+mod vrp;
 
 pub use prefix::{ParseError, Prefix, ValueError};
 pub use raw::{version, version_string, Comparison, Octets, Operation, Route, Vrp};

@@ -4,8 +4,8 @@
  * - Certificates. pigy_verify and pigy_verify_set compare the resources that a certificate claims with those of its
  *   issuer. pigy_verify_path does this along a path from a trust anchor. No call checks signatures or dates.
  * - Resource sets. pigy_union, pigy_intersection, pigy_difference, pigy_contains and pigy_equal operate on two sets.
- *   pigy_cover lists the fewest prefixes of a set. pigy_answer converts text to DER and DER to text, as the program
- *   respath does.
+ *   pigy_cover lists the fewest prefixes that have exactly the addresses of one family of a set. pigy_answer converts
+ *   text to DER and DER to text, as the program respath does.
  * - Route origins. pigy_origins validates routes by VRPs (validated ROA payloads). The calls pigy_table_... make and
  *   use a table of VRPs that stays between calls, for example in a router.
  *
@@ -22,7 +22,8 @@
  *   puts(pigy_status_text(status)); // overclaimed IPv4 resources
  *   // ip has the DER of 12.0.0.0/8, in out.ip_len octets
  *
- * docs/FOREIGN.md has the installation, complete programs, a table of all calls, and a table of all statuses.
+ * The guide has the installation, complete programs, a table of all calls, and a table of all statuses. It is
+ * docs/FOREIGN.md in the repository.
  *
  * SHORT FORMS. pigy_verify_set, pigy_combine and pigy_compare are at the end of this file. They take structs instead of
  * 9 to 17 parameters. Pointers in these structs may be NULL.
@@ -48,8 +49,9 @@
  * - Pass capacity 0 to get the lengths alone. An output of length 0 fits a buffer of capacity 0.
  *
  * MEMORY. Except for tables, the library keeps nothing between calls and hands out no memory. Each call frees all that
- * it takes from malloc before it returns. PIGY_MEMORY means that malloc failed, that an input is too long for a vector,
- * or that a table would have 2^32 VRPs or more. It does not say that an argument is invalid.
+ * it takes from malloc before it returns. A table of 500,000 VRPs takes some 42 octets for each VRP. PIGY_MEMORY means
+ * that malloc failed, that an input is too long for an array of the library, or that a table would have 2^32 VRPs or
+ * more. It does not say that an argument is invalid.
  *
  * TABLES. pigy_table_new and pigy_table_changed return the handle of a table of VRPs. The caller owns the table until
  * pigy_table_free. A table never changes. With an error these two calls store NULL as the handle. For a NULL handle the
@@ -361,7 +363,8 @@ typedef struct {
  *
  * - address, family, len: The prefix, as in a VRP.
  * - asn: AS number, in host byte order. Use AS 0 if the path of the route ends in an AS_SET. RFC 6811, 2 calls the
- *   origin of such a route "NONE". No VRP matches AS 0. */
+ *   origin of such a route "NONE". No VRP matches AS 0. If the path is empty, or ends in a confederation segment, use
+ *   the router's own AS. */
 typedef struct {
   uint8_t address[16];
   uint32_t asn;
@@ -433,7 +436,8 @@ uint32_t pigy_table_new(const pigy_vrp *vrps, size_t count, pigy_table **table, 
  *   has at most one withdrawal of a VRP, and then at most one announcement of it (RFC 8210, 5.3). Such a response may
  *   be passed as one change.
  * - For the response to a Reset Query, pass an empty table as `table`. pigy_table_new with count 0 makes an empty
- *   table. A VRP that the response announces twice is then an error. pigy_table_new accepts such duplicates.
+ *   table. A VRP that the response announces twice is then an error. If you pass the VRPs of the response to
+ *   pigy_table_new instead, it accepts such duplicates.
  * - A withdrawal removes all copies of a VRP.
  * - Each array may list a VRP only once, even if the table lists it more than once.
  * - A VRP in both arrays has to be in the table. The next table lists it once.
@@ -548,7 +552,7 @@ uint32_t pigy_table_vrps(const pigy_table *table, pigy_vrp *out, size_t capacity
 void pigy_table_free(pigy_table *table);
 
 /**
- * Returns the answer of the program respath to one line. README.md lists its commands.
+ * Returns the answer of the program respath to one line. README.md in the repository lists its commands.
  *
  * The line and the answer are UTF-8, without the end of a line. If the line is wrong, the status is still PIGY_OK, and
  * the answer begins with "error: ". A line that is not UTF-8 is wrong too.

@@ -1,10 +1,13 @@
 #!/usr/bin/env python3
-"""Compares what the programs answered with what the reference beside this file answers.
+"""Compares stored answers, or the answers of a built program, with those of the reference beside this file.
 
-Without options it answers each stored line of the programs of rows, of `example_holdings`, `example_verified_set`,
-`respath_files`, and of `bench_growth` about origins. With --random SEED COUNT it makes so many lines of each command of `respath`, and
-asks the built program.
-What the reference doesn't say is counted and named. Status 1 where an answer differs.
+Without options it compares the stored answers of the programs `rows_*`, `example_holdings`, `example_verified_set`,
+`respath_files`, and those of `bench_growth` about origins. With --write it also writes each stored answer that differs
+anew, as the reference answers, and prints all of them: use it after you have changed a text in the reference. It does not
+write the answers of `bench_growth`, and none that the reference does not say. With --random SEED COUNT it makes so many
+lines of each command of `respath`, and asks the built program.
+
+Lines that the reference does not answer are counted and named. The status is 1 if an answer differs.
 """
 
 import argparse
@@ -32,6 +35,7 @@ PROGRAM = CRATES / "respath" / "out" / "respath"
 AT_ONCE = 50_000
 SHOWN = 20
 
+
 def answer_of_claims(line: str) -> str:
     """The answer of `rows_claims` to a line."""
     if calls_of_callers.is_origin(line):
@@ -58,24 +62,40 @@ PROGRAMS: dict[str, Callable[[str], str]] = {
 
 
 class Comparison:
-    """How many lines were compared, which differ, and what wasn't said of how many."""
+    """How many answers were compared, how many differ, and how many the reference does not say, by reason. `stored` is
+    the file of stored answers, if they are to be written anew."""
 
-    def __init__(self) -> None:
+    def __init__(self, stored: Path | None = None) -> None:
         self.compared = 0
         self.differing = 0
         self.not_said: Counter[str] = Counter()
+        self.stored = stored
+        self.answers: list[str] = []
 
     def add(self, place: str, line: str, expected: str, found: str) -> None:
-        """Compares an answer with the reference's, and prints the first ones that differ."""
+        """Compares an answer with the reference's, and prints the first ones that differ, or all that are written."""
         self.compared += 1
+        self.answers.append(expected)
         if expected == found:
             return
         self.differing += 1
-        if self.differing <= SHOWN:
+        if self.differing <= SHOWN or self.stored:
             print(f"{place}: {line}\n  the reference: {expected}\n  the program:   {found}")
 
+    def pass_over(self, reason: str, found: str) -> None:
+        """Counts an answer that the reference does not say."""
+        self.not_said[reason] += 1
+        self.answers.append(found)
+
+    def write(self) -> None:
+        """Writes the stored answers anew if one differs."""
+        if self.stored and self.differing:
+            self.stored.write_bytes("".join(f"{it}\n" for it in self.answers).encode())
+            print(f"{self.stored.relative_to(TOP)}: {self.differing} answers written anew")
+
     def report(self, name: str) -> bool:
-        """Prints what came out, and whether nothing differs."""
+        """Prints the counts, writes what is to be written, and returns whether nothing differs."""
+        self.write()
         print(f"{name}: {self.compared} answers compared, {self.differing} differ")
         for reason, count in sorted(self.not_said.items()):
             print(f"{name}: {count} not said by the reference: {reason}")
@@ -87,9 +107,14 @@ def lines_of(path: Path) -> list[str]:
     return path.read_bytes().decode("utf-8").removesuffix("\n").split("\n")
 
 
-def compare_program(name: str, answer: Callable[[str], str]) -> bool:
+def of_stored(name: str, writes: bool) -> Comparison:
+    """A comparison of the stored answers of a program."""
+    return Comparison(CRATES / name / "stdout" if writes else None)
+
+
+def compare_program(name: str, answer: Callable[[str], str], writes: bool) -> bool:
     """Compares the stored answers of a program that answers a line with a line."""
-    comparison = Comparison()
+    comparison = of_stored(name, writes)
     asked, answered = (lines_of(CRATES / name / file) for file in ("stdin", "stdout"))
     if len(asked) != len(answered):
         print(f"{name}: {len(asked)} lines have {len(answered)} answers")
@@ -98,13 +123,13 @@ def compare_program(name: str, answer: Callable[[str], str]) -> bool:
         try:
             comparison.add(f"{name}/stdin:{place}", line, answer(line), found)
         except NotSaid as reason:
-            comparison.not_said[f"{line.split(' ')[0]}: {reason}"] += 1
+            comparison.pass_over(f"{line.split(' ')[0]}: {reason}", found)
     return comparison.report(name)
 
 
-def compare_holdings() -> bool:
+def compare_holdings(writes: bool) -> bool:
     """Compares what `example_holdings` answers to its two lines together."""
-    comparison = Comparison()
+    comparison = of_stored("example_holdings", writes)
     asked, answered = (lines_of(CRATES / "example_holdings" / file) for file in ("stdin", "stdout"))
     expected = calls_of_callers.holdings(*asked)
     if len(expected) != len(answered):
@@ -115,9 +140,9 @@ def compare_holdings() -> bool:
     return comparison.report("example_holdings")
 
 
-def compare_verified_set() -> bool:
+def compare_verified_set(writes: bool) -> bool:
     """Compares what `example_verified_set` prints of the issuer and the files that it is run with."""
-    comparison = Comparison()
+    comparison = of_stored("example_verified_set", writes)
     folder = CRATES / "example_verified_set"
     *lists, numbers, addresses, mode = lines_of(folder / "args")
     octets = [(folder / "data" / name).read_bytes().hex() for name in (numbers, addresses)]
@@ -153,9 +178,9 @@ def compare_growth() -> bool:
     return comparison.report("bench_growth")
 
 
-def compare_files() -> bool:
+def compare_files(writes: bool) -> bool:
     """Compares what `respath_files` prints of the file and the standard input that it is run with."""
-    comparison = Comparison()
+    comparison = of_stored("respath_files", writes)
     folder = CRATES / "respath_files"
     asked = lines_of(folder / "data" / "lines") + lines_of(folder / "stdin")
     for line, found in zip(asked, lines_of(folder / "stdout"), strict=True):
@@ -163,11 +188,12 @@ def compare_files() -> bool:
     return comparison.report("respath_files")
 
 
-def compare_stored() -> bool:
+def compare_stored(writes: bool) -> bool:
     """Compares all stored answers of the programs that there are."""
     there = [name for name in PROGRAMS if (CRATES / name / "stdin").exists()]
-    results = [compare_program(name, PROGRAMS[name]) for name in there]
-    return all([*results, compare_holdings(), compare_verified_set(), compare_growth(), compare_files()])
+    results = [compare_program(name, PROGRAMS[name], writes) for name in there]
+    results += [compare(writes) for compare in (compare_holdings, compare_verified_set, compare_files)]
+    return all([*results, compare_growth()])
 
 
 def ask(program: Path, asked: list[bytes]) -> list[str]:
@@ -204,12 +230,13 @@ def compare_random(program: Path, seed: int, count: int, commands: list[str]) ->
 def main() -> int:
     """Reads the options and compares."""
     parser = argparse.ArgumentParser(description=__doc__.splitlines()[0])
+    parser.add_argument("--write", action="store_true", help="write the stored answers that differ anew")
     parser.add_argument("--random", nargs=2, type=int, metavar=("SEED", "COUNT"))
     parser.add_argument("--program", type=Path, default=PROGRAM, help="a built respath")
     parser.add_argument("--commands", nargs="+", choices=lines.COMMANDS, metavar="COMMAND")
     options = parser.parse_args()
     if options.random is None:
-        return 0 if compare_stored() else 1
+        return 0 if compare_stored(options.write) else 1
     commands = options.commands or list(lines.COMMANDS)
     return 0 if compare_random(options.program, *options.random, commands) else 1
 

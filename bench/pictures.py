@@ -1,7 +1,7 @@
 #!/usr/bin/env python3
-"""Draws the tables of docs/SPEED.md: docs/speed-ratios.svg, our time by that of the Rust crate, a bar for each line and call,
-docs/speed-growth.svg, the times of calls by the number of blocks, and docs/speed-covers.svg, those of covers by the number of
-prefixes. Run it after a table has changed."""
+"""Draws the tables of docs/SPEED.md: docs/speed-ratios.svg, our time divided by that of the Rust crate, a bar for each line
+and call, docs/speed-growth.svg, the times of calls by the number of blocks, and docs/speed-covers.svg, those of covers by the
+number of prefixes. Run it after a table has changed."""
 
 import math
 import re
@@ -38,7 +38,7 @@ def ratios() -> None:
     lines = [(row[0], float(row[3])) for row in table("input ")]
     calls = [(row[0], float(row[-1])) for row in table("call")]
     left, top, unit, step = 210, 40, 190, 20
-    parts = [text(10, 22, "Our time by that of the Rust crate 0.20.1: lines of the program, and calls over 100,000 blocks")]
+    parts = [text(10, 22, "Our time divided by that of the Rust crate 0.20.1: lines, and calls over 100,000 blocks")]
     height = top + step * (len(lines) + len(calls) + 1) + 30
     for tick in (0, 0.5, 1, 1.5, 2):
         x = left + tick * unit

@@ -50,8 +50,8 @@
  *
  * MEMORY. Except for tables, the library keeps nothing between calls and hands out no memory. Each call frees all that
  * it takes from malloc before it returns. A table of 500,000 VRPs takes some 42 octets for each VRP. PIGY_MEMORY means
- * that malloc failed, that an input is too long for an array of the library, or that a table would have 2^32 VRPs or
- * more. It does not say that an argument is invalid.
+ * that malloc failed, that an array of the library would have 2^63 octets or more, or that a table would have 2^32 VRPs
+ * or more. It does not say that an argument is invalid.
  *
  * TABLES. pigy_table_new and pigy_table_changed return the handle of a table of VRPs. The caller owns the table until
  * pigy_table_free. A table never changes. With an error these two calls store NULL as the handle. For a NULL handle the

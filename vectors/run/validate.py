@@ -1,8 +1,9 @@
 #!/usr/bin/env python3
 """validate.py [FOLDER]: validates each file of vectors against its schema.
 
-It uses jsonschema (the Debian package python3-jsonschema). Without it, it checks the members that the schemas require,
-and says so. The status is 1 if a file is invalid."""
+It uses jsonschema (the Debian package python3-jsonschema). Without this package it checks only objects, their members,
+arrays and enums, and says so. In both cases it also compares the number of cases with `numberOfTests`, and searches for
+a tcId that a file has twice. The status is 1 if a file is invalid."""
 
 import json
 import sys
@@ -19,7 +20,7 @@ VECTORS = Path(__file__).resolve().parent.parent
 
 
 def lacking(schema: dict[str, Any], value: Any, place: str) -> Iterator[str]:
-    """What a value lacks of the members that a schema requires, and what it has besides."""
+    """What is wrong with the objects, their members, the arrays and the enums of a value, by a schema."""
     kind = schema.get("type")
     if "oneOf" in schema:
         if all([*lacking(it, value, place)] for it in schema["oneOf"]):
@@ -73,7 +74,8 @@ def main(words: list[str]) -> int:
         count, wrong = count + 1, wrong + bool(found)
         for it in found[:10]:
             print(f"{path.name}: {it}")
-    how = "by jsonschema" if jsonschema else "for required members alone: python3-jsonschema is not installed"
+    without = "without python3-jsonschema (only objects, their members, arrays and enums)"
+    how = "by jsonschema" if jsonschema else without
     print(f"schemas: {count} files validated {how}, {wrong} are invalid")
     return 1 if wrong or not count else 0
 

@@ -196,7 +196,8 @@ class Pigyelund:
     2. The folder of the package has `libpigyelund.so`: that file.
     3. Otherwise: `libpigyelund.so` where the system's loader searches, or else `libpigyelund.so.1`.
 
-    Each call lists the exceptions of its own. Each call except `version` and `version_string` may also raise these:
+    The description of each call lists its own exceptions. Each call except `version` and `version_string` may also
+    raise these:
 
     - `OutOfMemoryError`: It says nothing about the input.
     - `BadNumberError`: You pass a number for an `Encoding`, `Mode` or `Family`, and the number is no member of it.
@@ -364,8 +365,8 @@ class Pigyelund:
 
         Raises:
             OriginError: A VRP or a route is malformed. VRPs are checked first. The attribute `index` is the index, from
-                0, of the first malformed VRP in `vrps`. If all VRPs are valid, `index` counts in `routes`, and the
-                attribute `status` is at least `Status.SECOND`.
+                0, of the first malformed VRP in `vrps`. If all VRPs are valid, `index` is that of the first malformed
+                route in `routes`, and the attribute `status` is at least `Status.SECOND`.
             TypeError: An item of `vrps` is no `Vrp`, or an item of `routes` is no `Route`.
         """
         listed, asked = list(vrps), list(routes)

@@ -139,7 +139,7 @@ class NoExtensionError(PigyelundError):
 class DerError(PigyelundError):
     """The value of an extension is not valid DER of resources (RFC 3779, 2.2.3 and 3.2.3).
 
-    With `Encoding.STRICT` the error is also raised for an encoding that is not canonical. Its `fault` is 14.
+    With `Encoding.STRICT` the error is also raised for an encoding that is not canonical. In this case `fault` is 14.
     """
 
     @property
@@ -167,8 +167,8 @@ class ChangeError(OriginError):
     - `Status.UNKNOWN_WITHDRAWAL`: A VRP in `withdrawn` is not in the table, or is listed twice. This is checked first.
     - `Status.DUPLICATE_ANNOUNCEMENT`: A VRP in `announced` is in the table and is not withdrawn, or is listed twice.
 
-    The attribute `index` is the index, from 0, of the first VRP in this list that breaks the rule, and `item` is a copy
-    of this VRP.
+    The attribute `index` is the index, from 0, of the first VRP in `withdrawn` or in `announced` that breaks this rule.
+    The attribute `item` is a copy of this VRP.
     """
 
 

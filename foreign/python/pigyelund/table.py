@@ -157,10 +157,11 @@ class Table:
 
         Raises:
             OriginError: A VRP is malformed. The call checks `announced` first, and then `withdrawn`. The attribute
-                `index` counts in `withdrawn` if the status is at least `Status.SECOND`, and otherwise in `announced`.
+                `index` is an index of `withdrawn` if the status is at least `Status.SECOND`, and otherwise of
+                `announced`.
             ChangeError: All VRPs are well-formed, and one breaks the rules above. The call checks `withdrawn` first,
-                and then `announced`. The attribute `index` counts in `withdrawn` if the status is
-                `Status.UNKNOWN_WITHDRAWAL`, and otherwise in `announced`. Catch this class before `OriginError`.
+                and then `announced`. The attribute `index` is an index of `withdrawn` if the status is
+                `Status.UNKNOWN_WITHDRAWAL`, and otherwise of `announced`. Catch this class before `OriginError`.
             TypeError: An argument is neither an iterable nor a buffer, or an item of it is no `Vrp`.
             ValueError: The table is closed, or the length of a buffer is no multiple of 24 octets.
         """
@@ -264,8 +265,8 @@ class Table:
         prefix come by descending AS number. VRPs of the same prefix and AS come by ascending maximum length. `covering`
         has another order.
 
-        The last 12 octets of an IPv4 address are 0, as in a VRP that `Vrp.of` makes. So the VRPs of a table and those
-        of your list can be compared as sets.
+        The last 12 octets of an IPv4 address are 0, as in a VRP that `Vrp.of` makes. You can therefore compare the VRPs
+        of a table with those of your list as sets.
 
         Raises:
             ValueError: The table is closed.

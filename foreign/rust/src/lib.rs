@@ -323,7 +323,8 @@ fn concatenate(certificates: &[Certificate<'_>]) -> (Vec<u8>, Vec<raw::Certifica
 ///
 /// # Parameters
 ///
-/// - `anchor`: the trust anchor's set, without `inherit`. [`Extensions::octets`] returns that of its certificate.
+/// - `anchor`: the trust anchor's set, without `inherit`. [`Extensions::octets`] makes it from the extensions of the
+///   anchor's certificate.
 /// - `certificates`: the certificates in the order of the path, the one under the anchor first.
 /// - `encoding`: the encodings that are accepted, for the anchor and for all certificates.
 ///

@@ -19,9 +19,9 @@
 //!
 //! # Obligations
 //!
-//! You may pass any values. The library checks them, and this module does not. What no call checks are the obligations
-//! of the caller in `docs/FOREIGN.md`. Those about pointers, handles and overlap are met by Rust's references and by
-//! [`Table`]: a `&[u8]` is never null, and a `&mut` buffer overlaps no other argument.
+//! You may pass any values. The library checks them, and this module does not. No call checks the obligations of the
+//! caller in `docs/FOREIGN.md`. Rust's references and [`Table`] meet the obligations about pointers, handles and
+//! overlap: a `&[u8]` is never null, and a `&mut` buffer overlaps no other argument.
 use core::ffi::{c_char, CStr};
 use core::net::IpAddr;
 
@@ -80,7 +80,7 @@ pub const LENIENT: u32 = 0;
 pub const STRICT: u32 = 1;
 /// Mode: a certificate that overclaims is refused (RFC 6487, 7.2).
 pub const REFUSE: u32 = 0;
-/// Mode: a claim is reduced to what the issuer has of it (RFC 8360, 4).
+/// Mode: a claim is reduced to the resources that the issuer has (RFC 8360, 4).
 pub const TRIM: u32 = 1;
 /// The certificate has the extension of AS identifiers.
 pub const HAS_AS: u32 = 1;
@@ -465,8 +465,8 @@ impl Table {
     /// Calls `pigy_table_changed`: makes a table without the withdrawn VRPs, and then with the announced ones.
     ///
     /// Returns the status, the new table, and an index. The table is null unless the status is [`OK`]. The index is
-    /// that of the refused VRP, from 0. If no VRP is refused, it is 0. The index counts in `withdrawn` if the status is
-    /// [`UNKNOWN_WITHDRAWAL`] or at least [`SECOND`], and otherwise in `announced`.
+    /// that of the refused VRP, from 0. If no VRP is refused, it is 0. It is an index of `withdrawn` if the status is
+    /// [`UNKNOWN_WITHDRAWAL`] or at least [`SECOND`], and otherwise of `announced`.
     pub fn changed(&self, announced: &[Vrp], withdrawn: &[Vrp]) -> (u32, Table, usize) {
         let (mut next, mut index) = (Table::null(), 0);
         // SAFETY: as in `new`; this table is borrowed for the call.

@@ -321,10 +321,10 @@ pub struct OriginError {
     pub reason: Reason,
     /// The index, from 0, of the refused VRP or route.
     ///
-    /// - With [`Side::Second`], [`Reason::BadWithdrawnMaxLen`] and [`Reason::UnknownWithdrawal`] the index counts in
-    ///   the list of routes, or of withdrawn VRPs.
+    /// - With [`Side::Second`], [`Reason::BadWithdrawnMaxLen`] and [`Reason::UnknownWithdrawal`] it is an index of the
+    ///   list of routes, or of withdrawn VRPs.
     /// - With [`Reason::Memory`] the index is 0 and has no meaning.
-    /// - With any other reason the index counts in the list of VRPs, or of announced VRPs.
+    /// - With any other reason it is an index of the list of VRPs, or of announced VRPs.
     pub index: usize,
 }
 

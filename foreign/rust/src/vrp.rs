@@ -160,7 +160,7 @@ fn split<'a>(text: &'a str, expected: &'static str) -> Result<(&'a str, u32), Pa
 /// Reads `PREFIX-MAXLEN ASN`, for example `10.0.0.0/8-16 AS64496`.
 ///
 /// Without `-MAXLEN` the maximum length is the prefix length (RFC 9582, 4.3.2). The letters `AS` may be absent, and may
-/// be in lower case. One space is before the AS number.
+/// be in lower case. The AS number follows after one space.
 ///
 /// # Errors
 ///

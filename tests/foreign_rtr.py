@@ -756,6 +756,14 @@ SCRIPTS = [
         [[A, B], [C]],
         2,
     ),
+    # The session of version 0 ended with its table, so the router asks in version 1 again (7).
+    Script(
+        "a table of version 0 expires",
+        [[*FIRST_BY_0, changes(7, version=0, after=7.2), Wants(b"", 14.4), EXPIRED], LAST],
+        [[A, B], [C]],
+        2,
+        2,
+    ),
     Script(
         "a later End of Data makes the table expire later",
         [

@@ -24,10 +24,10 @@
  * - An Error Report of the cache ends the session. The router keeps its table. There is one exception: if a query is
  *   open and the code is "No Data Available", the session goes on (8.4). The router asks for all VRPs after the Retry
  *   Interval.
- * - Versions (7): The router asks in version 1. If the first answer of the cache has version 0, the router changes to
- *   version 0. If its query was a Reset Query, it goes on with the connection, unless the answer is an Error Report
- *   with another code than "No Data Available". In all other cases it connects again at once, and asks for all VRPs in
- *   version 0.
+ * - Versions (7): The router asks in version 1, except for the changes of a session of version 0 on a new connection.
+ *   If the first answer of the cache has version 0, the router changes to version 0. If its query was a Reset Query, it
+ *   goes on with the connection, unless the answer is an Error Report with another code than "No Data Available". In
+ *   all other cases it connects again at once, and asks for all VRPs in version 0.
  * - It ignores the content of Router Keys (5.10). In version 0 their type is unknown.
  *
  * The status is 0 if it printed all tables, and 1 if it did not. It is 2 if an argument is missing, is one too many, or
@@ -429,14 +429,16 @@ static void converse(router *r, unsigned wanted) {
   }
 }
 
-/* Connects to the cache, and runs a session. Then sets the time of the next connection (6). Without a session the next
- * connection starts with the newest version again, except for a downgrade. */
+/* Connects to the cache, and runs a session. Then sets the time of the next connection (6). The query is in the newest
+ * version (7), with two exceptions: after a downgrade it is in version 0, and the changes of a session are asked for in
+ * the version of this session. The session ends when its table expires, also between two connections. */
 static void meet(router *r, uint16_t port, unsigned wanted) {
   struct sockaddr_in cache;
   memset(&cache, 0, sizeof cache);
   cache.sin_family = AF_INET;
   cache.sin_port = htons(port);
   cache.sin_addr.s_addr = htonl(INADDR_LOOPBACK);
+  if (!r->has_session && !r->is_downgraded) r->version = NEWEST;
   r->is_settled = r->is_downgraded = 0;
   r->to_cache = socket(AF_INET, SOCK_STREAM, 0);
   if (r->to_cache >= 0) {
@@ -444,7 +446,6 @@ static void meet(router *r, uint16_t port, unsigned wanted) {
     close(r->to_cache);
   }
   r->due = now() + (r->is_downgraded ? 0 : r->retry * unit);
-  if (!r->has_session && !r->is_downgraded) r->version = NEWEST;
 }
 
 /* Waits until the next connection is due. Drops the table when it expires. */

@@ -75,6 +75,10 @@ A page has up to four parts:
 An item has its text first, and then its signature with the contract. A type has its constructors (`new`, `from_..` and
 `with_..`) before its other calls, which are in the order of the source.
 
+The traits of a type come after its calls. The traits that it derives are in `derive`, above the type. In an impl, a
+member such as `ghost output = { .. }` says what the contracts of the trait mean for this type. For example, `output` is
+the text that `Display` prints.
+
 A line that begins with `ghost` is for contracts and proofs alone: it adds nothing to the compiled program. The pages
 leave out lines that have no meaning for callers:
 

@@ -142,15 +142,6 @@ def built(kit, crate, jobs: int) -> bool:
     return not status
 
 
-def place(kit, crate, edit: Path) -> tuple[str, int]:
-    """Where an edit turns its crate. Those of one function, tried one behind the other, are proved again but once."""
-    texts, _ = kit.read_edit(str(edit), crate.folder)
-    lines = edit.read_text().splitlines()
-    first = next((it.removeprefix("old: ") for it in lines if it.startswith("old: ")), "")
-    file = next(iter(texts or {}), "")
-    return file, Path(crate.folder, file).read_text().index(first) if file else 0
-
-
 def goals_of(said: str) -> list[tuple[str, str]]:
     """The goals that are not proved in what the prover said: the kind of each, and its line."""
     found, lost = [], set()
@@ -221,39 +212,69 @@ def must_fail(kit, crate, edit: Path, kept: str | None) -> tuple[str, str]:
     return kind, f"{crate.name}/{edit.parent.name}/{edit.name} ({seconds:.0f} s): {why}"
 
 
-def try_over(kit, crate, edits: list[Path], kept: str) -> list[tuple[str, str]] | None:
-    """Tries edits in turn over what was proved of the crate, and those that are not refused so, or all where the crate
-    is not proved over it in the end, once more from nothing. None where the crate is not proved without an edit."""
-    if kit.checked(crate, {}, JOBS, kept).returncode:
+def base_of(kit, crate, jobs: int) -> Path | None:
+    """The folder of what a check of a copied crate proved, without an edit. None if the crate is not proved."""
+    base = Path(crate.folder, kit.rtlib.KEPT[1])
+    if not base.is_dir():  # it wasn't proved in the copy
+        base.mkdir(parents=True)
+        copy_kept(kit, crate, base)
+    is_proved = not kit.checked(crate, {}, ["--jobs", str(jobs)], str(base)).returncode
+    return base if is_proved else None
+
+
+def try_edit(kit, crate, edit: Path, base: Path | None) -> str | None:
+    """Tries an edit over a copy of the base, and again from nothing if it is not refused there; prints the result. The
+    kind of the refusal, empty if it is not refused. None without a base: then nothing is tried."""
+    if base is None:
+        print(f"{crate.name} is not proved, so its edits say nothing: {edit.name} not tried", flush=True)
         return None
-    tried = [must_fail(kit, crate, it, kept) for it in edits]
-    is_sound = not kit.checked(crate, {}, JOBS, kept).returncode
-    return [it if is_sound and it[0] else must_fail(kit, crate, edit, None) for edit, it in zip(edits, tried)]
+    with tempfile.TemporaryDirectory(prefix="edit-", dir=crate.folder) as room:
+        copy = str(Path(room, "base"))
+        kit.linked(str(base), copy)  # a check replaces the files that this links, and writes into none
+        kind, text = must_fail(kit, crate, edit, copy)
+    if not kind:
+        kind, text = must_fail(kit, crate, edit, None)
+    print(text, flush=True)
+    return kind
 
 
-def try_edits(kit, crate, names: list[str]) -> Counter:
-    """Tries the edits of a copied crate and prints the result of each; how many are refused, by kind."""
-    edits = sorted(named(crate, names), key=lambda it: place(kit, crate, it))
-    kept = Path(crate.folder, kit.rtlib.KEPT[1])
-    if not kept.is_dir():  # it wasn't proved in the copy
-        kept.mkdir(parents=True)
-        copy_kept(kit, crate, kept)
-    tried = try_over(kit, crate, edits, str(kept))
-    if tried is None:
-        print(f"{crate.name} is not proved, so its edits say nothing: {len(edits)} not tried", flush=True)
-        return Counter()
-    print("\n".join(text for _, text in tried), flush=True)
-    return Counter(kind for kind, _ in tried if kind)
+def count_kinds(kit, crate, edits: list[Path], kinds: list[str | None], base: Path | None) -> Counter:
+    """How many edits of a crate were refused, by kind. Each is tried again from nothing if the crate is no longer proved
+    over the base, since a try then changed the base."""
+    if base is not None and kit.checked(crate, {}, JOBS, str(base)).returncode:
+        print(f"{crate.name} is not proved again over its base: each edit is tried from nothing", flush=True)
+        tried = [must_fail(kit, crate, it, None) for it in edits]
+        print("\n".join(text for _, text in tried), flush=True)
+        kinds = [kind for kind, _ in tried]
+    return Counter(kind for kind in kinds if kind)
 
 
-def task(kit, crate, waits: list[tuple[str, str]], call) -> tuple:
-    """A task as the kit takes it: the tasks it waits for, its size, the memory it needs, and a call, which is told how
-    many jobs it may use and is made where what it waits for is proved."""
+def task(kit, crate, waits: list[tuple], call) -> tuple:
+    """A task as the kit takes it: the tasks it waits for, its size, the memory it needs, and a call, which gets the
+    results of the others and how many jobs it may use."""
+    return waits, crate.count(rb"\n"), kit.need(crate), call
 
-    def when_proved(given: dict, jobs: int):
-        return all(given[it] for it in waits) and call(jobs)
 
-    return waits, crate.count(rb"\n"), kit.need(crate), when_proved
+def tasks_of_edits(kit, crate, edits: list[Path], waits: list[tuple]) -> dict:
+    """What is to be done with a crate's edits: to prove the crate, to try each edit over that, and to count."""
+    base = (crate.name, "seed")  # the kit gives free processors to tasks of this name
+
+    def made(given: dict, jobs: int) -> Path | None:
+        return base_of(kit, crate, jobs) if all(given[it] for it in waits) else None
+
+    def tried(given: dict, _: int, edit: Path) -> str | None:
+        return try_edit(kit, crate, edit, given[base])
+
+    keys = [(crate.name, "edits", it) for it in edits]
+
+    def counted(given: dict, _: int) -> Counter:
+        return count_kinds(kit, crate, edits, [given[it] for it in keys], given[base])
+
+    tasks = {base: task(kit, crate, waits, made)}
+    for key, edit in zip(keys, edits):
+        tasks[key] = task(kit, crate, [base], lambda given, jobs, edit=edit: tried(given, jobs, edit))
+    tasks[crate.name, "count"] = task(kit, crate, [base, *keys], counted)
+    return tasks
 
 
 def tasks_of(kit, crates: list, tried: list, names: list[str]) -> dict:
@@ -261,11 +282,15 @@ def tasks_of(kit, crates: list, tried: list, names: list[str]) -> dict:
     tasks = {}
     for crate in sorted(crates, key=lambda it: len(it.below())):
         waits = [(it.name, "proof") for it in crate.below()]
+
+        def proved(given: dict, jobs: int, crate=crate, waits=waits) -> bool:
+            return all(given[it] for it in waits) and built(kit, crate, jobs)
+
         if any(crate in it.below() for it in tried):
-            tasks[crate.name, "proof"] = task(kit, crate, waits, lambda jobs, it=crate: built(kit, it, jobs))
+            tasks[crate.name, "proof"] = task(kit, crate, waits, proved)
             waits = [(crate.name, "proof")]  # its edits are tried over that
         if crate in tried:
-            tasks[crate.name, "edits"] = task(kit, crate, waits, lambda _, it=crate: try_edits(kit, it, names))
+            tasks |= tasks_of_edits(kit, crate, named(crate, names), waits)
     return tasks
 
 
@@ -278,7 +303,7 @@ def refused_of(kit, crates: list, names: list[str]) -> Counter:
         copies = copied(kit, needed, Path(room))
         tasks = tasks_of(kit, [*copies.values()], [copies[it.name] for it in crates], names)
         given = kit.in_lanes(tasks)
-    return sum((refused for (_, what), refused in given.items() if what == "edits"), Counter())
+    return sum((refused for key, refused in given.items() if key[1] == "count"), Counter())
 
 
 def summary(refused: Counter, left: int) -> str:

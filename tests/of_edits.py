@@ -6,8 +6,10 @@ applied, never counts as refused. It prints each result that is wrong. The statu
 
 import contextlib
 import io
+import shutil
 import sys
 import tempfile
+from collections import Counter
 from collections.abc import Iterator
 from pathlib import Path
 from types import SimpleNamespace
@@ -74,16 +76,25 @@ def kit_that_says(found, text: str, has_constants: bool) -> SimpleNamespace:
         return found, text
 
     kit.must_fail = must_fail
-    kit.read_edit = lambda edit, folder: ({"src/a.rt": "turned"}, None)
+    kit.need = lambda crate: 0
+    kit.linked = shutil.copytree
     return kit
+
+
+def refused_of(kit, crates: list, names: list[str]) -> Counter:
+    """What the tasks of the first crate's edits count, run one after the other."""
+    given = {}
+    for key, (_, _, _, call) in edits.tasks_of_edits(kit, crates[0], edits.named(crates[0], names), []).items():
+        given[key] = call(given, 1)
+    return given[crates[0].name, "count"]
 
 
 def answer(kit, folder: Path) -> tuple[str, int]:
     """The last line and the status of tests/edits.py over a crate with one edit."""
-    crate = SimpleNamespace(name="small", folder=folder)
+    crate = SimpleNamespace(name="small", folder=folder, count=lambda mark: 1)
     kit.rtlib.crates_below = lambda top: [crate]
     edits.the_kit = lambda: kit
-    edits.refused_of = lambda kit, crates, names: edits.try_edits(kit, crates[0], names)
+    edits.refused_of = refused_of
     with contextlib.redirect_stdout(io.StringIO()) as out:
         status = edits.main(["small"])
     return out.getvalue().splitlines()[-1], status

@@ -1,0 +1,62 @@
+//! A sink that checks the lines that it takes.
+ghost use Rattle.std.specs.Prelude.{◌≡◌, ◌↔◌, [], IfSome, IsTrue, Some};
+
+use crate::check::Seen;
+use lines_engine::device::{DeviceFault, Sink};
+
+/// A sink, with the state of a check of the bytes that it took.
+#[derive(Debug, Drop)]
+pub struct Watched<W> {
+    sink: W,
+    seen: Seen,
+}
+
+impl<W: Sink> Watched<W> {
+    ghost use Rattle.respath_places.specs.Checks.{HasFaultLine};
+
+    /// Wraps a sink that is at the start of a line, for example one to which nothing was written.
+    pub fn new(sink: W) -> Watched<W>
+        ensures written { W.written sink ≡ Some [] → ⟦<Watched<W> as Sink>⟧.written result ≡ Some [] }
+        ensures mark { ⟦<Watched<W> as Sink>⟧.mark result ≡ W.mark sink }
+        ensures flushed { ⟦<Watched<W> as Sink>⟧.flushed result ≡ W.flushed sink }
+    {
+        Watched {
+            sink,
+            seen: Seen::nothing(),
+        }
+    }
+
+    /// Returns whether one of the written lines begins with `error: ` or `refused `.
+    ///
+    /// An answer of `respath` begins so if its line is invalid, or if a step of its path is refused. A line whose end
+    /// is not written yet counts as a line.
+    #[tactic(auto, using(crate::proofs::CheckLemmas::known_found))]
+    pub fn has_found(&self) -> bool
+        ensures { IfSome (⟦<Watched<W> as Sink>⟧.written self.now) (λ octets. IsTrue result ↔ HasFaultLine octets) }
+    {
+        self.seen.has_found
+    }
+}
+
+impl<W: Sink> Sink for Watched<W> {
+    ghost use Rattle.respath_places.specs.Checks.{known_checked};
+
+    /// The bytes of the sink, if `seen` is the state of a check of them. Otherwise they are unknown.
+    ghost written = { λ watched. known_checked watched.seen (W.written watched.sink) };
+
+    ghost mark = { λ watched. W.mark watched.sink };
+
+    ghost flushed = { λ watched. W.flushed watched.sink };
+
+    #[tactic(auto, using(crate::proofs::CheckLemmas::known_more, crate::proofs::CheckLemmas::known_kept))]
+    fn write(&mut self, piece: &[u8]) -> Result<usize, DeviceFault> {
+        let count = self.sink.write(piece)?;
+        self.seen = self.seen.with_all(&piece[..count]);
+        Ok(count)
+    }
+
+    #[tactic(auto, using(crate::proofs::CheckLemmas::known_kept))]
+    fn flush(&mut self) -> Result<(), DeviceFault> {
+        self.sink.flush()
+    }
+}

@@ -115,9 +115,13 @@ if [ -x "$installed" ]; then
     of_files "$installed" "installed: "
     said=$(printf 'norm as 2, 1' | "$installed")
     expect "installed: the standard input" 0 "AS1-AS2" $? "$said"
-    said=$("$installed" --check --where "$files/one" 2>&1)
-    expect "installed: an unknown option" 2 "respath: unknown option: --where
-usage: respath [--check] [--] [FILE ..] | --help | --version" $? "$said"
+    said=$("$installed" --check --strange "$files/one" 2>&1)
+    expect "installed: an unknown option" 2 "respath: unknown option: --strange
+usage: respath [--check] [--where] [--] [FILE ..] | --help | --version" $? "$said"
+    said=$(printf 'norm as 1\npath as 1 | trim 2 | refuse , 2' | "$installed" --where --check "$files/one" - 2>&1)
+    expect "installed: places of errors" 3 "AS1-AS2
+AS1
+refused at step 1: overclaimed AS resources: AS2	step 1, element 2: 2" $? "$said"
     said=$("$installed" --version)
     expect "installed: the version" 0 "respath, version $(cat "$top/VERSION")" $? "$said"
     said=$("$installed" --version 2>&1 >/dev/full)

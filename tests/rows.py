@@ -24,6 +24,7 @@ from reference import (
     calls_of_values,
     lines,
     made_routes,
+    places,
     random_lines,
     requests,
 )
@@ -179,12 +180,12 @@ def compare_growth() -> bool:
 
 
 def compare_files(writes: bool) -> bool:
-    """Compares what `respath_files` prints of the file and the standard input that it is run with."""
+    """Compares what `respath_files` prints of the file and the standard input that it is run with, and with --where."""
     comparison = of_stored("respath_files", writes)
     folder = CRATES / "respath_files"
     asked = lines_of(folder / "data" / "lines") + lines_of(folder / "stdin")
     for line, found in zip(asked, lines_of(folder / "stdout"), strict=True):
-        comparison.add("respath_files/stdout", line, lines.answer(line.encode()), found)
+        comparison.add("respath_files/stdout", line, places.answer(line.encode()), found)
     return comparison.report("respath_files")
 
 

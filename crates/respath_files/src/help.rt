@@ -4,7 +4,7 @@
 pub const VERSION: &str = "0.1.0";
 
 /// The forms of a call of the program.
-pub const USAGE: &str = "usage: respath [--check] [--] [FILE ..] | --help | --version";
+pub const USAGE: &str = "usage: respath [--check] [--where] [--] [FILE ..] | --help | --version";
 
 /// The description of the program, its options and its exit statuses.
 pub const HELP: &str = "
@@ -37,6 +37,11 @@ STEP  refuse LIST   refuse the path if LIST has resources outside what remains b
 Options:
 
   --check     exit with status 3 if an answer begins with error: or refused
+  --where     append a tab and a position to an answer that begins with error: or refused. The
+              position names the first wrong or overclaimed element, as in element 3: AS7-AS3.
+              Elements are counted from 1 between the commas, empty ones included. In a path the
+              position begins with root or with the step, as in step 0, element 2: AS12. An error
+              that no single element causes has no position
   --          end the options: each word after it is the name of a file
   -h, --help  print the help
   --version   print the version of the program

@@ -2,17 +2,16 @@
 #![tactic(auto)]
 
 mod failure;
-mod fault_watch;
 mod help;
 mod options;
 
 use crate::failure::Failure;
-use crate::fault_watch::FaultWatch;
 use crate::help::{HELP, USAGE, VERSION};
-use crate::options::{Misuse, Task, parse};
+use crate::options::{Misuse, Options, Task, parse};
 use lines_engine::adapters::{FromRead, IntoWrite};
 use lines_engine::error::RunError;
 use respath_lines::run;
+use respath_places::{Watched, run_with_places};
 use std::io::{BufWriter, Read, Stdout};
 use std::process::ExitCode;
 use std::{env, fs, io};
@@ -25,7 +24,7 @@ fn main(rt: HostRuntime) -> ExitCode {
         return fail(&rt, Failure::Words);
     };
     match parse(&rt, words.as_slice()) {
-        Ok(Task::Answer { check, names }) => answer(&rt, check, names.as_slice()),
+        Ok(Task::Answer { options, names }) => answer(&rt, options, names.as_slice()),
         Ok(Task::Help) => after_print(&rt, println!(rt; "{USAGE}\n{HELP}")),
         Ok(Task::Version) => after_print(&rt, println!(rt; "respath, version {VERSION}")),
         Err(Misuse::Memory) => fail(&rt, Failure::Run(None, RunError::Memory)),
@@ -60,17 +59,17 @@ fn after_print(rt: &HostRuntime, printed: io::Result<()>) -> ExitCode {
 ///
 /// If a file can't be answered, the program reports it and answers the others. If the standard output fails, the
 /// program ends.
-fn answer(rt: &HostRuntime, check: bool, names: &[&str]) -> ExitCode {
+fn answer(rt: &HostRuntime, options: Options, names: &[&str]) -> ExitCode {
     if names.is_empty() {
-        return match answer_input(rt) {
-            Ok(has_found) => status(check, has_found),
+        return match answer_input(rt, options) {
+            Ok(has_found) => status(options, has_found),
             Err(failure) => fail(rt, failure),
         };
     }
     let mut has_failed = false;
     let mut has_found = false;
     for name in names {
-        match answer_name(rt, name) {
+        match answer_name(rt, options, name) {
             Ok(found) => has_found = has_found || found,
             Err(failure) => {
                 fail(rt, failure);
@@ -84,40 +83,46 @@ fn answer(rt: &HostRuntime, check: bool, names: &[&str]) -> ExitCode {
     if has_failed {
         ExitCode::FAILURE
     } else {
-        status(check, has_found)
+        status(options, has_found)
     }
 }
 
 /// Returns the exit status after all lines were answered. With `--check` it is 3 if an answer is an error or a refusal.
-fn status(check: bool, has_found: bool) -> ExitCode {
-    ExitCode::from(if check && has_found { 3 } else { 0 })
+fn status(options: Options, has_found: bool) -> ExitCode {
+    ExitCode::from(if options.check && has_found { 3 } else { 0 })
 }
 
 /// Answers a file, or the standard input, whose name is `-`. Returns whether an answer is an error or a refusal.
-fn answer_name<'a>(rt: &HostRuntime, name: &'a str) -> Result<bool, Failure<'a>> {
+fn answer_name<'a>(rt: &HostRuntime, options: Options, name: &'a str) -> Result<bool, Failure<'a>> {
     if name == "-" {
-        return answer_input(rt);
+        return answer_input(rt, options);
     }
     match fs::open(rt, name) {
-        Ok(file) => answer_lines(rt, Some(name), file),
+        Ok(file) => answer_lines(rt, options, Some(name), file),
         Err(_) => Err(Failure::NotOpened(name)),
     }
 }
 
 /// Answers the standard input. Returns whether an answer is an error or a refusal.
-fn answer_input<'a>(rt: &HostRuntime) -> Result<bool, Failure<'a>> {
-    answer_lines(rt, None, rt.stdin())
+fn answer_input<'a>(rt: &HostRuntime, options: Options) -> Result<bool, Failure<'a>> {
+    answer_lines(rt, options, None, rt.stdin())
 }
 
 /// Answers the lines of `reader` on the standard output. Returns whether an answer is an error or a refusal.
 fn answer_lines<'a, R: Read + Drop>(
     rt: &HostRuntime,
+    options: Options,
     name: Option<&'a str>,
     reader: R,
 ) -> Result<bool, Failure<'a>> {
     let mut reader = FromRead::new(reader);
-    let mut writer = FaultWatch::new(IntoWrite::new(buffered(rt, name)?));
-    match run(rt.alloc(), &mut reader, &mut writer) {
+    let mut writer = Watched::new(IntoWrite::new(buffered(rt, name)?));
+    let answered = if options.places {
+        run_with_places(rt.alloc(), &mut reader, &mut writer)
+    } else {
+        run(rt.alloc(), &mut reader, &mut writer)
+    };
+    match answered {
         Ok(()) => Ok(writer.has_found()),
         Err(error) => Err(Failure::Run(name, error)),
     }

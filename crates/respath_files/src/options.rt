@@ -1,13 +1,22 @@
 //! Reads the command-line arguments.
 use std::fmt;
 
+/// The options of a task that answers lines.
+#[derive(Clone, Copy, Debug)]
+pub struct Options {
+    /// Whether the exit status reports an answer that is an error or a refusal.
+    pub check: bool,
+    /// Whether a position follows an answer that is an error or a refusal.
+    pub places: bool,
+}
+
 /// A task of the program.
 #[derive(Debug, Drop)]
 pub enum Task<'a> {
     /// Answer lines.
     Answer {
-        /// Whether the exit status reports an answer that is an error or a refusal.
-        check: bool,
+        /// The options of the answers.
+        options: Options,
         /// The names of the files, in order. If there is none, the standard input is answered.
         names: Vec<&'a str>,
     },
@@ -44,7 +53,10 @@ impl fmt::Display for Misuse<'_> {
 /// - [`Misuse::UnknownOption`]: the first word that begins with `-` and is no option.
 /// - [`Misuse::Memory`]: an allocation failed.
 pub fn parse<'a>(rt: &HostRuntime, words: &'a [String]) -> Result<Task<'a>, Misuse<'a>> {
-    let mut check = false;
+    let mut options = Options {
+        check: false,
+        places: false,
+    };
     let mut names = Vec::new(rt.alloc());
     let mut ended = false;
     for word in words.iter().skip(1) {
@@ -58,10 +70,11 @@ pub fn parse<'a>(rt: &HostRuntime, words: &'a [String]) -> Result<Task<'a>, Misu
         match word {
             "-h" | "--help" => return Ok(Task::Help),
             "--version" => return Ok(Task::Version),
-            "--check" => check = true,
+            "--check" => options.check = true,
+            "--where" => options.places = true,
             "--" => ended = true,
             _ => return Err(Misuse::UnknownOption(word)),
         }
     }
-    Ok(Task::Answer { check, names })
+    Ok(Task::Answer { options, names })
 }

@@ -1,13 +1,14 @@
 # shellcheck shell=sh
 # The scripts respath and origins read this file. It proves and builds their program if the program is missing or older
-# than a source that it needs. The script sets two variables before: `top`, the folder of the sources, and `started`,
-# the name of the program and of its crate.
-program=$top/crates/$started/out/$started
+# than a source that it needs. The script sets three variables before: `top`, the folder of the sources, `started`, the
+# name of the script, and `program_crate`, the crate of its program.
+program=$top/crates/$program_crate/out/$program_crate
 noted=${program%/*}/proved-with # the kit that proved the program, and the sum of that program
 
-# Prints the text of a constant of the source that `texts` names, by the constant's name.
+# Prints the text of a constant of the source that `texts` names, by the constant's name. The text has one line or more.
 text_of() {
-    sed -n "/^pub const $1: &str = \"/,/\";\$/ { s/^pub const $1: &str = \"//; s/\";\$//; p; }" "$texts"
+    sed -n "s/^pub const $1: &str = \"\(.*\)\";\$/\1/p
+        /^pub const $1: &str = \"[^\"]*\$/,/\";\$/ { s/^pub const $1: &str = \"//; s/\";\$//; p; }" "$texts"
 }
 
 tell() {
@@ -23,7 +24,7 @@ is_current() {
 
 # Prints the program's crate and its dependencies, lowest first: a line for each crate, with its direct dependencies.
 needed_lines() {
-    awk -v started="$started" '
+    awk -v started="$program_crate" '
         !/^#/ { sub(":", "", $1); names[++count] = $1; below[$1] = $0 }
         END {
             needed[started] = 1
@@ -81,20 +82,21 @@ copy_needed() {
 # Proves and builds the program in the copy, and moves it to its place. rt ci stores the proof of each crate. The next
 # build and ./check use these proofs.
 prove_copy() {
-    made=$work/copy/crates/$started/out/$started
+    made=$work/copy/crates/$program_crate/out/$program_crate
     run_rt "$work/copy" ci && [ -x "$made" ] && mkdir -p "${program%/*}" && mv "$made" "$program"
 }
 
 # The seconds of one processor that the proof of each crate took in rt ci on 2026-11-28, beside other work. For respath
-# they add up to 42 minutes. The figures of rpki_block, rpki_text, respath and origins are guesses. Only the estimate of
-# the time that is left uses this table. A crate that is missing here counts as a minute.
+# they add up to 44 minutes. The figures of rpki_block, rpki_text, respath_files, respath_places and origins are guesses.
+# Only the estimate of the time that is left uses this table. A crate that is missing here counts as a minute.
 seconds_of_crates() {
     cat <<'END'
 lines_engine 160
 origins 60
 origins_lines 316
-respath 40
+respath_files 40
 respath_lines 239
+respath_places 120
 roa_origin 301
 roa_vrps 187
 roa_slurm 120

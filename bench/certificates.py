@@ -21,7 +21,7 @@ sys.path.insert(0, str(TOP / "foreign" / "python"))
 
 from pigyelund import Certificate, Encoding, Extensions, Pigyelund, Resources, concatenate  # noqa: E402
 
-RESPATH = TOP / "crates" / "respath" / "out" / "respath"
+RESPATH = TOP / "crates" / "respath_files" / "out" / "respath_files"
 LIBRARY = TOP / "crates" / "pigyelund_c" / "out" / "libpigyelund_c.a"
 KINDS = ("as", "v4", "v6")
 STEPS = 10

@@ -31,7 +31,7 @@ from quick import parts_of_check
 
 TOP = Path(__file__).resolve().parent.parent
 COPIES = min(4, os.cpu_count() or 1)
-RESPATH = Path("crates", "respath", "out", "respath")
+RESPATH = Path("crates", "respath_files", "out", "respath_files")
 LIBRARY = Path("crates", "pigyelund_c", "out", "libpigyelund_c.a")
 # How many of the first lines of a file a copy has.
 PROGRAMS = "rows_values", "rows_sets", "rows_claims", "rows_calls"
@@ -151,9 +151,9 @@ PAGES = (
     Case(NUMBERS, "README.md", "commands and 20,000", "commands and 2,000", "README.md: 2000, and check asks"),
     Case(NUMBERS, "check", "tests/rows.py --random 1 20000", "tests/rows.py --random 1 200", "and check asks 200\n"),
     Case(MANUAL, "respath", "        exit 2\n", "        exit 3\n", "respath --help: names status 2 for 'usage'"),
-    Case(MANUAL, "respath", "return 3", "return 2", "respath --help: names status 3 for 'check'"),
-    Case(MANUAL, "respath", "= - ]; then\n            answer_input", "= + ]; then\n            answer_input",
-         "is the standard input"),
+    Case(MANUAL, "crates/respath_files/src/help.rt", "  3  with --check", "  2  with --check",
+         "respath --help: names status 2 for 'check'"),
+    Case(MANUAL, "respath", '$options -- "$@"', '$options -- "./$@"', "is the standard input"),
 )
 # A version in each of its places: another one, or none.
 VERSIONS = "tests/source_versions.py"

@@ -13,7 +13,7 @@ from collections.abc import Iterator
 from pathlib import Path
 
 TOP = Path(__file__).resolve().parent.parent
-PROGRAM = TOP / "crates" / "respath" / "out" / "respath"
+PROGRAM = TOP / "crates" / "respath_files" / "out" / "respath_files"
 COMMAND = re.compile(r"(?:norm|cover|der|read|path) ")
 SHOWN = re.compile(r"`([^`]+)`: (?:`([^`]*)`|an empty line)")
 BYTE_ORDER_MARK = b"\xef\xbb\xbf"

@@ -72,8 +72,8 @@ def script_of(folder: Path) -> Path:
     texts = Path("crates", "respath_files", "src", "help.rt")
     (folder / texts).parent.mkdir(parents=True)
     shutil.copy(TOP / texts, folder / texts)
-    (folder / "crates" / "respath" / "out").mkdir(parents=True)
-    shutil.copy(program("respath"), folder / "crates" / "respath" / "out")
+    (folder / "crates" / "respath_files" / "out").mkdir()
+    shutil.copy(program("respath_files"), folder / "crates" / "respath_files" / "out")
     return folder / "respath"
 
 
@@ -99,8 +99,7 @@ def pages_of_respath(folder: Path, script: Path) -> Iterator[Page]:
         "check": run(folder, [script, "--check"], wrong).status,
     }
     yield Page("respath --help", in_one_line(run(folder, [script, "--help"]).printed), tuple(statuses), statuses)
-    if not (installed := program("respath_files")).is_file():
-        return
+    installed = program("respath_files")
     statuses = {
         "answered": run(folder, [installed], wrong).status,
         "failed": failed_write(folder, [installed], wrong),
@@ -174,7 +173,7 @@ def faults(folder: Path) -> Iterator[tuple[str, str]]:
     """Each page that says something else than its program does, and what."""
     (folder / "OLD").write_text("AS1,10.0.0.0/8,8\n")
     (folder / "NEW").write_text("AS2,10.0.0.0/8,8\n")
-    if program("respath").is_file():
+    if program("respath_files").is_file():
         script = script_of(folder)
         for page in pages_of_respath(folder, script):
             yield from ((page.name, it) for it in faults_of_statuses(page))
@@ -189,7 +188,7 @@ def faults(folder: Path) -> Iterator[tuple[str, str]]:
 
 def main() -> int:
     """Prints what differs."""
-    for name in ("respath", "respath_files", "origins"):
+    for name in ("respath_files", "origins"):
         if not program(name).is_file():
             print(f"left out: {name} is not built")
     with tempfile.TemporaryDirectory() as name:

@@ -1,41 +1,50 @@
 #!/bin/sh
-# Tests what no contract says of the program respath: its status and its line on standard error if a standard stream
-# fails, and streams above 64 MiB, also through origins. It tests the options and files of ./respath and of the program
-# that a release installs as respath, and the examples of the help. tests/program_front.sh tests what the script does
-# without the program. The status is 0 if every case is as expected.
+# Tests what no contract says of the programs respath and respath_files: their status and their line on standard error if
+# a standard stream fails, and streams above 64 MiB, also through origins. It tests the options and files of ./respath
+# and of respath_files, which a release installs as respath, and the examples of the help. tests/program_front.sh tests
+# what the script does without the program. The status is 0 if every case is as expected.
 top=$(CDPATH= cd -- "$(dirname -- "$0")/.." && pwd) || exit 1
 printf '' | "$top/respath" || exit 1
-program=$top/crates/respath/out/respath
-installed=$top/crates/respath_files/out/respath_files
+plain=$top/crates/respath/out/respath
+program=$top/crates/respath_files/out/respath_files
 
 # shellcheck source=tests/expect.sh
 . "$top/tests/expect.sh"
 
-said=$(printf 'norm as 1\n' | "$program" 2>&1 >/dev/null)
-expect "all is answered" 0 "" $? "$said"
+# What a program does if a stream or an allocation fails: of_streams COMMAND PREFIX
+of_streams() {
+    said=$(printf 'norm as 1\n' | "$1" 2>&1 >/dev/null)
+    expect "$2all is answered" 0 "" $? "$said"
 
-said=$("$program" <&- 2>&1 >/dev/null)
-expect "a read fails" 1 "respath: read failed" $? "$said"
+    said=$("$1" <&- 2>&1 >/dev/null)
+    expect "$2a read fails" 1 "respath: read failed" $? "$said"
 
-said=$(printf 'norm as 1\n' | "$program" 2>&1 >/dev/full)
-expect "a write fails" 1 "respath: write failed" $? "$said"
+    said=$(printf 'norm as 1\n' | "$1" 2>&1 >/dev/full)
+    expect "$2a write fails" 1 "respath: write failed" $? "$said"
 
-said=$({ yes 'norm as 1' | head -n 100000 | { "$program" 2>&3; echo "status $?" >&3; } | true; } 3>&1)
-expect "a pipe whose reader has ended" 0 "respath: write failed
+    said=$({ yes 'norm as 1' | head -n 100000 | { "$1" 2>&3; echo "status $?" >&3; } | true; } 3>&1)
+    expect "$2a pipe whose reader has ended" 0 "respath: write failed
 status 1" $? "$said"
 
-# The README promises that a stack of 128 KiB is enough.
-needs_more "a stack of 128 KiB" || {
-    said=$(awk 'BEGIN { printf "norm as 1"; for (n = 3; n < 120000; n += 2) printf ",%d", n; print "" }' |
-        (ulimit -s 128 && "$program") | tr ',' '\n' | wc -l)
-    expect "a stack of 128 KiB, a line of 60,000 blocks" 0 "60000" $? "$said"
-}
+    # The README promises that a stack of 128 KiB is enough.
+    needs_more "$2a stack of 128 KiB" || {
+        said=$(awk 'BEGIN { printf "norm as 1"; for (n = 3; n < 120000; n += 2) printf ",%d", n; print "" }' |
+            (ulimit -s 128 && "$1") | tr ',' '\n' | wc -l)
+        expect "$2a stack of 128 KiB, a line of 60,000 blocks" 0 "60000" $? "$said"
+    }
 
-# Half of a line of 64 MiB fits into the memory that is granted.
-needs_more "memory is refused" || {
-    said=$(head -c 67108864 /dev/zero | tr '\0' '1' | (ulimit -v 49152 && "$program") 2>&1 >/dev/null)
-    expect "memory is refused" 1 "respath: out of memory" $? "$said"
+    # Half of a line of 64 MiB fits into the memory that is granted.
+    needs_more "$2memory is refused" || {
+        said=$(head -c 67108864 /dev/zero | tr '\0' '1' | (ulimit -v 49152 && "$1") 2>&1 >/dev/null)
+        expect "$2memory is refused" 1 "respath: out of memory" $? "$said"
+    }
 }
+of_streams "$program" ""
+if [ -x "$plain" ]; then
+    of_streams "$plain" "without options: "
+else
+    echo "left out  the program of crates/respath: it is not built"
+fi
 
 said=$("$top/respath" --strange 2>&1 >/dev/null </dev/null)
 expect "an unknown option" 2 "respath: unknown option: --strange
@@ -49,6 +58,10 @@ said=$(printf 'norm as 2,1\nnorm v4 x\n' | "$top/respath" --try --check 2>&1)
 expect "sources that are not proved" 3 "respath: these answers come from sources that were not proved here
 AS1-AS2
 error: invalid IPv4 address syntax" $? "$said"
+
+said=$(printf 'norm as 2, x\n' | "$top/respath" --try --check --where 2>&1)
+expect "places of sources that are not proved" 3 "respath: these answers come from sources that were not proved here
+error: Bad AS number. Expected format: AS#	element 2: x" $? "$said"
 
 said=$(awk 'BEGIN { while (count++ < 20000) print "norm as 2,1" }' | "$top/respath" --try 2>&1 | sort -u)
 expect "many lines of sources that are not proved" 0 "AS1-AS2
@@ -107,45 +120,41 @@ AS1" $? "$said"
 
     said=$("$1" --check "$files/one" 2>&1 >/dev/full)
     expect "$2a check that can't be written" 1 "respath: write failed" $? "$said"
-}
-of_files "$top/respath" ""
 
-# The program that a release installs
-if [ -x "$installed" ]; then
-    of_files "$installed" "installed: "
-    said=$(printf 'norm as 2, 1' | "$installed")
-    expect "installed: the standard input" 0 "AS1-AS2" $? "$said"
-    said=$("$installed" --check --strange "$files/one" 2>&1)
-    expect "installed: an unknown option" 2 "respath: unknown option: --strange
-usage: respath [--check] [--where] [--] [FILE ..] | --help | --version" $? "$said"
-    said=$(printf 'norm as 1\npath as 1 | trim 2 | refuse , 2' | "$installed" --where --check "$files/one" - 2>&1)
-    expect "installed: places of errors" 3 "AS1-AS2
+    said=$(printf 'norm as 1\npath as 1 | trim 2 | refuse , 2' | "$1" --where --check "$files/one" - 2>&1)
+    expect "$2places of errors" 3 "AS1-AS2
 AS1
 refused at step 1: overclaimed AS resources: AS2	step 1, element 2: 2" $? "$said"
-    said=$("$installed" --version)
-    expect "installed: the version" 0 "respath, version $(cat "$top/VERSION")" $? "$said"
-    said=$("$installed" --version 2>&1 >/dev/full)
-    expect "installed: a version that can't be written" 1 "respath: write failed" $? "$said"
-    # The answer begins with e, as error: does, and is none. The last line has no end.
-    said=$(printf 'norm v6 e000::/8\nnorm v6 e::\nread as 0' | "$installed" --check -- - "$files/one")
-    expect "installed: an address that begins as an error" 3 "e000::/8
+
+    said=$("$1" --where "$files/one" 2>&1 >/dev/full)
+    expect "$2places that can't be written" 1 "respath: write failed" $? "$said"
+
+    said=$(printf 'norm as 1\0, 2\nnorm as \0\n' | "$1" --where)
+    expect "$2an octet 0 in an element that is named" 0 "error: Bad AS number. Expected format: AS#	element 1: 1?
+error: Bad AS number. Expected format: AS#	element 1: ?" $? "$said"
+}
+of_files "$top/respath" ""
+of_files "$program" "installed: "
+
+# The program that a release installs
+said=$(printf 'norm as 2, 1' | "$program")
+expect "installed: the standard input" 0 "AS1-AS2" $? "$said"
+said=$("$program" --check --strange "$files/one" 2>&1)
+expect "installed: an unknown option" 2 "respath: unknown option: --strange
+usage: respath [--check] [--where] [--] [FILE ..] | --help | --version" $? "$said"
+said=$("$program" --version)
+expect "installed: the version" 0 "respath, version $(cat "$top/VERSION")" $? "$said"
+said=$("$program" --version 2>&1 >/dev/full)
+expect "installed: a version that can't be written" 1 "respath: write failed" $? "$said"
+# The answer begins with e, as error: does, and is none. The last line has no end.
+said=$(printf 'norm v6 e000::/8\nnorm v6 e::\nread as 0' | "$program" --check -- - "$files/one")
+expect "installed: an address that begins as an error" 3 "e000::/8
 e::
 error: bad hex
 AS1-AS2" $? "$said"
-    said=$(printf 'norm v6 e000::/8, e::\nder as 1' | "$installed" --check)
-    expect "installed: no error" 0 "e::, e000::/8
+said=$(printf 'norm v6 e000::/8, e::\nder as 1' | "$program" --check)
+expect "installed: no error" 0 "e::, e000::/8
 3007a0053003020101" $? "$said"
-else
-    echo "left out  the program that a release installs as respath: it is not built"
-fi
-
-said=$(printf 'norm as 1\npath as 1 | trim 2 | refuse , 2' | "$top/respath" --where --check "$files/one" - 2>&1)
-expect "places of errors" 3 "AS1-AS2
-AS1
-refused at step 1: overclaimed AS resources: AS2	step 1, element 2: 2" $? "$said"
-
-said=$("$top/respath" --where "$files/one" 2>&1 >/dev/full)
-expect "places that can't be written" 1 "respath: write failed" $? "$said"
 
 # Streams above 64 MiB, in and out: one answer for each line.
 listed=$(awk 'BEGIN { for (at = 1; at < 20; at += 2) printf "%sAS42000000%02d", (at > 1 ? ", " : ""), at }')

@@ -49,10 +49,10 @@ END
     sed -n 's/^The kit that last proved all crates is `\(.*\)`\.$/\1/p' README.md >"$kit/identity"
     local name
     sum=$(sed 's/.* //' "$kit/identity")
-    for name in respath respath_files origins pigyelund_c; do
+    for name in respath_files origins pigyelund_c; do
         printf 'axioms %s\nlogic=proved axioms=6 sum=%s native=nat\n' "$name" "$sum" >"$kit/said/$name"
     done
-    for name in respath respath_files origins; do
+    for name in respath_files origins; do
         printf '#!/bin/sh\necho %s\n' "$name" >"$kit/proved/$name"
         chmod +x "$kit/proved/$name"
     done
@@ -69,10 +69,18 @@ END
         ar rcs "$kit/proved/libpigyelund_c.a" "$out/one.o" && ar rcs "$kit/c/liblibc_c.a" "$out/two.o"
 }
 
+# The crate of a program, by the name of its script
+crate_of() {
+    case $1 in
+    respath) echo respath_files ;;
+    *) echo "$1" ;;
+    esac
+}
+
 # Makes the copy anew, of the files that a release reads, with the programs that are proved there.
 make_copy() {
     rm -rf "$copy" "$out/made" "$kit/meanwhile" "$kit/tools"
-    mkdir -p "$copy/crates/respath" "$kit/tools"
+    mkdir -p "$copy" "$kit/tools"
     tar -cf - --exclude=out --exclude=rows.txt --exclude=__pycache__ .gitignore release program.sh respath origins \
         README.md CHANGELOG.md LICENSE VERSION foreign packaging tests/foreign_page.py tests/foreign.sh \
         tests/page_logic.sh tests/source_versions.py tests/release.sh crates/origins/src crates/respath_files \
@@ -80,12 +88,13 @@ make_copy() {
         crates/pigyelund_routes/specs vectors | tar -xf - -C "$copy"
     (
         cd "$copy" || exit
-        printf 'respath:\norigins:\n' >crates.txt
+        printf 'respath_files:\norigins:\n' >crates.txt
         git init -q && git add -A &&
             GIT_COMMITTER_DATE=@1700000000 git -c user.name=Nobody -c user.email=nobody@rpki.net commit -q -m copy ||
             exit
         for program in respath origins; do
-            mkdir -p "crates/$program/out" && cp "$kit/proved/$program" "crates/$program/out/$program" &&
+            crate=$(crate_of "$program")
+            mkdir -p "crates/$crate/out" && cp "$kit/proved/$crate" "crates/$crate/out/$crate" &&
                 PATH=$kit/bin:$PATH "./$program" --note-kit
         done
     )
@@ -114,20 +123,18 @@ refuses() {
 refuses_what_is_not_proved() {
     local program crate verb verdict
     for program in respath origins; do
-        refuses "another $program" "$program isn't the one that was proved here" \
-            "echo >>crates/$program/out/$program"
-        refuses "no note of $program" "$program isn't the one that was proved here" "rm crates/$program/out/proved-with"
+        crate=$(crate_of "$program")
+        refuses "another $program" "$program isn't the one that was proved here" "echo >>crates/$crate/out/$crate"
+        refuses "no note of $program" "$program isn't the one that was proved here" "rm crates/$crate/out/proved-with"
         refuses "$program by another logic" "$program isn't the one that was proved here" \
-            "sed -i 's/logic .*/logic 0123456789abcdef/' crates/$program/out/proved-with"
-        refuses "no $program of the prover" "rt run made no $program" "mv '$kit/proved/$program' '$out/away'"
-        mv "$out/away" "$kit/proved/$program"
+            "sed -i 's/logic .*/logic 0123456789abcdef/' crates/$crate/out/proved-with"
+        refuses "no $crate of the prover" "rt run made no $crate" "mv '$kit/proved/$crate' '$out/away'"
+        mv "$out/away" "$kit/proved/$crate"
     done
-    refuses "no respath_files of the prover" "rt run made no respath_files" "mv '$kit/proved/respath_files' '$out/away'"
-    mv "$out/away" "$kit/proved/respath_files"
     refuses "a library that the prover didn't make" "rt lib made no libpigyelund_c.a" \
         "mkdir -p crates/pigyelund_c/out && mv '$kit/proved/libpigyelund_c.a' crates/pigyelund_c/out"
     mv "$copy/crates/pigyelund_c/out/libpigyelund_c.a" "$kit/proved" 2>/dev/null || make_kit
-    for crate in respath respath_files origins pigyelund_c; do
+    for crate in respath_files origins pigyelund_c; do
         verb=check
         [ "$crate" != pigyelund_c ] || verb=lib
         for verdict in "logic=not-proved sum=$sum" "logic=built proved sum=$sum" "proved" ""; do
@@ -212,7 +219,7 @@ makes_the_same() {
         fail "the first line: $(head -n 1 "$out/said")"
     mv "$out/made" "$out/first"
     sleep 1.1
-    printf '#!/bin/sh\necho planted\n' >"$copy/crates/respath/out/respath"
+    printf '#!/bin/sh\necho planted\n' >"$copy/crates/respath_files/out/respath_files"
     (cd "$copy" && PATH=$kit/bin:$PATH ./respath --note-kit)
     cp "$out/first/pigyelund-$version/lib/libpigyelund.a" "$out/other.a" && ar r "$out/other.a" LICENSE 2>/dev/null
     find "$copy" -name .git -prune -o -type f -exec touch -d '2001-01-01' {} +
@@ -427,8 +434,7 @@ of_archive() {
     (cd "$tree" && sha256sum --quiet -c SHA256SUMS) || fail "the sums of the files"
     for program in respath origins; do
         answers "$tree/bin" "$tree/share/man/man1/$program.1" || fail "the manual's examples of $program"
-        crate=$program
-        [ "$program" != respath ] || crate=respath_files
+        crate=$(crate_of "$program")
         cmp "crates/$crate/out/$crate" "$tree/bin/$program" || fail "the program $program"
         "./$program" --version | grep -q '^proved here' || fail "$program is noted"
     done
@@ -461,7 +467,7 @@ of_packages() {
         fail "the same tree makes the same packages"
 }
 
-if [ ! -x crates/respath/out/respath ]; then
+if [ ! -x crates/respath_files/out/respath_files ]; then
     echo "left out: a release needs respath, which ./respath proves and builds"
 elif [ -n "$(git status --porcelain 2>&1)" ]; then
     echo "left out: a release needs a tree without changes"

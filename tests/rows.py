@@ -32,7 +32,7 @@ from reference.calls_of_callers import NotSaid
 
 TOP = Path(__file__).resolve().parent.parent
 CRATES = TOP / "crates"
-PROGRAM = CRATES / "respath" / "out" / "respath"
+PROGRAM = CRATES / "respath_files" / "out" / "respath_files"
 AT_ONCE = 50_000
 SHOWN = 20
 

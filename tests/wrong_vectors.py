@@ -10,7 +10,7 @@ from pathlib import Path
 
 TOP = Path(__file__).resolve().parent.parent
 SOURCES, ASKED = ("tests/source_vectors.py",), "tests/program_vectors.py"
-BUILT = Path("crates/respath/out/respath"), Path("crates/origins/out/origins")
+BUILT = Path("crates/respath_files/out/respath_files"), Path("crates/origins/out/origins")
 PARTS = "tests", "vectors", "docs", "crates/rows_values", "crates/rows_sets", "crates/rows_claims"
 # A test, a file, what is found in it as a pattern, what replaces it, and what has to be printed.
 OF_FILES = (

@@ -19,11 +19,13 @@ from compare import NOT_APPLICABLE, Answer, Case, octets_of_file, run, skip, vrp
 
 TOP = Path(__file__).resolve().parent.parent.parent
 REFUSED = "refused at step "
+# The crates of the programs.
+CRATES = {"respath": "respath_files", "origins": "origins"}
 
 
 def program(name: str) -> str:
     """The place of a program, an empty text if there is none."""
-    built = TOP / "crates" / name / "out" / name
+    built = TOP / "crates" / CRATES[name] / "out" / CRATES[name]
     return os.environ.get(name.upper()) or (str(built) if built.is_file() else shutil.which(name)) or ""
 
 
@@ -185,7 +187,7 @@ def answers(file: str, cases: list[Case], every: int = 1) -> Iterable[Answer]:
 
 def main(words: list[str]) -> int:
     """Compares the programs with the vectors."""
-    for name in ("respath", "origins"):
+    for name in CRATES:
         if not program(name):
             return skip(f"{name} is not built, and is not on the PATH")
     every = 1

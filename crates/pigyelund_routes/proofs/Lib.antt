@@ -1,4 +1,5 @@
 pub mod Common
 pub mod InterleavedLemmas
+pub mod RouteChangeLemmas
 pub mod ValidityArrayLemmas
 pub mod VrpArrayLemmas

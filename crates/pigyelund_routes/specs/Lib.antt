@@ -3,6 +3,8 @@ pub mod Handles
 pub mod Lookups
 pub mod Origins
 pub mod ReturnedVrps
+pub mod RouteChanges
 pub mod Routes
 pub mod Tables
+pub mod VrpFiles
 pub mod Written

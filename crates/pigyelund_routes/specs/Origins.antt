@@ -65,12 +65,12 @@ abbrev pub validation_error_index : ValidationError → ℕ
 validation_error_index (NoVrp first) = first.at
 validation_error_index (NoRoute first) = first.at
 
--- Octets for which P holds are returned. Otherwise the status and the index belong to a reason for which N holds, or
--- the status is 2, and nothing is written.
-abbrev pub IsAnsweredAt : (R : Type 0) → (List ℕ → Type 0) → (R → ℕ) → (R → ℕ) → (R → Type 0) → List ℕ → List ℕ → ℕ → ℕ
-    → ℕ → Type 0
-IsAnsweredAt R P status index_of N before after len index result =
-    ((octets : List ℕ) × P octets × AreWritten octets before after len result × (index ≡ 0))
+-- Items for which P holds are returned. Otherwise the status and the index belong to a reason for which N holds, or the
+-- status is 2, and nothing is written.
+abbrev pub IsAnsweredAt : {X : Type 0} → (R : Type 0) → (List X → Type 0) → (R → ℕ) → (R → ℕ) → (R → Type 0) → List X
+    → List X → ℕ → ℕ → ℕ → Type 0
+IsAnsweredAt {X} R P status index_of N before after len index result =
+    ((items : List X) × P items × AreWritten items before after len result × (index ≡ 0))
     ⊎ (((reason : R) × N reason × (result ≡ status reason) × (index ≡ index_of reason) × (after ≡ before) × (len ≡ 0))
     ⊎ ((result ≡ 2) × (after ≡ before) × (len ≡ 0) × (index ≡ 0)))
 

@@ -14,9 +14,12 @@
 
 pub mod change;
 pub mod family;
+pub mod file;
+pub mod file_fault;
 mod interleaved;
 pub mod origin;
 pub mod route;
+pub mod route_changes;
 pub mod status;
 pub mod table;
 pub mod table_handle;

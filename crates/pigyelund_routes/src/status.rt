@@ -16,5 +16,11 @@ pub const BAD_MAX_LEN: u32 = 15;
 pub const UNKNOWN_WITHDRAWAL: u32 = 17;
 /// An announced VRP is in the table and not withdrawn, or is announced twice (RFC 8210, 12: error 7).
 pub const DUPLICATE_ANNOUNCEMENT: u32 = 18;
+/// A line of a VRP file is invalid. The number of its first fault is added.
+pub const BAD_LINE: u32 = 1024;
+/// An item of a VRP file is invalid. The number of its first fault is added.
+pub const BAD_ITEM: u32 = 2048;
+/// A VRP file is invalid as a whole. The number of its first fault is added.
+pub const BAD_FILE: u32 = 3072;
 /// Added to a status if the error is in a route or in a withdrawn VRP.
 pub const SECOND: u32 = 4096;

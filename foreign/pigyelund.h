@@ -4,10 +4,12 @@
  * - Certificates. pigy_verify and pigy_verify_set compare the resources that a certificate claims with those of its
  *   issuer. pigy_verify_path does this along a path from a trust anchor. No call checks signatures or dates.
  * - Resource sets. pigy_union, pigy_intersection, pigy_difference, pigy_contains and pigy_equal operate on two sets.
- *   pigy_cover lists the fewest prefixes that have exactly the addresses of one family of a set. pigy_answer converts
- *   text to DER and DER to text, as the program respath does.
+ *   pigy_cover lists the fewest prefixes that have exactly the addresses of one family of a set, and pigy_as_ranges and
+ *   pigy_ip_ranges list the ranges of a set. pigy_set_from_text makes a set of text. pigy_answer converts text to DER
+ *   and DER to text, as the program respath does.
  * - Route origins. pigy_origins validates routes by VRPs (validated ROA payloads). The calls pigy_table_... make and
- *   use a table of VRPs that stays between calls, for example in a router.
+ *   use a table of VRPs that stays between calls, for example in a router. pigy_vrps_read reads the VRPs of a
+ *   validator's file.
  *
  * Example: does a certificate claim more than its issuer has?
  *
@@ -77,8 +79,8 @@
  * - malloc, realloc and free belong to one allocator. It aligns each block by its size: if the size is a multiple of
  *   16, 8, 4 or 2 octets, the address is a multiple of the same number. The C library's allocator does this.
  * - The processor has the instructions of x86-64-v2: SSE3, SSSE3, SSE4.1, SSE4.2, POPCNT, CMPXCHG16B, LAHF and SAHF.
- * - The stack has 128 KiB left. The calls of foreign/c/test.c use less than 8 KiB of it. This is measured on x86-64,
- *   and is not proved.
+ * - The stack has 128 KiB left. The calls of foreign/c/test.c use less than 8 KiB of it, except pigy_vrps_read, which
+ *   uses less than 64 KiB for the deepest JSON that it reads. This is measured on x86-64, and is not proved.
  * - No call is made in a signal handler, or in the forked child of a process with threads.
  *
  * THREADS. The calls share no state. Any number of them may run at the same time if each meets the obligations. Several
@@ -134,18 +136,25 @@ extern "C" {
 #define PIGY_UNKNOWN_WITHDRAWAL 17u     /* A withdrawn VRP is not in the table, or comes twice (RFC 8210: code 6). */
 #define PIGY_DUPLICATE_ANNOUNCEMENT 18u /* An announced VRP is in the table and not withdrawn, or comes twice (RFC
                                          * 8210: code 7). */
+#define PIGY_BAD_KIND 19u     /* The kind is none of PIGY_ASN, PIGY_IPV4 and PIGY_IPV6. */
 #define PIGY_BAD_AS 0x100u    /* The AS identifiers are invalid. The number of the first error is added. */
 #define PIGY_BAD_IP 0x200u    /* The IP address blocks are invalid. The number of the first error is added. */
+#define PIGY_BAD_LINE 0x400u  /* pigy_vrps_read: a line of CSV is invalid. The number of its first error is added. */
+#define PIGY_BAD_ITEM 0x800u  /* pigy_vrps_read: an item of JSON is invalid. The number of its first error is added. */
+#define PIGY_BAD_FILE 0xc00u  /* pigy_vrps_read: the file as a whole is invalid. The number of the error is added. */
+#define PIGY_BAD_TEXT 0x2000u /* pigy_set_from_text: the text is invalid. The number of the first error is added. */
 /* PIGY_SECOND is added to PIGY_BAD_AS + n, PIGY_BAD_IP + n, PIGY_INHERITED, PIGY_BAD_FAMILY, PIGY_BAD_PREFIX and
  * PIGY_BAD_MAX_LEN, and to no other status. With PIGY_SECOND the error is in one argument, and without it in another:
  *
  * - pigy_verify, pigy_verify_path: in a certificate. Without PIGY_SECOND: in the set of the issuer or trust anchor.
  * - The calls with two sets, such as pigy_union and pigy_contains: in the second set. Without: in the first set.
  * - pigy_origins: in a route. Without: in a VRP.
- * - pigy_table_origins, pigy_table_covering: in a route.
+ * - pigy_table_origins, pigy_table_routes_changed, pigy_table_covering: in a route.
  * - pigy_table_changed: in a withdrawn VRP. Without: in an announced VRP. */
 #define PIGY_SECOND 0x1000u
-/* The number n of the first error, from a status PIGY_BAD_AS + n or PIGY_BAD_IP + n, also with PIGY_SECOND:
+/* PIGY_FAULT is the number n of the first error, from a status that is a sum with n.
+ *
+ * PIGY_BAD_AS + n, PIGY_BAD_IP + n, also with PIGY_SECOND:
  *
  * - 1: The value is truncated.
  * - 2: Another tag is expected.
@@ -160,7 +169,37 @@ extern "C" {
  * - 11: A list has no blocks.
  * - 12: An address family appears twice.
  * - 13: There is no address family.
- * - 14: The encoding is not canonical. Only PIGY_STRICT returns this. */
+ * - 14: The encoding is not canonical. Only PIGY_STRICT returns this.
+ *
+ * PIGY_BAD_LINE + n with n from 1 to 7, PIGY_BAD_ITEM + n with n from 4 to 16:
+ *
+ * - 1: The line is not UTF-8.
+ * - 2: The line has more fields than the line that names the columns.
+ * - 3: The line has no field in one of the three columns.
+ * - 4: The AS number is invalid.
+ * - 5: The prefix is invalid.
+ * - 6: The maximum length is not a number from 0 to 255.
+ * - 7: The maximum length is below the prefix length, or is above 32 (IPv4) or 128 (IPv6).
+ * - 8, 9, 10: The member asn is missing, is repeated, or is neither a number nor a string.
+ * - 11, 12, 13: The member prefix is missing, is repeated, or is not a string.
+ * - 14, 15, 16: The member maxLength is missing, is repeated, or is not a number.
+ *
+ * PIGY_BAD_FILE + n:
+ *
+ * - 1: The file is a JSON array. An object with the member roas is expected.
+ * - 2: The file begins with {, and is not a JSON object, or nests deeper than 128.
+ * - 3, 4, 5: The member roas is missing, is repeated, or is not an array.
+ * - 6: The file has no VRP.
+ *
+ * PIGY_BAD_TEXT + n:
+ *
+ * - 1: The text is not UTF-8.
+ * - 2: An element is not an AS number.
+ * - 3: An element is not a range of AS numbers, or its first number is above the second.
+ * - 4: An address is invalid.
+ * - 5: A prefix length is not a number, or is above 32 (IPv4) or 128 (IPv6).
+ * - 6: An address is of the other family.
+ * - 7: The first address of a range is above the second. */
 #define PIGY_FAULT(s) ((s) & 0xffu)
 
 /* Encodings. PIGY_STRICT accepts canonical DER only (RFC 3779, 2.2.3.3, 2.2.3.6, 2.2.3.9 and 3.2.3.4). PIGY_LENIENT
@@ -185,6 +224,9 @@ extern "C" {
 #define PIGY_IPV4 1u
 #define PIGY_IPV6 2u
 
+/* The kind of the elements of a text: PIGY_ASN, PIGY_IPV4 or PIGY_IPV6. */
+#define PIGY_ASN 0u
+
 /* Validity of a route (RFC 6811, 2), with the numbers of RFC 8097, 2:
  *
  * - PIGY_VALID: At least one VRP matches the route.
@@ -202,7 +244,7 @@ extern "C" {
 #define PIGY_TOO_LONG 2u
 
 /* The version of the calls of this header. It grows if a call is added. A released call never changes its meaning. */
-#define PIGY_VERSION 4u
+#define PIGY_VERSION 5u
 /**
  * Returns the version of the calls in the linked library. If the version is at least PIGY_VERSION, the library has all
  * calls of this header.
@@ -342,6 +384,97 @@ uint32_t pigy_verify_path(const uint8_t *anchor_as, size_t anchor_as_len, const 
 uint32_t pigy_cover(const uint8_t *ip, size_t ip_len, uint32_t encoding, uint32_t family, uint8_t *out, size_t capacity,
                     size_t *len) PIGY_NODISCARD PIGY_NONNULL();
 
+/**
+ * Makes a set of text: a list of AS numbers, of IPv4 addresses or of IPv6 addresses.
+ *
+ * Commas separate the elements. White space at the ends of an element is ignored, and so are elements that are empty.
+ * Elements may be in any order, overlap or touch. An element of PIGY_ASN is an AS number or a range of these: AS64496,
+ * 64496, AS64496-AS64511. Any other element is an address, a prefix or a range: 10.0.0.1, 10.0.0.0/8,
+ * 10.0.0.1-10.0.0.9. The bits of an address after the length of its prefix are ignored. The program respath reads the
+ * same lists.
+ *
+ * The outputs are the set. It has no resources of the two other kinds, so at least one of the lengths is 0. pigy_union
+ * joins the sets of several texts.
+ *
+ * @param kind         PIGY_ASN, PIGY_IPV4 or PIGY_IPV6.
+ * @param text         The list, in UTF-8. Not NULL.
+ * @param text_len     Length in octets; may be 0.
+ * @param as_out       Buffer for the set's AS identifiers. Owned by the caller. Not NULL.
+ * @param as_capacity  Capacity of `as_out` in octets; may be 0.
+ * @param ip_out       Buffer for the set's IP address blocks. Owned by the caller. Not NULL.
+ * @param ip_capacity  Capacity of `ip_out` in octets; may be 0.
+ * @param as_len       Receives the length of the AS identifiers in octets, written or required. Not NULL.
+ * @param ip_len       Receives the length of the IP address blocks in octets, written or required. Not NULL.
+ *
+ * @return the first of these that applies:
+ *   1. PIGY_BAD_KIND.
+ *   2. PIGY_BAD_TEXT + 1: the text is not UTF-8.
+ *   3. PIGY_BAD_TEXT + n: the first invalid element.
+ *   4. PIGY_TOO_SMALL, then PIGY_OK.
+ *
+ * With 1 to 3 and with PIGY_MEMORY both lengths are 0 and the buffers are unchanged.
+ */
+uint32_t pigy_set_from_text(uint32_t kind, const uint8_t *text, size_t text_len, uint8_t *as_out, size_t as_capacity,
+                            uint8_t *ip_out, size_t ip_capacity, size_t *as_len, size_t *ip_len)
+    PIGY_NODISCARD PIGY_NONNULL();
+
+/* A range of AS numbers, in host byte order: its least and its greatest number. They may be equal. */
+typedef struct {
+  uint32_t min, max;
+} pigy_as_range;
+
+/* A range of addresses of one family, in network byte order: its lowest and its highest address. They may be equal. An
+ * IPv4 address is in the first 4 octets, and the other 12 are 0. */
+typedef struct {
+  uint8_t min[16], max[16];
+} pigy_ip_range;
+
+/**
+ * Lists the ranges of the AS numbers in AS identifiers, in ascending order. Ranges neither overlap nor touch, so these
+ * are the fewest.
+ *
+ * @param as        AS identifiers: DER. Not NULL.
+ * @param as_len    Length in octets; may be 0.
+ * @param encoding  PIGY_LENIENT or PIGY_STRICT.
+ * @param out       Buffer for the ranges. Owned by the caller. Not NULL.
+ * @param capacity  Capacity of `out` in ranges, not in octets; may be 0.
+ * @param len       Receives the number of ranges, written or required. Not NULL.
+ *
+ * @return the first of these that applies:
+ *   1. PIGY_BAD_ENCODING.
+ *   2. PIGY_BAD_AS + n.
+ *   3. PIGY_INHERITED.
+ *   4. PIGY_TOO_SMALL, then PIGY_OK.
+ *
+ * With 1 to 3 and with PIGY_MEMORY *len is 0 and the buffer is unchanged.
+ */
+uint32_t pigy_as_ranges(const uint8_t *as, size_t as_len, uint32_t encoding, pigy_as_range *out, size_t capacity,
+                        size_t *len) PIGY_NODISCARD PIGY_NONNULL();
+
+/**
+ * Lists the ranges of the addresses of one family in IP address blocks, in ascending order. Ranges neither overlap nor
+ * touch, so these are the fewest. pigy_cover lists the prefixes.
+ *
+ * @param ip        IP address blocks: DER. Not NULL.
+ * @param ip_len    Length in octets; may be 0.
+ * @param encoding  PIGY_LENIENT or PIGY_STRICT.
+ * @param family    PIGY_IPV4 or PIGY_IPV6.
+ * @param out       Buffer for the ranges. Owned by the caller. Not NULL.
+ * @param capacity  Capacity of `out` in ranges, not in octets; may be 0.
+ * @param len       Receives the number of ranges, written or required. Not NULL.
+ *
+ * @return the first of these that applies:
+ *   1. PIGY_BAD_ENCODING.
+ *   2. PIGY_BAD_FAMILY.
+ *   3. PIGY_BAD_IP + n.
+ *   4. PIGY_INHERITED: one of the two families has "inherit", also if it is not the requested one.
+ *   5. PIGY_TOO_SMALL, then PIGY_OK.
+ *
+ * With 1 to 4 and with PIGY_MEMORY *len is 0 and the buffer is unchanged.
+ */
+uint32_t pigy_ip_ranges(const uint8_t *ip, size_t ip_len, uint32_t encoding, uint32_t family, pigy_ip_range *out,
+                        size_t capacity, size_t *len) PIGY_NODISCARD PIGY_NONNULL();
+
 /* A VRP (validated ROA payload): a prefix, its maximum length, and the AS that may originate it.
  *
  * - address: Address of the prefix, in network byte order. An IPv4 address is in the first 4 octets, and the other 12
@@ -394,6 +527,39 @@ typedef struct {
  */
 uint32_t pigy_origins(const pigy_vrp *vrps, size_t vrp_count, const pigy_route *routes, size_t route_count,
                       uint8_t *out, size_t capacity, size_t *len, size_t *index) PIGY_NODISCARD PIGY_NONNULL();
+
+/**
+ * Reads the VRPs of a validator's file, as rpki-client, FORT and Routinator write it. They are in the order of the file.
+ *
+ * A file whose first character that is not white space is { is JSON (RFC 8259). Its VRPs are the items of the member
+ * roas, an array. An item is an object with the members asn (a number or a string), prefix (a string) and maxLength (a
+ * number), each exactly once. Other members are ignored.
+ *
+ * A file that begins with [ is invalid. Any other file is CSV. A line is blank, names the columns, or is a VRP: an AS
+ * number, a prefix and a maximum length. These are its first three fields, or the fields in the columns that an earlier
+ * line names. Names are ASN; IP Prefix or Prefix; Max Length or Max prefix length. Each comma ends a field, also a
+ * comma between quotes.
+ *
+ * A byte order mark at the beginning is ignored. No line and no item is skipped: one that is invalid makes the whole
+ * file invalid. The last 12 octets of an IPv4 address are 0. A VRP that the file repeats is listed again.
+ *
+ * @param file      The octets of the whole file. Not NULL.
+ * @param file_len  Length in octets; may be 0.
+ * @param vrps      Buffer for the VRPs. Owned by the caller. Not NULL.
+ * @param capacity  Capacity of `vrps` in VRPs, not in octets; may be 0.
+ * @param count     Receives the number of VRPs, written or required. Not NULL.
+ * @param line      Receives the number of the first invalid line of CSV or item of JSON, from 1; else 0. Not NULL.
+ *
+ * @return the first of these that applies:
+ *   1. PIGY_BAD_FILE + n with n from 1 to 5: the file as a whole. *line is 0.
+ *   2. PIGY_BAD_LINE + n: the first invalid line. PIGY_BAD_ITEM + n: the first invalid item.
+ *   3. PIGY_BAD_FILE + 6: the file has no VRP. *line is 0.
+ *   4. PIGY_TOO_SMALL, then PIGY_OK.
+ *
+ * With 1 to 3 and with PIGY_MEMORY *count is 0 and the buffer is unchanged.
+ */
+uint32_t pigy_vrps_read(const uint8_t *file, size_t file_len, pigy_vrp *vrps, size_t capacity, size_t *count,
+                        size_t *line) PIGY_NODISCARD PIGY_NONNULL();
 
 /* A table of VRPs. The caller owns it until pigy_table_free. */
 typedef struct pigy_table pigy_table;
@@ -488,6 +654,30 @@ uint32_t pigy_table_changed(const pigy_table *table, const pigy_vrp *announced, 
  */
 uint32_t pigy_table_origins(const pigy_table *table, const pigy_route *routes, size_t count, uint8_t *out,
                             size_t capacity, size_t *len, size_t *index) PIGY_NODISCARD PIGY_NONNULL(2, 4, 6, 7);
+
+/**
+ * Says of each route whether its validity differs between two tables: one octet a route, 0 if it has the same validity
+ * by both tables, and 1 if it has another (RFC 6811, 4). Pass the routes that you use, after the table was replaced.
+ *
+ * @param old       The one table, which is only read. The status is PIGY_NO_TABLE if it is NULL.
+ * @param next      The other table, which is only read. The status is PIGY_NO_TABLE if it is NULL. May be `old`.
+ * @param routes    Routes. Not NULL.
+ * @param count     Number of routes.
+ * @param out       Buffer for one octet a route, in the order of the routes. Owned by the caller. Not NULL.
+ * @param capacity  Capacity of `out` in octets; may be 0.
+ * @param len       Receives the length in octets, written or required. Not NULL.
+ * @param index     Receives the index of the first invalid route, from 0; else 0. Not NULL.
+ *
+ * @return the first of these that applies:
+ *   1. PIGY_NO_TABLE.
+ *   2. PIGY_SECOND + PIGY_BAD_FAMILY, PIGY_SECOND + PIGY_BAD_PREFIX: the first invalid route.
+ *   3. PIGY_TOO_SMALL, then PIGY_OK.
+ *
+ * With 1, 2 and PIGY_MEMORY *len is 0 and the buffer is unchanged.
+ */
+uint32_t pigy_table_routes_changed(const pigy_table *old, const pigy_table *next, const pigy_route *routes,
+                                   size_t count, uint8_t *out, size_t capacity, size_t *len, size_t *index)
+    PIGY_NODISCARD PIGY_NONNULL(3, 5, 7, 8);
 
 /**
  * Lists the VRPs of a table that cover a route, each with the reason why it does not match.

@@ -240,9 +240,9 @@ of_install() {
         DOCDIR="$spaced/elsewhere/doc"
 }
 
-# Makes a library of that name in a folder, whose calls are of version 3.
+# Makes a library of that name in a folder, whose calls are of version 4.
 older() {
-    mkdir -p "$1" && echo 'unsigned pigy_version(void) { return 3; }' |
+    mkdir -p "$1" && echo 'unsigned pigy_version(void) { return 4; }' |
         gcc -shared -fPIC -x c - -o "$1/libpigyelund.so" || fail "an older library"
 }
 
@@ -250,7 +250,7 @@ older() {
 finds() { [ "$("$@" "$out/there/bin/python" "$out/finds.py" 2>&1)" = AS1 ] || fail "Python finds the library: $*"; }
 # names FOLDER COMMAND ..: Python takes the older library of a folder, and says in one line that it is older
 names() {
-    text="ImportError: $1/libpigyelund.so: the library has version 3 of the calls, and this package needs version 4; "
+    text="ImportError: $1/libpigyelund.so: the library has version 4 of the calls, and this package needs version 5; "
     shift
     "$@" "$out/there/bin/python" "$out/finds.py" 2>&1 | tail -n 1 | grep -qF "$text" || fail "Python names: $*: $text"
 }

@@ -35,6 +35,7 @@ CHOICES = {
     "HAS_AS": "present_number Numbers",
     "HAS_IP": "present_number Addresses",
     "HAS_BOTH": "present_number Both",
+    "ASN": "kind_number Numbers",
     "IPV4": "family_number Ipv4",
     "IPV6": "family_number Ipv6",
     "VALID": "validity_number Valid",
@@ -60,7 +61,7 @@ def of_library() -> dict[str, int]:
     for name, number in re.findall(r"^pub const (\w+): u32 = (\d+);$", texts, re.MULTILINE):
         if found.setdefault(name, int(number)) != int(number):
             raise SystemExit(f"{name} has two numbers in {' and '.join(map(str, files))}")
-    named = (CRATE / "specs" / "Numbers", ROUTES / "specs" / "Families", ROUTES / "specs" / "Origins")
+    named = (CRATE / "specs" / "Numbers", CRATE / "specs" / "Texts", ROUTES / "specs" / "Families", ROUTES / "specs" / "Origins")
     specs = "".join(file.with_suffix(".antt").read_text() for file in named)
     choices = dict(re.findall(r"^(\w+_number \w+) = (\d+)$", specs, re.MULTILINE))
     found |= {name: int(choices[of]) for name, of in CHOICES.items()} | MISMATCHES
@@ -163,10 +164,15 @@ def of_python() -> list[str]:
 def of_stack() -> list[str]:
     """Returns where another stack is stated than the one on which foreign/c/test.c makes its calls."""
     test = (TOP / "foreign" / "c" / "test.c").read_text()
-    stack, used = (re.search(rf"\b{name} = (\d+) << 10\b", test) for name in ("STACK", "USED"))
-    if not stack or not used:
-        return ["foreign/c/test.c has no STACK or no USED"]
-    wanted = (f"The stack has {stack[1]} KiB left.", f"use less than {used[1]} KiB of it")
+    names = ("STACK", "USED", "USED_TO_READ")
+    stack, used, to_read = (re.search(rf"\b{name} = (\d+) << 10\b", test) for name in names)
+    if not stack or not used or not to_read:
+        return [f"foreign/c/test.c lacks one of {', '.join(names)}"]
+    wanted = (
+        f"The stack has {stack[1]} KiB left.",
+        f"use less than {used[1]} KiB of it",
+        f"uses less than {to_read[1]} KiB for the deepest JSON that it reads",
+    )
     return [
         f"{file.name} doesn't say: {text}" for file in (HEADER, PAGE) for text in wanted if text not in file.read_text()
     ]

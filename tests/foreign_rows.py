@@ -8,7 +8,12 @@ or a run of octets and the certificates of a path, each as six numbers; or VRPs,
 address, AS number, family, length, maximum length. Of these the last word is the place of the first that is none. Of a
 table the first word has its VRPs; the third a route that is covered, whose answer has 24 octets for each VRP, the
 last of them why it doesn't match; or the VRPs that are announced, and the fourth those that are withdrawn: these are
-answered by all VRPs of the next table. With --write the file is written anew. Status 1 where it differs.
+answered by all VRPs of the next table. Of two tables the first two words have their VRPs, and the third
+the routes; the answer is 1 for each route with another validity by the second, and 0 for any other. Of a file the first
+word has its octets; the answer has its VRPs, and the last
+word is the number of the line or item at fault. Of a text the first word has its octets; the answer is a
+set. The ranges of a set are pairs of numbers, 8 octets each for AS numbers and 32 for addresses. With --write the file
+is written anew. Status 1 where it differs.
 """
 
 import sys
@@ -16,11 +21,12 @@ from collections.abc import Iterable, Iterator
 from operator import eq
 from pathlib import Path
 from random import Random
+from re import fullmatch
 from typing import NamedTuple
 
-from reference import asn, ip, lines, paths, prefixes, resources
+from reference import asn, ip, lines, paths, prefixes, resources, vrp_files
 from reference.addresses import Family
-from reference.faults import DerFault
+from reference.faults import BAD_AS_NUMBER, BAD_AS_RANGE, BAD_RANGE, FAMILY_MISMATCH, DerFault, Fault
 from reference.paths import Refused, Step
 from reference.random_lines import Maker
 from reference.resources import INHERIT, Claim, Families
@@ -32,9 +38,10 @@ Triple = tuple[Set, Set, Set]
 
 OK, INHERITED, BAD_MODE, OVERCLAIM_AS, NO, BAD_ENCODING = 0, 3, 4, 5, 8, 9
 ABSENT, OUTSIDE, BAD_PRESENT, BAD_FAMILY, BAD_PREFIX, BAD_MAX_LEN = 10, 11, 12, 13, 14, 15
-UNKNOWN_WITHDRAWAL, DUPLICATE_ANNOUNCEMENT = 17, 18
+UNKNOWN_WITHDRAWAL, DUPLICATE_ANNOUNCEMENT, BAD_KIND = 17, 18, 19
 OTHER_AS, TOO_LONG = 1, 2
 BAD_AS, BAD_IP, SECOND = 0x100, 0x200, 0x1000
+BAD_LINE, BAD_ITEM, BAD_FILE, BAD_TEXT = 0x400, 0x800, 0xC00, 0x2000
 LENIENT, STRICT = 0, 1
 REFUSE, TRIM = 0, 1
 NUMBERS, ADDRESSES, BOTH = 1, 2, 3
@@ -201,6 +208,42 @@ def cover_octets(question: Question) -> bytes:
     return b"".join(first.to_bytes(family.bits // 8, "big") + bytes([length]) for first, length in cover)
 
 
+# The text of the fault of an element of a list, and its number. A wrong address has any other text.
+TEXT_FAULTS = {BAD_AS_NUMBER: 2, BAD_AS_RANGE: 3, FAMILY_MISMATCH: 6, BAD_RANGE: 7}
+
+
+def text_set(question: Question) -> Triple:
+    """The set that a list of a kind is."""
+    (kind,), octets = question.numbers, question.first[0]
+    if kind not in (0, *FAMILIES):
+        raise Status(BAD_KIND)
+    found: list[Set] = [[], [], []]
+    try:
+        text = octets.decode("utf-8")
+        found[kind] = ip.read_set(text, FAMILIES[kind]) if kind else asn.read_set(text)
+    except UnicodeDecodeError:
+        raise Status(BAD_TEXT + 1) from None
+    except Fault as fault:
+        number = 5 if str(fault).startswith("bad prefix length: ") else TEXT_FAULTS.get(str(fault), 4)
+        raise Status(BAD_TEXT + number) from None
+    return found[0], found[1], found[2]
+
+
+def range_octets(question: Question) -> bytes:
+    """The ranges of the AS numbers, or of the addresses of a family: the two numbers of each."""
+    encoding, *family = question.numbers
+    strict = is_strict(encoding)
+    if not family:
+        found = read_set((question.first[0], b""), strict)[0]
+        return b"".join(low.to_bytes(4, "big") + high.to_bytes(4, "big") for low, high in found)
+    if family[0] not in FAMILIES:
+        raise Status(BAD_FAMILY)
+    bits = FAMILIES[family[0]].bits
+    pairs = read_set((b"", question.first[0]), strict)[family[0]]
+    ends = [end >> 128 - bits for pair in pairs for end in pair]
+    return b"".join(end.to_bytes(bits // 8, "big").ljust(16, b"\0") for end in ends)
+
+
 def prefix_of(octets: bytes, base: int) -> prefixes.Prefix:
     """The prefix of a VRP or of a route."""
     number, length = octets[20:22]
@@ -289,6 +332,19 @@ def changed_vrps(
     return [one for one in vrps if one in left and one not in announced] + announced
 
 
+def differ_answer(question: Question) -> Answer:
+    """Which routes have another validity by a second list of VRPs."""
+    old, new = (vrps_in(octets) for octets in question.first)
+    found = bytearray()
+    for place, octets in enumerate(cut(question.second[0], 22)):
+        try:
+            prefix, number = prefix_of(octets, SECOND), int.from_bytes(octets[16:20], "big")
+        except Status as refusal:
+            return Answer(refusal.number, (b"", b""), place)
+        found.append(prefixes.validity(prefix, number, old) != prefixes.validity(prefix, number, new))
+    return Answer(OK, (bytes(found), b""), 0)
+
+
 def table_answer(question: Question) -> Answer:
     """What is told of a table: what covers a route, its VRPs, or those of the next one."""
     try:
@@ -304,6 +360,41 @@ def table_answer(question: Question) -> Answer:
         return Answer(refusal.number, (b"", b""), refusal.place)
     except Status as refusal:
         return Answer(refusal.number, (b"", b""), 0)
+
+
+# How the text of the fault of a VRP begins, and its number. Any other text is that of a wrong AS number.
+VRP_FAULTS = {
+    "not UTF-8": 1,
+    "too many fields: ": 2,
+    "too few fields: ": 3,
+    "invalid prefix: ": 5,
+    "invalid max length: ": 6,
+    "max-length ": 7,
+}
+FIRST_OF_MEMBER = {"asn": 8, "prefix": 11, "maxLength": 14, "roas": 3}
+MEMBER_FAULTS = ("missing", "repeated", "wrong kind of value")
+FILE_FAULTS = {"a JSON array, where an object with the member roas is expected": 1, "not a JSON object": 2, "no VRP": 6}
+
+
+def fault_number(text: str) -> int:
+    """The number of the fault of a line, of an item, or of the member `roas`."""
+    name, _, rest = text.partition(": ")
+    if name in FIRST_OF_MEMBER:
+        return FIRST_OF_MEMBER[name] + MEMBER_FAULTS.index(rest)
+    return next((number for begin, number in VRP_FAULTS.items() if text.startswith(begin)), 4)
+
+
+def file_answer(question: Question) -> Answer:
+    """The VRPs of a file, or its first fault."""
+    try:
+        vrps = vrp_files.read(question.first[0])
+    except Fault as fault:
+        text = str(fault)
+        if found := fullmatch(r"(line|item) (\d+): (.*)", text):
+            base = BAD_LINE if found[1] == "line" else BAD_ITEM
+            return Answer(base + fault_number(found[3]), (b"", b""), int(found[2]))
+        return Answer(BAD_FILE + (FILE_FAULTS.get(text) or fault_number(text)), (b"", b""), 0)
+    return Answer(OK, (b"".join(map(vrp_octets, vrps)), b""), 0)
 
 
 def cut(octets: bytes, length: int) -> list[bytes]:
@@ -336,6 +427,10 @@ def written_by(question: Question) -> Octets:
             return written(verified(question))
         case "cover":
             return cover_octets(question), b""
+        case "text":
+            return written(text_set(question))
+        case "as_ranges" | "ip_ranges":
+            return range_octets(question), b""
         case "answer":
             return lines.answer(question.first[0]).encode("utf-8"), b""
     return written(asked_of_sets(question))
@@ -349,6 +444,10 @@ def answer(question: Question) -> Answer:
         return origins_answer(question)
     if question.call in ("covering", "vrps", "changed"):
         return table_answer(question)
+    if question.call == "differ":
+        return differ_answer(question)
+    if question.call == "read":
+        return file_answer(question)
     try:
         return Answer(OK, written_by(question))
     except Status as refusal:
@@ -623,6 +722,161 @@ def of_tables() -> Iterator[Question]:
         yield asked("changed", [good], [good, bad], [bad])
 
 
+HEADER = b"ASN,IP Prefix,Max Length,Trust Anchor,Expires\n"
+LINES = [
+    b"AS64496,10.0.0.0/8,16,ripe,1732600000\n",
+    b"64497,2001:db8::/32,48,apnic,0\r\n",
+    b' "AS0" , "0.0.0.0/0" ,32\n',
+    b"AS4294967295,ffff:ffff::/32,128,,\n",
+    b"AS1,255.255.255.255/32,32\n",
+]
+# Lines that are none, each after another fault.
+WRONG_LINES = [
+    b"\xff\n",
+    b"AS1,10.0.0.0/8,8,ripe,0,more\n",
+    b"AS1,10.0.0.0/8\n",
+    b"ASX,10.0.0.0/8,8\n",
+    b"AS4294967296,10.0.0.0/8,8\n",
+    b"AS1,10.0.0.0/33,8\n",
+    b"AS1,10.0.0.1/8,8\n",
+    b"AS1,10.0.0.0/8,256\n",
+    b"AS1,10.0.0.0/8,\n",
+    b"AS1,10.0.0.0/8,7\n",
+    b"AS1,10.0.0.0/8,33\n",
+]
+ITEMS = [
+    b'{"asn": 64496, "prefix": "10.0.0.0/8", "maxLength": 16, "ta": "ripe"}',
+    b'{"asn": "AS64497", "prefix": "2001:db8::/32", "maxLength": 48}',
+    b'{"maxLength": 32, "prefix": "0.0.0.0/0", "asn": 0, "expires": [{"at": null}]}',
+]
+WRONG_ITEMS = [
+    b"17",
+    b'{"prefix": "10.0.0.0/8", "maxLength": 16}',
+    b'{"asn": 1, "asn": 1, "prefix": "10.0.0.0/8", "maxLength": 16}',
+    b'{"asn": null, "prefix": "10.0.0.0/8", "maxLength": 16}',
+    b'{"asn": 1, "maxLength": 16}',
+    b'{"asn": 1, "prefix": "10.0.0.0/8", "prefix": "10.0.0.0/8", "maxLength": 16}',
+    b'{"asn": 1, "prefix": 10, "maxLength": 16}',
+    b'{"asn": 1, "prefix": "10.0.0.0/8"}',
+    b'{"asn": 1, "prefix": "10.0.0.0/8", "maxLength": 16, "maxLength": 16}',
+    b'{"asn": 1, "prefix": "10.0.0.0/8", "maxLength": "16"}',
+    b'{"asn": 1.5, "prefix": "10.0.0.0/8", "maxLength": 16}',
+    b'{"asn": 1, "prefix": "10.0.0.0", "maxLength": 16}',
+    b'{"asn": 1, "prefix": "10.0.0.0/8", "maxLength": 256}',
+    b'{"asn": 1, "prefix": "10.0.0.0/8", "maxLength": 7}',
+]
+WRONG_FILES = [
+    b"",
+    b"\n \n",
+    HEADER,
+    b" [1]",
+    b"[",
+    b"{",
+    b"{}",
+    b'{"roas": []} x',
+    b'{"roas": []}',
+    b'{"roas": [], "roas": []}',
+    b'{"roas": {}}',
+    b'{"roas": ' + b"[" * 200 + b"]" * 200 + b"}",
+    b'{"roas": ["\xff"]}',
+    b"\xef\xbb\xbf",
+    b"\xef\xbb\xbf{}",
+]
+
+
+def of_texts() -> Iterator[Question]:
+    """Lists of each kind, well-formed and damaged; octets that are no text; kinds that are none."""
+
+    def asked(kind: int, text: bytes) -> Question:
+        return Question("text", (kind,), (text, b""))
+
+    for kind in (0, 1, 2, 3, 256, 2**32 - 1):
+        for text in (b"", b" , ,", b"\xff", b"AS1", b"10.0.0.1", b"::1", b"AS2-AS1", b"10.0.0.2-10.0.0.1", b"10.0.0.0/33"):
+            yield asked(kind, text)
+    for command in ("norm", "der"):
+        maker = Maker(command, 35)
+        for _ in range(120):
+            _, kind, text = maker.line().split(b" ", 2)
+            yield asked({b"as": 0, b"v4": 1, b"v6": 2}.get(kind, 3), text)
+
+
+def of_ranges() -> Iterator[Question]:
+    """Ranges of AS numbers and of addresses, of sets and of octets that are none, and numbers that are none."""
+    source = Random(3779_2)
+    for octets in (*CERTIFICATES, *(random_set(source) for _ in range(40))):
+        yield Question("as_ranges", (source.randrange(2),), (octets[0], b""))
+        for family in (1, 2):
+            yield Question("ip_ranges", (source.randrange(2), family), (octets[1], b""))
+    for encoding, family in ((2, 1), (STRICT, 0), (STRICT, 3), (2**32 - 1, 2**32 - 1), (LENIENT, 257)):
+        for octets in (ISSUER, (b"\0", b"\0")):
+            yield Question("as_ranges", (encoding,), (octets[0], b""))
+            yield Question("ip_ranges", (encoding, family), (octets[1], b""))
+    for other in altered((CERTIFICATES[6][0], b""), source):
+        yield Question("as_ranges", (source.randrange(2),), (other[0], b""))
+    for other in altered((b"", CERTIFICATES[6][1]), source):
+        yield Question("ip_ranges", (source.randrange(2), source.choice((1, 2))), (other[1], b""))
+
+
+def of_files() -> Iterator[Question]:
+    """Files in either form, with a line or an item that is none at each place, and files that are wrong as a whole."""
+    source = Random(9582)
+
+    def asked(file: bytes) -> Question:
+        return Question("read", (), (file, b""))
+
+    def of_json(items: list[bytes]) -> bytes:
+        return b'{"metadata": {"counts": 2}, "roas": [' + b", ".join(items) + b"]}\n"
+
+    for mark in (b"", b"\xef\xbb\xbf"):
+        yield asked(mark + HEADER + b"".join(LINES))
+        yield asked(mark + b"".join(LINES).removesuffix(b"\n"))
+        yield asked(mark + b" \n" + of_json(ITEMS))
+    yield asked(b"ASN,Prefix,Max prefix length\n" + LINES[0][:21] + b"\n")
+    yield asked(b"Max Length,x,ASN,IP Prefix\n16,,AS5,10.0.0.0/8\n" + HEADER + LINES[1])
+    for wrong in WRONG_LINES:
+        for place in range(3):
+            lines_of = [LINES[0], b"\n", LINES[1]]
+            yield asked(HEADER + b"".join([*lines_of[:place], wrong, *lines_of[place:]]))
+        yield asked(wrong)
+    for wrong in WRONG_ITEMS:
+        for place in range(3):
+            yield asked(of_json([*ITEMS[:place], wrong, *ITEMS[place:]]))
+    for wrong in WRONG_FILES:
+        yield asked(wrong)
+    # The deepest texts that are read, and some that are deeper, in an item and beside the array.
+    for depth in (124, 125, 126, 127, 128):
+        for opens, closes in ((b"[", b"]"), (b'{"a":', b"}")):
+            nested = opens * depth + b"0" + closes * depth
+            yield asked(of_json([ITEMS[0][:-1] + b', "x": ' + nested + b"}"]))
+            yield asked(b'{"x": ' + nested + b', "roas": [' + ITEMS[0] + b"]}")
+    for count in (1, 2, 3, 9, 41) * 4:
+        chosen = [vrp_of(random_routed(source, True)) for _ in range(count)]
+        fields = [(vrp.asn, str(vrp.prefix.prefix.text()), vrp.prefix.resolved()) for vrp in chosen]
+        yield asked(b"".join(f"AS{asn},{text},{most}\n".encode() for asn, text, most in fields))
+        yield asked(of_json([f'{{"asn": {asn}, "prefix": "{text}", "maxLength": {most}}}'.encode() for asn, text, most in fields]))
+
+
+def of_differences() -> Iterator[Question]:
+    """Routes by two tables: of few VRPs, of many, of the same ones, of none; routes that are none, at each place."""
+    source = Random(6811_4)
+
+    def asked(old: list[bytes], new: list[bytes], routes: list[bytes]) -> Question:
+        return Question("differ", (), (b"".join(old), b"".join(new)), (b"".join(routes), b""))
+
+    for count in (0, 1, 2, 3, 9, 40) * 6:
+        old = [random_routed(source, True) for _ in range(count)]
+        kept = source.sample(old, source.randrange(count + 1))
+        new = kept + [random_routed(source, True) for _ in range(source.randrange(4))]
+        yield asked(old, new, [random_routed(source, False) for _ in range(source.choice((0, 1, 5, 11, 12, 13, 30)))])
+        yield asked(old, old[::-1], [random_routed(source, False) for _ in range(3)])
+    good, fine = routed(1, 10 << 24, 8, 64496, 24), routed(1, 10 << 24, 24, 64496)
+    for bad in (routed(0, 0, 0, 1), routed(1, 1, 31, 1), routed(2, 0, 129, 1), routed(1, 10 << 24, 33, 1)):
+        for count in (2, 11, 12, 13, 25):
+            for place in (0, 1, count):
+                routes = [fine] * count
+                yield asked([good], [], routes[:place] + [bad] + routes[place:])
+
+
 def of_lines() -> Iterator[Question]:
     """Lines of each command, well-formed and damaged, and lines of none."""
     for line in (b"", b" ", b"\xff", b"norm", b"norm v5 0.0.0.0", b"cover as AS1", b"NORM as AS1", b"der as inherit\0"):
@@ -670,7 +924,8 @@ def joined(parts: Iterable[object], by: str) -> str:
 
 def rows() -> Iterator[str]:
     """The rows of the file."""
-    parts = of_certificates, of_absence, of_paths, of_sets, of_covers, of_origins, of_tables, of_lines
+    parts = of_certificates, of_absence, of_paths, of_sets, of_covers, of_origins, of_tables, of_differences, of_lines
+    parts = *parts, of_files, of_texts, of_ranges
     for question in (question for part in parts for question in part()):
         found = answer(question)
         words = [question.call, joined(question.numbers, ","), *map(hexadecimal, (*question.first, *question.second))]

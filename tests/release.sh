@@ -58,7 +58,7 @@ END
     done
     # The calls of the library, except those in C, which the Makefile adds.
     {
-        echo 'unsigned pigy_version(void) { return 4; }'
+        echo 'unsigned pigy_version(void) { return 5; }'
         sed -n 's/^ \(pigy_[a-z_]*\)@.*/\1/p' packaging/libpigyelund1.symbols | while IFS= read -r name; do
             [ "$name" = pigy_version ] || grep -q "^[a-z][a-z0-9_ *]*\b$name(" foreign/c/*.c ||
                 echo "void $name(void) {}"

@@ -33,10 +33,13 @@ typedef struct {
   size_t length;
 } run;
 
-typedef enum { VERIFY, PATH, MAKE, TEST, COVER, ANSWER, ORIGINS, COVERING, VRPS, CHANGED } kind;
+typedef enum {
+  VERIFY, PATH, MAKE, TEST, COVER, ANSWER, TEXT, ORIGINS, COVERING, VRPS, CHANGED, DIFFER, READ, AS_RANGES, IP_RANGES
+} kind;
 
 /* One row: the call, its numbers (encoding, extensions or family, mode), its inputs, and the expected outputs. The
- * member verified is the expected number of verified certificates, or the expected index of an error. */
+ * member verified is the expected number of verified certificates, the expected index of an error, or the expected
+ * number of a line. For DIFFER `announced` has the VRPs of the second table. */
 typedef struct {
   unsigned row;
   kind call;
@@ -148,7 +151,8 @@ static void name_call(question *q, const char *call) {
     pigy_comparison *test;
   } names[] = {{"verify", VERIFY, 0, 0}, {"path", PATH, 0, 0}, {"cover", COVER, 0, 0}, {"answer", ANSWER, 0, 0},
                {"origins", ORIGINS, 0, 0}, {"covering", COVERING, 0, 0}, {"vrps", VRPS, 0, 0},
-               {"changed", CHANGED, 0, 0}, {"union", MAKE, pigy_union, 0}, {"intersection", MAKE, pigy_intersection, 0},
+               {"changed", CHANGED, 0, 0}, {"differ", DIFFER, 0, 0}, {"read", READ, 0, 0}, {"text", TEXT, 0, 0},
+               {"as_ranges", AS_RANGES, 0, 0}, {"ip_ranges", IP_RANGES, 0, 0}, {"union", MAKE, pigy_union, 0}, {"intersection", MAKE, pigy_intersection, 0},
                {"difference", MAKE, pigy_difference, 0}, {"contains", TEST, 0, pigy_contains},
                {"equal", TEST, 0, pigy_equal}};
   for (size_t i = 0; i < sizeof names / sizeof *names; i++)
@@ -185,6 +189,8 @@ static uint32_t call_of(const question *q, uint8_t *as, size_t as_capacity, uint
     case ANSWER:
       *ip_len = 0;
       return pigy_answer(in[0].octets, in[0].length, as, as_capacity, as_len);
+    case TEXT:
+      return pigy_set_from_text(n[0], in[0].octets, in[0].length, as, as_capacity, ip, ip_capacity, as_len, ip_len);
     default:
       return pigy_verify(in[0].octets, in[0].length, in[1].octets, in[1].length, n[1], in[2].octets, in[2].length,
                          in[3].octets, in[3].length, n[0], n[2], as, as_capacity, ip, ip_capacity, as_len, ip_len);
@@ -215,7 +221,7 @@ static void ask(const question *q, size_t as_capacity, size_t ip_capacity) {
 /* ---- tables */
 
 static int is_of_table(const question *q) {
-  return q->call == ORIGINS || q->call == COVERING || q->call == VRPS || q->call == CHANGED;
+  return q->call == ORIGINS || q->call == COVERING || q->call == VRPS || q->call == CHANGED || q->call == DIFFER;
 }
 
 /* Writes a VRP in the form of rows.txt: address, AS, and then count octets of the rest. Returns the end. */
@@ -229,7 +235,7 @@ static uint8_t *put_vrp(uint8_t *to, const uint8_t *address, uint32_t asn, const
 /* The arguments of a call, and its outputs besides the status. */
 typedef struct {
   const question *row;
-  const pigy_table *table;
+  const pigy_table *table, *next;
   size_t capacity, length, other_length, index;
   uint8_t *out, *other;
   pigy_table *made;
@@ -244,18 +250,24 @@ static uint32_t of_vrps(attempt *a) {
   return pigy_table_vrps(a->table, (pigy_vrp *)(void *)a->out, a->capacity / sizeof(pigy_vrp), &a->length);
 }
 
+static uint32_t of_read(attempt *a) {
+  return pigy_vrps_read(a->row->in[0].octets, a->row->in[0].length, (pigy_vrp *)(void *)a->out,
+                        a->capacity / sizeof(pigy_vrp), &a->length, &a->index);
+}
+
 _Static_assert(sizeof(pigy_covering) == sizeof(pigy_vrp), "a VRP that covers is one with one octet more");
 
 /* Makes a call with a buffer for count VRPs, and checks its outputs. `octets` is the size of a VRP in rows.txt. */
 static void ask_with_capacity(uint32_t (*call)(attempt *), const question *q, const pigy_table *table, size_t count,
                               size_t octets) {
   size_t wanted = q->expected[0].length / octets, length = count * sizeof(pigy_covering);
-  attempt a = {q, table, length, ANY, 0, 0, block(length), 0, 0};
+  attempt a = {q, table, 0, length, ANY, 0, ANY, block(length), 0, 0};
   const pigy_covering *out = (pigy_covering *)(void *)a.out;
   uint8_t *found = block(count * octets), *at = found;
   int fits = wanted <= count;
   expect(call(&a) == (fits ? q->status : PIGY_TOO_SMALL), q->row, "another status");
   expect(a.length == wanted, q->row, "another length");
+  expect(a.index == (q->call == READ ? q->verified : ANY), q->row, "another line");
   for (size_t i = 0; fits && i < wanted; i++)
     at = put_vrp(at, out[i].address, out[i].asn, &out[i].family, octets - 20);
   expect(!fits || !memcmp(found, q->expected[0].octets, q->expected[0].length), q->row, "other VRPs");
@@ -280,6 +292,54 @@ static void ask_covering(const question *q, const pigy_table *table) {
   for (size_t capacity = 0; capacity <= wanted + 1; capacity++) ask_with_capacity(of_covering, q, table, capacity, 24);
 }
 
+/* ---- ranges */
+
+static uint32_t of_as_ranges(attempt *a) {
+  const run *in = a->row->in;
+  return pigy_as_ranges(in[0].octets, in[0].length, a->row->numbers[0], (pigy_as_range *)(void *)a->out,
+                        a->capacity / sizeof(pigy_as_range), &a->length);
+}
+
+static uint32_t of_ip_ranges(attempt *a) {
+  const run *in = a->row->in;
+  return pigy_ip_ranges(in[0].octets, in[0].length, a->row->numbers[0], a->row->numbers[1],
+                        (pigy_ip_range *)(void *)a->out, a->capacity / sizeof(pigy_ip_range), &a->length);
+}
+
+_Static_assert(sizeof(pigy_as_range) == 8 && sizeof(pigy_ip_range) == 32, "ranges have the octets of rows.txt");
+
+/* Returns whether the ranges are those of a row, which has each number of an AS with its highest octet first. */
+static int are_ranges(const question *q, const uint8_t *out) {
+  const run *expected = q->expected;
+  if (q->call == IP_RANGES) return !memcmp(out, expected->octets, expected->length);
+  for (size_t i = 0; i < expected->length / 4; i++)
+    if (((const uint32_t *)(const void *)out)[i] != read_asn(expected->octets + 4 * i)) return 0;
+  return 1;
+}
+
+/* Lists ranges with buffers of each capacity up to the required one, and of one more. */
+static void ask_ranges(const question *q) {
+  size_t size = q->call == AS_RANGES ? sizeof(pigy_as_range) : sizeof(pigy_ip_range);
+  size_t wanted = q->expected[0].length / size;
+  for (size_t n = 0; n <= wanted + 1; n++) {
+    attempt a = {q, 0, 0, n * size, ANY, 0, ANY, block(n * size), 0, 0};
+    int fits = wanted <= n;
+    uint32_t found = q->call == AS_RANGES ? of_as_ranges(&a) : of_ip_ranges(&a);
+    expect(found == (fits ? q->status : PIGY_TOO_SMALL) && a.length == wanted, q->row, "another status of ranges");
+    expect(!fits || are_ranges(q, a.out), q->row, "other ranges");
+    expect(is_marked(a.out, fits ? wanted * size : 0, n * size), q->row, "ranges behind");
+    free(a.out);
+    calls++;
+  }
+}
+
+/* Reads a file with buffers of each capacity up to the required one, and of one more. */
+static void ask_read(const question *q) {
+  size_t wanted = q->expected[0].length / 23;
+  for (size_t n = 0; n <= wanted + 1; n += n < wanted && wanted > SMALL ? wanted - n : 1)
+    ask_with_capacity(of_read, q, 0, n, 23);
+}
+
 /* Validates all routes in one call, and then each route in a call of its own. */
 static void ask_origins(const question *q, const pigy_table *table) {
   size_t len = ANY, index = ANY, wanted = q->expected[0].length;
@@ -302,6 +362,33 @@ static void ask_origins(const question *q, const pigy_table *table) {
   free(out);
 }
 
+/* Asks which routes have another validity by the second table: all in one call, and each in a call of its own. Between
+ * a table and itself no route has another validity. */
+static void ask_differ(const question *q, const pigy_table *table, const pigy_table *next) {
+  size_t len = ANY, index = ANY, wanted = q->expected[0].length;
+  uint8_t *out = block(wanted + 1);
+  uint32_t found = pigy_table_routes_changed(table, next, q->routes, q->route_count, out, wanted + 1, &len, &index);
+  expect(found == q->status && len == wanted && index == q->verified, q->row, "another status by two tables");
+  expect(!memcmp(out, q->expected[0].octets, wanted), q->row, "other changes by two tables");
+  expect(is_marked(out, wanted, wanted + 1), q->row, "octets behind changes");
+  if (wanted) {
+    memset(out, MARK, wanted);
+    found = pigy_table_routes_changed(table, next, q->routes, q->route_count, out, wanted - 1, &len, &index);
+    expect(found == PIGY_TOO_SMALL && len == wanted && index == 0, q->row, "another status of a small buffer");
+    expect(is_marked(out, 0, wanted), q->row, "octets in a small buffer");
+  }
+  for (size_t i = 0; i < wanted; i++) {
+    found = pigy_table_routes_changed(table, next, q->routes + i, 1, out, 1, &len, &index);
+    expect(found == PIGY_OK && len == 1 && out[0] == q->expected[0].octets[i], q->row, "another change alone");
+    found = pigy_table_routes_changed(next, table, q->routes + i, 1, out, 1, &len, &index);
+    expect(found == PIGY_OK && len == 1 && out[0] == q->expected[0].octets[i], q->row, "another change back");
+    found = pigy_table_routes_changed(table, table, q->routes + i, 1, out, 1, &len, &index);
+    expect(found == PIGY_OK && len == 1 && out[0] == 0, q->row, "a change by one table");
+    calls += 3;
+  }
+  free(out);
+}
+
 /* Makes a table of the VRPs of a row, and tests it. If a VRP is invalid, there has to be no table. */
 static void ask_table(const question *q) {
   pigy_table *table = 0, *next = 0;
@@ -316,6 +403,11 @@ static void ask_table(const question *q) {
     if (q->call == ORIGINS) ask_origins(q, table);
     if (q->call == COVERING) ask_covering(q, table);
     if (q->call == VRPS) ask_vrps(q, table);
+    if (q->call == DIFFER) {
+      found = pigy_table_new(q->announced, q->announced_count, &next, &index);
+      expect(found == PIGY_OK, q->row, "another status of the second table");
+      if (next) ask_differ(q, table, next);
+    }
     if (q->call == CHANGED) {
       size_t before = ANY, after = ANY;
       pigy_table_len(table, &before);
@@ -332,6 +424,21 @@ static void ask_table(const question *q) {
   pigy_table_free(table);
 }
 
+/* Passes a NULL handle as one of two tables, and as both. */
+static void ask_differ_of_null(const pigy_route *route) {
+  uint8_t octet = MARK;
+  pigy_vrp vrp = {{10}, 1, PIGY_IPV4, 8, 8};
+  pigy_table *table = 0;
+  size_t len, index = ANY;
+  expect(pigy_table_new(&vrp, 1, &table, &index) == PIGY_OK, 0, "a table beside null");
+  for (int i = 0; i < 3; i++) {
+    len = index = ANY;
+    expect(pigy_table_routes_changed(i == 1 ? table : 0, i == 2 ? table : 0, route, 1, &octet, 1, &len, &index) ==
+               PIGY_NO_TABLE && !len && !index && octet == MARK, 0, "changes of null");
+  }
+  pigy_table_free(table);
+}
+
 /* Passes a NULL handle. pigy_table_free does nothing. Each other call returns PIGY_NO_TABLE and no output. */
 static void ask_null(void) {
   uint8_t octet = MARK;
@@ -344,6 +451,7 @@ static void ask_null(void) {
   expect(pigy_table_origins(0, &route, 1, &octet, 1, &len, &index) == PIGY_NO_TABLE, 0, "origins of null");
   expect(!len && !index, 0, "a length of null");
   expect(octet == MARK, 0, "an octet of null");
+  ask_differ_of_null(&route);
   len = ANY;
   expect(pigy_table_covering(0, &route, &covering, 1, &len) == PIGY_NO_TABLE && !len, 0, "what covers by null");
   len = ANY;
@@ -449,13 +557,19 @@ static uint32_t of_origins(attempt *a) {
   return pigy_table_origins(a->table, a->row->routes, a->row->route_count, a->out, a->capacity, &a->length, &a->index);
 }
 
+static uint32_t of_differ(attempt *a) {
+  return pigy_table_routes_changed(a->table, a->next, a->row->routes, a->row->route_count, a->out, a->capacity,
+                                   &a->length, &a->index);
+}
+
 /* Repeats a call with the first n allocations granted and the others refused, for n from 0 until none is refused. If an
  * allocation is refused, the call has to return PIGY_MEMORY and no output. The number of verified certificates is
  * unspecified then, and is not checked. */
-static void ask_refused(uint32_t (*call)(attempt *), const question *q, const pigy_table *table, size_t capacity) {
+static void ask_refused(uint32_t (*call)(attempt *), const question *q, const pigy_table *table,
+                        const pigy_table *next, size_t capacity) {
   int is_refused_now = 1;
   for (size_t n = 0; is_refused_now; n++) {
-    attempt a = {q, table, capacity, 0, 0, 0, block(capacity), block(capacity), 0};
+    attempt a = {q, table, next, capacity, 0, 0, 0, block(capacity), block(capacity), 0};
     uint32_t found;
     was_refused = 0;
     granted = n;
@@ -482,15 +596,24 @@ static void ask_refused(uint32_t (*call)(attempt *), const question *q, const pi
 static void ask_row_refused(const question *q) {
   pigy_table *table = 0;
   size_t index;
-  if (q->call != COVERING && q->call != VRPS && q->call != CHANGED)
-    ask_refused(of_row, q, 0, q->expected[0].length + q->expected[1].length);
+  if (q->call == READ) ask_refused(of_read, q, 0, 0, q->expected[0].length / 23 * sizeof(pigy_vrp));
+  if (q->call == AS_RANGES) ask_refused(of_as_ranges, q, 0, 0, q->expected[0].length);
+  if (q->call == IP_RANGES) ask_refused(of_ip_ranges, q, 0, 0, q->expected[0].length);
+  if (q->call < COVERING)
+    ask_refused(of_row, q, 0, 0, q->expected[0].length + q->expected[1].length);
   if (!is_of_table(q)) return;
-  ask_refused(of_new, q, 0, 0);
+  ask_refused(of_new, q, 0, 0, 0);
   if (pigy_table_new(q->vrps, q->count, &table, &index) != PIGY_OK) return;
-  if (q->call == CHANGED) ask_refused(of_changed, q, table, 0);
-  if (q->call == ORIGINS) ask_refused(of_origins, q, table, q->route_count);
-  if (q->call == COVERING) ask_refused(of_covering, q, table, 64 * sizeof(pigy_covering));
-  if (q->call == VRPS) ask_refused(of_vrps, q, table, q->count * sizeof(pigy_vrp));
+  if (q->call == CHANGED) ask_refused(of_changed, q, table, 0, 0);
+  if (q->call == ORIGINS) ask_refused(of_origins, q, table, 0, q->route_count);
+  if (q->call == COVERING) ask_refused(of_covering, q, table, 0, 64 * sizeof(pigy_covering));
+  if (q->call == DIFFER) {
+    pigy_table *next = 0;
+    if (pigy_table_new(q->announced, q->announced_count, &next, &index) == PIGY_OK)
+      ask_refused(of_differ, q, table, next, q->route_count);
+    pigy_table_free(next);
+  }
+  if (q->call == VRPS) ask_refused(of_vrps, q, table, 0, q->count * sizeof(pigy_vrp));
   pigy_table_free(table);
 }
 
@@ -534,6 +657,7 @@ static question question_of(unsigned row, char **words) {
   if (is_of_table(&q)) {
     q.vrps = read_vrps(q.in, &q.count);
     if (q.call == CHANGED) q.announced = read_vrps(q.in + 2, &q.announced_count);
+    if (q.call == DIFFER) q.announced = read_vrps(q.in + 1, &q.announced_count);
     if (q.call == CHANGED) q.withdrawn = read_vrps(q.in + 3, &q.withdrawn_count);
     if (q.call != CHANGED) q.routes = read_routes(q.in + 2, &q.route_count);
   }
@@ -579,15 +703,19 @@ static questions read_rows(const char *folder) {
   return found;
 }
 
-/* Makes the call of each row once, with buffers of the expected lengths. Begins at the row first, and wraps around. */
+/* Makes the call of a row, with buffers of the expected lengths. */
+static void ask_once(const question *one) {
+  if (is_of_table(one)) ask_table(one);
+  else if (one->call == READ) ask_read(one);
+  else if (one->call == AS_RANGES || one->call == IP_RANGES) ask_ranges(one);
+  else if (one->call == TEST) expect(call_in_short(one, 0) == one->status, one->row, "another status on a thread");
+  else ask(one, one->expected[0].length, one->expected[1].length);
+}
+
+/* Makes the call of each row once. Begins at the row first, and wraps around. */
 static void *ask_round(void *of) {
   const questions *q = (const questions *)of;
-  for (unsigned i = 0; i < q->count; i++) {
-    const question *one = q->all + (q->first + i) % q->count;
-    if (is_of_table(one)) ask_table(one);
-    else if (one->call == TEST) expect(call_in_short(one, 0) == one->status, one->row, "another status on a thread");
-    else ask(one, one->expected[0].length, one->expected[1].length);
-  }
+  for (unsigned i = 0; i < q->count; i++) ask_once(q->all + (q->first + i) % q->count);
   return 0;
 }
 
@@ -605,30 +733,35 @@ static void ask_on_threads(questions rows) {
 
 /* ---- the stack */
 
-/* STACK is the stack that the header requires. The header says that these calls use less than USED of it. The stack of
- * the thread is much larger. */
-enum { STACK = 128 << 10, USED = 8 << 10, STACK_OF_THREAD = 8 << 20, ALIGNED = 4096 };
+/* STACK is the stack that the header requires. The header says that pigy_vrps_read uses less than USED_TO_READ of it,
+ * and that the other calls use less than USED. The stack of the thread is much larger. */
+enum { STACK = 128 << 10, USED = 8 << 10, USED_TO_READ = 64 << 10, STACK_OF_THREAD = 8 << 20, ALIGNED = 4096 };
 
-/* The rows, and an address in the frame of the first function on the thread. */
+/* The rows, whether their files are read or all other calls are made, and an address in the frame of the first function
+ * on the thread. */
 typedef struct {
   questions rows;
-  const uint8_t *frame;
+  int reads;
+  uintptr_t frame;
 } on_stack;
 
 static void *ask_on_stack(void *of) {
   on_stack *one = (on_stack *)of;
   uint8_t here = 0;
-  one->frame = &here;
-  ask_null();
-  ask_many();
-  ask_round(&one->rows);
+  one->frame = (uintptr_t)&here;
+  if (!one->reads) {
+    ask_null();
+    ask_many();
+  }
+  for (unsigned i = 0; i < one->rows.count; i++)
+    if ((one->rows.all[i].call == READ) == one->reads) ask_once(one->rows.all + i);
   return 0;
 }
 
-/* Makes all calls on a stack that is marked before. The calls used the octets from the first frame down to the deepest
- * octet that has changed. */
-static void ask_stack(questions rows) {
-  on_stack one = {rows, 0};
+/* Makes calls on a stack that is marked before, and returns how much of it they use. They used the octets from the
+ * first frame down to the deepest octet that has changed. */
+static size_t used_stack(questions rows, int reads) {
+  on_stack one = {rows, reads, 0};
   pthread_attr_t how;
   pthread_t thread;
   void *made = 0;
@@ -639,12 +772,18 @@ static void ask_stack(questions rows) {
   if (pthread_attr_init(&how) || pthread_attr_setstack(&how, made, STACK_OF_THREAD)) exit(2);
   if (pthread_create(&thread, &how, ask_on_stack, &one) || pthread_join(thread, 0)) exit(2);
   while (unused < STACK_OF_THREAD && stack[unused] == MARK) unused++;
-  used = (size_t)(one.frame - stack) - unused;
-  expect(used < STACK && used < USED, 0, "the calls use more of the stack than the header says");
-  expect(calls > rows.count && used > 0, 0, "no calls on the stack");
-  printf("C: %u calls use %zu octets of the stack, of %u that are stated\n", calls, used, (unsigned)STACK);
+  used = (size_t)(one.frame - (uintptr_t)stack) - unused;
   pthread_attr_destroy(&how);
   free(made);
+  return used;
+}
+
+static void ask_stack(questions rows) {
+  size_t to_read = used_stack(rows, 1), used = used_stack(rows, 0);
+  expect(used < USED && to_read < USED_TO_READ && USED_TO_READ < STACK, 0, "more of the stack than the header says");
+  expect(calls > rows.count && used > 0 && to_read > 0, 0, "no calls on the stack");
+  printf("C: %u calls use %zu octets of the stack, and %zu to read files, of %u that are stated\n", calls, used, to_read,
+         (unsigned)STACK);
 }
 
 /* Checks the texts of statuses. Each line of texts.txt is a status and its text. */
@@ -666,6 +805,8 @@ static void ask_texts(const char *folder) {
 static void ask_all(questions rows) {
   for (unsigned i = 0; i < rows.count; i++) {
     if (is_of_table(rows.all + i)) ask_table(rows.all + i);
+    if (rows.all[i].call == READ) ask_read(rows.all + i);
+    if (rows.all[i].call == AS_RANGES || rows.all[i].call == IP_RANGES) ask_ranges(rows.all + i);
     if (rows.all[i].call != TEST && rows.all[i].call <= ORIGINS) ask_capacities(rows.all + i);
     ask_in_short(rows.all + i);
     ask_row_refused(rows.all + i);

@@ -1,2 +1,3 @@
 pub mod CertificatePathLemmas
 pub mod CoverExportLemmas
+pub mod RangeLemmas

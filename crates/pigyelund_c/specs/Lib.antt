@@ -4,7 +4,9 @@ pub mod Numbers
 pub mod PairStatuses
 pub mod Pairs
 pub mod Paths
+pub mod Ranges
 pub mod Sets
 pub mod Statuses
+pub mod Texts
 pub mod Verified
 pub mod VerifyErrors

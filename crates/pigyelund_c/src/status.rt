@@ -32,9 +32,13 @@ pub const BAD_PRESENT: u32 = 12;
 pub const BAD_FAMILY: u32 = 13;
 /// The handle of a table is null.
 pub const NO_TABLE: u32 = 16;
+/// The kind of a text is unknown.
+pub const BAD_KIND: u32 = 19;
 /// The AS identifiers are invalid. The number of the first error is added.
 pub const BAD_AS: u32 = 256;
 /// The IP address blocks are invalid. The number of the first error is added.
 pub const BAD_IP: u32 = 512;
+/// The text of a set is invalid. The number of the first fault is added.
+pub const BAD_TEXT: u32 = 8192;
 /// Added to a status if the error is in the second set, a certificate, a route or a withdrawn VRP.
 pub const SECOND: u32 = 4096;

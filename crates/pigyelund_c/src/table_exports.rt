@@ -1,9 +1,11 @@
 //! The exports on tables of VRPs.
+ghost use Rattle.pigyelund_routes.specs.RouteChanges.{AreRouteChangesReturned};
 ghost use Rattle.pigyelund_routes.specs.Tables.{AreCoveringsReturned, AreVrpsReturned, AreTableOriginsReturned, IsChangedTableReturned, IsCountReturned, IsMadeTableReturned};
 
 use crate::status;
 use pigyelund_routes::change::changed_table;
 use pigyelund_routes::route::{Covering, RawVrp, Route};
+use pigyelund_routes::route_changes::route_changes;
 use pigyelund_routes::table::{all_vrps, coverings, made_table, table_origins};
 use pigyelund_routes::table_handle::{TableOutput, TableOwner, TableRef};
 use pigyelund_routes::write::write_items;
@@ -140,6 +142,51 @@ pub extern "C" fn pigy_table_changed(
             *next = TableOutput::null();
             status::MEMORY
         }
+    }
+}
+
+/// Says of each route whether its validity differs between two tables (RFC 6811, 4), one octet each.
+///
+/// The octet is 0 if the route has the same validity by both tables, and 1 if it has another. `len` receives the length
+/// in octets, written or required. `index` receives the index of the first invalid route, counted from 0, and 0
+/// otherwise.
+///
+/// Returns the first status that applies:
+///
+/// - `PIGY_NO_TABLE`: one of the two handles is null.
+/// - `PIGY_SECOND` + `PIGY_BAD_FAMILY`, `PIGY_SECOND` + `PIGY_BAD_PREFIX`: the first invalid route.
+/// - `PIGY_TOO_SMALL`, then `PIGY_OK`.
+///
+/// The call can return `PIGY_MEMORY` instead of any status except `PIGY_NO_TABLE`. `len` is 0 for an error other than
+/// `PIGY_TOO_SMALL`. For any error `out` is unchanged.
+#[unsafe(no_mangle)]
+pub extern "C" fn pigy_table_routes_changed(
+    alloc: Global,
+    old: TableRef,
+    next: TableRef,
+    routes: &[Route],
+    out: &mut [u8],
+    len: &mut usize,
+    index: &mut usize,
+) -> u32
+    ensures { AreRouteChangesReturned old.at old.vrps next.at next.vrps routes.now out.old out.new
+        len.new index.new result }
+{
+    *len = 0;
+    *index = 0;
+    let Some(old) = old.table() else {
+        return status::NO_TABLE;
+    };
+    let Some(next) = next.table() else {
+        return status::NO_TABLE;
+    };
+    match route_changes(alloc, old, next, routes) {
+        Ok(octets) => write_items(octets.as_slice(), out, len),
+        Err(OrMemory::Refused(reason)) => {
+            *index = reason.index();
+            reason.status()
+        }
+        Err(OrMemory::Memory(_)) => status::MEMORY,
     }
 }
 

@@ -1,0 +1,47 @@
+//! The export of the VRPs of a validator's file.
+ghost use Rattle.pigyelund_routes.specs.VrpFiles.{AreFileVrpsReturned};
+
+use crate::status;
+use pigyelund_routes::file::file_vrps;
+use pigyelund_routes::file_fault::{file_fault_line, file_fault_status};
+use pigyelund_routes::route::RawVrp;
+use pigyelund_routes::write::write_items;
+use rpki_resources::OrMemory;
+use std::alloc::Global;
+
+/// Lists the VRPs of a validator's file, in the order of the file. A VRP that the file repeats is listed again.
+///
+/// `file` has the octets of the whole file. It is JSON or CSV, as `roa_vrps::read_vrps` reads it. `len` receives the
+/// length, written or required, in VRPs. `line` receives the number of the first invalid line, or of the first invalid
+/// item of `roas`. It is counted from 1, and is 0 otherwise.
+///
+/// Returns the first status that applies:
+///
+/// - `PIGY_BAD_FILE` + n: the file as a whole, n from 1 to 5.
+/// - `PIGY_BAD_LINE` + n: the first invalid line of CSV. `PIGY_BAD_ITEM` + n: the first invalid item of `roas` in JSON.
+/// - `PIGY_BAD_FILE` + 6: the file has no VRP.
+/// - `PIGY_TOO_SMALL`, then `PIGY_OK`.
+///
+/// The call can return `PIGY_MEMORY` instead of any other status. `len` is 0 for an error other than `PIGY_TOO_SMALL`.
+/// For any error `out` is unchanged.
+#[unsafe(no_mangle)]
+pub extern "C" fn pigy_vrps_read(
+    alloc: Global,
+    file: &[u8],
+    out: &mut [RawVrp],
+    len: &mut usize,
+    line: &mut usize,
+) -> u32
+    ensures { AreFileVrpsReturned file.now out.old out.new len.new line.new result }
+{
+    *len = 0;
+    *line = 0;
+    match file_vrps(alloc, file) {
+        Ok(list) => write_items(list.as_slice(), out, len),
+        Err(OrMemory::Refused(fault)) => {
+            *line = file_fault_line(fault);
+            file_fault_status(fault)
+        }
+        Err(OrMemory::Memory(_)) => status::MEMORY,
+    }
+}

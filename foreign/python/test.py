@@ -24,6 +24,7 @@ from pigyelund import (
     Extensions,
     Family,
     InheritedError,
+    Kind,
     Mismatch,
     Mode,
     Operation,
@@ -38,6 +39,7 @@ from pigyelund import (
     Table,
     Validity,
     Vrp,
+    VrpFileError,
     __version__,
     raw,
     status_text,
@@ -238,6 +240,21 @@ def is_of_table(library: Pigyelund, row: Row) -> bool:
     return row.is_answer(lambda: call(vrps)) and row.is_answer(lambda: call(buffer_of(vrps)))
 
 
+def are_differences(library: Pigyelund, row: Row) -> bool:
+    """Returns whether the row of two tables has its expected result, with lists and with buffers."""
+    octet = Route._fields_[0][1]
+    routes = [Route(octet(*address), asn, *others) for address, asn, others in parts(row.second.asn, 22)]
+
+    def differ(given: list[Route] | bytes) -> Resources:
+        with library.table(vrps_of(row.first.asn)) as old, library.table(vrps_of(row.first.ip)) as new:
+            found = old.changed_octets(new, given)
+            if [at for at, octet in enumerate(found) if octet] != old.changed_routes(new, given):
+                return Resources(b"other indices")
+            return Resources(found)
+
+    return row.is_answer(lambda: differ(routes)) and row.is_answer(lambda: differ(buffer_of(routes)))
+
+
 def is_line(library: Pigyelund, row: Row) -> bool:
     """Returns whether the row of a line has its expected result."""
     line = row.first.asn
@@ -264,8 +281,67 @@ def is_of_sets(library: Pigyelund, row: Row) -> bool:
     return is_so and row.is_answer(lambda: getattr(library, row.call)(first, second, Encoding(encoding)))
 
 
+def is_read(library: Pigyelund, row: Row) -> bool:
+    """Returns whether the row of a VRP file has its expected result, with ample buffers, exact ones and none."""
+    file, expected = row.first.asn, vrps_of(row.expected.asn)
+    count = len(expected)
+    for capacity in (count + 3, count, 0):
+        status, vrps, length, line = library.raw.vrps_read(file, capacity)
+        fits = count <= capacity
+        if (status, length, line) != (row.status if fits else Status.TOO_SMALL, count, row.number):
+            return False
+        if vrps != (expected if fits else []) + [Vrp()] * (capacity - count if fits else capacity):
+            return False
+    try:
+        return library.read_vrps(file) == expected and row.status == Status.OK
+    except VrpFileError as reason:
+        return (reason.status, reason.line, reason.index) == (row.status, row.number, None)
+
+
+def is_text(library: Pigyelund, row: Row) -> bool:
+    """Returns whether the row of the text of a set has its expected result."""
+    (kind,), text = row.numbers, row.first.asn
+    if not row.is_result(lambda capacities: library.raw.set_from_text(kind, text, capacities)):
+        return False
+    try:
+        lists = {(Kind(kind).name.lower()): text.decode("utf-8")}
+    except ValueError:
+        return True
+    return row.is_answer(lambda: library.from_text(**lists))
+
+
+def are_ranges(library: Pigyelund, row: Row) -> bool:
+    """Returns whether the row of ranges has its expected result, with ample buffers, exact ones and none."""
+    (encoding, *family), octets = row.numbers, row.first.asn
+    size = 32 if family else 8
+    expected = [row.expected.asn[at : at + size] for at in range(0, len(row.expected.asn), size)]
+    count = len(expected)
+    for capacity in (count + 3, count, 0):
+        if family:
+            status, found, length = library.raw.ip_ranges(octets, encoding, family[0], capacity)
+            listed = [bytes(it) for it in found[:count]]
+        else:
+            status, ranges, length = library.raw.as_ranges(octets, encoding, capacity)
+            listed = [it.min.to_bytes(4, "big") + it.max.to_bytes(4, "big") for it in ranges[:count]]
+        fits = count <= capacity
+        if (status, length) != (row.status if fits else Status.TOO_SMALL, count) or (fits and listed != expected):
+            return False
+    if encoding > 1 or family and family[0] not in (1, 2):
+        return True
+
+    def by_package() -> Resources:
+        if not family:
+            pairs = library.as_ranges(Resources(asn=octets), Encoding(encoding))
+            return Resources(b"".join(end.to_bytes(4, "big") for pair in pairs for end in pair))
+        found = library.ip_ranges(Resources(ip=octets), Family(family[0]), Encoding(encoding))
+        return Resources(b"".join(end.packed.ljust(16, b"\0") for pair in found for end in pair))
+
+    return row.is_answer(by_package)
+
+
 ASKED = {"verify": is_verified, "path": is_verified_path, "cover": is_cover, "origins": are_origins, "answer": is_line}
 ASKED |= {call: is_of_table for call in ("covering", "vrps", "changed")}
+ASKED |= {"differ": are_differences, "read": is_read, "text": is_text, "as_ranges": are_ranges, "ip_ranges": are_ranges}
 
 
 # ---- tests without rows: each yields a text for each fault
@@ -276,7 +352,7 @@ def names_and_numbers(library: Pigyelund, folder: Path) -> Iterator[str]:
     table = re.findall(r"^NUMBER\((\w+), (\d+)\)$", (folder / "numbers.txt").read_text(), re.MULTILINE)
     stored = {name: int(number) for name, number in table}
     named = {it.name: it.value for it in chain(Status, Encoding, Mode, Present, Validity, Mismatch)}
-    named |= {f"IP{it.name}": it.value for it in Family}
+    named |= {f"IP{it.name}": it.value for it in Family} | {"ASN": Kind.ASN.value}
     named["VERSION"] = library.version()
     if raw.VERSION != library.version():
         yield f"the package wants version {raw.VERSION} of the calls, and the library has {library.version()}"
@@ -425,6 +501,16 @@ def reasons(library: Pigyelund, _: Path) -> Iterator[str]:
     for status in range(0x1300):
         if not is_kept(error_for_status(status, Resources(b"\1", b"\2"), 7)):
             yield f"status {status} doesn't pickle"
+    for file, line, text in (
+        (b"AS1,10.0.0.0/8,8\nAS1,10.0.0.1/8,8\n", 2, "at line 2: line of VRPs: bad prefix"),
+        (b'{"roas": [{"prefix": "10.0.0.0/8", "maxLength": 8}]}', 1, "at item 1: item of roas: asn is missing"),
+        (b"", 0, "file of VRPs: no VRP"),
+    ):
+        try:
+            yield f"{library.read_vrps(file)} in place of {text}"
+        except VrpFileError as reason:
+            if (reason.line, str(reason)) != (line, text) or not is_kept(reason):
+                yield f"{reason!r} in place of {text}"
     no_memory = error_for_status(Status.MEMORY, index=0)
     if not isinstance(no_memory, OutOfMemoryError) or str(no_memory) != "out of memory":
         yield "want of memory"
@@ -462,6 +548,11 @@ def tables(library: Pigyelund, _: Path) -> Iterator[str]:
         pass
     if library.raw.table_origins(None, (Route * 1)(), 1, 1).status != Status.NO_TABLE:
         yield "null is a table"
+    with library.table(vrps) as one:
+        try:
+            yield f"a closed table answers {one.changed_routes(table, [])}"
+        except ValueError:
+            pass
     library.raw.table_free(None)
 
 

@@ -5,7 +5,7 @@ validate route origins (RFC 6811). It calls the proved shared library through ct
 proved. `docs/FOREIGN.md` in the repository is the guide: installation, programs, arguments, errors, threads.
 
 Route origins: `Pigyelund.origins` validates routes against VRPs (validated ROA payloads), and `Pigyelund.table` keeps
-the VRPs in a `Table` for many calls.
+the VRPs in a `Table` for many calls. `Pigyelund.read_vrps` reads the VRPs of a validator's file.
 
     >>> from ipaddress import ip_network
     >>> from pigyelund import Pigyelund, Route, Vrp
@@ -17,8 +17,8 @@ the VRPs in a `Table` for many calls.
 Resource sets: the calls take and return the DER of two certificate extensions.
 
     >>> from pigyelund import Family, Resources
-    >>> ten = Resources(ip=bytes.fromhex(library.answer("der v4 10.0.0.0/8")))
-    >>> both = Resources(ip=bytes.fromhex(library.answer("der v4 10.0.0.0/8, 12.0.0.0/8")))
+    >>> ten = library.from_text(v4="10.0.0.0/8")
+    >>> both = library.from_text(v4="10.0.0.0/8, 12.0.0.0/8")
     >>> library.cover(library.difference(both, ten).ip, Family.V4)
     [IPv4Network('12.0.0.0/8')]
 
@@ -37,7 +37,7 @@ statuses and buffers of `pigyelund.h`.
 import os
 from collections.abc import Callable, Iterable
 from enum import IntEnum
-from ipaddress import IPv4Network, IPv6Network
+from ipaddress import IPv4Address, IPv4Network, IPv6Address, IPv6Network
 from typing import NamedTuple
 
 from . import raw
@@ -52,6 +52,8 @@ from .errors import (
     OverclaimedError,
     PigyelundError,
     Resources,
+    SetTextError,
+    VrpFileError,
     error_for_status,
     status_text,
 )
@@ -60,6 +62,7 @@ from .raw import (
     CallResult,
     Comparison,
     Family,
+    Kind,
     Lengths,
     Mismatch,
     Network,
@@ -83,6 +86,7 @@ __all__ = [
     "Extensions",
     "Family",
     "InheritedError",
+    "Kind",
     "Mismatch",
     "Mode",
     "NoExtensionError",
@@ -94,10 +98,12 @@ __all__ = [
     "PigyelundError",
     "Resources",
     "Route",
+    "SetTextError",
     "Status",
     "Table",
     "Validity",
     "Vrp",
+    "VrpFileError",
     "raw",
     "status_text",
 ]
@@ -343,12 +349,91 @@ class Pigyelund:
         for prefix in prefixes:
             network = raw.network_of(prefix)
             texts[raw.family_of(network)].append(str(network))
+        return self.from_text(v4=", ".join(texts[Family.V4]), v6=", ".join(texts[Family.V6]))
+
+    def from_text(self, asn: str = "", v4: str = "", v6: str = "") -> Resources:
+        """Returns the set of some lists of AS numbers and of addresses.
+
+            >>> library.asns(library.from_text(asn="AS64496, 64498-AS64499"))
+            [64496, 64498, 64499]
+
+        Commas separate the elements of a list. They may be in any order and may overlap.
+
+        Args:
+            asn: AS numbers and ranges of these: `AS64496`, `64496`, `AS64496-AS64511`.
+            v4: IPv4 addresses, prefixes and ranges: `10.0.0.1`, `10.0.0.0/8`, `10.0.0.1-10.0.0.9`. The bits of an
+                address after the length of its prefix are ignored.
+            v6: The same for IPv6.
+
+        Raises:
+            SetTextError: An element of a list is invalid.
+            UnicodeEncodeError: A list has a surrogate, which UTF-8 cannot encode.
+        """
         found = Resources()
-        for family, listed in texts.items():
-            if listed:
-                answer = self.answer(f"der {family.name.lower()} {', '.join(listed)}")
-                found = self.union(found, Resources(ip=bytes.fromhex(answer)))
+        for kind, text in ((Kind.ASN, asn), (Kind.V4, v4), (Kind.V6, v6)):
+            if text:
+                found = self.union(found, self._set_of(kind, text.encode("utf-8")))
         return found
+
+    def _set_of(self, kind: Kind, text: bytes) -> Resources:
+        """Returns the set of a list of one kind."""
+        return with_buffers(lambda capacities: self.raw.set_from_text(kind, text, capacities))
+
+    def as_ranges(self, resources: Resources, encoding: Encoding = Encoding.LENIENT) -> list[tuple[int, int]]:
+        """Returns the ranges of the AS numbers of a set, ascending: the least and the greatest number of each.
+
+        The ranges neither overlap nor touch, so these are the fewest.
+
+        Args:
+            resources: The set. Its IP address blocks are not read.
+            encoding: The encodings that are accepted.
+
+        Raises:
+            DerError: The AS identifiers are invalid.
+            InheritedError: The AS identifiers have `inherit`.
+        """
+        asn = resources.asn
+        status, found, length = self.raw.as_ranges(asn, encoding, len(asn) // 3)
+        if status == Status.TOO_SMALL:
+            status, found, length = self.raw.as_ranges(asn, encoding, length)
+        if status != Status.OK:
+            raise error_for_status(status)
+        return [(it.min, it.max) for it in found[:length]]
+
+    def asns(self, resources: Resources, encoding: Encoding = Encoding.LENIENT) -> list[int]:
+        """Returns the AS numbers of a set, ascending. Use `as_ranges` if the set can have many.
+
+        Raises:
+            DerError, InheritedError: As in `as_ranges`.
+        """
+        return [asn for low, high in self.as_ranges(resources, encoding) for asn in range(low, high + 1)]
+
+    def ip_ranges(
+        self, resources: Resources, family: Family, encoding: Encoding = Encoding.LENIENT
+    ) -> list[tuple[IPv4Address, IPv4Address]] | list[tuple[IPv6Address, IPv6Address]]:
+        """Returns the ranges of the addresses of one family of a set, ascending: the first and the last address of each.
+
+        The ranges neither overlap nor touch, so these are the fewest. `prefixes` returns prefixes.
+
+        Args:
+            resources: The set. Its AS identifiers are not read.
+            family: The family.
+            encoding: The encodings that are accepted.
+
+        Raises:
+            DerError: The IP address blocks are invalid.
+            InheritedError: The IP address blocks have `inherit` for IPv4 or IPv6, even if `family` is the other one.
+        """
+        ip = resources.ip
+        status, found, length = self.raw.ip_ranges(ip, encoding, family, len(ip) // 3)
+        if status == Status.TOO_SMALL:
+            status, found, length = self.raw.ip_ranges(ip, encoding, family, length)
+        if status != Status.OK:
+            raise error_for_status(status)
+        pairs = [(bytes(it.min), bytes(it.max)) for it in found[:length]]
+        if family == Family.V4:
+            return [(IPv4Address(low[:4]), IPv4Address(high[:4])) for low, high in pairs]
+        return [(IPv6Address(low), IPv6Address(high)) for low, high in pairs]
 
     def origins(self, vrps: Iterable[Vrp], routes: Iterable[Route]) -> list[Validity]:
         """Validates routes against VRPs (RFC 6811, 2).
@@ -376,6 +461,33 @@ class Pigyelund:
             item = raw.item_at(asked, len(asked), at) if is_route else raw.item_at(listed, len(listed), at)
             raise error_for_status(result.status, index=at, item=item)
         return [Validity(octet) for octet in result.contents[0]]
+
+    def read_vrps(self, file: bytes) -> list[Vrp]:
+        """Reads the VRPs of a validator's file, as rpki-client, FORT and Routinator write it.
+
+            >>> library.read_vrps(b"ASN,IP Prefix,Max Length\\nAS64496,10.0.0.0/8,16\\n")
+            [Vrp.of(prefix=IPv4Network('10.0.0.0/8'), asn=64496, max_len=16)]
+
+        A file whose first character that is not white space is `{` is JSON, with the VRPs in the array `roas`. Any other
+        file is CSV. `pigy_vrps_read` in `pigyelund.h` says what is valid. No line and no item is skipped: one that is
+        invalid makes the whole file invalid.
+
+        Args:
+            file: The octets of the whole file.
+
+        Returns:
+            The VRPs in the order of the file. A VRP that the file repeats is repeated in the list.
+
+        Raises:
+            VrpFileError: The file is invalid. The attribute `line` is the number, from 1, of the first invalid line or
+                item, or 0 if the file is invalid as a whole.
+        """
+        result = self.raw.vrps_read(file, len(file) // 24)
+        if result.status == Status.TOO_SMALL:
+            result = self.raw.vrps_read(file, result.length)
+        if result.status != Status.OK:
+            raise error_for_status(result.status, line=result.line)
+        return result.vrps[: result.length]
 
     def table(self, vrps: Vrps) -> Table:
         """Builds a table of VRPs. Use it in a `with`, or call `close`.

@@ -37,6 +37,7 @@ TEXTS: dict[int, str] = {
     Status.NO_TABLE: "no table",
     Status.UNKNOWN_WITHDRAWAL: "withdrawal of an unknown VRP",
     Status.DUPLICATE_ANNOUNCEMENT: "duplicate announcement of a VRP",
+    Status.BAD_KIND: "unknown kind of text",
     Status.SECOND + Status.INHERITED: "inherited resources in place of the second set",
     Status.SECOND + Status.BAD_FAMILY: "unknown family of a route or of a withdrawn VRP",
     Status.SECOND + Status.BAD_PREFIX: "bad prefix of a route or of a withdrawn VRP",
@@ -58,6 +59,48 @@ FAULTS = (
     "no family",
     "not canonical",
 )
+
+
+VRP_FAULTS = (
+    "not UTF-8",
+    "too many fields",
+    "too few fields",
+    "bad AS number",
+    "bad prefix",
+    "maximum length is no number from 0 to 255",
+    "bad maximum length of the prefix",
+)
+MEMBER_FAULTS = tuple(
+    f"{member} {fault}"
+    for member in ("asn", "prefix", "maxLength")
+    for fault in ("is missing", "is repeated", "has a wrong kind of value")
+)
+FILE_FAULTS = (
+    "a JSON array in place of an object",
+    "not a JSON object",
+    "roas is missing",
+    "roas is repeated",
+    "roas has a wrong kind of value",
+    "no VRP",
+)
+TEXT_FAULTS = (
+    "not UTF-8",
+    "bad AS number",
+    "bad range of AS numbers",
+    "bad address",
+    "bad prefix length",
+    "address of the other family",
+    "reversed range",
+)
+# The texts of the statuses of a VRP file, and of the text of a set.
+TEXTS |= {Status.BAD_TEXT + number: f"text of a set: {fault}" for number, fault in enumerate(TEXT_FAULTS, 1)}
+TEXTS |= {Status.BAD_LINE + number: f"line of VRPs: {fault}" for number, fault in enumerate(VRP_FAULTS, 1)}
+TEXTS |= {
+    Status.BAD_ITEM + number: f"item of roas: {fault}"
+    for number, fault in enumerate(VRP_FAULTS + MEMBER_FAULTS, 1)
+    if number > 3
+}
+TEXTS |= {Status.BAD_FILE + number: f"file of VRPs: {fault}" for number, fault in enumerate(FILE_FAULTS, 1)}
 
 
 def status_text(status: int) -> str:
@@ -86,6 +129,7 @@ class PigyelundError(Exception):
             `OutOfMemoryError`. For any other call it is None.
         index: For calls with VRPs or routes the index, from 0, of the refused one. For any other call, and in an
             `OutOfMemoryError`, it is None.
+        line: In a `VrpFileError` the number of the invalid line or item. In any other error it is None.
         item: In an `OriginError` a copy of the refused `Vrp` or `Route`. In any other error it is None.
     """
 
@@ -96,18 +140,23 @@ class PigyelundError(Exception):
         verified: int | None = None,
         index: int | None = None,
         item: Vrp | Route | None = None,
+        line: int | None = None,
     ) -> None:
-        super().__init__(status, excess, verified, index, item)
+        super().__init__(status, excess, verified, index, item, line)
         self.status = status
         self.excess = excess
         self.verified = verified
         self.index = index
         self.item = item
+        self.line = line
 
     def __str__(self) -> str:
         text = status_text(self.status)
         if self.verified is not None:
             return f"after {self.verified} certificates: {text}"
+        if self.line:
+            is_line = self.status < Status.BAD_ITEM
+            return f"at {'line' if is_line else 'item'} {self.line}: {text}"
         if self.index is None:
             return text
         return f"at index {self.index}: {text}" if self.item is None else f"at index {self.index}: {text}: {self.item}"
@@ -172,6 +221,18 @@ class ChangeError(OriginError):
     """
 
 
+class VrpFileError(PigyelundError):
+    """A validator's file of VRPs is invalid.
+
+    The attribute `line` is the number, from 1, of the first invalid line of a CSV file, or of the first invalid item of
+    the array `roas` of a JSON file. It is 0 if the file is invalid as a whole, for example because it has no VRP.
+    """
+
+
+class SetTextError(PigyelundError):
+    """A text is not a list of AS numbers, or of addresses of one family. The text of the exception says why."""
+
+
 class BadNumberError(PigyelundError):
     """You passed a number as an `Encoding`, a `Mode` or a `Family`, and the number is no member of it.
 
@@ -190,6 +251,7 @@ ERROR_CLASSES: dict[int, type[PigyelundError]] = {
     Status.BAD_ENCODING: BadNumberError,
     Status.BAD_PRESENT: BadNumberError,
     Status.BAD_FAMILY: BadNumberError,
+    Status.BAD_KIND: BadNumberError,
     Status.OUTSIDE: BadNumberError,
 }
 
@@ -200,14 +262,20 @@ def error_for_status(
     verified: int | None = None,
     index: int | None = None,
     item: Vrp | Route | None = None,
+    line: int | None = None,
 ) -> PigyelundError:
     """Returns the exception for the status of a call that failed.
 
-    The `index` of an `OutOfMemoryError` is None. Only an `OriginError` has the `item`.
+    The `index` of an `OutOfMemoryError` is None. Only an `OriginError` has the `item`, and only a `VrpFileError` the
+    `line`.
     """
     kind = ERROR_CLASSES.get(status & ~Status.SECOND, PigyelundError)
     if status & ~Status.SECOND & 0xF00 in (Status.BAD_AS, Status.BAD_IP):
         kind = DerError
+    elif status & ~0xFF == Status.BAD_TEXT:
+        kind = SetTextError
+    elif status & ~0xFF in (Status.BAD_LINE, Status.BAD_ITEM, Status.BAD_FILE):
+        return VrpFileError(status, line=line or 0)
     elif index is not None and kind is not OutOfMemoryError:
         is_change = status in (Status.UNKNOWN_WITHDRAWAL, Status.DUPLICATE_ANNOUNCEMENT)
         kind = ChangeError if is_change else OriginError

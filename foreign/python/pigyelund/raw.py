@@ -31,7 +31,7 @@ if TYPE_CHECKING:
 NAME = "libpigyelund.so"
 SONAME = "libpigyelund.so.1"  # the name that an installation for programs alone has
 BESIDE = Path(__file__).parent / NAME
-VERSION = 4  # the version of the calls below; a library of a later version has them too
+VERSION = 5  # the version of the calls below; a library of a later version has them too
 HOW_TO_GET = (
     "to get the library, install the Debian package libpigyelund1; or build it by 'rt lib' in crates/pigyelund_c, "
     "install it by 'make -C foreign/c install PREFIX=..', and set PIGYELUND_LIB to PREFIX/lib"
@@ -66,8 +66,13 @@ class Status(IntEnum):
         UNKNOWN_WITHDRAWAL: A withdrawn VRP is not in the table, or is withdrawn twice (RFC 8210, 12, code 6).
         DUPLICATE_ANNOUNCEMENT: An announced VRP is in the table and is not withdrawn, or is announced twice (RFC 8210,
             12, code 7).
+        BAD_KIND: The kind of a text is no `Kind`.
         BAD_AS: The AS identifiers are invalid. The number of the first error is added: 1 to 14, as in `docs/ERRORS.md`.
         BAD_IP: The IP address blocks are invalid. The number of the first error is added, as to BAD_AS.
+        BAD_LINE: A line of a VRP file in CSV is invalid. The number of its first error is added: 1 to 7.
+        BAD_ITEM: An item of a VRP file in JSON is invalid. The number of its first error is added: 4 to 16.
+        BAD_FILE: A VRP file is invalid as a whole. The number of the error is added: 1 to 6.
+        BAD_TEXT: The text of a set is invalid. The number of the first error is added: 1 to 7.
         SECOND: Added to BAD_AS, BAD_IP, INHERITED, BAD_FAMILY, BAD_PREFIX or BAD_MAX_LEN if the error is in the
             certificate, the second set, a route, or a withdrawn VRP. It is added to no other status.
     """
@@ -91,9 +96,14 @@ class Status(IntEnum):
     NO_TABLE = 16
     UNKNOWN_WITHDRAWAL = 17
     DUPLICATE_ANNOUNCEMENT = 18
+    BAD_KIND = 19
     BAD_AS = 0x100
     BAD_IP = 0x200
+    BAD_LINE = 0x400
+    BAD_ITEM = 0x800
+    BAD_FILE = 0xC00
     SECOND = 0x1000
+    BAD_TEXT = 0x2000
 
 
 class Mismatch(IntFlag):
@@ -132,6 +142,20 @@ class Family(IntEnum):
         V6: IPv6.
     """
 
+    V4 = 1
+    V6 = 2
+
+
+class Kind(IntEnum):
+    """The kind of the elements of a text.
+
+    Attributes:
+        ASN: AS numbers.
+        V4: IPv4 addresses.
+        V6: IPv6 addresses.
+    """
+
+    ASN = 0
     V4 = 1
     V6 = 2
 
@@ -259,6 +283,22 @@ class Certificate(Struct):
             present: SupportsIndex = 0,
             mode: SupportsIndex = 0,
         ) -> None: ...
+
+
+class AsRange(ctypes.Structure):
+    """A range of AS numbers: the struct `pigy_as_range` of `pigyelund.h`."""
+
+    _fields_ = [("min", ctypes.c_uint32), ("max", ctypes.c_uint32)]
+    min: int
+    max: int
+
+
+class IpRange(ctypes.Structure):
+    """A range of addresses: the struct `pigy_ip_range` of `pigyelund.h`. An IPv4 address is the first four octets."""
+
+    _fields_ = [("min", ctypes.c_uint8 * 16), ("max", ctypes.c_uint8 * 16)]
+    min: ctypes.Array[ctypes.c_uint8]
+    max: ctypes.Array[ctypes.c_uint8]
 
 
 class Prefixed:
@@ -510,6 +550,22 @@ class TableResult(NamedTuple):
     index: int  # type: ignore[assignment]  # the name is also that of a method of tuples
 
 
+class FileResult(NamedTuple):
+    """The result of a call that reads a VRP file.
+
+    Attributes:
+        status: A `Status`, or a sum as `Status` describes it.
+        vrps: The content of the buffer.
+        length: The number of VRPs that the call reports.
+        line: The number of the invalid line or item, from 1, or 0.
+    """
+
+    status: int
+    vrps: list[Vrp]
+    length: int
+    line: int
+
+
 Vrps: TypeAlias = "Iterable[Vrp] | ReadableBuffer"
 Routes: TypeAlias = "Iterable[Route] | ReadableBuffer"
 Item = TypeVar("Item", bound=Struct)
@@ -700,6 +756,10 @@ class Library:
                 ctypes.POINTER(Vrp), size, ctypes.POINTER(Route), size, *buffer, ctypes.POINTER(size)
             ],
             "pigy_answer": [*octets[:2], *buffer],
+            "pigy_set_from_text": [number, *octets[:2], *buffers],
+            "pigy_as_ranges": [*octets[:2], number, *buffer],
+            "pigy_ip_ranges": [*octets[:2], number, number, *buffer],
+            "pigy_vrps_read": [*octets[:2], *buffer, ctypes.POINTER(size)],
         }
         table, index = ctypes.c_void_p, ctypes.POINTER(size)
         vrps, handle_pointer = [ctypes.c_void_p, size], ctypes.POINTER(ctypes.c_void_p)
@@ -707,6 +767,7 @@ class Library:
             "pigy_table_new": [*vrps, handle_pointer, index],
             "pigy_table_changed": [table, *vrps, *vrps, handle_pointer, index],
             "pigy_table_origins": [table, ctypes.c_void_p, size, *buffer, index],
+            "pigy_table_routes_changed": [table, table, ctypes.c_void_p, size, *buffer, index],
             "pigy_table_covering": [table, ctypes.POINTER(Route), *buffer],
             "pigy_table_len": [table, index],
             "pigy_table_vrps": [table, *buffer],
@@ -832,6 +893,47 @@ class Library:
         """
         return self._call_with_buffer("pigy_cover", [ip, len(ip), encoding, family], capacity)
 
+    def set_from_text(self, kind: int, text: bytes, capacities: Lengths) -> CallResult:
+        """Calls `pigy_set_from_text`: makes the set of a list of AS numbers or of addresses.
+
+        Args:
+            kind: A `Kind`.
+            text: The list in UTF-8.
+            capacities: The capacities of the buffers in octets.
+        """
+        return self._call_with_buffers("pigy_set_from_text", [kind, text, len(text)], capacities)
+
+    def as_ranges(self, asn: bytes, encoding: int, capacity: int) -> tuple[int, list[AsRange], int]:
+        """Calls `pigy_as_ranges`: writes the ranges of the AS numbers of a set.
+
+        Args:
+            asn: The AS identifiers of the set.
+            encoding: An `Encoding`.
+            capacity: The capacity of the buffer in ranges.
+
+        Returns:
+            The status, the content of the buffer, and the number of ranges that the call reports.
+        """
+        contents, length = (AsRange * max(capacity, 1))(), ctypes.c_size_t()
+        status = self._call("pigy_as_ranges", [asn, len(asn), encoding, contents, capacity, ctypes.byref(length)])
+        return status, contents[:capacity], length.value
+
+    def ip_ranges(self, ip: bytes, encoding: int, family: int, capacity: int) -> tuple[int, list[IpRange], int]:
+        """Calls `pigy_ip_ranges`: writes the ranges of the addresses of one family of a set.
+
+        Args:
+            ip: The IP address blocks of the set.
+            encoding: An `Encoding`.
+            family: A `Family`.
+            capacity: The capacity of the buffer in ranges.
+
+        Returns:
+            The status, the content of the buffer, and the number of ranges that the call reports.
+        """
+        contents, length = (IpRange * max(capacity, 1))(), ctypes.c_size_t()
+        arguments = [ip, len(ip), encoding, family, contents, capacity, ctypes.byref(length)]
+        return self._call("pigy_ip_ranges", arguments), contents[:capacity], length.value
+
     def origins(self, vrps: list[Vrp], routes: list[Route], capacity: int) -> CallResult:
         """Calls `pigy_origins`: writes the validity of each route by the VRPs, one octet each.
 
@@ -846,6 +948,18 @@ class Library:
         listed, asked = array_of_items(Vrp, vrps), array_of_items(Route, routes)
         arguments = [listed, len(vrps), asked, len(routes)]
         return self._call_with_buffer("pigy_origins", arguments, capacity, ctypes.c_size_t())
+
+    def vrps_read(self, file: bytes, capacity: int) -> FileResult:
+        """Calls `pigy_vrps_read`: writes the VRPs of a validator's file, in the order of the file.
+
+        Args:
+            file: The octets of the file.
+            capacity: The capacity of the buffer in VRPs.
+        """
+        contents, length, line = (Vrp * max(capacity, 1))(), ctypes.c_size_t(), ctypes.c_size_t()
+        arguments = [file, len(file), contents, capacity, ctypes.byref(length), ctypes.byref(line)]
+        status = self._call("pigy_vrps_read", arguments)
+        return FileResult(status, contents[:capacity], length.value, line.value)
 
     def table_new(self, vrps: object, count: int) -> TableResult:
         """Calls `pigy_table_new`: builds a table of VRPs.
@@ -895,6 +1009,24 @@ class Library:
             The result. Its `number` is the index of the refused route.
         """
         return self._call_with_buffer("pigy_table_origins", [table, routes, count], capacity, ctypes.c_size_t())
+
+    def table_routes_changed(
+        self, old: int | None, following: int | None, routes: object, count: int, capacity: int
+    ) -> CallResult:
+        """Calls `pigy_table_routes_changed`: writes 1 for each route whose validity differs between two tables, else 0.
+
+        Args:
+            old: The handle of one table, or None for null.
+            following: The handle of the other table, or None for null.
+            routes: An array of routes, as `array_of` returns it.
+            count: The number of routes.
+            capacity: The capacity of the buffer in octets.
+
+        Returns:
+            The result. Its `number` is the index of the refused route.
+        """
+        arguments = [old, following, routes, count]
+        return self._call_with_buffer("pigy_table_routes_changed", arguments, capacity, ctypes.c_size_t())
 
     def table_covering(self, table: int | None, route: Route, capacity: int) -> tuple[int, list[Covering], int]:
         """Calls `pigy_table_covering`: writes the VRPs of a table that cover a route.

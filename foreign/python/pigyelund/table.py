@@ -209,6 +209,50 @@ class Table:
             raise error_for_status(result.status, index=result.number, item=raw.item_at(asked, count, result.number))
         return result.contents[0]
 
+    def changed_routes(self, following: "Table", routes: Routes) -> list[int]:
+        """Returns the routes whose validity differs between this table and another one (RFC 6811, 4).
+
+            >>> with library.table([]) as old, library.table([Vrp.of(ip_network("10.0.0.0/8"), asn=64496)]) as new:
+            ...     old.changed_routes(new, [Route.of(ip_network("10.0.0.0/8"), asn=64496)])
+            [0]
+
+        Args:
+            following: The other table, for example one that `changed` made.
+            routes: The routes: an iterable of `Route`, or a buffer of C structs.
+
+        Returns:
+            The indices of these routes in `routes`, from 0, ascending.
+
+        Raises:
+            OriginError: A route is malformed. The attribute `index` is the index, from 0, of the first one.
+            TypeError: `routes` is neither an iterable nor a buffer, or an item of it is no `Route`.
+            ValueError: A table is closed, or the length of the buffer is no multiple of 24 octets.
+        """
+        return [at for at, octet in enumerate(self.changed_octets(following, routes)) if octet]
+
+    def changed_octets(self, following: "Table", routes: Routes) -> bytes:
+        """Compares validities like `changed_routes`, and returns one octet for each route. Use it for millions of routes.
+
+        Args:
+            following: The other table.
+            routes: The routes: a buffer of C structs, or an iterable of `Route`.
+
+        Returns:
+            One octet for each route: 1 if its validity differs, 0 if both tables give it the same validity.
+
+        Raises:
+            OriginError, TypeError, ValueError: As in `changed_routes`.
+        """
+        asked, count = raw.array_of(Route, routes)
+        result = self._with_handle(
+            lambda old: following._with_handle(
+                lambda new: self._library.table_routes_changed(old, new, asked, count, count)
+            )
+        )
+        if result.status != Status.OK:
+            raise error_for_status(result.status, index=result.number, item=raw.item_at(asked, count, result.number))
+        return result.contents[0]
+
     def origin(self, route: Route) -> Validity:
         """Validates one route (RFC 6811, 2).
 

@@ -8,9 +8,12 @@
 //! - [`verify`] computes the resources of a certificate. [`verify_path`] computes those of the last certificate of a
 //!   path.
 //! - [`union`], [`intersection`], [`difference`], [`contains`] and [`equal`] operate on two sets.
+//! - [`Resources::from_text`] and [`Resources::from_prefixes`] make a set. [`as_ranges`] and [`ip_ranges`] return the
+//!   ranges of a set.
 //! - [`cover`] returns the shortest list of prefixes that has exactly the addresses of one family of a set.
 //! - [`origins`] and [`Table`] validate routes against VRPs (validated ROA payloads, [`Vrp`]). The page of [`Table`]
 //!   has an example.
+//! - [`read_vrps`] reads the VRPs of a validator's file.
 //! - [`answer`] returns the answer of the program `respath` to a line.
 //!
 //! # Sets and extensions
@@ -34,6 +37,7 @@
 //! - [`ResourceError`] has the overclaimed resources.
 //! - [`PathError`] has a [`ResourceError`] and the number of verified certificates.
 //! - [`OriginError`] has the index of the refused VRP or route.
+//! - [`ReadError`] has the number of the invalid line or item of a VRP file.
 //!
 //! [`ValueError`] is the error of the checked constructors, and [`ParseError`] that of `FromStr`.
 //!
@@ -84,22 +88,27 @@ extern crate std;
 
 mod buffers;
 mod debug;
+mod file;
 mod prefix;
 pub mod raw;
 mod reason;
 mod table;
 #[cfg(test)]
 mod tests;
+mod text;
 mod vrp;
 
+pub use file::{FileFault, ReadError, VrpFault};
 pub use prefix::{ParseError, Prefix, ValueError};
 pub use raw::{version, version_string, Comparison, Octets, Operation, Route, Vrp};
 pub use reason::{Fault, OriginError, PathError, Reason, ResourceError, Side};
 pub use table::{Covering, Table};
+pub use text::TextFault;
 
-use alloc::string::String;
+use alloc::string::{String, ToString};
 use alloc::vec::Vec;
 use core::net::{IpAddr, Ipv4Addr, Ipv6Addr};
+use core::ops::RangeInclusive;
 
 use buffers::{der_capacity, with_buffers, with_items};
 use raw::{HAS_AS, HAS_IP, NO, OK};
@@ -164,6 +173,57 @@ pub struct Resources {
 }
 
 impl Resources {
+    /// Returns the set of three lists: AS numbers, IPv4 addresses and IPv6 addresses.
+    ///
+    /// Commas separate the elements of a list. They may be in any order and may overlap. An element is an AS number or
+    /// a range of these (`AS64496`, `64496`, `AS64496-AS64511`), or an address, a prefix or a range (`10.0.0.1`,
+    /// `10.0.0.0/8`, `10.0.0.1-10.0.0.9`). The bits of an address after the length of its prefix are ignored.
+    ///
+    /// # Errors
+    ///
+    /// [`Reason::BadText`] with the first error of the first invalid list. The call may return [`Reason::Memory`]
+    /// instead of any other result.
+    ///
+    /// # Example
+    ///
+    /// ```
+    /// use pigyelund::{as_ranges, Encoding, Resources};
+    ///
+    /// let set = Resources::from_text("AS64496, AS64498-AS64499", "10.0.0.0/8", "").unwrap();
+    /// let ranges = as_ranges(&set.asn, Encoding::Strict).unwrap();
+    /// assert_eq!(ranges, [64496..=64496, 64498..=64499]);
+    /// ```
+    pub fn from_text(asn: &str, v4: &str, v6: &str) -> Result<Resources, ResourceError> {
+        let mut set = Resources::default();
+        for (kind, text) in [(raw::ASN, asn), (raw::IPV4, v4), (raw::IPV6, v6)] {
+            if !text.is_empty() {
+                let more = set_of(kind, text)?;
+                set = union(set.octets(), more.octets(), Encoding::Strict)?;
+            }
+        }
+        Ok(set)
+    }
+
+    /// Returns the set of the addresses of some prefixes, in any order. They may overlap. The set has no AS numbers.
+    ///
+    /// # Errors
+    ///
+    /// [`Reason::BadText`] if the length of a prefix is above 32 (IPv4) or 128 (IPv6). The call may return
+    /// [`Reason::Memory`] instead of any other result.
+    pub fn from_prefixes(prefixes: &[Prefix]) -> Result<Resources, ResourceError> {
+        let [mut v4, mut v6] = [String::new(), String::new()];
+        for prefix in prefixes {
+            let list = if prefix.address.is_ipv4() {
+                &mut v4
+            } else {
+                &mut v6
+            };
+            list.push_str(&prefix.to_string());
+            list.push(',');
+        }
+        Resources::from_text("", &v4, &v6)
+    }
+
     /// Borrows the set. Pass the result to another call.
     pub fn octets(&self) -> Octets<'_> {
         Octets {
@@ -402,6 +462,71 @@ pub fn cover(ip: &[u8], encoding: Encoding, family: Family) -> Result<Vec<Prefix
     Ok(prefixes.collect())
 }
 
+/// Returns the set of a list of one kind.
+fn set_of(kind: u32, text: &str) -> Result<Resources, ResourceError> {
+    let capacity = der_capacity(text.len());
+    set_or_error(with_buffers(capacity, capacity, |asn, ip| {
+        raw::set_from_text(kind, text.as_bytes(), asn, ip)
+    }))
+}
+
+/// Returns the ranges of the AS numbers of a set.
+///
+/// The ranges ascend, and neither overlap nor touch. These are the fewest.
+///
+/// # Parameters
+///
+/// - `asn`: the AS identifiers of the set (RFC 3779, 3.2.3), or `&[]` for a set without AS numbers.
+/// - `encoding`: the encodings that are accepted.
+///
+/// # Errors
+///
+/// The first of these: [`Reason::BadAs`] or [`Reason::Inherited`], with [`Side::First`]. The call may return
+/// [`Reason::Memory`] instead of any other result.
+pub fn as_ranges(
+    asn: &[u8],
+    encoding: Encoding,
+) -> Result<Vec<RangeInclusive<u32>>, ResourceError> {
+    // A range has at least three octets of DER.
+    let (status, ranges) = with_items(asn.len() / 3, |out| {
+        raw::as_ranges(asn, encoding as u32, out)
+    });
+    if status != OK {
+        return Err(ResourceError::of_status(status));
+    }
+    Ok(ranges.iter().map(|it| it.min..=it.max).collect())
+}
+
+/// Returns the ranges of the addresses of one family of a set. [`cover`] returns the prefixes.
+///
+/// The ranges ascend, and neither overlap nor touch. These are the fewest.
+///
+/// # Parameters
+///
+/// - `ip`: the IP address blocks of the set (RFC 3779, 2.2.3), or `&[]` for a set without addresses.
+/// - `encoding`: the encodings that are accepted.
+/// - `family`: the family.
+///
+/// # Errors
+///
+/// Those of [`cover`].
+pub fn ip_ranges(
+    ip: &[u8],
+    encoding: Encoding,
+    family: Family,
+) -> Result<Vec<RangeInclusive<IpAddr>>, ResourceError> {
+    let (encoding, number) = (encoding as u32, family as u32);
+    let (status, ranges) = with_items(ip.len() / 3, |out| {
+        raw::ip_ranges(ip, encoding, number, out)
+    });
+    if status != OK {
+        return Err(ResourceError::of_status(status));
+    }
+    let width = if family == Family::V4 { 4 } else { 16 };
+    let bounds = |it: &raw::IpRange| address_of(&it.min[..width])..=address_of(&it.max[..width]);
+    Ok(ranges.iter().map(bounds).collect())
+}
+
 /// Returns the validity with this number.
 fn validity_of(octet: u8) -> Validity {
     match u32::from(octet) {
@@ -438,6 +563,47 @@ pub fn origins(vrps: &[Vrp], routes: &[Route]) -> Result<Vec<Validity>, OriginEr
         return Err(OriginError { reason, index });
     }
     Ok(octets.into_iter().map(validity_of).collect())
+}
+
+/// Reads the VRPs of a validator's file, as rpki-client, FORT and Routinator write it.
+///
+/// The VRPs are in the order of the file. A VRP that the file repeats is repeated in the result.
+///
+/// A file whose first character that is not white space is `{` is JSON, with the VRPs in the array `roas`. Any other
+/// file is CSV. `pigy_vrps_read` in `pigyelund.h` says what is valid. No line and no item is skipped: one that is
+/// invalid makes the whole file invalid.
+///
+/// # Errors
+///
+/// [`ReadError`] has the number of the first invalid line or item, and the reason:
+///
+/// - [`Reason::BadFile`]: the file is invalid as a whole.
+/// - [`Reason::BadLine`], [`Reason::BadItem`]: a line of CSV or an item of JSON is invalid.
+///
+/// The call may return [`Reason::Memory`] instead of any other result.
+///
+/// # Example
+///
+/// ```
+/// let vrps = pigyelund::read_vrps(b"ASN,IP Prefix,Max Length\nAS64496,10.0.0.0/8,16\n").unwrap();
+/// assert_eq!(vrps[0].to_string(), "10.0.0.0/8-16 AS64496");
+/// let refused = pigyelund::read_vrps(b"AS64496,10.0.0.1/8,16\n").unwrap_err();
+/// assert_eq!(refused.to_string(), "at line 1: line of VRPs: bad prefix");
+/// ```
+pub fn read_vrps(file: &[u8]) -> Result<Vec<Vrp>, ReadError> {
+    let mut line = 0;
+    // Nearly all lines have at least 24 octets, and all items have more.
+    let (status, mut vrps) = with_items(file.len() / 24, |out| {
+        let (status, count, at) = raw::vrps_read(file, out);
+        line = at;
+        (status, count)
+    });
+    if status != OK {
+        let reason = Reason::of_status(status);
+        return Err(ReadError { reason, line });
+    }
+    vrps.shrink_to_fit();
+    Ok(vrps)
 }
 
 /// Returns the answer of the program `respath` to a line.

@@ -66,10 +66,22 @@ pub const NO_TABLE: u32 = 16;
 pub const UNKNOWN_WITHDRAWAL: u32 = 17;
 /// An announced VRP is in the table and is not withdrawn, or is announced twice (RFC 8210, 12, code 7).
 pub const DUPLICATE_ANNOUNCEMENT: u32 = 18;
+/// The kind of a text is none of [`ASN`], [`IPV4`] and [`IPV6`].
+pub const BAD_KIND: u32 = 19;
 /// The AS identifiers are invalid. The number of the first error is added: 1 to 14, as in [`Fault`](crate::Fault).
 pub const BAD_AS: u32 = 0x100;
 /// The IP address blocks are invalid. The number of the first error is added: 1 to 14, as in [`Fault`](crate::Fault).
 pub const BAD_IP: u32 = 0x200;
+/// A line of a VRP file in CSV is invalid. The number of its first error is added: 1 to 7, as in
+/// [`VrpFault`](crate::VrpFault).
+pub const BAD_LINE: u32 = 0x400;
+/// An item of a VRP file in JSON is invalid. The number of its first error is added: 4 to 16, as in
+/// [`VrpFault`](crate::VrpFault).
+pub const BAD_ITEM: u32 = 0x800;
+/// A VRP file is invalid as a whole. The number of the error is added: 1 to 6, as in [`FileFault`](crate::FileFault).
+pub const BAD_FILE: u32 = 0xc00;
+/// The text of a set is invalid. The number of the first error is added: 1 to 7, as in [`TextFault`](crate::TextFault).
+pub const BAD_TEXT: u32 = 0x2000;
 /// Added to another status if the error is in the certificate, the second set, a route, or a withdrawn VRP. It is added
 /// to [`BAD_AS`], [`BAD_IP`], [`INHERITED`], [`BAD_FAMILY`], [`BAD_PREFIX`] and [`BAD_MAX_LEN`] only.
 pub const SECOND: u32 = 0x1000;
@@ -88,6 +100,8 @@ pub const HAS_AS: u32 = 1;
 pub const HAS_IP: u32 = 2;
 /// The certificate has both extensions.
 pub const HAS_BOTH: u32 = 3;
+/// Kind of a text: AS numbers. The other kinds are [`IPV4`] and [`IPV6`].
+pub const ASN: u32 = 0;
 /// Family: IPv4, as IP address blocks number it (RFC 3779, 2.2.3.3).
 pub const IPV4: u32 = 1;
 /// Family: IPv6, as IP address blocks number it (RFC 3779, 2.2.3.3).
@@ -231,6 +245,34 @@ extern "C" {
         capacity: usize,
         len: *mut usize,
     ) -> u32;
+    fn pigy_set_from_text(
+        kind: u32,
+        text: *const u8,
+        text_len: usize,
+        as_out: *mut u8,
+        as_capacity: usize,
+        ip_out: *mut u8,
+        ip_capacity: usize,
+        as_len: *mut usize,
+        ip_len: *mut usize,
+    ) -> u32;
+    fn pigy_as_ranges(
+        asn: *const u8,
+        as_len: usize,
+        encoding: u32,
+        out: *mut AsRange,
+        capacity: usize,
+        len: *mut usize,
+    ) -> u32;
+    fn pigy_ip_ranges(
+        ip: *const u8,
+        ip_len: usize,
+        encoding: u32,
+        family: u32,
+        out: *mut IpRange,
+        capacity: usize,
+        len: *mut usize,
+    ) -> u32;
     fn pigy_origins(
         vrps: *const Vrp,
         vrp_count: usize,
@@ -265,6 +307,16 @@ extern "C" {
         len: *mut usize,
         index: *mut usize,
     ) -> u32;
+    fn pigy_table_routes_changed(
+        old: *const Handle,
+        next: *const Handle,
+        routes: *const Route,
+        count: usize,
+        out: *mut u8,
+        capacity: usize,
+        len: *mut usize,
+        index: *mut usize,
+    ) -> u32;
     fn pigy_table_covering(
         table: *const Handle,
         route: *const Route,
@@ -280,6 +332,14 @@ extern "C" {
         len: *mut usize,
     ) -> u32;
     fn pigy_table_free(table: *mut Handle);
+    fn pigy_vrps_read(
+        file: *const u8,
+        file_len: usize,
+        vrps: *mut Vrp,
+        capacity: usize,
+        count: *mut usize,
+        line: *mut usize,
+    ) -> u32;
     fn pigy_answer(
         line: *const u8,
         line_len: usize,
@@ -318,6 +378,28 @@ pub struct Certificate {
     pub present: u32,
     /// The policy for overclaimed resources: [`REFUSE`] or [`TRIM`].
     pub mode: u32,
+}
+
+/// A range of AS numbers: the struct `pigy_as_range` of `pigyelund.h`.
+#[repr(C)]
+#[derive(Clone, Copy, Debug, Default, PartialEq, Eq, Hash)]
+pub struct AsRange {
+    /// The least number.
+    pub min: u32,
+    /// The greatest number.
+    pub max: u32,
+}
+
+/// A range of addresses of one family: the struct `pigy_ip_range` of `pigyelund.h`.
+///
+/// Addresses are in network byte order. An IPv4 address is the first four octets, and the others are 0.
+#[repr(C)]
+#[derive(Clone, Copy, Debug, Default, PartialEq, Eq, Hash)]
+pub struct IpRange {
+    /// The lowest address.
+    pub min: [u8; 16],
+    /// The highest address.
+    pub max: [u8; 16],
 }
 
 /// A VRP (validated ROA payload, RFC 6811, 2): the struct `pigy_vrp` of `pigyelund.h`.
@@ -494,6 +576,33 @@ impl Table {
         let status = unsafe {
             pigy_table_origins(
                 self.0,
+                routes.as_ptr(),
+                routes.len(),
+                out.as_mut_ptr(),
+                out.len(),
+                &mut len,
+                &mut index,
+            )
+        };
+        (status, len, index)
+    }
+
+    /// Calls `pigy_table_routes_changed`: writes 1 to `out` for each route whose validity differs between this table
+    /// and `next`, and 0 for each other route.
+    ///
+    /// Returns the status, the output length in octets, and an index, as [`Table::origins`] does.
+    pub fn routes_changed(
+        &self,
+        next: &Table,
+        routes: &[Route],
+        out: &mut [u8],
+    ) -> (u32, usize, usize) {
+        let (mut len, mut index) = (0, 0);
+        // SAFETY: as in `origins`; both tables are borrowed for the call.
+        let status = unsafe {
+            pigy_table_routes_changed(
+                self.0,
+                next.0,
                 routes.as_ptr(),
                 routes.len(),
                 out.as_mut_ptr(),
@@ -720,6 +829,86 @@ pub fn cover(ip: &[u8], encoding: u32, family: u32, out: &mut [u8]) -> (u32, usi
     (status, len)
 }
 
+/// Calls `pigy_set_from_text`: makes the set of a list of AS numbers or of addresses.
+///
+/// Returns the status, and the output lengths of AS identifiers and of IP address blocks, in octets.
+///
+/// # Parameters
+///
+/// - `kind`: [`ASN`], [`IPV4`] or [`IPV6`].
+/// - `text`: the list, in UTF-8.
+/// - `asn`, `ip`: the output buffers.
+pub fn set_from_text(kind: u32, text: &[u8], asn: &mut [u8], ip: &mut [u8]) -> (u32, usize, usize) {
+    let (mut as_len, mut ip_len) = (0, 0);
+    // SAFETY: as in `verify`.
+    let status = unsafe {
+        pigy_set_from_text(
+            kind,
+            text.as_ptr(),
+            text.len(),
+            asn.as_mut_ptr(),
+            asn.len(),
+            ip.as_mut_ptr(),
+            ip.len(),
+            &mut as_len,
+            &mut ip_len,
+        )
+    };
+    (status, as_len, ip_len)
+}
+
+/// Calls `pigy_as_ranges`: writes the ranges of the AS numbers of a set to `out`.
+///
+/// Returns the status, and the output length in ranges.
+///
+/// # Parameters
+///
+/// - `asn`: the AS identifiers of the set (RFC 3779, 3.2.3).
+/// - `encoding`: [`LENIENT`] or [`STRICT`].
+/// - `out`: the output buffer.
+pub fn as_ranges(asn: &[u8], encoding: u32, out: &mut [AsRange]) -> (u32, usize) {
+    let mut len = 0;
+    // SAFETY: as in `verify`; `AsRange` has the layout of C.
+    let status = unsafe {
+        pigy_as_ranges(
+            asn.as_ptr(),
+            asn.len(),
+            encoding,
+            out.as_mut_ptr(),
+            out.len(),
+            &mut len,
+        )
+    };
+    (status, len)
+}
+
+/// Calls `pigy_ip_ranges`: writes the ranges of the addresses of one family of a set to `out`.
+///
+/// Returns the status, and the output length in ranges.
+///
+/// # Parameters
+///
+/// - `ip`: the IP address blocks of the set (RFC 3779, 2.2.3).
+/// - `encoding`: [`LENIENT`] or [`STRICT`].
+/// - `family`: [`IPV4`] or [`IPV6`].
+/// - `out`: the output buffer.
+pub fn ip_ranges(ip: &[u8], encoding: u32, family: u32, out: &mut [IpRange]) -> (u32, usize) {
+    let mut len = 0;
+    // SAFETY: as in `verify`; `IpRange` has the layout of C.
+    let status = unsafe {
+        pigy_ip_ranges(
+            ip.as_ptr(),
+            ip.len(),
+            encoding,
+            family,
+            out.as_mut_ptr(),
+            out.len(),
+            &mut len,
+        )
+    };
+    (status, len)
+}
+
 /// Calls `pigy_origins`: writes the validity of each route by the VRPs to `out`, one octet each.
 ///
 /// Returns the status, the output length in octets, and an index:
@@ -743,6 +932,26 @@ pub fn origins(vrps: &[Vrp], routes: &[Route], out: &mut [u8]) -> (u32, usize, u
         )
     };
     (status, len, index)
+}
+
+/// Calls `pigy_vrps_read`: writes the VRPs of a validator's file to `out`, in the order of the file.
+///
+/// Returns the status, the output length in VRPs, and the number of the first invalid line or item, from 1. This number
+/// is 0 if no line and no item is invalid.
+pub fn vrps_read(file: &[u8], out: &mut [Vrp]) -> (u32, usize, usize) {
+    let (mut count, mut line) = (0, 0);
+    // SAFETY: as in `verify`; `Vrp` has the layout of C.
+    let status = unsafe {
+        pigy_vrps_read(
+            file.as_ptr(),
+            file.len(),
+            out.as_mut_ptr(),
+            out.len(),
+            &mut count,
+            &mut line,
+        )
+    };
+    (status, count, line)
 }
 
 /// Calls `pigy_answer`: writes the answer of the program `respath` for a line into `out`.

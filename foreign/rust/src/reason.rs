@@ -3,7 +3,7 @@ use core::error::Error;
 use core::fmt::{Display, Formatter, Result};
 
 use crate::raw;
-use crate::Resources;
+use crate::{FileFault, Resources, TextFault, VrpFault};
 
 /// The operand that an error is about.
 ///
@@ -148,6 +148,14 @@ pub enum Reason {
     UnknownWithdrawal,
     /// An announced VRP is in the table and is not withdrawn, or is announced twice (RFC 8210, 12, code 7).
     DuplicateAnnouncement,
+    /// The text of a set is invalid. The field is its first error.
+    BadText(TextFault),
+    /// A line of a VRP file in CSV is invalid. The field is its first error.
+    BadLine(VrpFault),
+    /// An item of a VRP file in JSON is invalid. The field is its first error.
+    BadItem(VrpFault),
+    /// A VRP file is invalid as a whole.
+    BadFile(FileFault),
     /// Any other status. Only the calls of [`raw`] return such a status.
     Other(u32),
 }
@@ -177,8 +185,20 @@ impl Reason {
             _ => match (first & !0xff, Fault::of_number(first & 0xff)) {
                 (raw::BAD_AS, Some(fault)) => Reason::BadAs(side, fault),
                 (raw::BAD_IP, Some(fault)) => Reason::BadIp(side, fault),
-                _ => Reason::Other(status),
+                _ => Reason::of_input(status).unwrap_or(Reason::Other(status)),
             },
+        }
+    }
+
+    /// Returns the reason for the status of a VRP file or of a text, or `None` for any other status.
+    fn of_input(status: u32) -> Option<Reason> {
+        let number = status & 0xff;
+        match status & !0xff {
+            raw::BAD_TEXT => TextFault::of_number(number).map(Reason::BadText),
+            raw::BAD_LINE => VrpFault::of_line(number).map(Reason::BadLine),
+            raw::BAD_ITEM => VrpFault::of_item(number).map(Reason::BadItem),
+            raw::BAD_FILE => FileFault::of_number(number).map(Reason::BadFile),
+            _ => None,
         }
     }
 
@@ -199,6 +219,10 @@ impl Reason {
             Reason::BadWithdrawnMaxLen => raw::SECOND + raw::BAD_MAX_LEN,
             Reason::UnknownWithdrawal => raw::UNKNOWN_WITHDRAWAL,
             Reason::DuplicateAnnouncement => raw::DUPLICATE_ANNOUNCEMENT,
+            Reason::BadText(fault) => raw::BAD_TEXT + fault as u32,
+            Reason::BadLine(fault) => raw::BAD_LINE + fault as u32,
+            Reason::BadItem(fault) => raw::BAD_ITEM + fault as u32,
+            Reason::BadFile(fault) => raw::BAD_FILE + fault as u32,
             Reason::Other(status) => status,
         }
     }
@@ -215,6 +239,7 @@ fn other_text(status: u32) -> &'static str {
         raw::OUTSIDE => "octets of a certificate outside of the run",
         raw::BAD_PRESENT => "unknown number of extensions",
         raw::NO_TABLE => "no table",
+        raw::BAD_KIND => "unknown kind of text",
         _ => "unknown status",
     }
 }
@@ -235,6 +260,10 @@ impl Display for Reason {
             Reason::BadIp(side, fault) => {
                 return write_fault(out, "IP address blocks", side, fault);
             }
+            Reason::BadText(fault) => return write!(out, "text of a set: {}", fault.text()),
+            Reason::BadLine(fault) => return write!(out, "line of VRPs: {}", fault.text()),
+            Reason::BadItem(fault) => return write!(out, "item of roas: {}", fault.text()),
+            Reason::BadFile(fault) => return write!(out, "file of VRPs: {}", fault.text()),
             Reason::Memory => "out of memory",
             Reason::Inherited(Side::First) => "inherited resources in place of a set",
             Reason::Inherited(Side::Second) => "inherited resources in place of the second set",

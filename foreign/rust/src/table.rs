@@ -152,6 +152,33 @@ impl Table {
         Ok(octets.into_iter().map(validity_of).collect())
     }
 
+    /// Returns the routes whose validity differs between this table and `next` (RFC 6811, 4).
+    ///
+    /// The result has the indices of these routes in `routes`, from 0, ascending.
+    ///
+    /// # Parameters
+    ///
+    /// - `next`: the other table, for example one that [`Table::changed`] made.
+    /// - `routes`: the routes.
+    ///
+    /// # Errors
+    ///
+    /// Those of [`Table::origins`].
+    pub fn changed_routes(
+        &self,
+        next: &Table,
+        routes: &[Route],
+    ) -> Result<Vec<usize>, OriginError> {
+        let mut octets = vec![0; routes.len()];
+        let (status, _, index) = self.0.routes_changed(&next.0, routes, &mut octets);
+        if status != OK {
+            let reason = Reason::of_status(status);
+            return Err(OriginError { reason, index });
+        }
+        let marked = octets.iter().enumerate().filter(|(_, octet)| **octet != 0);
+        Ok(marked.map(|(at, _)| at).collect())
+    }
+
     /// Validates one route (RFC 6811, 2).
     ///
     /// # Errors

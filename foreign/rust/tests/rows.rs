@@ -6,10 +6,10 @@
 use pigyelund::raw;
 use pigyelund::raw::{NO, OK, TOO_SMALL};
 use pigyelund::{
-    answer, contains, cover, difference, equal, intersection, origins, union, verify, verify_path,
-    version, version_string, Certificate, Comparison, Encoding, Extensions, Family, Fault, Octets,
-    Operation, OriginError, Overclaim, PathError, Reason, ResourceError, Resources, Route, Side,
-    Table, Validity, Vrp,
+    answer, as_ranges, contains, cover, difference, equal, intersection, ip_ranges, origins,
+    read_vrps, union, verify, verify_path, version, version_string, Certificate, Comparison,
+    Encoding, Extensions, Family, Fault, Octets, Operation, OriginError, Overclaim, PathError,
+    ReadError, Reason, ResourceError, Resources, Route, Side, Table, Validity, Vrp,
 };
 use std::collections::{BTreeMap, HashSet};
 use std::error::Error;
@@ -387,11 +387,121 @@ impl Row<'_> {
         assert_eq!(vrp_octets(&table), before, "{}", self.text);
     }
 
+    /// Compares the routes whose validity differs between two tables with those of the golden test.
+    fn ask_differ(&self) {
+        let routes: Vec<Route> = self.runs[2].chunks(22).map(route).collect();
+        let [old, new] = [0, 1].map(|at| Table::new(&self.vrps(at)).unwrap());
+        match old.changed_routes(&new, &routes) {
+            Ok(found) => {
+                let marks = self.expected.asn.iter().enumerate();
+                let marked: Vec<usize> = marks.filter(|it| *it.1 == 1).map(|it| it.0).collect();
+                assert_eq!((OK, found), (self.status, marked), "{}", self.text);
+                assert_eq!(new.changed_routes(&new, &routes), Ok(vec![]));
+            }
+            Err(refused) => self.expect_refused(refused),
+        }
+    }
+
     fn ask_answer(&self) {
         let line = &self.runs[0];
         self.ask_one_buffer(|out| raw::answer(line, out));
         let found = answer(line).map(String::into_bytes);
         assert_eq!(found.as_ref(), Ok(&self.expected.asn), "{}", self.text);
+    }
+
+    fn ask_text(&self) {
+        let (kind, text) = (self.numbers[0], &self.runs[0]);
+        self.ask_capacities(|asn, ip| raw::set_from_text(kind, text, asn, ip));
+        let Ok(text) = std::str::from_utf8(text) else {
+            return;
+        };
+        match kind {
+            raw::ASN => self.expect(Resources::from_text(text, "", "")),
+            raw::IPV4 => self.expect(Resources::from_text("", text, "")),
+            raw::IPV6 => self.expect(Resources::from_text("", "", text)),
+            _ => {}
+        }
+    }
+
+    fn ask_as_ranges(&self) {
+        let (asn, number) = (&self.runs[0], self.numbers[0]);
+        for capacity in 0..=self.expected.asn.len() / 8 + 1 {
+            let mut out = vec![raw::AsRange::default(); capacity];
+            let (status, count) = raw::as_ranges(asn, number, &mut out);
+            let fits = self.expected.asn.len() / 8 <= capacity;
+            let wanted = if fits { self.status } else { TOO_SMALL };
+            assert_eq!((status, count), (wanted, self.expected.asn.len() / 8));
+        }
+        let Some(encoding) = encoding_of(number) else {
+            return;
+        };
+        let found = as_ranges(asn, encoding).map(|ranges| Resources {
+            asn: ranges
+                .iter()
+                .flat_map(|it| [it.start().to_be_bytes(), it.end().to_be_bytes()].concat())
+                .collect(),
+            ip: Vec::new(),
+        });
+        self.expect(found);
+    }
+
+    fn ask_ip_ranges(&self) {
+        let (ip, number) = (&self.runs[0], self.numbers[0]);
+        for capacity in 0..=self.expected.asn.len() / 32 + 1 {
+            let mut out = vec![raw::IpRange::default(); capacity];
+            let (status, count) = raw::ip_ranges(ip, number, self.numbers[1], &mut out);
+            let fits = self.expected.asn.len() / 32 <= capacity;
+            let wanted = if fits { self.status } else { TOO_SMALL };
+            assert_eq!((status, count), (wanted, self.expected.asn.len() / 32));
+        }
+        let family = match self.numbers[1] {
+            1 => Family::V4,
+            2 => Family::V6,
+            _ => return,
+        };
+        let Some(encoding) = encoding_of(number) else {
+            return;
+        };
+        let padded = |address: &IpAddr| {
+            let mut octets = octets_of(*address);
+            octets.resize(16, 0);
+            octets
+        };
+        let found = ip_ranges(ip, encoding, family).map(|ranges| Resources {
+            asn: ranges
+                .iter()
+                .flat_map(|it| [padded(it.start()), padded(it.end())].concat())
+                .collect(),
+            ip: Vec::new(),
+        });
+        self.expect(found);
+    }
+
+    /// Reads the file of a golden test, with buffers of each length up to the needed one and with one more.
+    fn ask_read(&self) {
+        let (file, expected) = (&self.runs[0], self.vrps_expected());
+        for capacity in 0..=expected.len() + 1 {
+            let mut out = vec![Vrp::default(); capacity];
+            let fits = expected.len() <= capacity;
+            let status = if fits { self.status } else { TOO_SMALL };
+            let (found, count, line) = raw::vrps_read(file, &mut out);
+            let wanted = (status, expected.len(), self.verified.unwrap());
+            assert_eq!((found, count, line), wanted, "{}", self.text);
+            let written = if fits { &expected[..] } else { &[] };
+            assert_eq!(&out[..written.len()], written, "{}", self.text);
+            assert!(out[written.len()..].iter().all(|it| *it == Vrp::default()));
+        }
+        match read_vrps(file) {
+            Ok(vrps) => assert_eq!((OK, vrps), (self.status, expected), "{}", self.text),
+            Err(ReadError { reason, line }) => {
+                let found = (reason.status(), Some(line));
+                assert_eq!(found, (self.status, self.verified), "{}", self.text);
+            }
+        }
+    }
+
+    fn vrps_expected(&self) -> Vec<Vrp> {
+        self.expected.asn.chunks(23).map(vrp).collect()
     }
 
     fn ask_operation(
@@ -437,6 +547,11 @@ impl Row<'_> {
             "covering" => self.ask_covering(),
             "vrps" | "changed" => self.ask_vrps(),
             "answer" => self.ask_answer(),
+            "differ" => self.ask_differ(),
+            "read" => self.ask_read(),
+            "text" => self.ask_text(),
+            "as_ranges" => self.ask_as_ranges(),
+            "ip_ranges" => self.ask_ip_ranges(),
             "union" => self.ask_operation(Operation::Union, union),
             "intersection" => self.ask_operation(Operation::Intersection, intersection),
             "difference" => self.ask_operation(Operation::Difference, difference),
@@ -498,9 +613,14 @@ fn named() -> Vec<(&'static str, u32)> {
         ("NO_TABLE", raw::NO_TABLE),
         ("UNKNOWN_WITHDRAWAL", raw::UNKNOWN_WITHDRAWAL),
         ("DUPLICATE_ANNOUNCEMENT", raw::DUPLICATE_ANNOUNCEMENT),
+        ("BAD_KIND", raw::BAD_KIND),
         ("BAD_AS", raw::BAD_AS),
         ("BAD_IP", raw::BAD_IP),
+        ("BAD_LINE", raw::BAD_LINE),
+        ("BAD_ITEM", raw::BAD_ITEM),
+        ("BAD_FILE", raw::BAD_FILE),
         ("SECOND", raw::SECOND),
+        ("BAD_TEXT", raw::BAD_TEXT),
         ("LENIENT", Encoding::Lenient as u32),
         ("STRICT", Encoding::Strict as u32),
         ("REFUSE", Overclaim::Refuse as u32),
@@ -508,6 +628,7 @@ fn named() -> Vec<(&'static str, u32)> {
         ("HAS_AS", raw::HAS_AS),
         ("HAS_IP", raw::HAS_IP),
         ("HAS_BOTH", raw::HAS_BOTH),
+        ("ASN", raw::ASN),
         ("IPV4", Family::V4 as u32),
         ("IPV6", Family::V6 as u32),
         ("VALID", Validity::Valid as u32),
@@ -697,6 +818,8 @@ fn a_null_table_is_refused() {
     assert!(null.is_null());
     assert_eq!(null.origins(&[route], &mut [0]), (raw::NO_TABLE, 0, 0));
     assert_eq!(null.covering(&route, &mut []), (raw::NO_TABLE, 0));
+    let found = null.routes_changed(&null, &[route], &mut [0]);
+    assert_eq!(found, (raw::NO_TABLE, 0, 0));
     assert_eq!(null.count(), (raw::NO_TABLE, 0));
     assert_eq!(null.vrps(&mut []), (raw::NO_TABLE, 0));
     let (status, next, index) = null.changed(&[], &[]);
@@ -723,5 +846,10 @@ fn addresses_are_of_their_families() {
         Encoding::Strict,
         Family::V4,
     );
-    assert_eq!(found.unwrap()[0].to_string(), "10.0.0.0/8");
+    let prefixes = found.unwrap();
+    assert_eq!(prefixes[0].to_string(), "10.0.0.0/8");
+    let six = "2001:db8::/32".parse().unwrap();
+    let set = Resources::from_prefixes(&[six, prefixes[0], six]).unwrap();
+    let text = Resources::from_text("", "10.0.0.0-10.255.255.255", "2001:db8::/32");
+    assert_eq!(Ok(set), text);
 }

@@ -1,5 +1,5 @@
 //! The runs of a set, as pairs of numbers.
-ghost use Rattle.std.specs.Prelude.{◌≡◌, [], IfOk, MatchResult, map};
+ghost use Rattle.std.specs.Prelude.{◌≡◌, IfOk, MatchResult, map};
 ghost use Rattle.rpki_text.specs.Memory.{IfRefused};
 ghost use Rattle.rpki_resources.specs.Triples.{set_of_family};
 ghost use Rattle.pigyelund_c.specs.Covers.{IsNoCover};

@@ -12,14 +12,14 @@ use Rattle.pigyelund_routes.specs.declared.route.Route.{Route}
 -- ---- marks
 
 -- 0 for equal numbers, and 1 for others.
-abbrev pub mark : ℕ → ℕ → ℕ
-mark one other = if one == other then 0 else 1
+abbrev pub change_mark : ℕ → ℕ → ℕ
+change_mark one other = if one == other then 0 else 1
 
 -- The marks of the numbers of two lists, index by index.
 abbrev pub marks : List ℕ → List ℕ → List ℕ
 marks [] others = []
 marks (one ∷ ones) [] = []
-marks (one ∷ ones) (other ∷ others) = mark one other ∷ marks ones others
+marks (one ∷ ones) (other ∷ others) = change_mark one other ∷ marks ones others
 
 -- ---- changes
 

@@ -2,7 +2,7 @@
 ghost use Rattle.std.specs.Prelude.{◌≡◌, IfOk, MatchResult, length};
 ghost use Rattle.rpki_text.specs.Memory.{IfRefused};
 ghost use Rattle.pigyelund_routes.specs.Origins.{AreEach, IsFirstElementError};
-ghost use Rattle.pigyelund_routes.specs.RouteChanges.{HasRouteError, IsRouteChange, mark, marks};
+ghost use Rattle.pigyelund_routes.specs.RouteChanges.{HasRouteError, IsRouteChange, change_mark, marks};
 ghost use Rattle.pigyelund_routes.specs.Routes.{IsNoRoute, IsRoute};
 
 use crate::origin::{ElementError, ValidationError, origins_in};
@@ -13,7 +13,7 @@ use std::alloc::{AllocError, Global};
 
 /// Returns 0 for equal numbers, and 1 for others.
 fn mark(one: u8, other: u8) -> u8
-    ensures { result ≡ mark one other }
+    ensures { result ≡ change_mark one other }
 {
     if one == other { 0 } else { 1 }
 }

@@ -1,5 +1,5 @@
 -- Answers by a table are answers by the list that it was made of.
-use Rattle.origins_lines.proofs.Common.{arith, Bool, List, Option, [], ℕ, ◌∷◌, ◌≡◌, IfSome, OnOk, Result, AnswersAll, AnswersEnded, AnswersFirst, BeginsAnswers, Err, HasAnswered, HasFileFault, IsOriginAnswer, IsVrpFile, Vrp, ByFile}
+use Rattle.origins_lines.proofs.Common.{arith, Bool, List, Option, [], ℕ, ◌∷◌, ◌≡◌, IfSome, OnOk, Result, AnswersAll, AnswersEnded, AnswersFirst, BeginsAnswers, Err, HasAnswered, HasFileFault, IsJsonAnswer, IsOriginAnswer, IsVrpFile, Vrp, ByFile}
 use Rattle.std.specs.List.{AllZip}
 use Rattle.std.specs.List.Sorted.{IsPermutation}
 use Rattle.std.proofs.lemmas.List.Sorted.{IsPermutation-sym}
@@ -7,44 +7,47 @@ use Rattle.std.specs.Prelude.{IfOk, MatchResult}
 use Rattle.rpki_text.specs.Memory.{IfRefused}
 use Rattle.rpki_text.specs.declared.memory.OrMemory.{OrMemory}
 use Rattle.roa_vrps.specs.declared.fault.FileFault.{FileFault}
-use Rattle.origins_lines.specs.FileResult.{file_result}
+use Rattle.roa_slurm.specs.declared.fault.SlurmFault.{SlurmFault}
+use Rattle.origins_lines.specs.FileResult.{file_result, slurm_result}
+use Rattle.origins_lines.specs.declared.error.ReadSlurmError.TheVariants as ReadSlurmError
 use Rattle.origins_lines.specs.declared.error.ReadVrpsError.TheVariants.{File, Read}
-use Rattle.origins_lines.proofs.OrderLemmas.{any_order}
+use Rattle.origins_lines.proofs.OrderLemmas.{any_order, json_any_order}
 
--- a table has the VRPs of a list in another order
-module _ (why : Bool) (listed table : List Vrp) (moved : IsPermutation listed table) where
-  each_turned : (lines texts : List (List ℕ)) → AllZip (IsOriginAnswer why table) lines texts
-      → AllZip (IsOriginAnswer why listed) lines texts
+-- each answer of one sort is an answer of another
+module _ (One Other : List ℕ → List ℕ → Type 0)
+    (turned : (line text : List ℕ) → One line text → Other line text) where
+  each_turned : (lines texts : List (List ℕ)) → AllZip One lines texts → AllZip Other lines texts
   each_turned [] [] each = tt
-  each_turned (line ∷ lines) (text ∷ texts) each =
-      let one = any_order why table listed line text (IsPermutation-sym listed table moved) each.0 in
-      (one, each_turned lines texts each.1)
+  each_turned (line ∷ lines) (text ∷ texts) each = (turned line text each.0, each_turned lines texts each.1)
   each_turned lines texts each = absurd each
 
   answered_turned : (old new : Option (List ℕ)) (lines rest : List (List ℕ)) (unwritten : List ℕ)
-      → HasAnswered (IsOriginAnswer why table) old new lines rest unwritten
-      → HasAnswered (IsOriginAnswer why listed) old new lines rest unwritten
+      → HasAnswered One old new lines rest unwritten → HasAnswered Other old new lines rest unwritten
   answered_turned old new lines rest unwritten had = grind (arith, each_turned)
 
   pub all_turned : {X E : Type 0} (r : Result X E) (input old new : Option (List ℕ))
-      → OnOk r (IfSome input (AnswersAll (IsOriginAnswer why table) old new))
-      → OnOk r (IfSome input (AnswersAll (IsOriginAnswer why listed) old new))
+      → OnOk r (IfSome input (AnswersAll One old new)) → OnOk r (IfSome input (AnswersAll Other old new))
   all_turned r input old new had = grind (arith, answered_turned)
 
-  pub first_turned : (input old new : Option (List ℕ))
-      → IfSome input (AnswersFirst (IsOriginAnswer why table) old new)
-      → IfSome input (AnswersFirst (IsOriginAnswer why listed) old new)
+  pub first_turned : (input old new : Option (List ℕ)) → IfSome input (AnswersFirst One old new)
+      → IfSome input (AnswersFirst Other old new)
   first_turned input old new had = grind (arith, answered_turned)
 
-  pub begins_turned : (input old new : Option (List ℕ))
-      → IfSome input (BeginsAnswers (IsOriginAnswer why table) old new)
-      → IfSome input (BeginsAnswers (IsOriginAnswer why listed) old new)
+  pub begins_turned : (input old new : Option (List ℕ)) → IfSome input (BeginsAnswers One old new)
+      → IfSome input (BeginsAnswers Other old new)
   begins_turned input old new had = grind (arith, answered_turned)
 
-  pub ended_turned : (old new input left : Option (List ℕ))
-      → AnswersEnded (IsOriginAnswer why table) old new input left
-      → AnswersEnded (IsOriginAnswer why listed) old new input left
+  pub ended_turned : (old new input left : Option (List ℕ)) → AnswersEnded One old new input left
+      → AnswersEnded Other old new input left
   ended_turned old new input left had = grind (arith, answered_turned)
+
+-- a table has the VRPs of a list in another order: an answer by the table is one by the list
+module _ (why : Bool) (listed table : List Vrp) (moved : IsPermutation listed table) (line text : List ℕ) where
+  pub by_list : IsOriginAnswer why table line text → IsOriginAnswer why listed line text
+  by_list is = any_order why table listed line text (IsPermutation-sym listed table moved) is
+
+  pub object_by_list : IsJsonAnswer why table line text → IsJsonAnswer why listed line text
+  object_by_list is = json_any_order why table listed line text (IsPermutation-sym listed table moved) is
 
 -- a file's VRPs
 pub by_file : (file : Option (List ℕ)) (P : List Vrp → Type 0) (listed : List Vrp)
@@ -67,3 +70,20 @@ module _ {V : Type 0} (left : Option (List ℕ)) (text : List ℕ) (vrps : V →
   -- no read failed
   pub file_result_not_read : file_result r ≡ Err Read → ⊥
   file_result_not_read written = grind (arith)
+
+-- the result for a SLURM file that was read whole
+module _ {V : Type 0} (left : Option (List ℕ)) (text : List ℕ) (Is : List ℕ → V → Type 0)
+    (Has : List ℕ → SlurmFault → Type 0) (r : Result V (OrMemory SlurmFault)) where
+  pub slurm_result_found : IfSome left (λ bytes. text ≡ bytes) → MatchResult r (Is text) (IfRefused (Has text))
+      → IfOk (slurm_result r) (λ v. IfSome left (λ bytes. Is bytes v))
+  slurm_result_found is found = grind (arith)
+
+  pub slurm_result_wrong : IfSome left (λ bytes. text ≡ bytes) → MatchResult r (Is text) (IfRefused (Has text))
+      → (fault : SlurmFault) → slurm_result r ≡ Err (ReadSlurmError.File fault)
+      → IfSome left (λ bytes. Has bytes fault)
+  slurm_result_wrong is found fault written = grind (arith)
+
+-- no read failed
+pub slurm_result_not_read : {V : Type 0} (r : Result V (OrMemory SlurmFault))
+    → slurm_result r ≡ Err ReadSlurmError.Read → ⊥
+slurm_result_not_read r written = grind (arith)

@@ -1,35 +1,46 @@
 -- What is seen of octets when one more comes.
-use Rattle.origins_lines.proofs.Common.{Bool, List, [], arith, length, length-append, ℕ, ◌++◌, ◌∷◌, ◌≡◌, ◌≤◌, ◌⊎◌, IsTrue, ◌↔◌, BeginsLine, HasFound, IsSeen, IsFaultInitial}
+use Rattle.origins_lines.proofs.Common.{Bool, List, [], ap, arith, inl, inr, ◌∙◌, length, length-append, ℕ, ◌++◌, ◌∷◌, ◌≡◌, ◌≤◌, ◌⊎◌, IsTrue, ◌↔◌, HasFound, IsSeen, IsFaultInitial}
 use Rattle.std.proofs.lemmas.Bool.{cases_lt}
-use Rattle.std.proofs.lemmas.List.{get_or_append_left, get_or_push, take_more}
-use Rattle.std.proofs.Common.{append-nil, append_assoc, get_or, refl, take, true, ◌+◌, ◌<◌}
-use Rattle.std.specs.Prelude.{IfSome, Option, ◌&&◌}
+use Rattle.std.proofs.lemmas.List.{get_or_append_left, get_or_push, take-append-le, take_all, take_more}
+use Rattle.std.proofs.Common.{append-nil, append_assoc, get_or, min, refl, take, true, ◌+◌, ◌<◌}
+use Rattle.std.specs.Prelude.{IfSome, Option, ◌&&◌, ◌==◌, if◌then◌else◌}
 use Rattle.std.specs.Io.KnownBytes.{Appends, Keeps}
-use Rattle.origins_lines.specs.Checks.{is_same, known_seen, seen_behind, seen_nothing, seen_with}
+use Rattle.origins_lines.specs.Checks.{column_after, column_of, column_with, is_same_state, known_seen, seen_behind, seen_nothing, seen_with}
 use Rattle.origins_lines.specs.declared.check.Seen.{Seen}
 
-module _ (octets : List ℕ) (octet : ℕ) where
-  -- up to its own place a line begins as before
-  begins_same : (at : ℕ) → at ≤ length octets → BeginsLine (octets ++ octet ∷ []) at ↔ BeginsLine octets at
-  begins_same at le = grind (arith, cases_lt, get_or_append_left)
+-- the column behind one more octet
+column_push : (column : ℕ) (octets : List ℕ) (octet : ℕ) → column_after column (octets ++ octet ∷ [])
+    ≡ (if octet == 10 then 0 else column_after column octets + 1)
+column_push column [] octet = refl
+column_push column (first ∷ octets) octet = column_push (if first == 10 then 0 else column + 1) octets octet
 
-  -- behind it one begins where it is 0a
-  ends_same : BeginsLine (octets ++ octet ∷ []) (length (octets ++ octet ∷ [])) ↔ (octet ≡ 10)
-  ends_same = grind (arith, get_or_push, length-append)
+module _ (place : ℕ) (octets : List ℕ) (octet : ℕ) where
+  -- up to its own index an octet's column is as before
+  column_same : (at : ℕ) → at ≤ length octets → column_of (octets ++ octet ∷ []) at ≡ column_of octets at
+  column_same at le = grind (arith, take-append-le)
 
-  -- what is sought begins a line among the octets before it, or is this one behind them
-  found_on : HasFound octets ⊎ (BeginsLine octets (length octets) × IsFaultInitial octet)
-      → HasFound (octets ++ octet ∷ [])
-  found_on h = grind (arith, begins_same, get_or_append_left, get_or_push, length-append)
+  column_last : column_of octets (length octets) ≡ column_after 0 octets
+  column_last = ap (λ all. column_after 0 all) (take_all (length octets) octets (omega arith))
 
-  found_back : HasFound (octets ++ octet ∷ [])
-      → HasFound octets ⊎ (BeginsLine octets (length octets) × IsFaultInitial octet)
-  found_back h = grind (arith, begins_same, get_or_append_left, get_or_push, length-append, cases_lt)
+  -- what is sought is among the octets before it, or is this one behind them
+  found_on : HasFound place octets ⊎ ((column_after 0 octets ≡ place) × IsFaultInitial octet)
+      → HasFound place (octets ++ octet ∷ [])
+  found_on (inl (at, less, column, is)) = (
+    at,
+    omega (arith, length-append octets (octet ∷ [])),
+    column_same at (omega arith) ∙ column,
+    rw (get_or_append_left octets (octet ∷ []) 0 at less) is,
+  )
+  found_on (inr (column, is)) = (
+    length octets,
+    omega (arith, length-append octets (octet ∷ [])),
+    column_same (length octets) (omega arith) ∙ column_last ∙ column,
+    rw (get_or_push octets octet 0 (length octets) refl) is,
+  )
 
-  pub seen_more : (seen : Seen) (start found : Bool) → IsSeen octets seen → (IsTrue start ↔ (octet ≡ 10))
-      → (IsTrue found ↔ (IsTrue seen.has_found ⊎ (IsTrue seen.is_at_start × IsFaultInitial octet)))
-      → IsSeen (octets ++ octet ∷ []) (record { is_at_start = start; has_found = found })
-  seen_more seen start found so_far ends finds = grind (arith, ends_same, found_on, found_back)
+  found_back : HasFound place (octets ++ octet ∷ [])
+      → HasFound place octets ⊎ ((column_after 0 octets ≡ place) × IsFaultInitial octet)
+  found_back h = grind (arith, column_same, column_last, get_or_append_left, get_or_push, length-append, cases_lt)
 
 -- what is seen of octets, one behind the other
 pub behind_both : (seen : Seen) (octets more : List ℕ)
@@ -42,34 +53,63 @@ pub behind_one : (seen : Seen) (octets : List ℕ) (i : ℕ) → i < length octe
 behind_one seen octets i less =
     rw (take_more octets i 0 less) (behind_both seen (take i octets) (get_or octets i 0 ∷ []))
 
-with_seen : (octets : List ℕ) (octet : ℕ) (seen : Seen) → IsSeen octets seen
-    → IsSeen (octets ++ octet ∷ []) (seen_with seen octet)
-with_seen octets octet seen so_far = seen_more octets octet seen _ _ so_far (grind (arith)) (grind (arith))
+-- the place stays
+pub same_place : (seen : Seen) (octets : List ℕ) → (seen_behind seen octets).place ≡ seen.place
+same_place seen [] = refl
+same_place seen (octet ∷ octets) = same_place (seen_with seen octet) octets
 
-pub all_seen : (before : List ℕ) (seen : Seen) (octets : List ℕ) → IsSeen before seen
-    → IsSeen (before ++ octets) (seen_behind seen octets)
-all_seen before seen [] so_far = rw (append-nil before) so_far
-all_seen before seen (octet ∷ octets) so_far =
-    rw append_assoc at (all_seen (before ++ octet ∷ []) (seen_with seen octet) octets (with_seen before octet seen so_far))
+with_column : (place : ℕ) (octets : List ℕ) (octet : ℕ) (seen : Seen) → IsSeen place octets seen
+    → column_with seen octet ≡ min (column_after 0 (octets ++ octet ∷ [])) (place + 1)
+with_column place octets octet seen so_far = grind (arith, column_push)
 
-nothing_seen : IsSeen [] seen_nothing
-nothing_seen = grind (arith)
+found_more : (place : ℕ) (octets : List ℕ) (octet : ℕ) (seen : Seen) → seen.place ≡ place
+    → seen.column ≡ min (column_after 0 octets) (place + 1) → IsTrue (seen_with seen octet).has_found
+    ↔ (IsTrue seen.has_found ⊎ ((column_after 0 octets ≡ place) × IsFaultInitial octet))
+found_more place octets octet seen at column = grind (arith)
 
-whole_seen : (octets : List ℕ) → IsSeen octets (seen_behind seen_nothing octets)
-whole_seen octets = all_seen [] seen_nothing octets nothing_seen
+with_found : (place : ℕ) (octets : List ℕ) (octet : ℕ) (seen : Seen) → IsSeen place octets seen
+    → IsTrue (seen_with seen octet).has_found ↔ HasFound place (octets ++ octet ∷ [])
+with_found place octets octet seen so_far =
+    let more = found_more place octets octet seen so_far.place_is so_far.column_is in (
+      λ h. found_on place octets octet
+          (elim (more.0 h) [ inl found ↦ inl (so_far.found.0 found) | inr here ↦ inr here ]),
+      λ h. more.1
+          (elim (found_back place octets octet h) [ inl found ↦ inl (so_far.found.1 found) | inr here ↦ inr here ]),
+    )
 
-same_seen : (a b : Seen) → is_same a.is_at_start b.is_at_start && is_same a.has_found b.has_found ≡ true → a ≡ b
-same_seen a b same = grind (arith)
+with_seen : (place : ℕ) (octets : List ℕ) (octet : ℕ) (seen : Seen) → IsSeen place octets seen
+    → IsSeen place (octets ++ octet ∷ []) (seen_with seen octet)
+with_seen place octets octet seen so_far = record {
+  place_is = so_far.place_is;
+  column_is = with_column place octets octet seen so_far;
+  found = with_found place octets octet seen so_far;
+}
+
+pub all_seen : (place : ℕ) (before : List ℕ) (seen : Seen) (octets : List ℕ) → IsSeen place before seen
+    → IsSeen place (before ++ octets) (seen_behind seen octets)
+all_seen place before seen [] so_far = rw (append-nil before) so_far
+all_seen place before seen (octet ∷ octets) so_far =
+    rw append_assoc at
+    (all_seen place (before ++ octet ∷ []) (seen_with seen octet) octets (with_seen place before octet seen so_far))
+
+pub nothing_seen : (place : ℕ) → IsSeen place [] (seen_nothing place)
+nothing_seen place = grind (arith)
+
+whole_seen : (place : ℕ) (octets : List ℕ) → IsSeen place octets (seen_behind (seen_nothing place) octets)
+whole_seen place octets = all_seen place [] (seen_nothing place) octets (nothing_seen place)
+
+same_seen : (a b : Seen) → a.place ≡ b.place → is_same_state a b ≡ true → a ≡ b
+same_seen a b place same = grind (arith)
 
 -- a watched sink grows as its own does, and tells what it has found
 pub known_more : (old new : Option (List ℕ)) (seen : Seen) (octets : List ℕ) → Appends old new octets
     → Appends (known_seen seen old) (known_seen (seen_behind seen octets) new) octets
-known_more old new seen octets grew = grind (arith, behind_both, same_seen)
+known_more old new seen octets grew = grind (arith, behind_both, same_place, same_seen)
 
 pub known_kept : (old new : Option (List ℕ)) (seen : Seen) → Keeps old new
     → Keeps (known_seen seen old) (known_seen seen new)
 known_kept old new seen kept = grind (arith)
 
 pub known_found : (seen : Seen) (known : Option (List ℕ))
-    → IfSome (known_seen seen known) (λ octets. IsTrue seen.has_found ↔ HasFound octets)
-known_found seen known = grind (arith, whole_seen, same_seen)
+    → IfSome (known_seen seen known) (λ octets. IsTrue seen.has_found ↔ HasFound seen.place octets)
+known_found seen known = grind (arith, whole_seen, same_place, same_seen)

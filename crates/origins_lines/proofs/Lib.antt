@@ -3,6 +3,7 @@ pub mod AnswerLemmas
 pub mod CheckLemmas
 pub mod Common
 pub mod FieldLemmas
+pub mod JsonLemmas
 pub mod KindLemmas
 pub mod LineLemmas
 pub mod Members

@@ -1,10 +1,12 @@
 -- An answer is the only one, and the same in whatever order the VRPs stand.
-use Rattle.origins_lines.proofs.Common.{Bool, List, None, Some, [], ap, arith, false, inl, inr, sym, true, ℕ, ◌∙◌, ◌∷◌, ◌≡◌, Contains-permutation, IsPermutation-map, IsPermutation-sym, IsPermutation, Vrp, as_sent, FamilyPrefix, IsOriginAnswer, IsExplanationIf, IsRouteAnswer, IsExplanation, IsReason, IsExplainedBefore, AreReasonTexts, IsOutcomeOf, asked_asn, route_fault_text, fault_line, Reason, Outcome}
+use Rattle.origins_lines.proofs.Common.{Bool, List, None, Some, [], ap, arith, false, inl, inr, sym, true, ℕ, ◌∙◌, ◌∷◌, ◌≡◌, Contains-permutation, IsPermutation-map, IsPermutation-sym, IsPermutation, Vrp, as_sent, FamilyPrefix, IsOriginAnswer, IsExplanationIf, IsRouteAnswer, IsExplanation, IsExplanationText, Form, IsErrorObject, IsJsonAnswer, IsJsonRouteAnswer, IsLineValue, IsVrpsMember, IsReason, IsExplainedBefore, AreReasonTexts, IsOutcomeOf, asked_asn, route_fault_text, fault_line, Option, Reason, Outcome}
 use Rattle.roa_origin.specs.declared.validation.Validity.TheVariants as Validities
 use Rattle.roa_origin.proofs.SortedSearch.{any_moved}
 use Rattle.roa_origin.proofs.ListMembers.{same_list}
 use Rattle.roa_origin.proofs.ChangedRoutes.{one_validity}
 use Rattle.roa_origin.proofs.ValidityScans.{same_validity}
+use Rattle.origins_lines.specs.declared.explanation.Form.TheVariants.{Json, Words}
+use Rattle.origins_lines.specs.declared.fault.RouteFault.{RouteFault}
 use Rattle.origins_lines.specs.declared.outcome.Outcome.TheVariants.{InvalidAs}
 use Rattle.origins_lines.proofs.RouteLineLemmas.{route_decided}
 use Rattle.origins_lines.proofs.WhyLemmas.{not_back}
@@ -27,11 +29,17 @@ explanation_moved route vrps others explained moved h =
       members = λ p. grind (arith, h.members p, Contains-permutation _ _ p sent, Contains-permutation _ _ p back);
     }
 
+explanation_text_moved : (form : Form) (vrps others : List Vrp) (route : FamilyPrefix) (asn : ℕ) (text : List ℕ)
+    → IsPermutation vrps others → IsExplanationText form route asn vrps text
+    → IsExplanationText form route asn others text
+explanation_text_moved form vrps others route asn text moved (explained, is, each) =
+    (explained, explanation_moved route vrps others explained moved is, each)
+
 explanation_if_moved : (why : Bool) (vrps others : List Vrp) (route : FamilyPrefix) (asn : ℕ) (text : List ℕ)
     → IsPermutation vrps others → IsExplanationIf why vrps route asn text → IsExplanationIf why others route asn text
 explanation_if_moved false vrps others route asn text moved h = h
-explanation_if_moved true vrps others route asn text moved (explained, is, each) =
-    (explained, explanation_moved route vrps others explained moved is, each)
+explanation_if_moved true vrps others route asn text moved h =
+    explanation_text_moved Words vrps others route asn text moved h
 
 pub any_order : (why : Bool) (vrps others : List Vrp) (line text : List ℕ) → IsPermutation vrps others
     → IsOriginAnswer why vrps line text → IsOriginAnswer why others line text
@@ -42,6 +50,22 @@ any_order why vrps others line text moved (inl (route, is, (outcome, is_outcome,
     inl (route, is, (outcome, same, behind, explained, whole))
 any_order why vrps others line text moved (inr (inl nothing)) = inr (inl nothing)
 any_order why vrps others line text moved (inr (inr wrong)) = inr (inr wrong)
+
+vrps_member_moved : (why : Bool) (vrps others : List Vrp) (route : FamilyPrefix) (asn : ℕ) (text : List ℕ)
+    → IsPermutation vrps others → IsVrpsMember why vrps route asn text → IsVrpsMember why others route asn text
+vrps_member_moved false vrps others route asn text moved h = h
+vrps_member_moved true vrps others route asn text moved (items, explains, whole) =
+    (items, explanation_text_moved Json vrps others route asn items moved explains, whole)
+
+pub json_any_order : (why : Bool) (vrps others : List Vrp) (line text : List ℕ) → IsPermutation vrps others
+    → IsJsonAnswer why vrps line text → IsJsonAnswer why others line text
+json_any_order why vrps others line text moved (inl (route, is, (outcome, is_outcome, member, texts, whole))) =
+    let asn = asked_asn route.origin in
+    let same = outcome_moved route.prefix asn vrps others outcome moved is_outcome in
+    let explained = vrps_member_moved why vrps others route.prefix asn member moved texts in
+    inl (route, is, (outcome, same, member, explained, whole))
+json_any_order why vrps others line text moved (inr (inl nothing)) = inr (inl nothing)
+json_any_order why vrps others line text moved (inr (inr wrong)) = inr (inr wrong)
 
 -- ---- one answer alone
 
@@ -66,16 +90,22 @@ reason_one : (route : FamilyPrefix) (asn : ℕ) (p : Vrp) (a b : Reason) → IsR
     → IsReason route asn p b → a ≡ b
 reason_one route asn p a b h k = grind (arith)
 
-each_one : (route : FamilyPrefix) (asn : ℕ) (explained : List Vrp) (text other : List ℕ)
-    → AreReasonTexts route asn explained text → AreReasonTexts route asn explained other → text ≡ other
-each_one route asn [] text other h k = h ∙ sym k
-each_one route asn (p ∷ explained) text other h k = grind (arith, reason_one, each_one route asn explained)
+each_one : (form : Form) (first : Bool) (route : FamilyPrefix) (asn : ℕ) (explained : List Vrp) (text other : List ℕ)
+    → AreReasonTexts form first route asn explained text → AreReasonTexts form first route asn explained other
+    → text ≡ other
+each_one form first route asn [] text other h k = h ∙ sym k
+each_one form first route asn (p ∷ explained) text other h k =
+    grind (arith, reason_one, each_one form false route asn explained)
+
+explanation_one : (form : Form) (route : FamilyPrefix) (asn : ℕ) (vrps : List Vrp) (text other : List ℕ)
+    → IsExplanationText form route asn vrps text → IsExplanationText form route asn vrps other → text ≡ other
+explanation_one form route asn vrps text other (explained, is, each) (others, are, all) =
+    each_one form true route asn others text other (rw (explained_one route vrps explained others is are) at each) all
 
 why_one : (why : Bool) (vrps : List Vrp) (route : FamilyPrefix) (asn : ℕ) (text other : List ℕ)
     → IsExplanationIf why vrps route asn text → IsExplanationIf why vrps route asn other → text ≡ other
 why_one false vrps route asn text other h k = h ∙ sym k
-why_one true vrps route asn text other (explained, is, each) (others, are, all) =
-    each_one route asn others text other (rw (explained_one route vrps explained others is are) at each) all
+why_one true vrps route asn text other h k = explanation_one Words route asn vrps text other h k
 
 route_answer_one : (why : Bool) (vrps : List Vrp) (route : FamilyPrefix) (asn : ℕ) (text other : List ℕ)
     → IsRouteAnswer why vrps route asn text → IsRouteAnswer why vrps route asn other → text ≡ other
@@ -108,3 +138,45 @@ answer_one why vrps line text other (inr (inr (f, wrong, h))) (inr (inl (nothing
 answer_one why vrps line text other (inr (inr (f, wrong, h))) (inr (inr (g, other_wrong, k))) =
     let same = (route_decided line).same f g wrong other_wrong in
     h ∙ ap (λ fault. fault_line (route_fault_text fault)) same ∙ sym k
+
+-- ---- one object of JSON alone
+
+vrps_member_one : (why : Bool) (vrps : List Vrp) (route : FamilyPrefix) (asn : ℕ) (text other : List ℕ)
+    → IsVrpsMember why vrps route asn text → IsVrpsMember why vrps route asn other → text ≡ other
+vrps_member_one false vrps route asn text other h k = h ∙ sym k
+vrps_member_one true vrps route asn text other (items, explains, h) (others, explain, k) =
+    grind (arith, explanation_one Json route asn vrps items others explains explain)
+
+route_object_one : (why : Bool) (vrps : List Vrp) (prefix : FamilyPrefix) (origin : Option ℕ) (text other : List ℕ)
+    → IsJsonRouteAnswer why vrps prefix origin text → IsJsonRouteAnswer why vrps prefix origin other → text ≡ other
+route_object_one why vrps prefix origin text other h k = grind (arith, outcome_one, vrps_member_one)
+
+line_value_one : (line text other : List ℕ) → IsLineValue line text → IsLineValue line other → text ≡ other
+line_value_one line text other h k = grind (arith)
+
+error_object_one : (fault : RouteFault) (line text other : List ℕ) → IsErrorObject fault line text
+    → IsErrorObject fault line other → text ≡ other
+error_object_one fault line text other (value, is, h) (another, are, k) =
+    grind (arith, line_value_one line value another is are)
+
+pub json_answer_one : (why : Bool) (vrps : List Vrp) (line text other : List ℕ)
+    → IsJsonAnswer why vrps line text → IsJsonAnswer why vrps line other → text ≡ other
+json_answer_one why vrps line text other (inl (a, is_a, h)) (inl (b, is_b, k)) =
+    let same = some_inj ((route_decided line).one (Some a) (Some b) is_a is_b) in
+    route_object_one why vrps b.prefix b.origin text other (rw same at h) k
+json_answer_one why vrps line text other (inl (a, is_a, h)) (inr (inl (nothing, k))) =
+    absurd (none_some ((route_decided line).one None (Some a) nothing is_a))
+json_answer_one why vrps line text other (inl (a, is_a, h)) (inr (inr (f, wrong, k))) =
+    absurd ((route_decided line).apart (Some a) f is_a wrong)
+json_answer_one why vrps line text other (inr (inl (nothing, h))) (inl (b, is_b, k)) =
+    absurd (none_some ((route_decided line).one None (Some b) nothing is_b))
+json_answer_one why vrps line text other (inr (inl (nothing, h))) (inr (inl (nothing_too, k))) = h ∙ sym k
+json_answer_one why vrps line text other (inr (inl (nothing, h))) (inr (inr (f, wrong, k))) =
+    absurd ((route_decided line).apart None f nothing wrong)
+json_answer_one why vrps line text other (inr (inr (f, wrong, h))) (inl (b, is_b, k)) =
+    absurd ((route_decided line).apart (Some b) f is_b wrong)
+json_answer_one why vrps line text other (inr (inr (f, wrong, h))) (inr (inl (nothing, k))) =
+    absurd ((route_decided line).apart None f nothing wrong)
+json_answer_one why vrps line text other (inr (inr (f, wrong, h))) (inr (inr (g, other_wrong, k))) =
+    let same = (route_decided line).same f g wrong other_wrong in
+    error_object_one g line text other (rw same at h) k

@@ -1,5 +1,5 @@
 -- The VRPs that cover a route, explained one after another.
-use Rattle.origins_lines.proofs.Common.{List, None, Option, Some, [], append_assoc, arith, get_or, inl, inr, length, map, refl, reverse, sym, ℕ, ◌++◌, ◌+◌, ◌↔◌, ◌∷◌, ◌≡◌, ◌≢◌, ◌≤◌, ◌⊎◌, append-nil, length-append, map-append, AllPairs, Contains, IsNonDecreasingBy, AreThose, CoversRoute, IsLawfulVrp, Vrp, prefix_len, as_sent, FamilyPrefix, IsFamilyPrefix, IsExplanation, IsReason, IsExplainedBefore, AreReasonTexts, IsNextReasonText, reason_and_vrp_text, Reason}
+use Rattle.origins_lines.proofs.Common.{Bool, List, false, true, ◌&&◌, None, Option, Some, [], append_assoc, arith, get_or, inl, inr, length, map, refl, reverse, sym, ℕ, ◌++◌, ◌+◌, ◌↔◌, ◌∷◌, ◌≡◌, ◌≢◌, ◌≤◌, ◌⊎◌, append-nil, length-append, map-append, AllPairs, Contains, IsNonDecreasingBy, AreThose, CoversRoute, IsLawfulVrp, Vrp, prefix_len, as_sent, FamilyPrefix, IsFamilyPrefix, IsExplanation, IsReason, IsExplainedBefore, AreReasonTexts, IsNextReasonText, Form, Reason, is_first, item_text}
 use Rattle.std.proofs.lemmas.Bool.{cases_lt}
 use Rattle.std.proofs.lemmas.Grind.{reverse_onto}
 use Rattle.std.proofs.lemmas.List.{get_or-append-add, reverse-append}
@@ -9,6 +9,7 @@ use Rattle.roa_origin.specs.Places.{table_place}
 use Rattle.roa_origin.proofs.NestedRoutes.{covers_between}
 use Rattle.roa_origin.proofs.OrderNumbers.{by_ranks, covers_place, no_earlier, rank_asn, rank_longest, rank_small, same_prefix, upper}
 use Rattle.roa_origin.proofs.ListMembers.{here, map_from, map_has, those_are, those_have}
+use Rattle.origins_lines.specs.declared.explanation.Form.TheVariants.{Json, Words}
 use Rattle.origins_lines.proofs.Members.{from_reverse, to_reverse}
 
 -- ---- the order in which they are explained
@@ -78,18 +79,28 @@ abbrev IsLastOf : Option Vrp → List Vrp → Type 0
 IsLastOf None done = done ≡ []
 IsLastOf (Some y) done = ((front : List Vrp) × (done ≡ front ++ y ∷ [])) × IsLawfulVrp y
 
+-- whether no VRP is explained
+abbrev pub is_empty : List Vrp → Bool
+is_empty [] = true
+is_empty (p ∷ explained) = false
+
+empty_pushed : (explained : List Vrp) (p : Vrp) → is_empty (explained ++ p ∷ []) ≡ false
+empty_pushed [] p = refl
+empty_pushed (q ∷ explained) p = refl
+
 -- each explained VRP is explained before it, or is the same as it is sent
 abbrev IsUpTo : Option Vrp → List Vrp → Type 0
 IsUpTo None explained = explained ≡ []
 IsUpTo (Some y) explained = (q : Vrp) → Contains explained q → IsExplainedBefore q y ⊎ (q ≡ as_sent y)
 
-pub record IsExplainedSo (route : FamilyPrefix) (asn : ℕ) (done : List Vrp) (last : Option Vrp) (text : List ℕ)
-    : Type 0 where
+pub record IsExplainedSo (form : Form) (route : FamilyPrefix) (asn : ℕ) (done : List Vrp) (last : Option Vrp)
+    (text : List ℕ) : Type 0 where
   pub explained : List Vrp
   pub ordered : AllPairs IsExplainedBefore explained
   pub members : (p : Vrp) → Contains explained p ↔ Contains (map as_sent done) p
-  pub texts : AreReasonTexts route asn explained text
+  pub texts : AreReasonTexts form true route asn explained text
   pub up_to : IsUpTo last explained
+  pub first : is_empty explained ≡ is_first last
   pub at_end : IsLastOf last done
 
 -- so it is explained before the next VRP, if the last one is
@@ -97,30 +108,43 @@ before : (last : Option Vrp) (explained : List Vrp) (x : Vrp) → IsUpTo last ex
     → ((y : Vrp) → last ≡ Some y → IsExplainedBefore y x) → (q : Vrp) → Contains explained q → IsExplainedBefore q x
 before last explained x up_to next q h = grind (arith)
 
-pub explained_none : (route : FamilyPrefix) (asn : ℕ) → IsExplainedSo route asn [] None []
-explained_none route asn = grind (arith)
+pub explained_none : (form : Form) (route : FamilyPrefix) (asn : ℕ) → IsExplainedSo form route asn [] None []
+explained_none form route asn = grind (arith)
+
+-- the text of a VRP as it is sent
+item_sent : (form : Form) (first : Bool) (reason : Reason) (p : Vrp)
+    → item_text form first reason (as_sent p) ≡ item_text form first reason p
+item_sent Words first reason p = refl
+item_sent Json true reason p = refl
+item_sent Json false reason p = refl
 
 -- the text of one more
-reason_texts_push : (route : FamilyPrefix) (asn : ℕ) (explained : List Vrp) (text : List ℕ) (p : Vrp) (reason : Reason)
-    → IsReason route asn p reason → AreReasonTexts route asn explained text
-    → AreReasonTexts route asn (explained ++ p ∷ []) (text ++ reason_and_vrp_text reason p)
-reason_texts_push route asn [] text p reason is e = grind (arith, append-nil)
-reason_texts_push route asn (q ∷ explained) text p reason is (r, of_q, more, e, rest) =
-    grind (arith, append_assoc, reason_texts_push route asn explained more p reason is rest)
+reason_texts_push : (form : Form) (first : Bool) (route : FamilyPrefix) (asn : ℕ) (explained : List Vrp)
+    (text : List ℕ) (p : Vrp) (reason : Reason) → IsReason route asn p reason
+    → AreReasonTexts form first route asn explained text
+    → AreReasonTexts form first route asn (explained ++ p ∷ [])
+    (text ++ item_text form (first && is_empty explained) reason p)
+reason_texts_push form true route asn [] text p reason is e = grind (arith, append-nil)
+reason_texts_push form false route asn [] text p reason is e = grind (arith, append-nil)
+reason_texts_push form true route asn (q ∷ explained) text p reason is (r, of_q, more, e, rest) =
+    grind (arith, append_assoc, reason_texts_push form false route asn explained more p reason is rest)
+reason_texts_push form false route asn (q ∷ explained) text p reason is (r, of_q, more, e, rest) =
+    grind (arith, append_assoc, reason_texts_push form false route asn explained more p reason is rest)
 
-module _ (route : FamilyPrefix) (asn : ℕ) (done : List Vrp) (x : Vrp) (lawful : IsLawfulVrp x) where
+module _ (form : Form) (route : FamilyPrefix) (asn : ℕ) (done : List Vrp) (x : Vrp) (lawful : IsLawfulVrp x) where
   more_sent : map as_sent (done ++ x ∷ []) ≡ map as_sent done ++ as_sent x ∷ []
   more_sent = map-append as_sent done (x ∷ [])
 
   -- a VRP that is the same, as it is sent, as the last one isn't explained again
-  pub explained_same : (y : Vrp) (text : List ℕ) → as_sent y ≡ as_sent x → IsExplainedSo route asn done (Some y) text
-      → IsExplainedSo route asn (done ++ x ∷ []) (Some x) text
+  pub explained_same : (y : Vrp) (text : List ℕ) → as_sent y ≡ as_sent x
+      → IsExplainedSo form route asn done (Some y) text → IsExplainedSo form route asn (done ++ x ∷ []) (Some x) text
   explained_same y text same had = record {
     explained = had.explained;
     ordered = had.ordered;
     members = λ p. rw more_sent (again_pushed had.explained (map as_sent done) (as_sent x) p had.members was);
     texts = had.texts;
     up_to = λ q h. grind (arith, had.up_to q h);
+    first = had.first;
     at_end = ((done, refl), lawful);
   }
     where
@@ -133,8 +157,8 @@ module _ (route : FamilyPrefix) (asn : ℕ) (done : List Vrp) (x : Vrp) (lawful 
 
   -- and any other is
   pub explained_more : (last : Option Vrp) (text : List ℕ) (reason : Reason) → IsReason route asn x reason
-      → ((y : Vrp) → last ≡ Some y → IsExplainedBefore y x) → IsExplainedSo route asn done last text
-      → IsExplainedSo route asn (done ++ x ∷ []) (Some x) (text ++ reason_and_vrp_text reason x)
+      → ((y : Vrp) → last ≡ Some y → IsExplainedBefore y x) → IsExplainedSo form route asn done last text
+      → IsExplainedSo form route asn (done ++ x ∷ []) (Some x) (text ++ item_text form (is_first last) reason x)
   explained_more last text reason is next had =
       let earlier = before last had.explained x had.up_to next in
       record {
@@ -142,7 +166,9 @@ module _ (route : FamilyPrefix) (asn : ℕ) (done : List Vrp) (x : Vrp) (lawful 
         ordered = all_pairs_push IsExplainedBefore had.explained (as_sent x) had.ordered
             (λ k d small. earlier (get_or had.explained k d) (Contains-get_or had.explained k d small));
         members = λ p. rw more_sent (same_pushed had.explained (map as_sent done) (as_sent x) p (had.members p));
-        texts = reason_texts_push route asn had.explained text (as_sent x) reason (reason_sent reason is) had.texts;
+        texts = rw (← had.first, ← item_sent form (is_empty had.explained) reason x)
+            (reason_texts_push form true route asn had.explained text (as_sent x) reason (reason_sent reason is) had.texts);
+        first = empty_pushed had.explained (as_sent x);
         up_to = λ q h. elim (Contains-push_cases had.explained (as_sent x) q h) [
           | inl there ↦ inl (earlier q there)
           | inr e ↦ inr (sym e)
@@ -166,16 +192,19 @@ module _ (route : FamilyPrefix) (table all : List Vrp) (those : AreThose (Covers
       grind (arith, there, from_reverse all x, map_has as_sent all x)
 
 -- when all are done, the list explains the route
-pub all_explained : (route : FamilyPrefix) (asn : ℕ) (table all : List Vrp) (last : Option Vrp) (text : List ℕ)
-    → AreThose (CoversRoute route) table (reverse all) → (had : IsExplainedSo route asn all last text)
-    → IsExplanation route table had.explained
-all_explained route asn table all last text those had = record {
+pub all_explained : (form : Form) (route : FamilyPrefix) (asn : ℕ) (table all : List Vrp) (last : Option Vrp)
+    (text : List ℕ) → AreThose (CoversRoute route) table (reverse all)
+    → (had : IsExplainedSo form route asn all last text) → IsExplanation route table had.explained
+all_explained form route asn table all last text those had = record {
   ordered = had.ordered;
-  members = λ p. grind (arith, had.members p, sent_on route table all those p, sent_back route table all those p);
+  members = λ p. (
+    λ h. sent_on route table all those p ((had.members p).0 h),
+    λ (covers, inside). (had.members p).1 (sent_back route table all those p covers inside),
+  );
 }
 
 -- the next VRP of those that cover a route
-module _ (route : FamilyPrefix) (is : IsFamilyPrefix route) (asn : ℕ) (table all done rest : List Vrp) (x : Vrp)
+module _ (form : Form) (route : FamilyPrefix) (is : IsFamilyPrefix route) (asn : ℕ) (table all done rest : List Vrp) (x : Vrp)
     (lawful : IsLawfulVrp x) (those : AreThose (CoversRoute route) table (reverse all))
     (lens : IsNonDecreasingBy prefix_len (reverse all)) (places : IsNonDecreasingBy table_place (reverse all))
     (cut : all ≡ done ++ x ∷ rest) where
@@ -191,10 +220,14 @@ module _ (route : FamilyPrefix) (is : IsFamilyPrefix route) (asn : ℕ) (table a
       let long = adjacent prefix_len all done front rest y x lens cut ends in
       grind (arith, explained_or_same route is y x of_y lawful covers_y covers_x far long)
 
-  pub explained_next : (last : Option Vrp) (why more : List ℕ) → IsExplainedSo route asn done last why
-      → IsNextReasonText route asn last x more → IsExplainedSo route asn (done ++ x ∷ []) (Some x) (why ++ more)
-  explained_next None why more had k = grind (arith, explained_more)
-  explained_next (Some y) why more had (inl (again, e)) = grind (arith, append-nil, explained_same)
+  pub explained_next : (last : Option Vrp) (why more : List ℕ) → IsExplainedSo form route asn done last why
+      → IsNextReasonText form route asn last x more
+      → IsExplainedSo form route asn (done ++ x ∷ []) (Some x) (why ++ more)
+  explained_next None why more had (inl (again, e)) = absurd again
+  explained_next None why more had (inr (other, (reason, against, e))) =
+      rw e (explained_more form route asn done x lawful None why reason against (λ z f. grind (arith)) had)
+  explained_next (Some y) why more had (inl (again, e)) =
+      rw (e, append-nil) (explained_same form route asn done x lawful y why again had)
   explained_next (Some y) why more had (inr (other, (reason, against, e))) =
       let next = behind y had.at_end other in
-      rw e (explained_more route asn done x lawful (Some y) why reason against (λ z f. grind (arith, next)) had)
+      rw e (explained_more form route asn done x lawful (Some y) why reason against (λ z f. grind (arith, next)) had)

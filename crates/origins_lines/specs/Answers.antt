@@ -6,6 +6,7 @@ use Rattle.roa_origin.specs.Vrps.{Vrp}
 use Rattle.origins_lines.specs.Explanations.{IsExplanationText}
 use Rattle.origins_lines.specs.Outcomes.{IsOutcomeOf, asked_asn, outcome_text}
 use Rattle.origins_lines.specs.Routes.{IsRouteLine, IsSkippedLine, HasRouteFault, route_fault_text}
+use Rattle.origins_lines.specs.declared.explanation.Form.TheVariants.{Words}
 use Rattle.origins_lines.specs.declared.fault.RouteFault.{RouteFault}
 use Rattle.origins_lines.specs.declared.outcome.Outcome.{Outcome}
 use Rattle.origins_lines.specs.declared.route.Route.{Route}
@@ -13,7 +14,7 @@ use Rattle.origins_lines.specs.declared.route.Route.{Route}
 -- the text is the explanation of a route if it is requested, and otherwise empty
 abbrev pub IsExplanationIf : Bool → List Vrp → FamilyPrefix → ℕ → List ℕ → Type 0
 IsExplanationIf false vrps route asn text = text ≡ []
-IsExplanationIf true vrps route asn text = IsExplanationText route asn vrps text
+IsExplanationIf true vrps route asn text = IsExplanationText Words route asn vrps text
 
 -- the text is the word for the outcome of the route that the AS originates, with its explanation if that is requested
 abbrev pub IsRouteAnswer : Bool → List Vrp → FamilyPrefix → ℕ → List ℕ → Type 0

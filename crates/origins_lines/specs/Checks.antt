@@ -1,33 +1,46 @@
--- The lines that a check looks for: they begin with 'i' or 'e', as the answers to invalid routes and errors do.
-use Rattle.std.specs.Prelude.{◌≡◌, ◌==◌, ◌&&◌, ◌||◌, ℕ, ◌-◌, ◌<◌, ◌⊎◌, ◌↔◌, Bool, true, false, IsTrue, List, [], ◌∷◌, Option, None, Some, length, not, slice_index_or, if◌then◌else◌}
+-- The lines that a check looks for: at a place they have 'i' or 'e', as the answers to invalid routes and errors do.
+use Rattle.std.specs.Prelude.{◌≡◌, ◌==◌, ◌&&◌, ◌||◌, ℕ, ◌+◌, ◌<◌, ◌⊎◌, ◌↔◌, Bool, true, false, IsTrue, List, [], ◌∷◌, Option, None, Some, length, min, nat_le, not, slice_index_or, take, if◌then◌else◌}
 use Rattle.origins_lines.specs.declared.check.Seen.{Seen}
 
--- a line begins at an index if that is 0, or if the octet before it is 0a
-abbrev pub BeginsLine : List ℕ → ℕ → Type 0
-BeginsLine octets at = (at ≡ 0) ⊎ (slice_index_or octets (at - 1) 0 ≡ 10)
+-- the number of octets after the last 0a; the number before the first octet is `column`
+abbrev pub column_after : ℕ → List ℕ → ℕ
+column_after column [] = column
+column_after column (octet ∷ octets) = column_after (if octet == 10 then 0 else column + 1) octets
+
+-- the number of octets of its line that are before the octet at an index
+abbrev pub column_of : List ℕ → ℕ → ℕ
+column_of octets at = column_after 0 (take at octets)
 
 -- the octet is 'i' or 'e'
 abbrev pub IsFaultInitial : ℕ → Type 0
 IsFaultInitial octet = (octet ≡ 105) ⊎ (octet ≡ 101)
 
--- a line of the octets begins with 'i' or 'e'
-abbrev pub HasFound : List ℕ → Type 0
-HasFound octets = (at : ℕ) × (at < length octets) × BeginsLine octets at × IsFaultInitial (slice_index_or octets at 0)
+-- a line of the octets has 'i' or 'e' after `place` other octets
+abbrev pub HasFound : ℕ → List ℕ → Type 0
+HasFound place octets = (at : ℕ) × (at < length octets) × (column_of octets at ≡ place) × IsFaultInitial (slice_index_or octets at 0)
 
--- the state of a check of octets: whether a line begins after them, and whether one of their lines begins with 'i' or
--- 'e'
-pub record IsSeen (octets : List ℕ) (seen : Seen) : Type 0 where
-  pub start : IsTrue seen.is_at_start ↔ BeginsLine octets (length octets)
-  pub found : IsTrue seen.has_found ↔ HasFound octets
+-- the state of a check of octets: the octets of the last line, at most one more than `place`, and whether a line has
+-- 'i' or 'e' at the place
+pub record IsSeen (place : ℕ) (octets : List ℕ) (seen : Seen) : Type 0 where
+  pub place_is : seen.place ≡ place
+  pub column_is : seen.column ≡ min (column_after 0 octets) (place + 1)
+  pub found : IsTrue seen.has_found ↔ HasFound place octets
 
 -- the state before any octet
-abbrev pub seen_nothing : Seen
-seen_nothing = record { is_at_start = true; has_found = false }
+abbrev pub seen_nothing : ℕ → Seen
+seen_nothing place = record { place = place; column = 0; has_found = false }
+
+-- the column after one more octet
+abbrev pub column_with : Seen → ℕ → ℕ
+column_with seen octet = if octet == 10 then 0 else (if nat_le seen.column seen.place then seen.column + 1 else seen.column)
 
 -- the state after one more octet
 abbrev pub seen_with : Seen → ℕ → Seen
-seen_with seen octet =
-    record { is_at_start = octet == 10; has_found = seen.has_found || (seen.is_at_start && (octet == 105 || octet == 101)) }
+seen_with seen octet = record {
+  place = seen.place;
+  column = column_with seen octet;
+  has_found = seen.has_found || (seen.column == seen.place && (octet == 105 || octet == 101));
+}
 
 -- the state after more octets
 abbrev pub seen_behind : Seen → List ℕ → Seen
@@ -38,9 +51,12 @@ seen_behind seen (octet ∷ octets) = seen_behind (seen_with seen octet) octets
 abbrev pub is_same : Bool → Bool → Bool
 is_same a b = if a then b else not b
 
+-- whether two states of one place are equal
+abbrev pub is_same_state : Seen → Seen → Bool
+is_same_state a b = a.column == b.column && is_same a.has_found b.has_found
+
 -- the known octets if `seen` is the state of a check of them; otherwise they are unknown
 abbrev pub known_seen : Seen → Option (List ℕ) → Option (List ℕ)
 known_seen seen None = None
 known_seen seen (Some octets) =
-    if is_same (seen_behind seen_nothing octets).is_at_start seen.is_at_start
-    && is_same (seen_behind seen_nothing octets).has_found seen.has_found then Some octets else None
+    if is_same_state (seen_behind (seen_nothing seen.place) octets) seen then Some octets else None

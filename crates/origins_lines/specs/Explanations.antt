@@ -1,11 +1,13 @@
 -- The VRPs that cover a route, and the relation of each to the route (RFC 6811, 2).
-use Rattle.std.specs.Prelude.{◌≡◌, ◌⊎◌, ◌↔◌, ◌<◌, ◌≤◌, ℕ, List, [], ◌∷◌, ◌++◌, Option, Some, None, AllPairs, Contains, codes, decimal, map}
+use Rattle.std.specs.Prelude.{◌≡◌, ◌⊎◌, ◌↔◌, ◌<◌, ◌≤◌, ℕ, Bool, true, false, List, [], ◌∷◌, ◌++◌, Option, Some, None, AllPairs, Contains, codes, decimal, map}
 use Rattle.rpki_text.specs.Cuts.{dash}
 use Rattle.rpki_base.specs.AsnText.{asn_text}
 use Rattle.rpki_prefix.specs.PrefixText.{prefix_text}
 use Rattle.rpki_prefix.specs.Values.{FamilyPrefix}
 use Rattle.roa_origin.specs.Vrps.{CoversRoute, HasAs, Vrp, longest, prefix_len}
 use Rattle.roa_origin.specs.Tables.{as_sent}
+use Rattle.origins_lines.specs.declared.explanation.Form.{Form}
+use Rattle.origins_lines.specs.declared.explanation.Form.TheVariants.{Json, Words}
 use Rattle.origins_lines.specs.declared.explanation.Reason.{Reason}
 use Rattle.origins_lines.specs.declared.explanation.Reason.TheVariants.{Match, Length, As}
 
@@ -38,22 +40,58 @@ pub record IsExplanation (route : FamilyPrefix) (vrps explained : List Vrp) : Ty
 abbrev pub reason_and_vrp_text : Reason → Vrp → List ℕ
 reason_and_vrp_text reason p = codes " " ++ reason_text reason ++ codes ":" ++ prefix_text p.0.prefix ++ dash ∷ decimal (longest p) ++ codes ":" ++ asn_text p.1
 
--- the text printed for the VRPs of a list, one after the other
-abbrev pub AreReasonTexts : FamilyPrefix → ℕ → List Vrp → List ℕ → Type 0
-AreReasonTexts route asn [] text = text ≡ []
-AreReasonTexts route asn (p ∷ explained) text =
-    (reason : Reason) × IsReason route asn p reason × (more : List ℕ) × (text ≡ reason_and_vrp_text reason p ++ more) × AreReasonTexts route asn explained more
+-- the texts before the members of an object of JSON for a VRP
+unfoldable pub reason_key : List ℕ
+reason_key = codes "{\"reason\":\""
+
+unfoldable pub prefix_key : List ℕ
+prefix_key = codes "\",\"prefix\":\""
+
+unfoldable pub max_length_key : List ℕ
+max_length_key = codes "\",\"max_length\":"
+
+unfoldable pub asn_key : List ℕ
+asn_key = codes ",\"asn\":\""
+
+-- the first two members of an object of JSON for a VRP: its relation to the route, and its prefix
+abbrev pub vrp_front : Reason → Vrp → List ℕ
+vrp_front reason p = reason_key ++ reason_text reason ++ prefix_key ++ prefix_text p.0.prefix
+
+-- the last two members: its maximum length, and its AS
+abbrev pub vrp_back : Vrp → List ℕ
+vrp_back p = max_length_key ++ decimal (longest p) ++ asn_key ++ asn_text p.1 ++ codes "\"}"
+
+-- a VRP as an object of JSON (RFC 8259)
+abbrev pub vrp_object : Reason → Vrp → List ℕ
+vrp_object reason p = vrp_front reason p ++ vrp_back p
+
+-- the text of a VRP in an explanation; a comma is before each object of JSON except the first
+abbrev pub item_text : Form → Bool → Reason → Vrp → List ℕ
+item_text Words first reason p = reason_and_vrp_text reason p
+item_text Json true reason p = vrp_object reason p
+item_text Json false reason p = codes "," ++ vrp_object reason p
+
+-- the text printed for the VRPs of a list, one after the other; the first of them is the first of an explanation or not
+abbrev pub AreReasonTexts : Form → Bool → FamilyPrefix → ℕ → List Vrp → List ℕ → Type 0
+AreReasonTexts form first route asn [] text = text ≡ []
+AreReasonTexts form first route asn (p ∷ explained) text =
+    (reason : Reason) × IsReason route asn p reason × (more : List ℕ) × (text ≡ item_text form first reason p ++ more) × AreReasonTexts form false route asn explained more
 
 -- the VRP is the same, as it is sent, as the one before it
 abbrev pub IsSentAgain : Option Vrp → Vrp → Type 0
 IsSentAgain None p = ⊥
 IsSentAgain (Some before) p = as_sent before ≡ as_sent p
 
+-- whether there is no VRP before
+abbrev pub is_first : Option Vrp → Bool
+is_first None = true
+is_first (Some before) = false
+
 -- the text printed for a VRP after the one before it; it is empty if both are sent alike
-abbrev pub IsNextReasonText : FamilyPrefix → ℕ → Option Vrp → Vrp → List ℕ → Type 0
-IsNextReasonText route asn last p text =
-    (IsSentAgain last p × (text ≡ [])) ⊎ ((¬ IsSentAgain last p) × ((reason : Reason) × IsReason route asn p reason × (text ≡ reason_and_vrp_text reason p)))
+abbrev pub IsNextReasonText : Form → FamilyPrefix → ℕ → Option Vrp → Vrp → List ℕ → Type 0
+IsNextReasonText form route asn last p text =
+    (IsSentAgain last p × (text ≡ [])) ⊎ ((¬ IsSentAgain last p) × ((reason : Reason) × IsReason route asn p reason × (text ≡ item_text form (is_first last) reason p)))
 
 -- the text is the explanation of a route
-abbrev pub IsExplanationText : FamilyPrefix → ℕ → List Vrp → List ℕ → Type 0
-IsExplanationText route asn vrps text = (explained : List Vrp) × IsExplanation route vrps explained × AreReasonTexts route asn explained text
+abbrev pub IsExplanationText : Form → FamilyPrefix → ℕ → List Vrp → List ℕ → Type 0
+IsExplanationText form route asn vrps text = (explained : List Vrp) × IsExplanation route vrps explained × AreReasonTexts form true route asn explained text

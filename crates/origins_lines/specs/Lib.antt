@@ -4,6 +4,7 @@ pub mod Answers
 pub mod Checks
 pub mod Explanations
 pub mod FileResult
+pub mod JsonAnswers
 pub mod Outcomes
 pub mod Readers
 pub mod Routes

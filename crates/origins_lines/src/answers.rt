@@ -3,7 +3,7 @@ ghost use Rattle.std.specs.Prelude.{◌≡◌, [], OnOk};
 ghost use Rattle.std.specs.String.{string_bytes};
 ghost use Rattle.origins_lines.specs.Answers.{IsRouteAnswer};
 
-use crate::explanation::push_why;
+use crate::explanation::{Form, push_why};
 use crate::outcome::{asked_asn, outcome_of};
 use crate::route::{Route, read_route};
 use lines_engine::answers::Answers;
@@ -54,7 +54,11 @@ impl<B: Allocator> Answers for Routes<'_, B> {
 }
 
 /// Returns the lookup of the route to `route` that `asn` originates, with no step left.
-fn ended_lookup<B: Allocator>(table: &OriginTable<B>, route: Prefix, asn: Asn) -> Lookup<'_>
+pub(crate) fn ended_lookup<B: Allocator>(
+    table: &OriginTable<B>,
+    route: Prefix,
+    asn: Asn,
+) -> Lookup<'_>
     ensures vrps { result.vrps ≡ table.now }
     ensures route { result.route ≡ route }
     ensures asn { result.asn ≡ asn }
@@ -86,5 +90,5 @@ fn write_answer<A: Allocator, B: Allocator>(
     if !why {
         return Ok(());
     }
-    push_why(text, &lookup, route, asn)
+    push_why(text, Form::Words, &lookup, route, asn)
 }

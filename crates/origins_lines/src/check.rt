@@ -1,18 +1,24 @@
 //! Finds invalid routes and invalid lines in the answers to routes.
 ghost use Rattle.std.specs.Prelude.{◌≡◌, ◌++◌, ◌↔◌, ◌⊎◌, [], ℕ, IsTrue, List};
-ghost use Rattle.origins_lines.specs.Checks.{IsSeen, IsFaultInitial, seen_behind, seen_nothing, seen_with};
+ghost use Rattle.origins_lines.specs.Checks.{IsSeen, IsFaultInitial, column_with, seen_behind, seen_nothing, seen_with};
 
 /// The state of a check after some bytes.
 ///
-/// The check looks for lines that begin with `i` or `e`. The answers `invalid-as`, `invalid-length` and `error: ..`
-/// begin so, and no others.
+/// The check looks for lines that have `i` or `e` at a place. At the place 0, the beginning, the answers `invalid-as`,
+/// `invalid-length` and `error: ..` have one of these bytes, and no others. At the place [`STATE`] an object of JSON
+/// has one of them if its state is `invalid` or `error`, and no other object has.
 #[derive(Clone, Copy, Debug)]
 pub struct Seen {
-    /// Whether a line begins after the bytes.
-    pub is_at_start: bool,
-    /// Whether a line with `i` or `e` at its start begins in the bytes.
+    /// The number of bytes in a line before the byte that the check looks at.
+    pub place: u8,
+    /// The number of bytes after the last end of line, but at most `place` + 1.
+    pub column: usize,
+    /// Whether a line with `i` or `e` at the place is in the bytes, up to this byte.
     pub has_found: bool,
 }
+
+/// The place of the state's first byte in an object of [`JsonRoutes`](crate::JsonRoutes).
+pub const STATE: u8 = 10;
 
 /// Returns whether a check looks for lines that begin with `byte`.
 fn is_fault_initial(byte: u8) -> bool
@@ -22,22 +28,43 @@ fn is_fault_initial(byte: u8) -> bool
 }
 
 impl Seen {
-    /// Returns the state before any byte.
-    pub fn nothing() -> Seen
-        ensures seen { IsSeen [] result }
-        ensures value { result ≡ seen_nothing }
+    /// Returns the state before any byte. The check looks at the byte of a line after `place` bytes.
+    pub fn nothing(place: u8) -> Seen
+        ensures seen { IsSeen place [] result }
+        ensures value { result ≡ seen_nothing place }
     {
         Seen {
-            is_at_start: true,
+            place,
+            column: 0,
             has_found: false,
         }
     }
 
-    /// Returns whether such a line begins in the bytes, `byte` included.
-    fn has_found_with(self, byte: u8) -> bool
-        ensures { IsTrue result ↔ (IsTrue self.has_found ⊎ (IsTrue self.is_at_start × IsFaultInitial byte)) }
+    /// Returns whether the next byte is at the place that the check looks at.
+    fn is_at_place(self) -> bool
+        ensures { IsTrue result ↔ (self.column ≡ self.place) }
     {
-        self.has_found || (self.is_at_start && is_fault_initial(byte))
+        self.column == usize::from(self.place)
+    }
+
+    /// Returns whether such a line is in the bytes, `byte` included.
+    fn has_found_with(self, byte: u8) -> bool
+        ensures { IsTrue result ↔ (IsTrue self.has_found ⊎ ((self.column ≡ self.place) × IsFaultInitial byte)) }
+    {
+        self.has_found || (self.is_at_place() && is_fault_initial(byte))
+    }
+
+    /// Returns the column after one more byte.
+    fn column_with(self, byte: u8) -> usize
+        ensures { result ≡ column_with self byte }
+    {
+        if byte == b'\n' {
+            0
+        } else if self.column <= usize::from(self.place) {
+            self.column + 1
+        } else {
+            self.column
+        }
     }
 
     /// Returns the state after one more byte.
@@ -45,14 +72,15 @@ impl Seen {
         ensures { result ≡ seen_with self byte }
     {
         Seen {
-            is_at_start: byte == b'\n',
+            place: self.place,
+            column: self.column_with(byte),
             has_found: self.has_found_with(byte),
         }
     }
 
     /// Returns the state after the bytes of `piece`.
     pub fn with_all(self, piece: &[u8]) -> Seen
-        ensures seen { (octets : List ℕ) → IsSeen octets self → IsSeen (octets ++ piece.now) result }
+        ensures seen { (octets : List ℕ) → IsSeen self.place octets self → IsSeen self.place (octets ++ piece.now) result }
         ensures value { result ≡ seen_behind self piece.now }
     {
         let mut seen = self;

@@ -15,23 +15,39 @@ impl<W: Sink> Watched<W> {
     ghost use Rattle.origins_lines.specs.Checks.{HasFound};
 
     /// Wraps a sink that is at the start of a line, for example one to which nothing was written.
+    ///
+    /// The check looks at the first byte of each line.
     pub fn new(sink: W) -> Watched<W>
         ensures written { W.written sink ≡ Some [] → ⟦<Watched<W> as Sink>⟧.written result ≡ Some [] }
         ensures mark { ⟦<Watched<W> as Sink>⟧.mark result ≡ W.mark sink }
         ensures flushed { ⟦<Watched<W> as Sink>⟧.flushed result ≡ W.flushed sink }
+        ensures place { result.seen.place ≡ 0 }
+    {
+        Watched::with_place(sink, 0)
+    }
+
+    /// Wraps a sink that is at the start of a line, for example one to which nothing was written.
+    ///
+    /// The check looks at the byte of each line after `place` bytes.
+    pub fn with_place(sink: W, place: u8) -> Watched<W>
+        ensures written { W.written sink ≡ Some [] → ⟦<Watched<W> as Sink>⟧.written result ≡ Some [] }
+        ensures mark { ⟦<Watched<W> as Sink>⟧.mark result ≡ W.mark sink }
+        ensures flushed { ⟦<Watched<W> as Sink>⟧.flushed result ≡ W.flushed sink }
+        ensures place { result.seen.place ≡ place }
     {
         Watched {
             sink,
-            seen: Seen::nothing(),
+            seen: Seen::nothing(place),
         }
     }
 
-    /// Returns whether one of the written lines begins with `i` or `e`.
+    /// Returns whether one of the written lines has `i` or `e` at the place that the check looks at.
     ///
-    /// The answers `invalid-as`, `invalid-length` and `error: ..` do.
+    /// At the place 0 the answers `invalid-as`, `invalid-length` and `error: ..` have.
     #[tactic(auto, using(crate::proofs::CheckLemmas::known_found))]
     pub fn has_found(&self) -> bool
-        ensures { IfSome (⟦<Watched<W> as Sink>⟧.written self.now) (λ octets. IsTrue result ↔ HasFound octets) }
+        ensures { IfSome (⟦<Watched<W> as Sink>⟧.written self.now) (λ octets.
+            IsTrue result ↔ HasFound self.now.seen.place octets) }
     {
         self.seen.has_found
     }

@@ -2,7 +2,7 @@
 ghost use Rattle.std.specs.Prelude.{◌≡◌, ◌↔◌, ◌++◌, ℕ, List, IsTrue, OnOk};
 ghost use Rattle.std.specs.String.{string_bytes};
 ghost use Rattle.roa_origin.specs.Tables.{as_sent};
-ghost use Rattle.origins_lines.specs.Explanations.{IsReason, IsSentAgain, IsNextReasonText, IsExplanationText, reason_and_vrp_text};
+ghost use Rattle.origins_lines.specs.Explanations.{IsReason, IsSentAgain, IsNextReasonText, IsExplanationText, asn_key, is_first, item_text, max_length_key, prefix_key, reason_and_vrp_text, reason_key, vrp_back, vrp_front, vrp_object};
 ghost use Rattle.origins_lines.specs.declared.explanation.Reason.{Reason};
 
 use crate::outcome::has_as;
@@ -39,6 +39,15 @@ impl fmt::Display for Reason {
     }
 }
 
+/// The form in which the VRPs that cover a route are printed.
+#[derive(Clone, Copy, Debug, PartialEq, Eq)]
+pub enum Form {
+    /// Words, each after a space, for example ` match:192.0.2.0/23-24:AS64496`.
+    Words,
+    /// Objects of JSON (RFC 8259), with commas between them.
+    Json,
+}
+
 /// Returns the relation of a VRP that covers a route to the route.
 fn reason_for(route: Prefix, asn: Asn, vrp: &Vrp) -> Reason
     ensures { IsReason route asn vrp.now result }
@@ -60,12 +69,13 @@ fn reason_for(route: Prefix, asn: Asn, vrp: &Vrp) -> Reason
 /// `lookup` is a lookup of `route`.
 pub(crate) fn push_why<A: Allocator>(
     text: &mut String<A>,
+    form: Form,
     lookup: &Lookup<'_>,
     route: Prefix,
     asn: Asn,
 ) -> Result<(), AllocError>
     requires { lookup.now.route ≡ route }
-    ensures { OnOk result ((why : List ℕ) × IsExplanationText route asn lookup.now.vrps why
+    ensures { OnOk result ((why : List ℕ) × IsExplanationText form route asn lookup.now.vrps why
         × (string_bytes text.new ≡ string_bytes text.old ++ why)) }
 {
     route.recall_invariant();
@@ -73,7 +83,7 @@ pub(crate) fn push_why<A: Allocator>(
     for vrp in lookup.covering() {
         vrp.0.recall_invariant();
         vrp.1.recall_invariant();
-        push_next(text, route, asn, &last, &vrp)?;
+        push_next(text, form, route, asn, &last, &vrp)?;
         last = Some(vrp);
     }
     Ok(())
@@ -83,18 +93,19 @@ pub(crate) fn push_why<A: Allocator>(
 /// sent, as `last`, the VRP before it.
 fn push_next<A: Allocator>(
     text: &mut String<A>,
+    form: Form,
     route: Prefix,
     asn: Asn,
     last: &Option<Vrp>,
     vrp: &Vrp,
 ) -> Result<(), AllocError>
-    ensures { OnOk result ((more : List ℕ) × IsNextReasonText route asn last.now vrp.now more
+    ensures { OnOk result ((more : List ℕ) × IsNextReasonText form route asn last.now vrp.now more
         × (string_bytes text.new ≡ string_bytes text.old ++ more)) }
 {
     if is_sent_again(last, vrp) {
         return Ok(());
     }
-    push_vrp(text, route, asn, vrp)
+    push_vrp(text, form, is_first(last), route, asn, vrp)
 }
 
 /// Returns whether a VRP is the same, as it is sent, as the one before it.
@@ -105,6 +116,13 @@ fn is_sent_again(last: &Option<Vrp>, vrp: &Vrp) -> bool
         Some(before) => is_same(before, vrp),
         None => false,
     }
+}
+
+/// Returns whether there is no VRP before.
+fn is_first(last: &Option<Vrp>) -> bool
+    ensures { result ≡ is_first last.now }
+{
+    last.is_none()
 }
 
 /// Returns whether two VRPs are the same, as they are sent.
@@ -119,16 +137,119 @@ fn is_same(one: &Vrp, other: &Vrp) -> bool
 /// Appends a VRP that covers a route, with its relation to the route.
 fn push_vrp<A: Allocator>(
     text: &mut String<A>,
+    form: Form,
+    is_first: bool,
     route: Prefix,
     asn: Asn,
     vrp: &Vrp,
 ) -> Result<(), AllocError>
     ensures { OnOk result ((reason : Reason) × IsReason route asn vrp.now reason
-        × (string_bytes text.new ≡ string_bytes text.old ++ reason_and_vrp_text reason vrp.now)) }
+        × (string_bytes text.new ≡ string_bytes text.old ++ item_text form is_first reason vrp.now)) }
 {
     let reason = reason_for(route, asn, vrp);
+    push_item(text, form, is_first, reason, vrp)
+}
+
+/// Appends a VRP with its relation to a route. An object of JSON that is not the first has a comma before it.
+fn push_item<A: Allocator>(
+    text: &mut String<A>,
+    form: Form,
+    is_first: bool,
+    reason: Reason,
+    vrp: &Vrp,
+) -> Result<(), AllocError>
+    ensures { OnOk result (string_bytes text.new ≡ string_bytes text.old ++ item_text form is_first reason vrp.now) }
+{
+    match form {
+        Form::Words => push_words(text, reason, vrp),
+        Form::Json => if is_first {
+            push_object(text, reason, vrp)
+        } else {
+            text.push_str(",")?;
+            push_object(text, reason, vrp)
+        },
+    }
+}
+
+/// Appends a VRP with its relation to a route, as a word after a space.
+fn push_words<A: Allocator>(
+    text: &mut String<A>,
+    reason: Reason,
+    vrp: &Vrp,
+) -> Result<(), AllocError>
+    ensures { OnOk result (string_bytes text.new ≡ string_bytes text.old ++ reason_and_vrp_text reason vrp.now) }
+{
     let prefix = vrp.0.prefix();
     let len = vrp.0.resolved_max_len();
     let holder = vrp.1;
     write!(text, " {reason}:{prefix}-{len}:{holder}")
+}
+
+/// Appends a VRP with its relation to a route, as an object of JSON.
+fn push_object<A: Allocator>(
+    text: &mut String<A>,
+    reason: Reason,
+    vrp: &Vrp,
+) -> Result<(), AllocError>
+    ensures { OnOk result (string_bytes text.new ≡ string_bytes text.old ++ vrp_object reason vrp.now) }
+{
+    push_front(text, reason, vrp)?;
+    push_back(text, vrp)
+}
+
+/// Appends the first two members of an object of JSON for a VRP.
+fn push_front<A: Allocator>(
+    text: &mut String<A>,
+    reason: Reason,
+    vrp: &Vrp,
+) -> Result<(), AllocError>
+    ensures { OnOk result (string_bytes text.new ≡ string_bytes text.old ++ vrp_front reason vrp.now) }
+{
+    let prefix = vrp.0.prefix();
+    let before_reason = reason_key();
+    let before_prefix = prefix_key();
+    write!(text, "{before_reason}{reason}{before_prefix}{prefix}")
+}
+
+/// Appends the last two members of an object of JSON for a VRP.
+fn push_back<A: Allocator>(text: &mut String<A>, vrp: &Vrp) -> Result<(), AllocError>
+    ensures { OnOk result (string_bytes text.new ≡ string_bytes text.old ++ vrp_back vrp.now) }
+{
+    let len = vrp.0.resolved_max_len();
+    let holder = vrp.1;
+    let before_len = max_length_key();
+    let before_asn = asn_key();
+    write!(text, "{before_len}{len}{before_asn}{holder}\"}}")
+}
+
+/// Returns the text before the reason in an object of JSON.
+#[tactic(auto, unfolding(crate::specs::Explanations::reason_key))]
+fn reason_key() -> &'static str
+    ensures { result.now ≡ reason_key }
+{
+    "{\"reason\":\""
+}
+
+/// Returns the text before the prefix in an object of JSON.
+#[tactic(auto, unfolding(crate::specs::Explanations::prefix_key))]
+fn prefix_key() -> &'static str
+    ensures { result.now ≡ prefix_key }
+{
+    "\",\"prefix\":\""
+}
+
+/// Returns the text before the maximum length in an object of JSON.
+#[tactic(auto, unfolding(crate::specs::Explanations::max_length_key))]
+fn max_length_key() -> &'static str
+    ensures { result.now ≡ max_length_key }
+{
+    "\",\"max_length\":"
+}
+
+/// Returns the text before the AS in an object of JSON.
+#[tactic(auto, unfolding(crate::specs::Explanations::asn_key))]
+fn asn_key() -> &'static str
+    ensures { result.now ≡ asn_key }
+{
+    ",\"asn\":\""
 }

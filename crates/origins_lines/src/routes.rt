@@ -118,9 +118,27 @@ pub fn answer_routes<A: Allocator + Copy, P: Source, R: Source, W: Sink>(
     }
 }
 
-/// Answers each line of routes by a list of VRPs, as the line is read.
+/// Answers each line of routes by one line, in order and as it is read (RFC 6811, 2).
+///
+/// - `alloc`: the allocator of the table and of the answers.
+/// - `listed`: the VRPs, for example of several files.
+/// - `why`: whether each answer also lists the VRPs that cover the route.
+/// - `routes`: the lines of routes. The last line may lack its end.
+/// - `writer`: the output. The call flushes it at the end.
+///
+/// The call never repeats a failed call of a device.
+///
+/// # Preconditions
+///
+/// No call of `routes` or `writer` has failed, and no write has taken nothing.
+///
+/// # Errors
+///
+/// - [`RunError::Read`]: a read of the routes failed. The lines whose ends were read are answered.
+/// - [`RunError::Write`]: a write or the flush failed, or a write took nothing. A beginning of the answers was written.
+/// - [`RunError::Memory`]: an allocation failed. Some first lines are answered, each whole.
 #[tactic(auto, using(lines_engine::proofs::RunLemmas::unanswered))]
-fn answer_by<A: Allocator + Copy, R: Source, W: Sink>(
+pub fn answer_by<A: Allocator + Copy, R: Source, W: Sink>(
     alloc: A,
     listed: &[Vrp],
     why: bool,

@@ -100,20 +100,43 @@ pub fn write_table<A: Allocator + Copy, P: Source, W: Sink>(
     }
 }
 
-/// Writes the table of the VRPs of a list.
-fn write_listed<A: Allocator + Copy, W: Sink>(
+/// Writes a line for each VRP of a list, sorted and each once.
+///
+/// - `alloc`: the allocator of the table.
+/// - `listed`: the VRPs, for example of several files.
+/// - `of`: the AS whose VRPs alone are written; None for all.
+/// - `writer`: the output. The call flushes it at the end.
+///
+/// The call never repeats a failed call of the writer.
+///
+/// # Preconditions
+///
+/// No call of `writer` has failed, and no write has taken nothing.
+///
+/// # Errors
+///
+/// - [`RunError::Write`]: a write or the flush failed, or a write took nothing. A beginning of the lines was written.
+/// - [`RunError::Memory`]: an allocation failed. Nothing was written, or a beginning of the lines.
+pub fn write_listed<A: Allocator + Copy, W: Sink>(
     alloc: A,
     listed: &[Vrp],
     of: Option<Asn>,
     writer: &mut W,
 ) -> Result<(), RunError>
+    // No call of the writer has failed.
     requires clear { W.mark writer.old ≡ false }
+
+    // Ok: no call failed, the table of the VRPs was written, and the writer is flushed.
     ensures unmarked { OnOk result (W.mark writer.new ≡ W.mark writer.old) }
     ensures written { OnOk result (WritesTable of (W.written writer.old) (W.written writer.new) [] listed.now) }
     ensures flushed { OnOk result (W.flushed writer.new ≡ true) }
+
+    // Memory: no call failed. Nothing was written, or a beginning of the table.
     ensures memory_unmarked { IsErrOf result RunError.Memory → W.mark writer.new ≡ W.mark writer.old }
     ensures some_if_memory { IsErrOf result RunError.Memory → (writer.new ≡ writer.old)
         ⊎ ((unwritten : List ℕ) × WritesTable of (W.written writer.old) (W.written writer.new) unwritten listed.now) }
+
+    // Write: a write or the flush failed, or a write took nothing, and a beginning of the table was written.
     ensures write { IsErrOf result RunError.Write → W.mark writer.new ≡ true }
     ensures some_written { IsErrOf result RunError.Write → (unwritten : List ℕ)
         × WritesTable of (W.written writer.old) (W.written writer.new) unwritten listed.now }

@@ -18,4 +18,4 @@ pub returns-clause-seen : goal.returns-clause-seen
 returns-clause-seen c octets so_far =
     let all : c.loop-byte.seen ≡ seen_behind c.args.self c.args.piece.now =
     first_of (search rules, grind (arith, common_steps)) in
-    rw all (all_seen octets c.args.self c.args.piece.now so_far)
+    rw all (all_seen c.args.self.place octets c.args.self c.args.piece.now so_far)

@@ -1,0 +1,231 @@
+//! The answer to a line with a route, as an object of JSON.
+ghost use Rattle.std.specs.Prelude.{◌≡◌, ◌++◌, ℕ, List, [], OnOk};
+ghost use Rattle.std.specs.String.{string_bytes};
+ghost use Rattle.json.specs.Print.{quoted};
+ghost use Rattle.origins_lines.specs.JsonAnswers.{IsErrorObject, IsJsonRouteAnswer, IsLineValue, IsVrpsMember, object_head, origin_key, origin_value, outcome_members, route_prefix_key};
+ghost use Rattle.origins_lines.specs.Outcomes.{asked_asn};
+
+use crate::answers::ended_lookup;
+use crate::explanation::{Form, push_why};
+use crate::fault::RouteFault;
+use crate::outcome::{Outcome, outcome_of};
+use crate::route::{Route, read_route};
+use json::Writer;
+use lines_engine::answers::Answers;
+use roa_origin::{Lookup, OriginTable};
+use rpki_base::Asn;
+use rpki_prefix::Prefix;
+use std::alloc::{AllocError, Allocator, Global};
+
+/// Answers lines of routes by a table of VRPs, each by an object of JSON (RFC 8259) without white space.
+///
+/// The first member is `state`: `valid`, `invalid` or `not-found` for a route (RFC 6811, 2), `skipped` for a line of
+/// `bgpdump -m` that announces no route, and `error` for an invalid line.
+///
+/// | state | the other members |
+/// |---|---|
+/// | `valid`, `not-found` | `prefix`; `origin_asn`, which is null if the origin is unknown |
+/// | `invalid` | `reason`, which is `length` or `as`; `prefix`; `origin_asn` |
+/// | `error` | `error`, the fault; `line`, the line, which is null if the line isn't UTF-8 |
+#[derive(Drop)]
+pub struct JsonRoutes<'a, B: Allocator = Global> {
+    /// The VRPs.
+    pub table: &'a OriginTable<B>,
+    /// Whether the object of a route also has the member `vrps`.
+    ///
+    /// It is an array with an object for each VRP that covers the route, in the order of [`Routes`](crate::Routes). Its
+    /// members are `reason`, which is `match`, `length` or `as`, `prefix`, `max_length` and `asn`.
+    pub why: bool,
+}
+
+impl<B: Allocator> Answers for JsonRoutes<'_, B> {
+    ghost use Rattle.origins_lines.specs.JsonAnswers.{IsJsonAnswer};
+
+    ghost is_answer = { λ routes line text. IsJsonAnswer routes.why routes.table.now line text };
+
+    fn answer<A: Allocator + Copy>(
+        &self,
+        alloc: A,
+        line: &[u8],
+        text: &mut String<A>,
+    ) -> Result<(), AllocError> {
+        text.clear();
+        match read_route(line) {
+            Ok(Some(route)) => {
+                let Route { prefix, origin } = route;
+                write_route(text, self.table, self.why, prefix, origin)
+            }
+            Ok(None) => text.push_str("{\"state\":\"skipped\"}"),
+            Err(fault) => write_fault(alloc, text, fault, line),
+        }
+    }
+}
+
+/// Appends the object for the route to `prefix` that `origin` originates.
+///
+/// # Preconditions
+///
+/// `text` is empty.
+fn write_route<A: Allocator, B: Allocator>(
+    text: &mut String<A>,
+    table: &OriginTable<B>,
+    why: bool,
+    prefix: Prefix,
+    origin: Option<Asn>,
+) -> Result<(), AllocError>
+    requires { string_bytes text.old ≡ [] }
+    ensures { OnOk result (IsJsonRouteAnswer why table.now prefix origin (string_bytes text.new)) }
+{
+    let asn = asked_of(&origin);
+    let lookup = ended_lookup(table, prefix, asn);
+    let outcome = outcome_of(&lookup);
+    push_head(text, outcome, prefix, &origin)?;
+    push_vrps(text, why, &lookup, prefix, asn)?;
+    text.push_str("}")?;
+    Ok(())
+}
+
+/// Returns the AS number to look up for an origin.
+fn asked_of(origin: &Option<Asn>) -> Asn
+    ensures { result ≡ asked_asn origin.now }
+{
+    match origin {
+        Some(asn) => *asn,
+        None => Asn::MIN,
+    }
+}
+
+/// Appends the beginning of the object for a route.
+fn push_head<A: Allocator>(
+    text: &mut String<A>,
+    outcome: Outcome,
+    prefix: Prefix,
+    origin: &Option<Asn>,
+) -> Result<(), AllocError>
+    ensures { OnOk result (string_bytes text.new ≡ string_bytes text.old ++ object_head outcome prefix origin.now) }
+{
+    let members = outcome_members(outcome);
+    let before_prefix = route_prefix_key();
+    let before_origin = origin_key();
+    write!(text, "{{{members}{before_prefix}{prefix}{before_origin}")?;
+    push_origin(text, origin)
+}
+
+/// Returns the text before the prefix of a route.
+#[tactic(auto, unfolding(crate::specs::JsonAnswers::route_prefix_key))]
+fn route_prefix_key() -> &'static str
+    ensures { result.now ≡ route_prefix_key }
+{
+    ",\"prefix\":\""
+}
+
+/// Returns the text before the origin of a route.
+#[tactic(auto, unfolding(crate::specs::JsonAnswers::origin_key))]
+fn origin_key() -> &'static str
+    ensures { result.now ≡ origin_key }
+{
+    "\",\"origin_asn\":"
+}
+
+/// Returns the members that say an outcome.
+fn outcome_members(outcome: Outcome) -> &'static str
+    ensures { result.now ≡ outcome_members outcome }
+{
+    match outcome {
+        Outcome::Valid => "\"state\":\"valid\"",
+        Outcome::InvalidLength => "\"state\":\"invalid\",\"reason\":\"length\"",
+        Outcome::InvalidAs => "\"state\":\"invalid\",\"reason\":\"as\"",
+        Outcome::NotFound => "\"state\":\"not-found\"",
+    }
+}
+
+/// Appends the AS of an origin as a string, or null if it is unknown.
+fn push_origin<A: Allocator>(text: &mut String<A>, origin: &Option<Asn>) -> Result<(), AllocError>
+    ensures { OnOk result (string_bytes text.new ≡ string_bytes text.old ++ origin_value origin.now) }
+{
+    match origin {
+        Some(asn) => write!(text, "\"{asn}\""),
+        None => text.push_str("null"),
+    }
+}
+
+/// Appends the member `vrps`, if `why` is true.
+///
+/// # Preconditions
+///
+/// `lookup` is a lookup of `route`.
+fn push_vrps<A: Allocator>(
+    text: &mut String<A>,
+    why: bool,
+    lookup: &Lookup<'_>,
+    route: Prefix,
+    asn: Asn,
+) -> Result<(), AllocError>
+    requires { lookup.now.route ≡ route }
+    ensures { OnOk result ((member : List ℕ) × IsVrpsMember why lookup.now.vrps route asn member
+        × (string_bytes text.new ≡ string_bytes text.old ++ member)) }
+{
+    if !why {
+        return Ok(());
+    }
+    text.push_str(",\"vrps\":[")?;
+    push_why(text, Form::Json, lookup, route, asn)?;
+    text.push_str("]")?;
+    Ok(())
+}
+
+/// Appends the object for a line that is not a route.
+///
+/// # Preconditions
+///
+/// `text` is empty.
+fn write_fault<A: Allocator + Copy>(
+    alloc: A,
+    text: &mut String<A>,
+    fault: RouteFault,
+    line: &[u8],
+) -> Result<(), AllocError>
+    requires { string_bytes text.old ≡ [] }
+    ensures { OnOk result (IsErrorObject fault line.now (string_bytes text.new)) }
+{
+    text.push_str("{\"state\":\"error\",\"error\":")?;
+    let said = format!(in alloc; "{fault}")?;
+    push_quoted(alloc, text, said.as_str())?;
+    text.push_str(",\"line\":")?;
+    push_line(alloc, text, line)?;
+    text.push_str("}")?;
+    Ok(())
+}
+
+/// Appends a line as a string, or null if the line is not UTF-8.
+fn push_line<A: Allocator + Copy>(
+    alloc: A,
+    text: &mut String<A>,
+    line: &[u8],
+) -> Result<(), AllocError>
+    ensures { OnOk result ((value : List ℕ) × IsLineValue line.now value
+        × (string_bytes text.new ≡ string_bytes text.old ++ value)) }
+{
+    match str::from_utf8(line) {
+        Ok(line) => push_quoted(alloc, text, line),
+        Err(_) => write!(text, "null"),
+    }
+}
+
+/// Appends a text as a string of JSON (RFC 8259, 7).
+#[tactic(auto, using(crate::proofs::JsonLemmas::printed_string))]
+fn push_quoted<A: Allocator + Copy>(
+    alloc: A,
+    text: &mut String<A>,
+    said: &str,
+) -> Result<(), AllocError>
+    ensures { OnOk result (string_bytes text.new ≡ string_bytes text.old ++ quoted said.now) }
+{
+    let mut writer = Writer::new(Vec::new(alloc));
+    writer.string(said)?;
+    let octets = writer.into_inner();
+    match str::from_utf8(octets.as_slice()) {
+        Ok(quoted) => text.push_str(quoted),
+        Err(_) => unreachable!(),
+    }
+}

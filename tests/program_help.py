@@ -24,7 +24,11 @@ WRONG = {
         [], ["--strange"], ["--table"], ["--table", "--of", "ASX", "a"], ["--diff", "a"], ["a", "b"], ["a", "b", "c"],
         ["--table", "--of"], ["--of", "1", "a"], ["--table", "--diff", "a", "b"], ["--why", "--table", "a"],
         ["--why", "--diff", "a", "b"], ["--check", "--table", "a"], ["--check", "--diff", "a", "b"],
-        ["-"], ["--", "-"], ["--diff", "-", "-"],
+        ["-"], ["--", "-"], ["--diff", "-", "-"], ["a", "--vrps"], ["a", "--slurm"], ["--slurm", "a"],
+        ["a", "--vrps", "b", "c"], ["a", "--slurm", "b", "--slurm", "c"], ["--diff", "a", "--vrps", "b"],
+        ["--diff", "a", "b", "--slurm", "c"], ["a", "--vrps", "-"], ["--slurm", "-", "a"],
+        ["--table", "-", "--vrps", "-"], ["--table", "--slurm", "-", "-"], ["--vrps", "--", "--of", "1"],
+        ["--json", "--table", "a"], ["--json", "--diff", "a", "b"],
     ),  # fmt: skip
 }
 

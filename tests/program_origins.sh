@@ -119,6 +119,171 @@ for words in "--table -" "--diff vrps -"; do
     expect "no standard input: $words" 1 "origins: standard input: read failed" $? "$said"
 done
 
+# Several files of VRPs, as of several caches
+printf ' {"roas":[{"asn":64499,"prefix":"203.0.113.0/24","maxLength":24},{"asn":"AS7","prefix":"10.0.0.0/8","maxLength":8}]}' \
+    >more.json
+for words in "vrps --vrps next" "--vrps vrps next" "--vrps vrps --vrps next" "--vrps vrps -- next"; do
+    # shellcheck disable=SC2086 # the words
+    said=$("$program" $words 2>&1 <<'END'
+198.51.100.0/24 AS64498
+2001:db8::/48 AS64497
+10.0.0.0/8 AS7
+END
+    )
+    expect "routes by two files: $words" 0 "valid
+valid
+not-found
+origins: 5 VRPs: 2 in vrps, 3 in next" $? "$said"
+done
+said=$("$program" --why --vrps more.json --vrps next vrps 2>&1 <<'END'
+203.0.113.0/24 AS64499
+192.0.2.0/24 AS64496
+10.0.0.0/9 AS7
+END
+)
+expect "routes by three files, and why" 0 "valid match:203.0.113.0/24-24:AS64499
+valid match:192.0.2.0/23-24:AS64496
+invalid-length length:10.0.0.0/8-8:AS7
+origins: 7 VRPs: 2 in more.json, 3 in next, 2 in vrps" $? "$said"
+said=$("$program" --table vrps --vrps more.json --vrps next 2>&1)
+expect "the table of three files" 0 "10.0.0.0/8-8 AS7
+192.0.2.0/23-24 AS64496
+198.51.100.0/24-24 AS64498
+203.0.113.0/24-24 AS64499
+2001:db8::/32-48 AS64497
+origins: 7 VRPs: 2 in vrps, 2 in more.json, 3 in next" $? "$said"
+said=$("$program" --table --of AS64496 --vrps next vrps 2>/dev/null)
+expect "the table of an AS and two files" 0 "192.0.2.0/23-24 AS64496" $? "$said"
+said=$("$program" --table --vrps - vrps 2>&1 <next)
+expect "the table of a file and of the standard input" 0 "192.0.2.0/23-24 AS64496
+198.51.100.0/24-24 AS64498
+2001:db8::/32-48 AS64497
+origins: 5 VRPs: 3 in standard input, 2 in vrps" $? "$said"
+said=$("$program" vrps --vrps more.json --check <routes 2>/dev/null)
+expect "a check of routes by two files" 3 "valid
+invalid-length
+invalid-as
+invalid-as
+error: invalid prefix: non-zero host portion" $? "$said"
+for words in "vrps --vrps wrong" "wrong --vrps vrps" "--vrps wrong --vrps none vrps" "--table vrps --vrps wrong"; do
+    # shellcheck disable=SC2086 # the words
+    said=$("$program" $words <routes 2>&1)
+    expect "a wrong line of one of the files: $words" 1 \
+        "origins: wrong: line 2: invalid prefix: non-zero host portion" $? "$said"
+done
+for words in "vrps --vrps none" "--vrps none vrps" "--table --vrps vrps --vrps none --vrps wrong"; do
+    # shellcheck disable=SC2086 # the words
+    said=$("$program" $words <routes 2>&1)
+    expect "one of the files is missing: $words" 1 "origins: none: can't be opened" $? "$said"
+done
+said=$("$program" --table vrps --vrps more.json.cut 2>&1)
+expect "another file that is missing" 1 "origins: more.json.cut: can't be opened" $? "$said"
+said=$("$program" vrps --vrps next <&- 2>&1 >/dev/null)
+expect "a read fails after two files" 1 "origins: read failed" $? "$said"
+
+# Local exceptions (RFC 8416). A filter removes VRPs of the validator, and no assertion.
+printf '{"slurmVersion":1,"validationOutputFilters":{"prefixFilters":[%s],"bgpsecFilters":[]},
+"locallyAddedAssertions":{"prefixAssertions":[%s],"bgpsecAssertions":[]}}' \
+    '{"prefix":"192.0.2.0/23"},{"asn":64497,"prefix":"2001:db8::/16"}' \
+    '{"asn":64500,"prefix":"192.0.2.0/24"},{"asn":64501,"prefix":"10.0.0.0/8","maxPrefixLength":16}' >slurm
+sed 's/2001:db8::\/16/2001::\/16/' slurm >slurm.json
+said=$("$program" --table --slurm slurm.json vrps 2>&1)
+expect "the table after exceptions" 0 "10.0.0.0/8-16 AS64501
+192.0.2.0/24-24 AS64500
+origins: 2 VRPs; 2 after slurm.json" $? "$said"
+said=$("$program" --why vrps --slurm slurm.json 2>&1 <<'END'
+192.0.2.0/24 AS64496
+192.0.2.0/24 AS64500
+10.1.0.0/16 AS64501
+192.0.3.0/24 AS64496
+2001:db8::/32 AS64497
+END
+)
+expect "routes after exceptions" 0 "invalid-as as:192.0.2.0/24-24:AS64500
+valid match:192.0.2.0/24-24:AS64500
+valid match:10.0.0.0/8-16:AS64501
+not-found
+not-found
+origins: 2 VRPs; 2 after slurm.json" $? "$said"
+said=$("$program" --table --vrps next --slurm slurm.json vrps 2>&1)
+expect "exceptions apply to all files" 0 "10.0.0.0/8-16 AS64501
+192.0.2.0/24-24 AS64500
+198.51.100.0/24-24 AS64498
+origins: 5 VRPs: 3 in next, 2 in vrps; 3 after slurm.json" $? "$said"
+said=$("$program" --table --slurm - vrps 2>&1 <slurm.json)
+expect "exceptions from the standard input" 0 "10.0.0.0/8-16 AS64501
+192.0.2.0/24-24 AS64500
+origins: 2 VRPs; 2 after standard input" $? "$said"
+said=$("$program" --slurm slurm vrps <routes 2>&1)
+expect "a wrong item of a SLURM file" 1 \
+    "origins: slurm: prefixFilters: item 2: invalid prefix: non-zero host portion" $? "$said"
+sed 's/"slurmVersion":1/"slurmVersion":2/' slurm.json >slurm.2
+said=$("$program" --table --slurm slurm.2 vrps 2>&1)
+expect "another version of SLURM" 1 "origins: slurm.2: slurmVersion: not 1" $? "$said"
+said=$("$program" --slurm vrps vrps <routes 2>&1)
+expect "a SLURM file that is no JSON" 1 "origins: vrps: not a JSON object" $? "$said"
+said=$("$program" --slurm none vrps <routes 2>&1)
+expect "no such SLURM file" 1 "origins: none: can't be opened" $? "$said"
+said=$("$program" --slurm . vrps <routes 2>&1)
+expect "a SLURM file that is a folder" 1 "origins: .: read failed" $? "$said"
+said=$("$program" --table --slurm - vrps 2>&1 <&-)
+expect "no standard input with exceptions" 1 "origins: standard input: read failed" $? "$said"
+said=$("$program" --slurm slurm.json vrps <&- 2>&1 >/dev/null)
+expect "a read fails after exceptions" 1 "origins: read failed" $? "$said"
+printf '{"slurmVersion":1,"validationOutputFilters":{"prefixFilters":[%s],"bgpsecFilters":[]},
+"locallyAddedAssertions":{"prefixAssertions":[],"bgpsecAssertions":[]}}' '{"asn":64496},{"asn":64497}' >none.json
+said=$("$program" --slurm none.json vrps 2>&1 <fine)
+expect "exceptions that leave no VRP" 0 "not-found
+not-found
+origins: 2 VRPs; 0 after none.json" $? "$said"
+
+# Answers as objects of JSON. A line is a string: quotes, backslashes and control characters are escaped, and a line that
+# is not UTF-8 is null.
+printf '192.0.2.0/24 "AS\\\t\001\177\r\n\303\244\n\377 AS1\n\n' >escaped
+said=$("$program" --json vrps <routes 2>&1)
+expect "JSON" 0 '{"state":"valid","prefix":"192.0.2.0/24","origin_asn":"AS64496"}
+{"state":"invalid","reason":"length","prefix":"192.0.2.0/25","origin_asn":"AS64496"}
+{"state":"invalid","reason":"as","prefix":"192.0.3.0/24","origin_asn":"AS7"}
+{"state":"not-found","prefix":"10.0.0.0/8","origin_asn":"AS1"}
+{"state":"error","error":"invalid prefix: non-zero host portion","line":"192.0.2.1/24 AS3"}
+origins: 2 VRPs' $? "$said"
+said=$("$program" --why --json vrps --vrps next 2>/dev/null <<'END'
+192.0.2.0/25 AS64496
+ 198.51.100.0/24   as64498
+10.0.0.0/8 0
+TABLE_DUMP2|1732579200|B|203.0.113.1|64500|2001:DB8::/32|64500 {7}|IGP
+BGP4MP|1732579200|W|203.0.113.1|64500|192.0.2.0/24
+END
+)
+expect "JSON and why" 0 '{"state":"invalid","reason":"length","prefix":"192.0.2.0/25","origin_asn":"AS64496","vrps":[{"reason":"length","prefix":"192.0.2.0/23","max_length":24,"asn":"AS64496"}]}
+{"state":"valid","prefix":"198.51.100.0/24","origin_asn":"AS64498","vrps":[{"reason":"match","prefix":"198.51.100.0/24","max_length":24,"asn":"AS64498"}]}
+{"state":"not-found","prefix":"10.0.0.0/8","origin_asn":"AS0","vrps":[]}
+{"state":"invalid","reason":"as","prefix":"2001:db8::/32","origin_asn":null,"vrps":[{"reason":"as","prefix":"2001:db8::/32","max_length":48,"asn":"AS64497"}]}
+{"state":"skipped"}' $? "$said"
+printf 'AS64496,192.0.2.0/24,24\nAS64497,192.0.2.0/23,25\nAS64496,192.0.2.0/23,23\n' >nested
+said=$(echo '192.0.2.0/24 AS64496' | "$program" --json --why nested 2>/dev/null)
+expect "JSON of several VRPs" 0 '{"state":"valid","prefix":"192.0.2.0/24","origin_asn":"AS64496","vrps":[{"reason":"match","prefix":"192.0.2.0/24","max_length":24,"asn":"AS64496"},{"reason":"length","prefix":"192.0.2.0/23","max_length":23,"asn":"AS64496"},{"reason":"as","prefix":"192.0.2.0/23","max_length":25,"asn":"AS64497"}]}' $? "$said"
+said=$("$program" --json vrps <escaped 2>/dev/null)
+expect "lines in JSON" 0 '{"state":"error","error":"invalid AS number","line":"192.0.2.0/24 \"AS\\\t\u0001'"$(printf '\177')"'\r"}
+{"state":"error","error":"invalid prefix: missing length portion","line":"ä"}
+{"state":"error","error":"not UTF-8","line":null}
+{"state":"error","error":"invalid prefix: empty string","line":""}' $? "$said"
+said=$("$program" --json vrps </dev/null 2>&1)
+expect "no route in JSON" 0 "origins: 2 VRPs" $? "$said"
+said=$("$program" --json --check vrps <fine 2>/dev/null)
+expect "a check in JSON of routes that are valid or not found" 0 '{"state":"valid","prefix":"192.0.2.0/24","origin_asn":"AS64496"}
+{"state":"not-found","prefix":"10.0.0.0/8","origin_asn":"AS1"}' $? "$said"
+for line in '192.0.2.0/25 AS64496' '192.0.2.0/24 AS7' '192.0.2.0/24' '' '{"state":"valid"' '"""""""""'; do
+    said=$(printf '%s\n10.0.0.0/8 AS1\n' "$line" | "$program" --check --json -- vrps 2>/dev/null | wc -l)
+    expect "lines of a check in JSON of '$line'" 0 "2" $? "$said"
+    printf '10.0.0.0/8 AS1\n%s\n' "$line" | "$program" --check --json vrps >/dev/null 2>&1
+    expect "a check in JSON of '$line'" 3 "" $? ""
+    printf '%s\n' "$line" | "$program" --json vrps >/dev/null 2>&1
+    expect "no check in JSON of '$line'" 0 "" $? ""
+done
+said=$(echo 'BGP4MP|1732579200|STATE|203.0.113.1|64500|6|1' | "$program" --check --json --why vrps 2>/dev/null)
+expect "a check in JSON of a skipped line" 0 '{"state":"skipped"}' $? "$said"
+
 # One VRP is no plural.
 printf 'AS64496,192.0.2.0/23,24\n' >single
 said=$("$program" single <fine 2>&1 >/dev/null)
@@ -166,7 +331,7 @@ expect "a read fails" 1 "origins: read failed" $? "$said"
 said=$("$program" --table vrps <&- 2>/dev/null)
 expect "nothing is to be read" 0 "192.0.2.0/23-24 AS64496
 2001:db8::/32-48 AS64497" $? "$said"
-for words in "vrps" "--table vrps" "--diff vrps next" "--help" "--version"; do
+for words in "vrps" "--json vrps" "--table vrps" "--diff vrps next" "--help" "--version"; do
     # shellcheck disable=SC2086 # the words
     said=$("$program" $words <routes 2>&1 >/dev/full)
     expect "a write fails: $words" 1 "origins: write failed" $? "$said"
@@ -263,6 +428,20 @@ vrps next wrong: too many file names: wrong
 --of 1 vrps: --of needs --table
 --diff --of 1 vrps next: --of needs --table
 --table vrps --of: --of needs an AS number
+--table --json vrps: --json does not go with --table
+--json --diff vrps next: --json does not go with --diff
+vrps --vrps: --vrps needs a file name
+--slurm: --slurm needs a file name
+--table vrps --slurm: --slurm needs a file name
+--slurm slurm.json: too few file names
+vrps --slurm slurm.json --slurm none.json: too many SLURM files: none.json
+vrps --vrps next wrong: too many file names: wrong
+--diff vrps --vrps next: --vrps does not go with --diff
+--diff vrps next --slurm slurm.json: --slurm does not go with --diff
+vrps --vrps -: - needs --table or --diff: the standard input has the routes
+vrps --slurm -: - needs --table or --diff: the standard input has the routes
+--table - --vrps -: - can be only one of the files
+--table - --slurm -: - can be only one of the files
 -: - needs --table or --diff: the standard input has the routes
 --why -- -: - needs --table or --diff: the standard input has the routes
 --diff - -: - can be only one of the two files

@@ -1,9 +1,9 @@
 #!/usr/bin/env python3
 """Compares what the program `origins` prints with what the reference beside this file says.
 
-From a seed it makes files of VRPs in each form that validators write, wrong ones too, and lines of routes; it asks
-the built program for answers, for what explains them, for tables and for what changes between two files. Status 1 where
-something differs.
+From a seed it makes files of VRPs in each form that validators write, wrong ones too, SLURM files, and lines of routes;
+it asks the built program for answers, in words and in JSON, for what explains them, for tables and for what changes
+between two files. Status 1 where something differs.
 """
 
 import argparse
@@ -14,7 +14,7 @@ import tempfile
 from pathlib import Path
 from random import Random
 
-from reference import route_lines, vrp_files
+from reference import route_lines, slurm, vrp_files
 from reference.addresses import Family, print_address
 from reference.faults import Fault
 from reference.prefixes import MaxLenPrefix, Prefix, Vrp
@@ -29,7 +29,7 @@ PATHS = (
     *("64500 [64496,64497]", "[64512, 64513]", "64500 ( 64512 )", "(64512) 64496", "[64512] {7}", "(64512 [64496])"),
     *("64500 )", "]", "64500 64496)", "64500 (64496", "[", "{64496)", "(64496}", "64496]x"),
 )
-DAMAGE = "0123456789ASas.:/-+,|{} \t\"\u00a0\u0661"
+DAMAGE = "0123456789ASas.:/-+,|{} \t\"\\\b\f\x01\x1f\x7f\u00a0\u0661\U0001f600"
 
 
 class Maker:
@@ -122,6 +122,29 @@ class Maker:
         at = self.random.randrange(len(lines))
         lines[at] = self.resized(lines[at]) if self.one_in(3) else self.damaged(lines[at])
         return "\n".join(lines).encode()
+
+    def slurm(self) -> bytes:
+        """A SLURM file, which may be wrong."""
+        filters: list[dict] = []
+        for _ in range(self.random.randrange(4)):
+            one = {"prefix": self.prefix().text(), "asn": self.asn(), "comment": "x"}
+            for name in self.random.sample(("prefix", "asn", "comment"), self.random.randrange(3)):
+                del one[name]
+            filters.append(one)
+        assertions: list[dict] = []
+        for _ in range(self.random.randrange(4)):
+            prefix, asn = self.vrp()
+            one = {"asn": asn, "prefix": prefix.prefix.text(), "maxPrefixLength": prefix.max_length}
+            if self.one_in(3):
+                del one["maxPrefixLength"]
+            assertions.append(one)
+        value = {
+            "slurmVersion": 2 if self.one_in(30) else 1,
+            "validationOutputFilters": {"prefixFilters": filters, "bgpsecFilters": []},
+            "locallyAddedAssertions": {"prefixAssertions": assertions, "bgpsecAssertions": []},
+        }
+        text = json.dumps(value, indent=self.random.choice((None, 1)))
+        return (self.damaged(text) if self.one_in(4) else text).encode()
 
     def dumped(self, prefix: str, path: str) -> str:
         """A line as `bgpdump -m` prints it."""
@@ -217,9 +240,54 @@ class Comparison:
             self.same("a run", (0, f"origins: {counted(listed)}\n", count), (status, said, len(answers)))
             for line, found in zip(lines, answers, strict=False):
                 self.same(repr(line), answer(line, listed, why), found)
-        status, _, _ = run(self.program, ["--check", file], octets)
         words = {answer(line, listed, False).split("-")[0].split(":")[0] for line in lines}
-        self.same("a check", 3 if words & {"invalid", "error"} else 0, status)
+        wanted = 3 if words & {"invalid", "error"} else 0
+        status, _, _ = run(self.program, ["--check", file], octets)
+        self.same("a check", wanted, status)
+        for why in (False, True):
+            status, answers, said = run(self.program, ["--check", "--json", *(["--why"] if why else []), file], octets)
+            self.same("a run", (wanted, f"origins: {counted(listed)}\n", count), (status, said, len(answers)))
+            for line, found in zip(lines, answers, strict=False):
+                self.same(repr(line), route_lines.json_answer(listed, line, why), found)
+        self.checks(file, listed, lines)
+
+    def checks(self, file: Path, listed: list[Vrp], lines: list[bytes]) -> None:
+        """Asks for a check of one line alone, since most runs of many lines find something."""
+        for line in lines[:20]:
+            wanted = 3 if answer(line, listed, False).startswith(("invalid", "error")) else 0
+            for form in ([], ["--json"]):
+                self.same(f"a check of {line!r}", wanted, run(self.program, ["--check", *form, file], line)[0])
+
+    def several(self, count: int) -> None:
+        """Asks lines of routes by several files, and with the exceptions of a SLURM file."""
+        maker = self.maker
+        files, listed, numbers = [], [], []
+        for at in range(maker.random.choice((1, 2, 3))):
+            vrps = [maker.vrp() for _ in range(maker.random.choice((1, 5, 40)))]
+            files.append(self.kept(f"several-{at}", maker.file(vrps)))
+            listed += vrp_files.read(files[-1].read_bytes())
+            numbers.append(f"{len(vrps)} in {files[-1]}")
+        words = [word for file in files[1:] for word in ("--vrps", file)] + files[:1]
+        numbers = numbers[1:] + numbers[:1]
+        said = f"origins: {counted(listed)}" + (": " + ", ".join(numbers) if len(files) > 1 else "")
+        exceptions = self.kept("exceptions", maker.slurm())
+        if maker.one_in(2):
+            words += ["--slurm", exceptions]
+            try:
+                listed = slurm.read(exceptions.read_bytes()).applied(listed)
+                said += f"; {len(listed)} after {exceptions}"
+            except Fault as fault:
+                wanted = (1, [], f"origins: {exceptions}: {fault}\n")
+                self.same(repr(exceptions.read_bytes()), wanted, run(self.program, ["--table", *words]))
+                self.same(repr(exceptions.read_bytes()), wanted, run(self.program, words, b"10.0.0.0/8 AS1\n"))
+                return
+        status, found, told = run(self.program, ["--table", *words])
+        self.same("a table of several files", (0, said + "\n", [text(one) for one in table(listed)]), (status, told, found))
+        lines = [maker.line() for _ in range(count)]
+        status, answers, told = run(self.program, ["--why", *words], b"\n".join(lines) + b"\n")
+        self.same("a run by several files", (0, said + "\n", count), (status, told, len(answers)))
+        for line, found in zip(lines, answers, strict=False):
+            self.same(repr(line), answer(line, listed, True), found)
 
     def tables(self) -> None:
         """Asks for tables, and for what changes between two files."""
@@ -264,6 +332,7 @@ def main() -> int:
         comparison = Comparison(options.program, Path(folder), Maker(options.seed))
         for _ in range(FILES):
             comparison.routes(options.count // FILES)
+            comparison.several(options.count // FILES // 4 + 1)
             comparison.tables()
             for _ in range(10):
                 comparison.wrong()

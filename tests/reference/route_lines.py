@@ -1,5 +1,6 @@
 """Lines of routes, and what VRPs answer to them (RFC 6811, 2)."""
 
+import json
 from typing import NamedTuple
 
 from . import asn, prefixes, texts
@@ -22,10 +23,10 @@ WORDS = {"Valid": "valid", "NotFound": "not-found"}
 
 
 class Route(NamedTuple):
-    """What is announced, and the AS that originates it, 0 where no AS does alone."""
+    """What is announced, and the AS that originates it, None where no AS does alone."""
 
     prefix: Prefix
-    origin: int
+    origin: int | None
 
 
 def read_prefix(text: str) -> Prefix:
@@ -36,12 +37,12 @@ def read_prefix(text: str) -> Prefix:
         raise Fault(f"invalid prefix: {fault}") from None
 
 
-def _origin_of(path: str) -> int:
+def _origin_of(path: str) -> int | None:
     last = texts.trim(path).split(" ")[-1]
     is_set = last.startswith("{") and last.endswith("}")
     is_confederation = last.endswith((")", "]"))
     if not last or is_set or is_confederation:
-        return 0
+        return None
     return asn.read_asn(last)
 
 
@@ -83,7 +84,7 @@ def read_route(line: str) -> Route | None:
 
 
 def _reason(route: Route, vrp: Vrp) -> str:
-    if vrp.asn != route.origin or route.origin == 0:
+    if route.origin in (None, 0) or vrp.asn != route.origin:
         return "as"
     return "match" if route.prefix.length <= vrp.prefix.resolved() else "length"
 
@@ -97,6 +98,18 @@ def _order(vrp: Vrp) -> tuple[int, int, int]:
     return -vrp.prefix.prefix.length, vrp.asn, -vrp.prefix.resolved()
 
 
+def _explaining(route: Route, vrps: list[Vrp]) -> list[Vrp]:
+    """The VRPs that cover a route, in the order in which they explain it. One may be repeated."""
+    return sorted((vrp for vrp in vrps if vrp.prefix.prefix.covers(route.prefix)), key=_order)
+
+
+def _word(route: Route, vrps: list[Vrp]) -> str:
+    """The outcome for a route."""
+    found = prefixes.validity(route.prefix, route.origin or 0, vrps)
+    reasons = {_reason(route, vrp) for vrp in _explaining(route, vrps)}
+    return WORDS.get(found, "invalid-length" if "length" in reasons else "invalid-as")
+
+
 def answer(vrps: list[Vrp], line: str, is_explained: bool) -> str:
     """What VRPs answer to a line, with what explains it or without."""
     try:
@@ -105,11 +118,44 @@ def answer(vrps: list[Vrp], line: str, is_explained: bool) -> str:
         return f"error: {fault}"
     if route is None:
         return "skipped"
-    covering = [vrp for vrp in vrps if vrp.prefix.prefix.covers(route.prefix)]
-    found = prefixes.validity(route.prefix, route.origin, vrps)
-    has_covering_asn = any(vrp.asn == route.origin != 0 for vrp in covering)
-    word = WORDS.get(found, "invalid-length" if has_covering_asn else "invalid-as")
+    word = _word(route, vrps)
     if not is_explained:
         return word
-    ordered = sorted(covering, key=_order)
-    return word + "".join(dict.fromkeys(_explanation(route, vrp) for vrp in ordered))
+    return word + "".join(dict.fromkeys(_explanation(route, vrp) for vrp in _explaining(route, vrps)))
+
+
+def _vrp_object(route: Route, vrp: Vrp) -> dict:
+    prefix = vrp.prefix
+    reason = _reason(route, vrp)
+    return {"reason": reason, "prefix": prefix.prefix.text(), "max_length": prefix.resolved(), "asn": f"AS{vrp.asn}"}
+
+
+def _object(vrps: list[Vrp], line: bytes, is_explained: bool) -> dict:
+    try:
+        text = line.decode("utf-8")
+    except UnicodeDecodeError:
+        return {"state": "error", "error": "not UTF-8", "line": None}
+    try:
+        route = read_route(text)
+    except Fault as fault:
+        return {"state": "error", "error": str(fault), "line": text}
+    if route is None:
+        return {"state": "skipped"}
+    word = _word(route, vrps)
+    state, reason = word.split("-") if word.startswith("invalid-") else (word, "")
+    origin = None if route.origin is None else f"AS{route.origin}"
+    found = {"state": state} | ({"reason": reason} if reason else {})
+    found |= {"prefix": route.prefix.text(), "origin_asn": origin}
+    if is_explained:
+        listed: list[dict] = []
+        for vrp in _explaining(route, vrps):
+            one = _vrp_object(route, vrp)
+            if one not in listed:
+                listed.append(one)
+        found["vrps"] = listed
+    return found
+
+
+def json_answer(vrps: list[Vrp], line: bytes, is_explained: bool) -> str:
+    """The same as an object of JSON (RFC 8259), with no white space and with the shortest escapes of its strings."""
+    return json.dumps(_object(vrps, line, is_explained), ensure_ascii=False, separators=(",", ":"))

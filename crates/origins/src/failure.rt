@@ -1,6 +1,6 @@
 //! The error messages of the program.
 use lines_engine::error::RunError;
-use origins_lines::error::ReadVrpsError;
+use origins_lines::error::{ReadSlurmError, ReadVrpsError};
 use std::fmt;
 
 /// The reason why the program prints no answers, or not all of them.
@@ -12,7 +12,9 @@ pub enum Failure<'a> {
     NotOpened(&'a str),
     /// The VRPs of a file could not be read.
     Vrps(&'a str, ReadVrpsError),
-    /// A step after reading the VRPs failed.
+    /// The local exceptions of a SLURM file could not be read.
+    Slurm(&'a str, ReadSlurmError),
+    /// A step after reading the files failed.
     Run(RunError),
 }
 
@@ -24,6 +26,9 @@ impl fmt::Display for Failure<'_> {
             Failure::Vrps(name, ReadVrpsError::Read) => write!(f, "{name}: read failed"),
             Failure::Vrps(name, ReadVrpsError::File(fault)) => write!(f, "{name}: {fault}"),
             Failure::Vrps(_, ReadVrpsError::Memory) => f.write_str("out of memory"),
+            Failure::Slurm(name, ReadSlurmError::Read) => write!(f, "{name}: read failed"),
+            Failure::Slurm(name, ReadSlurmError::File(fault)) => write!(f, "{name}: {fault}"),
+            Failure::Slurm(_, ReadSlurmError::Memory) => f.write_str("out of memory"),
             Failure::Run(error) => write!(f, "{error}"),
         }
     }

@@ -4,8 +4,9 @@
 pub const VERSION: &str = "0.1.0";
 
 /// The forms of a call of the program.
-pub const USAGE: &str = "usage: origins [--why] [--check] VRPS < ROUTES
-       origins --table [--of ASN] VRPS
+pub const USAGE: &str =
+    "usage: origins [--why] [--json] [--check] [--slurm FILE] [--vrps FILE].. VRPS < ROUTES
+       origins --table [--of ASN] [--slurm FILE] [--vrps FILE].. VRPS
        origins --diff OLD NEW
        origins --help | --version";
 
@@ -13,9 +14,9 @@ pub const USAGE: &str = "usage: origins [--why] [--check] VRPS < ROUTES
 pub const HELP: &str = "
 Validate the origin of BGP routes (RFC 6811) against validated ROA payloads (VRPs). VRPS, OLD and
 NEW are files of VRPs, which rpki-client, FORT, Routinator or another validator wrote as CSV or
-JSON. rpki-client -c and routinator vrps --format csv write such a file. With --table and for one of
-the two files of --diff, the file name - is the standard input. The program reads ROUTES from the
-standard input and prints one line for each line of ROUTES:
+JSON. rpki-client -c and routinator vrps --format csv write such a file. With --table or --diff, one
+of the files can have the name -. The file name - is the standard input. The program reads ROUTES
+from the standard input and prints one line for each line of ROUTES:
 
   valid            a VRP matches the route
   invalid-length   a VRP with the AS of the route covers the route, but the route is longer than the
@@ -47,8 +48,13 @@ Options:
                length:  the VRP has the AS of the route, but the route is longer than the
                         maxLength of the VRP
                as:      the VRP has another AS, or AS0
+  --json       print each answer as a JSON object in one line. The members are state, reason, prefix
+               and origin_asn, or error and line. With --why an object also has the member vrps
   --check      exit with status 3 if a route is invalid or a line is not a route. Without this
                option the status is 0 in these cases too. A skipped line changes no status
+  --vrps FILE  use the VRPs of this file too. You can repeat this option. With it you can leave out
+               VRPS
+  --slurm FILE  apply the local exceptions of this SLURM file (RFC 8416) to the VRPs of all files
   --table      print the VRPs, sorted and each once: 192.0.2.0/23-24 AS64496
   --of ASN     with --table: print only the VRPs of this AS
   --diff       compare two files: print a line that begins with withdraw for each VRP that only OLD
@@ -59,15 +65,17 @@ Options:
 
 The program prints on standard error how many VRPs it read. Check this number: the program cannot
 detect that the last lines of a CSV file are missing. If the last line was cut, the program reports
-this only if the rest of the line is invalid. The program ignores the date at which a VRP expires:
-an old file is used like a new one.
+this only if the rest of the line is invalid. If there are several files, the program prints a
+number for each. With --slurm it prints how many VRPs there are after the exceptions. The program
+ignores the date at which a VRP expires: an old file is used like a new one.
 
 Exit status:
 
   0  every line was answered, or with --table or --diff every line was printed. With --diff the
      status is 0 also if the files differ
-  1  a file or a stream could not be read or written, memory ran out, or a file of VRPs is invalid.
-     For an invalid file the program reports the first invalid line or item, and answers no route
+  1  a file or a stream could not be read or written, memory ran out, or a file of VRPs or a SLURM
+     file is invalid. For an invalid file the program reports the first invalid line, item or
+     member, and answers no route
   2  wrong usage
   3  with --check: a route is invalid or a line is not a route
 

@@ -1,4 +1,4 @@
-//! The program `origins`. It validates routes by VRPs, lists the VRPs of a file, and compares the VRPs of two files.
+//! The program `origins`. It validates routes by VRPs, lists the VRPs of files, and compares the VRPs of two files.
 #![tactic(auto)]
 
 ghost use Rattle.std.specs.Prelude.{◌≡◌, false, IfOk};
@@ -6,22 +6,29 @@ ghost use Rattle.std.specs.Prelude.{◌≡◌, false, IfOk};
 mod failure;
 mod help;
 mod options;
-mod vrp_count;
+mod report;
 
 use crate::failure::Failure;
 use crate::help::{HELP, USAGE, VERSION};
-use crate::options::{STANDARD_INPUT, Task, parse};
-use crate::vrp_count::Counted;
+use crate::options::{Answers, Input, STANDARD_INPUT, Task, parse};
+use crate::report::{Counted, Report};
 use lines_engine::adapters::{FromRead, IntoWrite};
 use lines_engine::device::Source;
 use lines_engine::error::RunError;
+use origins_lines::check::STATE;
 use origins_lines::check_sink::Watched;
-use origins_lines::error::{ChangesError, OriginsError};
+use origins_lines::error::ChangesError;
+use origins_lines::exceptions::read_exceptions;
+use origins_lines::file::add_file;
+use origins_lines::json_routes::answer_json_by;
 use origins_lines::retrying::Retrying;
-use origins_lines::routes::answer_routes;
-use origins_lines::tables::{write_changes, write_table};
+use origins_lines::routes::answer_by;
+use origins_lines::tables::{write_changes, write_listed};
 use origins_lines::until_end::UntilEnd;
+use roa_origin::Vrp;
+use roa_slurm::Slurm;
 use rpki_base::Asn;
+use rpki_base::memory::OrMemory;
 use std::fs::File;
 use std::io::{BufWriter, Stdin, Stdout};
 use std::process::ExitCode;
@@ -34,15 +41,16 @@ fn main(rt: HostRuntime) -> ExitCode {
     let Ok(words) = words(&rt) else {
         return fail(&rt, Failure::Words);
     };
-    match parse(words.as_slice()) {
-        Ok(task) => match serve(&rt, task) {
+    match parse(rt.alloc(), words.as_slice()) {
+        Ok(task) => match serve(&rt, &task) {
             Ok(status) => ExitCode::from(status),
             Err(failure) => fail(&rt, failure),
         },
-        Err(misuse) => {
+        Err(OrMemory::Refused(misuse)) => {
             let _ = eprintln!(rt; "origins: {misuse}\n{USAGE}");
             ExitCode::from(2)
         }
+        Err(OrMemory::Memory(_)) => fail(&rt, Failure::Words),
     }
 }
 
@@ -59,11 +67,11 @@ fn fail(rt: &HostRuntime, failure: Failure<'_>) -> ExitCode {
 }
 
 /// Performs `task`, and returns the exit status.
-fn serve<'a>(rt: &HostRuntime, task: Task<'a>) -> Result<u8, Failure<'a>> {
+fn serve<'a>(rt: &HostRuntime, task: &Task<'a>) -> Result<u8, Failure<'a>> {
     match task {
-        Task::Answer { vrps, why, check } => answer(rt, vrps, why, check),
-        Task::Table { vrps, of } => print_table(rt, vrps, of),
-        Task::Changes { old, new } => print_changes(rt, old, new),
+        Task::Answer { input, answers } => answer(rt, input, *answers),
+        Task::Table { input, of } => print_table(rt, input, *of),
+        Task::Changes { old, new } => print_changes(rt, *old, *new),
         Task::Help => status_after_print(println!(rt; "{USAGE}\n{HELP}")),
         Task::Version => status_after_print(println!(rt; "origins, version {VERSION}")),
     }
@@ -77,51 +85,112 @@ fn status_after_print<'a>(printed: io::Result<()>) -> Result<u8, Failure<'a>> {
     }
 }
 
-/// Answers the routes of the standard input by the VRPs of a file.
+/// Answers the routes of the standard input by the VRPs of files.
 ///
-/// The file is closed before any route is read. Therefore the program doesn't read the file as its standard input if
-/// the standard input was closed when it started.
-fn answer<'a>(rt: &HostRuntime, name: &'a str, why: bool, check: bool) -> Result<u8, Failure<'a>> {
-    let mut vrps = open(rt, name)?;
+/// Each file is closed before any route is read. Therefore the program doesn't read a file as its standard input if the
+/// standard input was closed when it started.
+fn answer<'a>(rt: &HostRuntime, input: &Input<'a>, answers: Answers) -> Result<u8, Failure<'a>> {
+    let Answers { why, json, check } = answers;
+    let (listed, report) = read_vrps(rt, input)?;
     let mut routes = standard_input(rt);
-    let mut writer = Watched::new(IntoWrite::new(buffered(rt)?));
-    match answer_routes(rt.alloc(), &mut vrps, why, &mut routes, &mut writer) {
-        Ok(count) => {
-            let _ = eprintln!(rt; "origins: {}", Counted(count));
+    let place = if json { STATE } else { 0 };
+    let mut writer = Watched::with_place(IntoWrite::new(buffered(rt)?), place);
+    let ended = if json {
+        answer_json_by(rt.alloc(), listed.as_slice(), why, &mut routes, &mut writer)
+    } else {
+        answer_by(rt.alloc(), listed.as_slice(), why, &mut routes, &mut writer)
+    };
+    match ended {
+        Ok(()) => {
+            let _ = eprintln!(rt; "origins: {report}");
             Ok(if check && writer.has_found() { 3 } else { 0 })
         }
-        Err(OriginsError::Vrps(error)) => Err(Failure::Vrps(name, error)),
-        Err(OriginsError::Run(error)) => Err(Failure::Run(error)),
+        Err(error) => Err(Failure::Run(error)),
     }
 }
 
-/// Prints the VRPs of a file, or of the standard input.
-fn print_table<'a>(rt: &HostRuntime, name: &'a str, of: Option<u32>) -> Result<u8, Failure<'a>> {
-    if name == STANDARD_INPUT {
-        print_table_of(rt, shown(name), &mut standard_input(rt), of)
-    } else {
-        print_table_of(rt, name, &mut open(rt, name)?, of)
-    }
-}
-
-/// Prints the VRPs that `vrps` has.
-fn print_table_of<'a, P: Source>(
+/// Prints the VRPs of files. The standard input may be one of them.
+fn print_table<'a>(
     rt: &HostRuntime,
-    name: &'a str,
-    vrps: &mut P,
+    input: &Input<'a>,
     of: Option<u32>,
-) -> Result<u8, Failure<'a>>
-    requires { P.mark vrps.old ≡ false }
-{
+) -> Result<u8, Failure<'a>> {
+    let (listed, report) = read_vrps(rt, input)?;
     let of = of.map(Asn::from_u32);
     let mut writer = IntoWrite::new(buffered(rt)?);
-    match write_table(rt.alloc(), vrps, of, &mut writer) {
-        Ok(count) => {
-            let _ = eprintln!(rt; "origins: {}", Counted(count));
+    match write_listed(rt.alloc(), listed.as_slice(), of, &mut writer) {
+        Ok(()) => {
+            let _ = eprintln!(rt; "origins: {report}");
             Ok(0)
         }
-        Err(OriginsError::Vrps(error)) => Err(Failure::Vrps(name, error)),
-        Err(OriginsError::Run(error)) => Err(Failure::Run(error)),
+        Err(error) => Err(Failure::Run(error)),
+    }
+}
+
+/// Reads the VRPs of all files, one file after another, and applies the local exceptions to them.
+fn read_vrps<'a>(
+    rt: &HostRuntime,
+    input: &Input<'a>,
+) -> Result<(Vec<Vrp>, Report<'a>), Failure<'a>> {
+    let mut listed = Vec::new(rt.alloc());
+    let mut files = Vec::new(rt.alloc());
+    for name in &input.files {
+        let count = add_vrps(rt, *name, &mut listed)?;
+        if files.push((shown(*name), count)).is_err() {
+            return Err(Failure::Run(RunError::Memory));
+        }
+    }
+    let read = listed.len();
+    let Some(name) = input.slurm else {
+        let report = Report {
+            read,
+            files,
+            applied: None,
+        };
+        return Ok((listed, report));
+    };
+    let exceptions = exceptions_of(rt, name)?;
+    match exceptions.apply(rt.alloc(), listed.as_slice()) {
+        Ok(changed) => {
+            let applied = Some((shown(name), changed.len()));
+            let report = Report {
+                read,
+                files,
+                applied,
+            };
+            Ok((changed, report))
+        }
+        Err(_) => Err(Failure::Run(RunError::Memory)),
+    }
+}
+
+/// Appends the VRPs of a file, or of the standard input, and returns their number.
+fn add_vrps<'a>(
+    rt: &HostRuntime,
+    name: &'a str,
+    listed: &mut Vec<Vrp>,
+) -> Result<usize, Failure<'a>> {
+    let added = if name == STANDARD_INPUT {
+        add_file(rt.alloc(), &mut standard_input(rt), listed)
+    } else {
+        add_file(rt.alloc(), &mut open(rt, name)?, listed)
+    };
+    match added {
+        Ok(count) => Ok(count),
+        Err(error) => Err(Failure::Vrps(shown(name), error)),
+    }
+}
+
+/// Returns the local exceptions of a SLURM file, or of the standard input.
+fn exceptions_of<'a>(rt: &HostRuntime, name: &'a str) -> Result<Slurm, Failure<'a>> {
+    let exceptions = if name == STANDARD_INPUT {
+        read_exceptions(rt.alloc(), &mut standard_input(rt))
+    } else {
+        read_exceptions(rt.alloc(), &mut open(rt, name)?)
+    };
+    match exceptions {
+        Ok(slurm) => Ok(slurm),
+        Err(error) => Err(Failure::Slurm(shown(name), error)),
     }
 }
 
@@ -176,7 +245,7 @@ fn standard_input(rt: &HostRuntime) -> FromRead<Retrying<Stdin>>
     FromRead::new(Retrying::new(rt.stdin()))
 }
 
-/// Opens a VRP file.
+/// Opens a file.
 fn open<'a>(rt: &HostRuntime, name: &'a str) -> Result<UntilEnd<Retrying<File>>, Failure<'a>>
     ensures { IfOk result (λ file. ⟦<UntilEnd<Retrying<File>> as Source>⟧.mark file ≡ false) }
 {

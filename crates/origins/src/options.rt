@@ -40,7 +40,7 @@ pub enum Task<'a> {
     },
     /// Print VRPs.
     Table {
-        /// The files. One of them may be the standard input.
+        /// The files. At most one of them may be the standard input.
         input: Input<'a>,
         /// The AS whose VRPs alone are printed, if one is requested.
         of: Option<u32>,
@@ -131,7 +131,7 @@ enum Names<'a> {
     More(&'a str),
 }
 
-/// What the next word is, after the words that were read so far.
+/// The meaning of the next word, after the words that were read so far.
 #[derive(Clone, Copy, Debug)]
 enum Next {
     /// An option or a file name.

@@ -5,8 +5,8 @@
  *   issuer. pigy_verify_path does this along a path from a trust anchor. No call checks signatures or dates.
  * - Resource sets. pigy_union, pigy_intersection, pigy_difference, pigy_contains and pigy_equal operate on two sets.
  *   pigy_cover lists the fewest prefixes that have exactly the addresses of one family of a set, and pigy_as_ranges and
- *   pigy_ip_ranges list the ranges of a set. pigy_set_from_text makes a set of text. pigy_answer converts text to DER
- *   and DER to text, as the program respath does.
+ *   pigy_ip_ranges list the ranges of a set. pigy_set_from_text makes a set from its text. pigy_answer converts text to
+ *   DER and DER to text, as the program respath does.
  * - Route origins. pigy_origins validates routes by VRPs (validated ROA payloads). The calls pigy_table_... make and
  *   use a table of VRPs that stays between calls, for example in a router. pigy_vrps_read reads the VRPs of a
  *   validator's file.
@@ -152,7 +152,7 @@ extern "C" {
  * - pigy_table_origins, pigy_table_routes_changed, pigy_table_covering: in a route.
  * - pigy_table_changed: in a withdrawn VRP. Without: in an announced VRP. */
 #define PIGY_SECOND 0x1000u
-/* PIGY_FAULT is the number n of the first error, from a status that is a sum with n.
+/* PIGY_FAULT(status) is n, the number of the first error, if the status is one of the following sums with n.
  *
  * PIGY_BAD_AS + n, PIGY_BAD_IP + n, also with PIGY_SECOND:
  *
@@ -385,7 +385,7 @@ uint32_t pigy_cover(const uint8_t *ip, size_t ip_len, uint32_t encoding, uint32_
                     size_t *len) PIGY_NODISCARD PIGY_NONNULL();
 
 /**
- * Makes a set of text: a list of AS numbers, of IPv4 addresses or of IPv6 addresses.
+ * Makes a set from its text: a list of AS numbers, of IPv4 addresses or of IPv6 addresses.
  *
  * Commas separate the elements. White space at the ends of an element is ignored, and so are elements that are empty.
  * Elements may be in any order, overlap or touch. An element of PIGY_ASN is an AS number or a range of these: AS64496,
@@ -430,8 +430,8 @@ typedef struct {
 } pigy_ip_range;
 
 /**
- * Lists the ranges of the AS numbers in AS identifiers, in ascending order. Ranges neither overlap nor touch, so these
- * are the fewest.
+ * Lists the ranges of the AS numbers in AS identifiers, in ascending order. Ranges neither overlap nor touch, so the
+ * list has as few ranges as possible.
  *
  * @param as        AS identifiers: DER. Not NULL.
  * @param as_len    Length in octets; may be 0.
@@ -453,7 +453,7 @@ uint32_t pigy_as_ranges(const uint8_t *as, size_t as_len, uint32_t encoding, pig
 
 /**
  * Lists the ranges of the addresses of one family in IP address blocks, in ascending order. Ranges neither overlap nor
- * touch, so these are the fewest. pigy_cover lists the prefixes.
+ * touch, so the list has as few ranges as possible. pigy_cover lists the prefixes.
  *
  * @param ip        IP address blocks: DER. Not NULL.
  * @param ip_len    Length in octets; may be 0.
@@ -531,14 +531,15 @@ uint32_t pigy_origins(const pigy_vrp *vrps, size_t vrp_count, const pigy_route *
 /**
  * Reads the VRPs of a validator's file, as rpki-client, FORT and Routinator write it. They are in the order of the file.
  *
- * A file whose first character that is not white space is { is JSON (RFC 8259). Its VRPs are the items of the member
- * roas, an array. An item is an object with the members asn (a number or a string), prefix (a string) and maxLength (a
- * number), each exactly once. Other members are ignored.
+ * The first character that is not white space decides how the file is read. If it is {, the file is JSON (RFC 8259).
+ * Its VRPs are the items of the member roas, an array. An item is an object with the members asn (a number or a
+ * string), prefix (a string) and maxLength (a number), each exactly once. Other members are ignored.
  *
- * A file that begins with [ is invalid. Any other file is CSV. A line is blank, names the columns, or is a VRP: an AS
- * number, a prefix and a maximum length. These are its first three fields, or the fields in the columns that an earlier
- * line names. Names are ASN; IP Prefix or Prefix; Max Length or Max prefix length. Each comma ends a field, also a
- * comma between quotes.
+ * If this character is [, the file is invalid. Any other file is CSV. A line is blank, names the columns, or is a VRP:
+ * an AS number, a prefix and a maximum length. These are its first three fields, or the fields in the columns that an
+ * earlier line names. Names are ASN; IP Prefix or Prefix; Max Length or Max prefix length. Capital and small letters
+ * differ. White space around a field and quotes around its text are ignored. Each comma ends a field, also a comma
+ * between quotes.
  *
  * A byte order mark at the beginning is ignored. No line and no item is skipped: one that is invalid makes the whole
  * file invalid. The last 12 octets of an IPv4 address are 0. A VRP that the file repeats is listed again.
@@ -657,7 +658,8 @@ uint32_t pigy_table_origins(const pigy_table *table, const pigy_route *routes, s
 
 /**
  * Says of each route whether its validity differs between two tables: one octet a route, 0 if it has the same validity
- * by both tables, and 1 if it has another (RFC 6811, 4). Pass the routes that you use, after the table was replaced.
+ * by both tables, and 1 if it has another (RFC 6811, 4). Call this after you made the next table, with all routes that
+ * you use, and free the old table afterwards.
  *
  * @param old       The one table, which is only read. The status is PIGY_NO_TABLE if it is NULL.
  * @param next      The other table, which is only read. The status is PIGY_NO_TABLE if it is NULL. May be `old`.

@@ -65,7 +65,7 @@ Options:
 
 The program prints on standard error how many VRPs it read. Check this number: the program cannot
 detect that the last lines of a CSV file are missing. If the last line was cut, the program reports
-this only if the rest of the line is invalid. If there are several files, the program prints a
+this only if the part that is left is invalid. If there are several files, the program prints a
 number for each. With --slurm it prints how many VRPs there are after the exceptions. The program
 ignores the date at which a VRP expires: an old file is used like a new one.
 

@@ -4,8 +4,8 @@
 pub const VERSION: &str = "0.1.0";
 
 /// The forms of a call of the program.
-pub const USAGE: &str =
-    "usage: origins [--why] [--json] [--check] [--slurm FILE] [--vrps FILE].. VRPS < ROUTES
+pub const USAGE: &str = "usage: origins [--why] [--json] [--check] [--slurm FILE] [--vrps FILE]..
+               VRPS < ROUTES
        origins --table [--of ASN] [--slurm FILE] [--vrps FILE].. VRPS
        origins --diff OLD NEW
        origins --help | --version";

@@ -133,9 +133,10 @@ extern "C" {
 #define PIGY_BAD_PREFIX 14u   /* The prefix is longer than its family allows, or has host bits set. */
 #define PIGY_BAD_MAX_LEN 15u  /* The maximum length is below the prefix length, or is above 32 (IPv4) or 128 (IPv6). */
 #define PIGY_NO_TABLE 16u     /* The handle is NULL. */
-#define PIGY_UNKNOWN_WITHDRAWAL 17u     /* A withdrawn VRP is not in the table, or comes twice (RFC 8210: code 6). */
-#define PIGY_DUPLICATE_ANNOUNCEMENT 18u /* An announced VRP is in the table and not withdrawn, or comes twice (RFC
-                                         * 8210: code 7). */
+#define PIGY_UNKNOWN_WITHDRAWAL 17u     /* A withdrawn VRP is not in the table, or is listed twice (RFC
+                                         * 8210: code 6). */
+#define PIGY_DUPLICATE_ANNOUNCEMENT 18u /* An announced VRP is in the table and not withdrawn, or is listed twice
+                                         * (RFC 8210: code 7). */
 #define PIGY_BAD_KIND 19u     /* The kind is none of PIGY_ASN, PIGY_IPV4 and PIGY_IPV6. */
 #define PIGY_BAD_AS 0x100u    /* The AS identifiers are invalid. The number of the first error is added. */
 #define PIGY_BAD_IP 0x200u    /* The IP address blocks are invalid. The number of the first error is added. */
@@ -144,7 +145,8 @@ extern "C" {
 #define PIGY_BAD_FILE 0xc00u  /* pigy_vrps_read: the file as a whole is invalid. The number of the error is added. */
 #define PIGY_BAD_TEXT 0x2000u /* pigy_set_from_text: the text is invalid. The number of the first error is added. */
 /* PIGY_SECOND is added to PIGY_BAD_AS + n, PIGY_BAD_IP + n, PIGY_INHERITED, PIGY_BAD_FAMILY, PIGY_BAD_PREFIX and
- * PIGY_BAD_MAX_LEN, and to no other status. With PIGY_SECOND the error is in one argument, and without it in another:
+ * PIGY_BAD_MAX_LEN, and to no other status. For a status of these six kinds, the error is in one argument with
+ * PIGY_SECOND, and in another without it:
  *
  * - pigy_verify, pigy_verify_path: in a certificate. Without PIGY_SECOND: in the set of the issuer or trust anchor.
  * - The calls with two sets, such as pigy_union and pigy_contains: in the second set. Without: in the first set.
@@ -529,7 +531,8 @@ uint32_t pigy_origins(const pigy_vrp *vrps, size_t vrp_count, const pigy_route *
                       uint8_t *out, size_t capacity, size_t *len, size_t *index) PIGY_NODISCARD PIGY_NONNULL();
 
 /**
- * Reads the VRPs of a validator's file, as rpki-client, FORT and Routinator write it. They are in the order of the file.
+ * Reads the VRPs of a validator's file, as rpki-client, FORT and Routinator write it. They are in the order of the
+ * file.
  *
  * The first character that is not white space decides how the file is read. If it is {, the file is JSON (RFC 8259).
  * Its VRPs are the items of the member roas, an array. An item is an object with the members asn (a number or a
@@ -597,7 +600,7 @@ uint32_t pigy_table_new(const pigy_vrp *vrps, size_t count, pigy_table **table, 
 /**
  * Makes the next table: `table` without the withdrawn VRPs, and then with the announced ones.
  *
- * - The next table has a handle of its own, and `table` does not change.
+ * - The next table has a handle of its own, and `table` does not change. Free the two tables in any order.
  * - A change makes a pass over the whole table, even for one VRP. Make one call for all VRPs of a response.
  * - The call applies all withdrawals before all announcements. In general, the response of a cache to a Serial Query
  *   has at most one withdrawal of a VRP, and then at most one announcement of it (RFC 8210, 5.3). Such a response may
@@ -611,7 +614,7 @@ uint32_t pigy_table_new(const pigy_vrp *vrps, size_t count, pigy_table **table, 
  * - If an array has no VRPs, pass a pointer to any VRP and count 0.
  *
  * @param table            The table, which is only read. The status is PIGY_NO_TABLE if it is NULL.
- * @param announced        Announced VRPs. Not NULL.
+ * @param announced        Announced VRPs. The next table copies them. Not NULL.
  * @param announced_count  Number of announced VRPs.
  * @param withdrawn        Withdrawn VRPs. Not NULL.
  * @param withdrawn_count  Number of withdrawn VRPs.

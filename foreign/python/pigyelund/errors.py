@@ -169,7 +169,8 @@ class OutOfMemoryError(PigyelundError, MemoryError):
 class InheritedError(PigyelundError):
     """A set has `inherit` in place of a list of resources.
 
-    The set is the issuer's, the trust anchor's, one of two sets, or that of `cover` or `prefixes`.
+    The set is the issuer's, the trust anchor's, one of two sets, or that of `cover`, `prefixes`, `as_ranges`, `asns` or
+    `ip_ranges`.
     """
 
 
@@ -236,7 +237,8 @@ class SetTextError(PigyelundError):
 class BadNumberError(PigyelundError):
     """You passed a number as an `Encoding`, a `Mode` or a `Family`, and the number is no member of it.
 
-    No exception has `Status.BAD_PRESENT` or `Status.OUTSIDE`. Only calls of `raw` return these, as numbers.
+    No exception has `Status.BAD_PRESENT`, `Status.OUTSIDE` or `Status.BAD_KIND`. Only calls of `raw` return these, as
+    numbers.
     """
 
 

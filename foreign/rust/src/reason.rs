@@ -12,17 +12,18 @@ use crate::{FileFault, Resources, TextFault, VrpFault};
 /// | [`verify`](crate::verify) | the issuer | the certificate |
 /// | [`verify_path`](crate::verify_path) | the trust anchor | a certificate |
 /// | [`combine`](crate::combine), [`compare`](crate::compare) | the first set | the second set |
-/// | [`cover`](crate::cover) | the set | |
+/// | [`cover`](crate::cover), [`as_ranges`](crate::as_ranges), [`ip_ranges`](crate::ip_ranges) | the set | |
 /// | [`origins`](crate::origins) | a VRP | a route |
 /// | [`Table::new`](crate::Table::new) | a VRP | |
 /// | [`Table::changed`](crate::Table::changed) | an announced VRP | a withdrawn VRP |
-/// | other calls of [`Table`](crate::Table) | | a route |
+/// | [`Table::origins`](crate::Table::origins), [`Table::origin`](crate::Table::origin) | | a route |
+/// | [`Table::changed_routes`](crate::Table::changed_routes), [`Table::covering`](crate::Table::covering) | | a route |
 ///
 /// For [`union`](crate::union), [`contains`](crate::contains) and the other calls on two sets the sides are those of
 /// `combine` and `compare`.
 #[derive(Clone, Copy, Debug, PartialEq, Eq, Hash)]
 pub enum Side {
-    /// The issuer, the trust anchor, the first set, a VRP, or an announced VRP.
+    /// The issuer, the trust anchor, the first set, the only set of a call, a VRP, or an announced VRP.
     First,
     /// The certificate, the second set, a route, or a withdrawn VRP.
     Second,

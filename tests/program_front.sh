@@ -238,15 +238,15 @@ expect "each crate that takes its time is reported when it is proved" 0 "$(seq 1
     "$(echo "$said" | sed -n "s/^respath: \([0-9]*\) of $all crates are proved, [0-9]* min gone, about [0-9]* min left\$/\1/p")"
 expect "a program that was proved by the script" 0 "proved here with the-kit logic 12" $? "$(version respath)"
 
-# The estimate: the rest of the plan, slower by as much as the proved crates were and two minutes more. Three are proved,
+# The estimate: the rest of the plan, slower by as much as the proved crates were and two minutes more. Four are proved,
 # twice as slowly. A crate that was kept takes a second of the plan.
 estimate() (
     top=$copy started=respath program_crate=respath_files all=$all work=$copy/tmp reported=2
     . "$top/program.sh"
     : >"$work/kept"
     plan >"$work/plan"
-    for crate in $(head -n 3 "$work/plan" | cut -d ' ' -f 1); do echo "rt: $crate proved"; done >"$work/log"
-    planned=$(sed -n '3s/.* //p' "$work/plan")
+    for crate in $(head -n 4 "$work/plan" | cut -d ' ' -f 1); do echo "rt: $crate proved"; done >"$work/log"
+    planned=$(sed -n '4s/.* //p' "$work/plan")
     whole=$(sed -n '$s/.* //p' "$work/plan")
     began=$(($(date +%s) - 2 * planned))
     rest=$(((2 * planned + 120) * (whole - planned) / (planned + 120)))
@@ -257,7 +257,7 @@ estimate() (
     rm "$work/plan" "$work/log" "$work/kept" "$work/proved"
 )
 said=$(PATH=$copy/bin:$copy/tools estimate)
-expect "an estimate after three crates" 0 "respath: 3 of $all crates are proved, gone, about the rest left
+expect "an estimate after four crates" 0 "respath: 4 of $all crates are proved, gone, about the rest left
 1" $? "$said"
 
 # Without a build

@@ -26,7 +26,7 @@ WITHOUT_PLACES = "#!/bin/sh\nLC_ALL=C exec sed 's/.*/error/'\n"
 
 
 # Cases about what the test itself expects, or about program.sh: no program changes them.
-OF_THE_TEST = ("the last answer is longer than 64 KiB", "an estimate after three crates")
+OF_THE_TEST = ("the last answer is longer than 64 KiB", "an estimate after four crates")
 
 
 def program(name: str) -> str:

@@ -11,7 +11,7 @@ error has both, as OrMemory<..> does, and it is proved if no clause tells the tw
 call the real function are left out.
 
 For each crate it prints what is still proved, and what has no clause or could not be judged; with --all also what is
-refused and what does not compile. What is still proved should stand in docs/DECISIONS.md. A body that is an Err of
+refused and what does not compile. What is still proved should stand in docs/TESTS.md. A body that is an Err of
 memory alone is never planted, since each clause allows it. A crate has to be proved first (rt check); then it takes a
 minute or a few."""
 import collections

@@ -332,11 +332,11 @@ try_packages() {
     [ "$(objdump -p "$lib/$so" | sed -n 's/^  SONAME *//p')" = "$so" ] || fail "the soname"
     [ "$(readlink "$lib/libpigyelund.so")" = "$so" ] || fail "the link for the linker"
     grep -qx "Version: $version" "$lib/pkgconfig/pigyelund.pc" || fail "the version of pigyelund.pc"
-    [ "$(member libpigyelund1 shlibs)" = "libpigyelund 1 libpigyelund1 (>= 0.1.0)" ] || fail "shlibs"
+    [ "$(member libpigyelund1 shlibs)" = "libpigyelund 1 libpigyelund1 (>= 0.2.0)" ] || fail "shlibs"
     [ "$(member libpigyelund1 triggers)" = "activate-noawait ldconfig" ] || fail "triggers"
     case $(field libpigyelund1 Depends) in "libc6 (>= 2."*) ;; *) fail "Depends of the library" ;; esac
     [ "$(field libpigyelund-dev Depends)" = "libpigyelund1 (= $version)" ] || fail "Depends of libpigyelund-dev"
-    [ "$(field python3-pigyelund Depends)" = "python3 (>= 3.10), libpigyelund1 (>= 0.1.0)" ] ||
+    [ "$(field python3-pigyelund Depends)" = "python3 (>= 3.10), libpigyelund1 (>= 0.2.0)" ] ||
         fail "Depends of python3-pigyelund"
     [ "$(field libpigyelund1 Multi-Arch) $(field libpigyelund-dev Multi-Arch) $(field pigyelund Multi-Arch)" = \
         "same same foreign" ] || fail "Multi-Arch"
@@ -383,7 +383,7 @@ refuses_other_symbols() {
     making=released_packages
     refuses "a library without a call" "libpigyelund.so.1 has other symbols than $file" \
         "sed -i 's/^ *pigy_union;/    pigy_more;\n&/' foreign/c/exports.map &&
-        echo ' pigy_more@PIGYELUND_1 0.1.0' >>$file && $commit"
+        echo ' pigy_more@PIGYELUND_1 0.2.0' >>$file && $commit"
     refuses "a call without its line" "numbers or names differ" "sed -i '/ pigy_union@/d' $file && $commit"
     refuses "a line without its call" "numbers or names differ" \
         "sed -i '/ pigy_union;/d' foreign/c/exports.map && $commit"

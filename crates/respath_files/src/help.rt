@@ -1,7 +1,7 @@
 //! The texts that the program prints about itself. The script `./respath` reads them from this file.
 
 /// The version of the program, which is that of the repository.
-pub const VERSION: &str = "0.1.0";
+pub const VERSION: &str = "0.2.0";
 
 /// The forms of a call of the program.
 pub const USAGE: &str = "usage: respath [--check] [--where] [--] [FILE ..] | --help | --version";

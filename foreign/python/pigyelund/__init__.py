@@ -108,7 +108,7 @@ __all__ = [
     "status_text",
 ]
 
-__version__ = "0.1.0"
+__version__ = "0.2.0"
 
 
 class Encoding(IntEnum):
@@ -227,7 +227,7 @@ class Pigyelund:
         return self.raw.version()
 
     def version_string(self) -> str:
-        """Returns the version of the library, for example `0.1.0`."""
+        """Returns the version of the library, for example `0.2.0`."""
         return self.raw.version_string().decode("ascii")
 
     def verify(

@@ -701,7 +701,7 @@ pub fn version() -> u32 {
     unsafe { pigy_version() }
 }
 
-/// Calls `pigy_version_string`. Returns the version of the linked library, for example `0.1.0`.
+/// Calls `pigy_version_string`. Returns the version of the linked library, for example `0.2.0`.
 ///
 /// This is not the version of the crate, and not [`version`].
 pub fn version_string() -> &'static str {

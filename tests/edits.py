@@ -229,9 +229,10 @@ def try_edit(kit, crate, edit: Path, base: Path | None) -> str | None:
         print(f"{crate.name} is not proved, so its edits say nothing: {edit.name} not tried", flush=True)
         return None
     with tempfile.TemporaryDirectory(prefix="edit-", dir=crate.folder) as room:
-        copy = str(Path(room, "base"))
-        kit.linked(str(base), copy)  # a check replaces the files that this links, and writes into none
-        kind, text = must_fail(kit, crate, edit, copy)
+        copy = Path(room, "base")
+        # a check replaces the files that this links, and writes into none
+        shutil.copytree(base, copy, symlinks=True, copy_function=link)
+        kind, text = must_fail(kit, crate, edit, str(copy))
     if not kind:
         kind, text = must_fail(kit, crate, edit, None)
     print(text, flush=True)

@@ -119,7 +119,7 @@ extern "C" {
 #define PIGY_OK 0u            /* Success. For pigy_contains and pigy_equal: yes. */
 #define PIGY_TOO_SMALL 1u     /* A buffer is too small. No buffer is changed, and the lengths are the required ones. */
 #define PIGY_MEMORY 2u        /* Out of memory (see MEMORY above). No buffer is changed. */
-#define PIGY_INHERITED 3u     /* A set says "inherit" where it has to list its resources. */
+#define PIGY_INHERITED 3u     /* A set has "inherit". Only a certificate may have it. */
 #define PIGY_BAD_MODE 4u      /* The mode is neither PIGY_REFUSE nor PIGY_TRIM. */
 #define PIGY_OVERCLAIM_AS 5u  /* Overclaimed AS numbers. The outputs are exactly these, as a set. */
 #define PIGY_OVERCLAIM_V4 6u  /* Overclaimed IPv4 addresses. The outputs are exactly these, as a set. */
@@ -145,14 +145,14 @@ extern "C" {
 #define PIGY_BAD_FILE 0xc00u  /* pigy_vrps_read: the file as a whole is invalid. The number of the error is added. */
 #define PIGY_BAD_TEXT 0x2000u /* pigy_set_from_text: the text is invalid. The number of the first error is added. */
 /* PIGY_SECOND is added to PIGY_BAD_AS + n, PIGY_BAD_IP + n, PIGY_INHERITED, PIGY_BAD_FAMILY, PIGY_BAD_PREFIX and
- * PIGY_BAD_MAX_LEN, and to no other status. For a status of these six kinds, the error is in one argument with
- * PIGY_SECOND, and in another without it:
+ * PIGY_BAD_MAX_LEN, and to no other status. For these six it says which argument has the error:
  *
- * - pigy_verify, pigy_verify_path: in a certificate. Without PIGY_SECOND: in the set of the issuer or trust anchor.
- * - The calls with two sets, such as pigy_union and pigy_contains: in the second set. Without: in the first set.
- * - pigy_origins: in a route. Without: in a VRP.
- * - pigy_table_origins, pigy_table_routes_changed, pigy_table_covering: in a route.
- * - pigy_table_changed: in a withdrawn VRP. Without: in an announced VRP. */
+ *   call                                  with PIGY_SECOND        without PIGY_SECOND
+ *   pigy_verify, pigy_verify_path         a certificate           the set of the issuer or trust anchor
+ *   the calls with two sets               the second set          the first set
+ *   pigy_origins                          a route                 a VRP
+ *   pigy_table_changed                    a withdrawn VRP         an announced VRP
+ *   the other calls with routes           a route */
 #define PIGY_SECOND 0x1000u
 /* PIGY_FAULT(status) is n, the number of the first error, if the status is one of the following sums with n.
  *
@@ -395,8 +395,8 @@ uint32_t pigy_cover(const uint8_t *ip, size_t ip_len, uint32_t encoding, uint32_
  * 10.0.0.1-10.0.0.9. The bits of an address after the length of its prefix are ignored. The program respath reads the
  * same lists.
  *
- * The outputs are the set. It has no resources of the two other kinds, so at least one of the lengths is 0. pigy_union
- * joins the sets of several texts.
+ * The outputs are the set. AS numbers are written to `as_out`, and addresses to `ip_out`. The length of the other
+ * output is 0. pigy_union joins the sets of several texts.
  *
  * @param kind         PIGY_ASN, PIGY_IPV4 or PIGY_IPV6.
  * @param text         The list, in UTF-8. Not NULL.
@@ -660,9 +660,9 @@ uint32_t pigy_table_origins(const pigy_table *table, const pigy_route *routes, s
                             size_t capacity, size_t *len, size_t *index) PIGY_NODISCARD PIGY_NONNULL(2, 4, 6, 7);
 
 /**
- * Says of each route whether its validity differs between two tables: one octet a route, 0 if it has the same validity
- * by both tables, and 1 if it has another (RFC 6811, 4). Call this after you made the next table, with all routes that
- * you use, and free the old table afterwards.
+ * Compares the validity of each route by two tables (RFC 6811, 4). The octet of a route is 1 if its validity differs
+ * between the tables, and otherwise 0. Make the next table, then call this with all routes that you use, and then free
+ * the old table.
  *
  * @param old       The one table, which is only read. The status is PIGY_NO_TABLE if it is NULL.
  * @param next      The other table, which is only read. The status is PIGY_NO_TABLE if it is NULL. May be `old`.

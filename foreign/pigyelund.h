@@ -4,7 +4,7 @@
  * - Certificates. pigy_verify and pigy_verify_set compare the resources that a certificate claims with those of its
  *   issuer. pigy_verify_path does this along a path from a trust anchor. No call checks signatures or dates.
  * - Resource sets. pigy_union, pigy_intersection, pigy_difference, pigy_contains and pigy_equal operate on two sets.
- *   pigy_cover lists the fewest prefixes that have exactly the addresses of one family of a set, and pigy_as_ranges and
+ *   pigy_cover lists the fewest prefixes that have exactly the addresses of one family of a set. pigy_as_ranges and
  *   pigy_ip_ranges list the ranges of a set. pigy_set_from_text makes a set from its text. pigy_answer converts text to
  *   DER and DER to text, as the program respath does.
  * - Route origins. pigy_origins validates routes by VRPs (validated ROA payloads). The calls pigy_table_... make and
@@ -90,8 +90,8 @@
  * - Any number of threads may use one table, and may make the next table from it at the same time.
  * - Pass a handle from one thread to another by a lock, by the start or join of a thread, or by an atomic object. The
  *   store to this object is release or seq_cst, and the load from it is acquire or seq_cst.
- * - If pigy_table_free is called in another thread than an earlier call with the handle, order the two calls by one of
- *   these means too.
+ * - All other calls with a handle return before pigy_table_free. If another thread makes such a call, order it before
+ *   pigy_table_free by one of these means too.
  */
 #ifndef PIGYELUND_H
 #define PIGYELUND_H
@@ -602,9 +602,8 @@ uint32_t pigy_table_new(const pigy_vrp *vrps, size_t count, pigy_table **table, 
  *
  * - The next table has a handle of its own, and `table` does not change. Free the two tables in any order.
  * - A change makes a pass over the whole table, even for one VRP. Make one call for all VRPs of a response.
- * - The call applies all withdrawals before all announcements. In general, the response of a cache to a Serial Query
- *   has at most one withdrawal of a VRP, and then at most one announcement of it (RFC 8210, 5.3). Such a response may
- *   be passed as one change.
+ * - The call applies all withdrawals before all announcements. In general, a response to a Serial Query has at most
+ *   one withdrawal and then at most one announcement of each VRP (RFC 8210, 5.3). Pass such a response as one change.
  * - For the response to a Reset Query, pass an empty table as `table`. pigy_table_new with count 0 makes an empty
  *   table. A VRP that the response announces twice is then an error. If you pass the VRPs of the response to
  *   pigy_table_new instead, it accepts such duplicates.

@@ -90,8 +90,8 @@
  * - Any number of threads may use one table, and may make the next table from it at the same time.
  * - Pass a handle from one thread to another by a lock, by the start or join of a thread, or by an atomic object. The
  *   store to this object is release or seq_cst, and the load from it is acquire or seq_cst.
- * - All other calls with a handle return before pigy_table_free. If another thread makes such a call, order it before
- *   pigy_table_free by one of these means too.
+ * - All other calls with a handle have returned before pigy_table_free is called. If another thread made such a call,
+ *   order it before pigy_table_free by one of these means too.
  */
 #ifndef PIGYELUND_H
 #define PIGYELUND_H

@@ -107,12 +107,12 @@ CC = ("gcc", "-O2", "-Wall", "-Wextra", "-Werror")
 
 def build_router(library: str, folder: Path) -> None:
     """Builds the router twice: as C99 for StayRTR, and with COUNTER for the scripts."""
-    router, counter = str(SOURCES / "router.c"), folder / "counter.c"
-    subprocess.run([*CC, "-std=c99", "-pedantic", router, library, "-o", str(folder / "router")], check=True)
+    router, counter = (f"-I{SOURCES.parent}", str(SOURCES / "router.c")), folder / "counter.c"
+    subprocess.run([*CC, "-std=c99", "-pedantic", *router, library, "-o", str(folder / "router")], check=True)
     counter.write_text(COUNTER)
     wrapped = ("pigy_table_new", "pigy_table_changed", "pigy_table_free", "send", "recv")
     wraps = [f"-Wl,--wrap={name}" for name in wrapped]
-    words = [router, str(counter), f"-I{SOURCES.parent}", library, *wraps, "-o", str(folder / "counted")]
+    words = [*router, str(counter), library, *wraps, "-o", str(folder / "counted")]
     subprocess.run([*CC, *words], check=True)
 
 

@@ -34,8 +34,8 @@
  * is not a number in its range. PORT is from 1 to 65535, UNIT from 1 to 2147483647, and each other number from 0 to
  * 2147483647. The status is also 2 if memory runs out before the first connection or while a table is printed. */
 #define _POSIX_C_SOURCE 200809L
-#include "../pigyelund.h"
 #include <arpa/inet.h>
+#include <pigyelund.h>
 #include <poll.h>
 #include <stdio.h>
 #include <stdlib.h>

@@ -479,6 +479,7 @@ if has "C, and all that is installed," gcc make ar objcopy nm readelf; then
     of_install
     has_python && { tests/foreign_page.py C "$prefix" || fail "the program in C"; of_python; }
     has_python && { tests/foreign_page.py "A table in C" "$prefix" || fail "the table in C"; }
+    has_python && { tests/foreign_page.py "A set from text in C" "$prefix" || fail "the set in C"; }
     has_python && of_openssl
     has "Rust" cargo cc tar && of_rust
 fi

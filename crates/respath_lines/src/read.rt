@@ -52,18 +52,20 @@ fn read_as<A: Allocator + Copy>(
     let Some(octets) = octets_of(alloc, text)? else {
         return write_text(answer, "error: bad hex");
     };
-    show(answer, as_resources_in(alloc, octets.as_slice()))
+    show(answer, as_resources_in(alloc, octets))
 }
 
 /// Returns the AS resources that all the octets encode. `Refused` has the first fault of invalid octets.
+///
+/// The octets are dropped, so that their memory is free when the resources are printed.
 fn as_resources_in<A: Allocator + Copy>(
     alloc: A,
-    octets: &[u8],
+    octets: Vec<u8, A>,
 ) -> Result<AsResources<A>, OrMemory<DerError>>
-    ensures { MatchResult result (IsAsResources octets.now)
-        (IfRefused (HasFault IsAsResources as_choice_at octets.now)) }
+    ensures { MatchResult result (IsAsResources octets.items)
+        (IfRefused (HasFault IsAsResources as_choice_at octets.items)) }
 {
-    let mut cursor = Cursor::new(octets);
+    let mut cursor = Cursor::new(octets.as_slice());
     let taken = AsResources::take_from(alloc, &mut cursor);
     ended(taken, cursor)
 }
@@ -97,17 +99,17 @@ fn read_ip<A: Allocator + Copy>(
     let Some(octets) = octets_of(alloc, text)? else {
         return write_text(answer, "error: bad hex");
     };
-    family_in(alloc, family, octets.as_slice(), answer)
+    family_in(alloc, family, octets, answer)
 }
 
 /// Prints the resources of one family in the families that these octets encode, or the fault of the octets.
 fn family_in<A: Allocator + Copy>(
     alloc: A,
     family: AddressFamily,
-    octets: &[u8],
+    octets: Vec<u8, A>,
     answer: &mut String<A>,
 ) -> Result<(), AllocError>
-    ensures { OnOk result (ShowsFamily family octets.now (string_bytes answer.new)) }
+    ensures { OnOk result (ShowsFamily family octets.items (string_bytes answer.new)) }
 {
     match families_in(alloc, octets) {
         Ok(families) => print_resources(family, resources_of(families, family), answer),
@@ -130,14 +132,16 @@ fn resources_of<A: Allocator>(
 }
 
 /// Returns the resources by family that all the octets encode. `Refused` has the first fault of invalid octets.
+///
+/// The octets are dropped, so that their memory is free when the resources are printed.
 fn families_in<A: Allocator + Copy>(
     alloc: A,
-    octets: &[u8],
+    octets: Vec<u8, A>,
 ) -> Result<(Option<IpResources<A>>, Option<IpResources<A>>), OrMemory<DerError>>
-    ensures { MatchResult result (IsIpFamilies octets.now)
-        (IfRefused (HasFault IsIpFamilies ip_families_at octets.now)) }
+    ensures { MatchResult result (IsIpFamilies octets.items)
+        (IfRefused (HasFault IsIpFamilies ip_families_at octets.items)) }
 {
-    let mut cursor = Cursor::new(octets);
+    let mut cursor = Cursor::new(octets.as_slice());
     let taken = IpResources::take_families_from(alloc, &mut cursor);
     ended(taken, cursor)
 }

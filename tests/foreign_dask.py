@@ -24,8 +24,11 @@ from ipaddress import IPv4Network, IPv6Network
 from pathlib import Path
 from random import Random
 
-TOP = Path(__file__).resolve().parent.parent
-TITLE = "## Validate routes on more than one machine (`origins`)\n"
+from blocks import TOP, blocks_of
+
+RECIPES = "docs/RECIPES.md"
+FIRST_TITLE = "## Validate routes (`origins`)"
+TITLE = "## Validate routes on more than one machine (`origins`)"
 SYSTEM = "/usr/bin/python3"  # Debian's packages are for this Python
 WORKERS = 1, 2, 4
 # Prints how often each worker process made a table.
@@ -42,26 +45,20 @@ with Client(sys.argv[1]) as client:
 """
 
 
-def section(start: str) -> str:
-    """The section of the page that begins with a heading."""
-    return (TOP / "docs" / "RECIPES.md").read_text().split(start)[1].split("\n## ")[0]
-
-
 def write_programs(folder: Path) -> None:
     """Writes the recipe's programs into a folder."""
-    found = re.findall(r"^```python (\w+\.py)\n(.*?)^```$", section(TITLE), re.MULTILINE | re.DOTALL)
-    for name, text in found:
-        (folder / name).write_text(text)
+    for block in blocks_of(RECIPES, TITLE):
+        if block.kind.startswith("python "):
+            (folder / block.kind.removeprefix("python ")).write_text(block.text)
     (folder / "misses.py").write_text(MISSES)
 
 
 def write_example(folder: Path) -> str:
     """Writes the files of the page's first recipe. Returns what the page shows for them."""
-    first = section("## Validate routes (`origins`)\n")
+    first = "".join(it.text for it in blocks_of(RECIPES, FIRST_TITLE))
     for name, text in re.findall(r"^cat >(\w+) <<'END'\n(.*?)^END$", first, re.MULTILINE | re.DOTALL):
         (folder / name).write_text(text)
-    shown = r"^\$ python3 validate_routes\.py [^\n]*\n(.*?)^```$"
-    return re.findall(shown, section(TITLE), re.MULTILINE | re.DOTALL)[0]
+    return next(it.shown for it in blocks_of(RECIPES, TITLE) if "python3 validate_routes.py " in it.text)
 
 
 def network(source: Random, length: int) -> IPv4Network | IPv6Network:

@@ -13,14 +13,14 @@ the library that is installed under PREFIX, prints what the page says. The statu
 """
 
 import ast
-import os
 import re
 import subprocess
 import sys
 import tempfile
 from pathlib import Path
 
-TOP = Path(__file__).resolve().parent.parent
+from blocks import TOP, Report, blocks_of, run
+
 PAGE = TOP / "docs" / "FOREIGN.md"
 HEADER = TOP / "foreign" / "pigyelund.h"
 CRATE = TOP / "crates" / "pigyelund_c"
@@ -61,7 +61,7 @@ def of_library() -> dict[str, int]:
     for name, number in re.findall(r"^pub const (\w+): u32 = (\d+);$", texts, re.MULTILINE):
         if found.setdefault(name, int(number)) != int(number):
             raise SystemExit(f"{name} has two numbers in {' and '.join(map(str, files))}")
-    named = (CRATE / "specs" / "Numbers", CRATE / "specs" / "Texts", ROUTES / "specs" / "Families", ROUTES / "specs" / "Origins")
+    named = CRATE / "specs/Numbers", CRATE / "specs/Texts", ROUTES / "specs/Families", ROUTES / "specs/Origins"
     specs = "".join(file.with_suffix(".antt").read_text() for file in named)
     choices = dict(re.findall(r"^(\w+_number \w+) = (\d+)$", specs, re.MULTILINE))
     found |= {name: int(choices[of]) for name, of in CHOICES.items()} | MISMATCHES
@@ -205,37 +205,25 @@ def numbers_differ() -> list[str]:
     return faults + of_page(numbers) + of_python() + of_stack() + of_symbols()
 
 
-def section(title: str) -> list[tuple[str, str]]:
-    """The kinds and texts of the blocks in a section of the page."""
-    text = PAGE.read_text().split(f"\n### {title}\n")[1].split("\n##")[0]
-    return re.findall(r"^```(\w+)\n(.*?)^```$", text, re.MULTILINE | re.DOTALL)
-
-
-def run(title: str, prefix: str) -> list[str]:
-    """Runs the program of a section; what differs."""
+def compare_program(title: str, prefix: str) -> int:
+    """Runs the program of a section, and compares what it prints with the page. Returns the status of the test."""
+    report, blocks = Report(), blocks_of("docs/FOREIGN.md", f"### {title}")
+    commands, shown = "".join(it.text for it in blocks if it.kind == "sh"), "".join(it.shown for it in blocks)
     with tempfile.TemporaryDirectory() as folder:
-        commands, wanted = "", ""
-        for kind, text in section(title):
-            if kind == "sh":
-                commands += text
-            elif kind == "text":
-                wanted += text
-            else:
-                file = Path(folder) / SOURCES[kind]
-                file.parent.mkdir(exist_ok=True)
-                file.write_text(text.replace('"REPOSITORY/', f'"{TOP}/'))
-        environment = os.environ | {"PREFIX": prefix, "REPOSITORY": str(TOP)}
-        ran = subprocess.run(
-            ["sh", "-euc", commands], cwd=folder, env=environment, capture_output=True, text=True, check=False
-        )
-    if not commands or ran.returncode or ran.stdout != wanted:
-        return [f"{PAGE.name}, {title}: status {ran.returncode}\n{ran.stdout}{ran.stderr}"]
-    return []
+        for block in (it for it in blocks if it.kind not in ("sh", "text")):
+            file = Path(folder) / SOURCES[block.kind]
+            file.parent.mkdir(exist_ok=True)
+            file.write_text(block.text.replace('"REPOSITORY/', f'"{TOP}/'))
+        ran = run(commands or "exit 1", Path(folder), PREFIX=prefix, REPOSITORY=str(TOP))
+    report.compare(blocks[0].place, f"status 0\n{shown}", f"status {ran.returncode}\n{ran.stdout}", ran.stderr)
+    return report.status()
 
 
 def main() -> int:
     """Compares, or runs what is named."""
-    faults = run(*sys.argv[1:]) if sys.argv[1:] else numbers_differ()
+    if sys.argv[1:]:
+        return compare_program(*sys.argv[1:])
+    faults = numbers_differ()
     for fault in faults:
         print(fault)
     return 1 if faults else 0

@@ -86,8 +86,9 @@ CASES = (
          "README.md: 1 findings of the kind words"),
     Case("tests/page_prose.py", "crates/rpki_cover/src/cover.rt", "//! ", "//! What is here is none of it. What is more, it is so.\n//! ",
          "crates/rpki_cover/src: 2 findings of the kind inverted"),
-    Case("tests/page_errors.py", "docs/ERRORS.md", "error: bad hex", "error: bad hexa", "is answered 'error: bad hex'"),
-    Case("tests/page_errors.py", "README.md", "\n    10.0.0.0/8\n", "\n    10.0.0.0/9\n", "is answered '10.0.0.0/8'"),
+    Case("tests/program_help.py", "docs/respath.1", "set in canonical form", "set", "respath.1 does not say of norm"),
+    Case("tests/page_errors.py", "docs/ERRORS.md", "error: bad hex", "error: bad hexa", "+ error: bad hex\n"),
+    Case("tests/page_errors.py", "README.md", "\n    10.0.0.0/8\n", "\n    10.0.0.0/9\n", "+ 10.0.0.0/8\n"),
     Case(PROVED, "docs/PROVED.md", "`run` `flushed`", "`run` `flooded`", "no call has the clause flooded"),
     Case(PROVED, "docs/PROVED.md", "`Source::read`,", "`Source::reads`,", "has no call Source::reads"),
     Case(PROVED, "docs/PROVED.md", "`Run.AnswersAll`", "`Run.AnswersNone`", "has no AnswersNone"),
@@ -326,7 +327,8 @@ def of_statuses(folder: Path) -> Iterator[tuple[str, str | None]]:
         program.write_text(f'#!/bin/sh\n"{TOP / ORIGINS}" "$@"\ns=$?\n[ $s -ne {status} ] || exit {other}\nexit $s\n')
         found, said = said_by((MANUAL,), folder)
         pages = ["docs/origins.1"] if status == 0 else ["docs/origins.1", "origins --help"]
-        missing = [it for it in pages if not re.search(rf"^{it}: .* {status} .* returns {other}$", said, re.MULTILINE)]
+        returned = rf" .* {status} .* returns {other}$"
+        missing = [it for it in pages if not re.search(rf"^FAILED +{it}:{returned}", said, re.MULTILINE)]
         fault = f"status {found}, nothing of {missing}: {said}" if missing or found != 1 else None
         yield f"{MANUAL}: origins returns {other} in place of {status}", fault
 
@@ -435,7 +437,7 @@ def all_cases(folder: Path) -> Iterator[tuple[str, str | None]]:
         lambda: wrong_checks.of_checks(folder / "checks"),
         lambda: of_pages(folder / "pages" / "copy"),
         lambda: wrong_programs.of_figures(folder / "figures" / "copy"),
-        lambda: wrong_programs.of_recipes(folder / "recipes" / "copy"),
+        lambda: wrong_programs.of_blocks(folder / "blocks" / "copy"),
         lambda: wrong_programs.of_expect(folder / "expect" / "copy"),
         lambda: wrong_programs.of_exchanged(folder / "exchanged"),
         *(partial(wrong_programs.of_stubbed, it, folder / f"stubbed {at}" / "copy")

@@ -12,10 +12,13 @@ import shutil
 import subprocess
 import sys
 import tempfile
-from pathlib import Path
+from collections.abc import Iterator
 
-TOP = Path(__file__).resolve().parent.parent
+from blocks import TOP, Report, manual, program
+
 SECONDS = 0.2
+# The tools of the scripts, without rt.
+TOOLS = "awk cat cut date dirname find git grep head readlink rm sed sha256sum".split()
 # The program whose texts are those of the script.
 PROGRAMS = {"respath": "respath_files", "origins": "origins"}
 WRONG = {
@@ -50,18 +53,11 @@ def entries(text: str) -> dict[str, str]:
     return found
 
 
-def plain(roff: str) -> str:
-    """The words of a manual page, in one line."""
-    text = re.sub(r"\\f[A-Z]", "", roff.replace("\\-", "-").replace("\\(aq", "'").replace("\\e", "\\"))
-    lines = (re.sub(r"^\.[A-Z]+ ?|^\.[a-z]+ ?", "", line) for line in text.splitlines())
-    return " ".join(" ".join(lines).split())
-
-
 def asked(name: str, *words: str) -> tuple[int, str, float]:
     """The status of a script, what it prints, and the processor seconds that it takes, with no rt on the PATH."""
     before = resource.getrusage(resource.RUSAGE_CHILDREN)
     with tempfile.TemporaryDirectory() as tools:
-        for tool in ("awk", "cat", "cut", "date", "dirname", "find", "git", "grep", "head", "readlink", "rm", "sed", "sha256sum"):
+        for tool in TOOLS:
             if found := shutil.which(tool):
                 os.symlink(found, f"{tools}/{tool}")
         ran = subprocess.run(
@@ -73,46 +69,47 @@ def asked(name: str, *words: str) -> tuple[int, str, float]:
     return ran.returncode, ran.stdout, took
 
 
-def faults_of(name: str) -> list[str]:
+def faults_of(name: str) -> Iterator[str]:
     """What is wrong with the texts of a script."""
-    faults = []
-    helped = asked(name, "--help")[1]
-    page = plain((TOP / "docs" / f"{name}.1").read_text())
-    own, _, _ = helped.partition("\nOptions of the script")
-    said = entries(own)
+    page, said = manual(name), entries(asked(name, "--help")[1].partition("\nOptions of the script")[0])
     if len(said) < 8:
-        faults.append(f"{name} --help has {len(said)} entries: {', '.join(said)}")
+        yield f"{name} --help has {len(said)} entries: {', '.join(said)}"
     for term, description in said.items():
-        if " ".join(description.split()) not in page:
-            faults.append(f"docs/{name}.1 does not say of {term}: {description}")
+        if " ".join(description.replace('"', "").split()) not in page:
+            yield f"docs/{name}.1 does not say of {term}: {description}"
     for words, wanted in ((["--help"], 0), (["-h"], 0), (["--version"], 0), *((it, 2) for it in WRONG[name])):
         status, text, took = asked(name, *words)
         what = f"{name} {' '.join(words)}"
         if status != wanted or not text:
-            faults.append(f"{what}: status {status} in place of {wanted}: {text}")
+            yield f"{what}: status {status} in place of {wanted}: {text}"
         if took > SECONDS:
-            faults.append(f"{what}: {took:.2f} seconds of the processor, more than {SECONDS}")
+            yield f"{what}: {took:.2f} seconds of the processor, more than {SECONDS}"
         if wanted == 2 and "origins" in what and "\nusage: " not in text:
-            faults.append(f"{what}: no usage in {text!r}")
-    program = TOP / "crates" / PROGRAMS[name] / "out" / PROGRAMS[name]
-    if not program.is_file():
-        print(f"left out: the help of the program {PROGRAMS[name]}, which is not built")
-        return faults
-    usage, _, of_program = subprocess.run([program, "--help"], capture_output=True, text=True).stdout.partition("\n\n")
-    if of_program.rstrip("\n") not in helped or (name == "origins" and not helped.startswith(usage)):
-        faults.append(f"./{name} --help does not have the help of the program")
+            yield f"{what}: no usage in {text!r}"
+
+
+def faults_of_program(name: str) -> Iterator[str]:
+    """What differs between the texts of a script and of its program."""
+    built, helped = program(PROGRAMS[name]), asked(name, "--help")[1]
+    usage, _, own = subprocess.run([built, "--help"], capture_output=True, text=True).stdout.partition("\n\n")
+    if own.rstrip("\n") not in helped or (name == "origins" and not helped.startswith(usage)):
+        yield f"./{name} --help does not have the help of the program"
     for words in WRONG[name] if name == "origins" else ():
-        ran = subprocess.run([program, *words], capture_output=True, text=True, stdin=subprocess.DEVNULL)
+        ran = subprocess.run([built, *words], capture_output=True, text=True, stdin=subprocess.DEVNULL)
         if (ran.returncode, ran.stderr) != asked(name, *words)[:2]:
-            faults.append(f"origins {' '.join(words)}: the script and the program answer differently")
-    return faults
+            yield f"origins {' '.join(words)}: the script and the program answer differently"
 
 
 def main() -> int:
     """Compares the texts of both scripts."""
-    faults = [fault for name in WRONG for fault in faults_of(name)]
-    print("\n".join(faults) if faults else "the texts of help agree")
-    return 1 if faults else 0
+    report = Report()
+    for name, crate in PROGRAMS.items():
+        report.add(f"the texts of ./{name}", faults_of(name))
+        if program(crate).is_file():
+            report.add(f"the program {crate}", faults_of_program(name))
+        else:
+            report.leave_out(f"the help of the program {crate}", "it is not built")
+    return report.status()
 
 
 if __name__ == "__main__":

@@ -13,7 +13,8 @@ import sys
 import tempfile
 from pathlib import Path
 
-TOP = Path(__file__).resolve().parent.parent
+from blocks import TOP, blocks_of
+
 RUN = TOP / "vectors" / "run"
 OF_DEBIAN = "/usr/bin/python3"
 SKIPPED = 77
@@ -48,8 +49,7 @@ def python_with_jsonschema() -> str:
 
 def example(kind: str) -> str:
     """The example of a language on the page."""
-    found = re.search(rf"```{kind}\n(.*?)```", (TOP / "docs" / "CONFORMANCE.md").read_text(), re.DOTALL)
-    return found[1] if found else ""
+    return next((it.text for it in blocks_of("docs/CONFORMANCE.md") if it.kind == kind), "")
 
 
 def faults_of_examples(folder: Path) -> list[str]:

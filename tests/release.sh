@@ -82,7 +82,7 @@ make_copy() {
     rm -rf "$copy" "$out/made" "$kit/meanwhile" "$kit/tools"
     mkdir -p "$copy" "$kit/tools"
     tar -cf - --exclude=out --exclude=rows.txt --exclude=__pycache__ .gitignore release program.sh respath origins \
-        README.md CHANGELOG.md LICENSE VERSION foreign packaging tests/foreign_page.py tests/foreign.sh \
+        README.md CHANGELOG.md LICENSE VERSION foreign packaging tests/blocks.py tests/foreign_page.py tests/foreign.sh \
         tests/page_logic.sh tests/source_versions.py tests/release.sh crates/origins/src crates/respath_files \
         docs/PROVED.md docs/FOREIGN.md docs/CONFORMANCE.md docs/respath.1 docs/origins.1 crates/pigyelund_c/src crates/pigyelund_c/specs crates/pigyelund_routes/src \
         crates/pigyelund_routes/specs vectors | tar -xf - -C "$copy"

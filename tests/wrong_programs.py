@@ -1,7 +1,7 @@
 """Cases of tests/of_tests.py in which a test meets programs that do everything wrong: each of its cases has to fail.
 
 A test whose comparison always succeeds prints `ok` here, or ends with status 0. The programs are scripts of a line or
-two, so nothing has to be built. The tests of bench/regress.py and of tests/page_recipes.sh get figures and a page of their
+two, so nothing has to be built. The tests of bench/regress.py and of commands on pages get figures and pages of their
 own, some of them right.
 """
 
@@ -87,8 +87,51 @@ echo $kept
 echo more
 ```
 """
-RECIPES_SAID = ("ok        recipe 01", "FAILED    recipe 02", "ok        recipe 03", "FAILED    recipe 04",
-                "FAILED    recipe 05")
+COMMANDS = """
+```console
+$ echo one
+one
+```
+```console
+$ echo two
+three
+```
+```sh
+echo 4 | ./respath   # 4
+```
+```sh
+echo 5 | ./respath   # 6
+```
+```sh
+false
+```
+"""
+FOREIGN = """
+### C
+```c
+one
+```
+```sh
+cat program.c
+```
+```text
+one
+```
+### Rust
+```sh
+echo two
+```
+```text
+three
+```
+"""
+# A script with its words, its page, the text of this page, the lines of the examples that fail, and the counts.
+OF_PAGES = (
+    (("tests/page_recipes.py",), "docs/RECIPES.md", RECIPES, ["8", "17", "23"], "5 examples, 3 differ, 0 left out"),
+    (("tests/page_commands.py",), "README.md", COMMANDS, ["6", "13", "16"], "5 examples, 3 differ, 0 left out"),
+    (("tests/foreign_page.py", "C", "usr"), "docs/FOREIGN.md", FOREIGN, [], "1 examples, 0 differ, 0 left out"),
+    (("tests/foreign_page.py", "Rust", "usr"), "docs/FOREIGN.md", FOREIGN, ["13"], "1 examples, 1 differ, 0 left out"),
+)
 
 
 def written(folder: Path, stubs: dict[str, str]) -> None:
@@ -176,14 +219,16 @@ def of_exchanged(folder: Path) -> Iterator[tuple[str, str | None]]:
         yield f"tests/random_origins.py: {other} in place of {word}", fault
 
 
-def of_recipes(folder: Path) -> Iterator[tuple[str, str | None]]:
-    """Runs tests/page_recipes.sh on a page with right and wrong answers."""
+def of_blocks(folder: Path) -> Iterator[tuple[str, str | None]]:
+    """Runs the tests of commands on pages with right and wrong outputs, beside a `respath` that prints its input."""
     copy = copied(folder)
-    written(copy, {"respath": NOTHING, "origins": NOTHING, "docs/RECIPES.md": RECIPES})
-    status, said = run_in(copy, ("tests/page_recipes.sh",))
-    found = tuple(re.findall(r"^(?:ok|FAILED) +recipe \d+", said, re.MULTILINE))
-    fault = None if (status, found) == (1, RECIPES_SAID) else f"status {status}: {said}"
-    yield "tests/page_recipes.sh: right and wrong answers", fault
+    written(copy, {"respath": "#!/bin/sh\nexec cat\n", "origins": NOTHING, "docs/CALLING.md": ""})
+    for test, page, text, wrong, counts in OF_PAGES:
+        written(copy, {page: text})
+        status, said = run_in(copy, test)
+        found = re.findall(rf"^FAILED +{page}:(\d+): ", said, re.MULTILINE)
+        is_so = (status, found, said.splitlines()[-1:]) == (int(bool(wrong)), wrong, [counts])
+        yield f"{' '.join(test)}: right and wrong outputs", None if is_so else f"status {status}: {said}"
 
 
 TOOLS = {

@@ -1,0 +1,115 @@
+"""The blocks of the pages, with what the pages show as their output: finds them, runs them, and reports what differs.
+
+The tests of pages use this module, so their reports have one form: the difference for each example whose output is not
+the one that its page shows, a line for each example that is left out, and a last line with the counts.
+"""
+
+import difflib
+import os
+import re
+import subprocess
+from collections.abc import Iterable
+from dataclasses import dataclass
+from itertools import pairwise
+from pathlib import Path
+
+TOP = Path(__file__).resolve().parent.parent
+HEADING_OR_BLOCK = re.compile(r"^(##+ [^\n]*)$|^```([^\n]*)\n(.*?)^```$", re.MULTILINE | re.DOTALL)
+ANSWER = re.compile(r"\| \./respath .*# (.*\n)")
+
+
+@dataclass(frozen=True)
+class Block:
+    """A block of a page: the page with the line of its fence, the words after the fence, its text without output, and
+    the output that the page shows."""
+
+    place: str
+    kind: str
+    text: str
+    shown: str = ""
+
+
+def with_output(place: str, kind: str, text: str, next_text: str) -> Block:
+    """Returns a block with its output. In a block `console` the commands begin with `$ `, and the other lines are the
+    output. The output of a block `sh` is the next block, if that is one of `text`, or the comments behind its lines."""
+    if kind == "console":
+        lines = text.splitlines(keepends=True)
+        shown = "".join(it for it in lines if not it.startswith("$ "))
+        return Block(place, kind, "".join(it[2:] for it in lines if it.startswith("$ ")), shown)
+    return Block(place, kind, text, next_text or "".join(ANSWER.findall(text)) if kind == "sh" else "")
+
+
+def blocks_of(page: str, title: str = "") -> list[Block]:
+    """Returns the blocks of a page. With the line of a heading it returns those between this heading and the next."""
+    text = (TOP / page).read_text()
+    heading, found = "", []
+    for part, after in pairwise([*HEADING_OR_BLOCK.finditer(text), None]):
+        heading = part[1] or heading
+        if part[1] is None and title in ("", heading):
+            line = text.count("\n", 0, part.start()) + 1
+            next_text = after[3] if after and after[2] == "text" else ""
+            found.append(with_output(f"{page}:{line}", part[2], part[3], next_text))
+    return found
+
+
+def run(commands: str, folder: Path, options: str = "-euc", **variables: str) -> subprocess.CompletedProcess[str]:
+    """Runs commands in a folder, with these variables in the environment."""
+    how = {"stdin": subprocess.DEVNULL, "capture_output": True, "text": True, "errors": "replace"}
+    return subprocess.run(["sh", options, commands], cwd=folder, env=os.environ | variables, **how)
+
+
+def write_script(path: Path, text: str) -> None:
+    """Writes a shell script that can be run."""
+    path.write_text(f"#!/bin/sh\n{text}\n")
+    path.chmod(0o755)
+
+
+def write_programs(folder: Path) -> None:
+    """Builds `respath` and `origins` if they are not current, and writes scripts of these names that call them."""
+    for name, given in (("respath", ""), ("origins --table -", "AS1,10.0.0.0/8,8\n")):
+        name, *words = name.split()
+        subprocess.run([TOP / name, *words], input=given, capture_output=True, text=True, check=True)
+        write_script(folder / name, f'exec "{TOP}/{name}" "$@"')
+
+
+def program(name: str) -> Path:
+    """Returns the path of a built program."""
+    return TOP / "crates" / name / "out" / name
+
+
+def manual(name: str) -> str:
+    """Returns the words of a manual page in one line, without its macros, escapes and quotes."""
+    roff = (TOP / "docs" / f"{name}.1").read_text()
+    text = re.sub(r"\\f[A-Z]", "", roff.replace("\\-", "-").replace("\\(aq", "'").replace("\\e", "\\"))
+    lines = (re.sub(r"^\.(?:[A-Z]+|[a-z]+) ?", "", line) for line in text.splitlines())
+    return " ".join(" ".join(lines).replace('"', "").split())
+
+
+class Report:
+    """Prints what differs from the pages, and counts the examples."""
+
+    def __init__(self) -> None:
+        self.compared = self.differing = self.skipped = 0
+
+    def leave_out(self, example: str, why: str) -> None:
+        """Prints which example is left out, and why."""
+        print(f"left out  {example}: {why}")
+        self.skipped += 1
+
+    def add(self, example: str, faults: Iterable[str]) -> None:
+        """Counts an example, and prints its faults."""
+        found = [f"FAILED    {example}: {it}\n" for it in faults]
+        print("".join(found), end="")
+        self.compared += 1
+        self.differing += bool(found)
+
+    def compare(self, example: str, shown: str, printed: str, errors: str = "") -> None:
+        """Compares what a page shows with what was printed. `errors` is what else to print if they differ."""
+        lines = [*difflib.ndiff(shown.splitlines(), printed.splitlines()), errors]
+        fault = "\n".join(["the page (-) and what is printed (+)", *lines])
+        self.add(example, [] if shown == printed else [fault])
+
+    def status(self) -> int:
+        """Prints the counts. Returns the status of the test, which is 1 if there was no example."""
+        print(f"{self.compared} examples, {self.differing} differ, {self.skipped} left out")
+        return 1 if self.differing or not self.compared + self.skipped else 0

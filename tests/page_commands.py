@@ -1,0 +1,46 @@
+#!/usr/bin/env python3
+"""Runs the commands of README.md and docs/CALLING.md in a copy of the sources, and compares what each block prints on
+standard output with the page, if the page shows it. Left out, and named: ./check, and `rt check`, which proves the
+dependencies of a crate and which --prove runs. A block that needs rt is left out if there is no rt. The status is 1 if
+an output differs or if a command fails. tests/page_recipes.py runs docs/RECIPES.md, tests/page_errors.py the lines of
+docs/ERRORS.md, tests/program_streams.sh the options.
+"""
+
+import os
+import re
+import shutil
+import sys
+import tempfile
+from pathlib import Path
+
+from blocks import TOP, Report, blocks_of, run, write_programs, write_script
+
+CHECK = 'echo "left out  ./check $*: it is what runs this, and takes minutes" >&2'
+RT_CHECK = 'echo "left out  rt check: it proves what the crate stands on" >&2'
+
+
+def main() -> int:
+    """Makes the copy, whose programs are those of the repository, and compares."""
+    rt, report = shutil.which("rt"), Report()
+    with tempfile.TemporaryDirectory() as name:
+        copy, bin_folder = Path(name, "copy"), Path(name, "bin")
+        shutil.copytree(TOP, copy, symlinks=True, ignore=shutil.ignore_patterns(".git", "out", "__pycache__"))
+        write_programs(copy)
+        write_script(copy / "check", CHECK)
+        bin_folder.mkdir()
+        if rt and sys.argv[1:] != ["--prove"]:
+            write_script(bin_folder / "rt", f'[ "$1" = check ] || exec "{rt}" "$@"\n{RT_CHECK}')
+        for block in (*blocks_of("README.md"), *blocks_of("docs/CALLING.md")):
+            if block.kind == "sh" and not rt and re.search(r"\brt\b", block.text):
+                report.leave_out(block.place, "there is no rt")
+            elif block.kind in ("sh", "console"):
+                ran = run(block.text, copy, PATH=f"{bin_folder}:{os.environ['PATH']}")
+                print("".join(f"{it}\n" for it in ran.stderr.splitlines() if it.startswith("left out")), end="")
+                printed = ran.stdout if block.shown else ""
+                found = f"status {ran.returncode}\n{printed}"
+                report.compare(block.place, f"status 0\n{block.shown}", found, ran.stderr)
+    return report.status()
+
+
+if __name__ == "__main__":
+    sys.exit(main())

@@ -13,9 +13,8 @@ top=$(cd "$(dirname "$0")/.." && pwd) || exit 1
 version=$(cat "$top/VERSION")
 later=$version+later
 work=$(mktemp -d) || exit 1
-failed=0
 
-fail() { echo "FAILED: $1"; failed=1; }
+. "$top/tests/expect.sh"
 stop() { echo "debian_packages.sh: $1" >&2; exit 1; }
 
 [ -e "$folder/usr" ] ||

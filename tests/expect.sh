@@ -2,6 +2,18 @@
 # Read by the tests that are scripts: a line for each case, and `failed` is 1 where one isn't as it must be.
 failed=0
 
+# fail NAME: a case failed
+fail() { echo "FAILED: $1"; failed=1; }
+
+# has WHAT TOOL ..: whether all tools are there; else WHAT is left out, and the first that isn't there is named
+has() {
+    what=$1
+    shift
+    for tool; do
+        command -v "$tool" >/dev/null || { echo "left out: $what needs $tool"; return 1; }
+    done
+}
+
 # NAME, the status and the text that are wanted, and those that were seen
 expect() {
     if [ "$2" = "$4" ] && [ "$3" = "$5" ]; then

@@ -11,17 +11,8 @@ trap 'rm -rf "$out"' EXIT
 spaced="$out/a folder"
 prefix="$spaced/usr local"
 mkdir "$spaced"
-failed=0
+. tests/expect.sh
 
-# has WHAT TOOL ..: whether all tools are there; else WHAT is left out, and the first that isn't there is named
-has() {
-    what=$1
-    shift
-    for tool; do
-        command -v "$tool" >/dev/null || { echo "left out: $what needs $tool"; return 1; }
-    done
-}
-fail() { echo "FAILED: $1"; failed=1; }
 # same WHAT COMMAND ..: the example's program prints what it should
 same() {
     what=$1

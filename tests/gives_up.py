@@ -16,7 +16,6 @@ memory alone is never planted, since each clause allows it. A crate has to be pr
 minute or a few."""
 import collections
 import importlib.machinery
-import os
 import re
 import shutil
 import subprocess

@@ -17,7 +17,6 @@ import sys
 import tempfile
 from collections.abc import Iterator
 from concurrent.futures import ThreadPoolExecutor
-from dataclasses import dataclass
 from functools import partial
 from pathlib import Path
 from queue import SimpleQueue
@@ -27,11 +26,11 @@ import wrong_checks
 import wrong_programs
 import wrong_quick
 import wrong_vectors
+from copies import TOP, Case, built, copied, fault_of, said_by, written
 from quick import parts_of_check
 
-TOP = Path(__file__).resolve().parent.parent
 COPIES = min(4, os.cpu_count() or 1)
-RESPATH = Path("crates", "respath_files", "out", "respath_files")
+RESPATH, ORIGINS = built("respath_files"), built("origins")
 LIBRARY = Path("crates", "pigyelund_c", "out", "libpigyelund_c.a")
 # How many of the first lines of a file a copy has.
 PROGRAMS = "rows_values", "rows_sets", "rows_claims", "rows_calls"
@@ -41,24 +40,12 @@ KEPT |= {"foreign/rows.txt": 14}
 OF_C, OF_PYTHON, OF_RUST = "foreign/c/test.c", "foreign/python/test.py", "foreign/rust/tests/rows.rs"
 # The test in C is compiled anew only if its own text is made wrong.
 OF_REFUSALS = "foreign/c/test.c, compiled anew"
-ORIGINS = Path("crates", "origins", "out", "origins")
 MANUAL = "tests/page_manuals.py"
 BUILT = {
     OF_C: ("built/test", "foreign"),
     OF_REFUSALS: ("sh", "-c", "make -s -C foreign/c CC=gcc OUT=$PWD/built LIB=$LIB KIT=$KIT all && built/test foreign"),
     OF_PYTHON: ("python3", OF_PYTHON, "built/libpigyelund.so", "foreign"),
 }
-
-
-@dataclass(frozen=True)
-class Case:
-    """What is made wrong, and the test that has to tell it."""
-
-    test: str
-    file: str
-    old: str
-    new: str
-    said: str
 
 
 ROWS = "tests/rows.py"
@@ -84,7 +71,8 @@ CASES = (
     Case("tests/page_links.py", "README.md", "](docs/RECIPES.md)", "](docs/RECIPE.md)", "no such file: docs/RECIPE.md"),
     Case("tests/page_prose.py", "README.md", "## Install\n", "## Install\n\nThe answer stands here at once.\n",
          "README.md: 1 findings of the kind words"),
-    Case("tests/page_prose.py", "crates/rpki_cover/src/cover.rt", "//! ", "//! What is here is none of it. What is more, it is so.\n//! ",
+    Case("tests/page_prose.py", "crates/rpki_cover/src/cover.rt", "//! ",
+         "//! What is here is none of it. What is more, it is so.\n//! ",
          "crates/rpki_cover/src: 2 findings of the kind inverted"),
     Case("tests/program_help.py", "docs/respath.1", "set in canonical form", "set", "respath.1 does not say of norm"),
     Case("tests/page_errors.py", "docs/ERRORS.md", "error: bad hex", "error: bad hexa", "+ error: bad hex\n"),
@@ -199,33 +187,13 @@ OF_ORIGINS = (
 )
 
 
-def said_by(command: tuple[str, ...], copy: Path) -> tuple[int, str]:
-    """The status and the whole output of a command in a copy."""
-    paths = {"TMPDIR": str(copy.parent), "PYTHONPATH": "foreign/python", "PYTHONDONTWRITEBYTECODE": "1"}
-    paths |= {"LIB": str(TOP / LIBRARY), "KIT": str(kit())}
-    run = subprocess.run(
-        command, cwd=copy, env=os.environ | paths, stdout=subprocess.PIPE, stderr=subprocess.STDOUT, timeout=300
-    )
-    return run.returncode, run.stdout.decode("utf-8", "replace")
-
-
 def kit() -> Path:
     """The folder of the kit."""
     return Path(shutil.which("rt") or "rt").resolve().parent.parent
 
 
-def fault_of(case: Case, copy: Path, command: tuple[str, ...] = (), failing: int = 1) -> str | None:
-    """What a test does not say of a case, None if it says it; the copy is as before then."""
-    path, command = copy / case.file, command or BUILT.get(case.test, (case.test,))
-    before = path.read_bytes()
-    if case.old.encode() not in before:
-        return f"{case.old!r} doesn't stand there"
-    path.write_bytes(before.replace(case.old.encode(), case.new.encode(), 1))
-    status, said = said_by(command, copy)
-    path.write_bytes(before)
-    if (status, case.said in said) != (failing, True):
-        return f"status {status} in place of {failing} with {case.said!r}: {said[-400:]}"
-    return None
+# What the tests of the C library and of the package for Python read from the environment.
+FOREIGN = {"PYTHONPATH": "foreign/python", "LIB": str(TOP / LIBRARY), "KIT": str(kit())}
 
 
 def left_out() -> Iterator[tuple[str, str]]:
@@ -242,7 +210,7 @@ def left_out() -> Iterator[tuple[str, str]]:
 
 def make_first(copy: Path, is_foreign: bool) -> None:
     """Makes the copy that the others are copied from, where it is asked with what C and Python need."""
-    shutil.copytree(TOP, copy, symlinks=True, ignore=shutil.ignore_patterns(".git", "out", "__pycache__"))
+    copied(copy, "respath_files")
     for name, count in KEPT.items():
         lines = (copy / name).read_bytes().splitlines(keepends=True)
         (copy / name).write_bytes(b"".join(lines[:count]))
@@ -256,9 +224,6 @@ def make_first(copy: Path, is_foreign: bool) -> None:
     few = "origins\n0\n0\n1\n2\n"
     (growth / "args").write_text(asked[: asked.index(few)] + few)
     (growth / "stdout").write_text(stored[: stored.index("\n2000 routes: ") + 1])
-    if (TOP / RESPATH).is_file():
-        (copy / RESPATH).parent.mkdir()
-        shutil.copy2(TOP / RESPATH, copy / RESPATH)
     if is_foreign:
         (copy / "built").mkdir()
         where = [f"OUT={copy / 'built'}", f"LIB={TOP / LIBRARY}", f"KIT={kit()}"]
@@ -282,12 +247,12 @@ def of_cases(folder: Path) -> Iterator[tuple[str, str | None]]:
     def tried(case: Case) -> str | None:
         copy = copies.get()
         try:
-            return fault_of(case, copy)
+            return fault_of(case, copy, BUILT.get(case.test, ()), **FOREIGN)
         finally:
             copies.put(copy)
 
     for test in (ROWS, *(it for it in (OF_C, OF_PYTHON) if it not in absent)):
-        status, said = said_by(BUILT.get(test, (test,)), folder / "0")
+        status, said = said_by(BUILT.get(test, (test,)), folder / "0", **FOREIGN)
         yield f"{test} passes", None if status == 0 else said
     cases = [case for case in CASES if case.test not in absent]
     with ThreadPoolExecutor(COPIES) as pool:
@@ -297,12 +262,10 @@ def of_cases(folder: Path) -> Iterator[tuple[str, str | None]]:
 
 def of_pages(folder: Path) -> Iterator[tuple[str, str | None]]:
     """The tests that compare pages with whole files and with the programs: they pass, and tell what is made wrong."""
-    shutil.copytree(TOP, folder, symlinks=True, ignore=shutil.ignore_patterns(".git", "out", "__pycache__"))
+    copied(folder, "respath_files", "origins")
     cases = [*OF_VERSIONS, *(it for it in PAGES if it.test == NUMBERS)]
     for program, more in ((RESPATH, [it for it in PAGES if it.test == MANUAL]), (ORIGINS, OF_ORIGINS)):
         if (TOP / program).is_file():
-            (folder / program).parent.mkdir()
-            shutil.copy(TOP / program, folder / program)
             cases += more
         else:
             print(f"left out: {MANUAL} needs {program}")
@@ -375,11 +338,7 @@ def of_check(folder: Path) -> Iterator[tuple[str, str | None]]:
     foreign = "tests/foreign.sh"
     fakes = {it: PART for it in (*parts, f"tests/{Path(ROWS).name}", foreign) if it != "reference"}
     fakes |= dict.fromkeys(("respath", "origins"), '#!/bin/sh\nexit "${NOTED-0}"\n')
-    fakes |= {"bin/rt": '#!/bin/sh\necho "$TOTAL"\nexit "${PROVED-0}"\n'}
-    for name, text in fakes.items():
-        (folder / name).parent.mkdir(exist_ok=True)
-        (folder / name).write_text(text)
-        (folder / name).chmod(0o755)
+    written(folder, fakes | {"bin/rt": '#!/bin/sh\necho "$TOTAL"\nexit "${PROVED-0}"\n'})
     one, many = "program_places.py", " ".join([*(Path(it).name for it in parts), "rows.py"])
     whole, no_words, every = [*parts, foreign], (), ("--all",)
     # The words of check, the parts that run, the names that fail, and the parts that fail then.

@@ -13,7 +13,8 @@ import sys
 import tempfile
 from pathlib import Path
 
-from blocks import TOP, Report, blocks_of, run, write_programs, write_script
+from blocks import Report, blocks_of, run, write_programs, write_script
+from copies import copied
 
 CHECK = 'echo "left out  ./check $*: it is what runs this, and takes minutes" >&2'
 RT_CHECK = 'echo "left out  rt check: it proves what the crate stands on" >&2'
@@ -23,8 +24,7 @@ def main() -> int:
     """Makes the copy, whose programs are those of the repository, and compares."""
     rt, report = shutil.which("rt"), Report()
     with tempfile.TemporaryDirectory() as name:
-        copy, bin_folder = Path(name, "copy"), Path(name, "bin")
-        shutil.copytree(TOP, copy, symlinks=True, ignore=shutil.ignore_patterns(".git", "out", "__pycache__"))
+        copy, bin_folder = copied(Path(name, "copy")), Path(name, "bin")
         write_programs(copy)
         write_script(copy / "check", CHECK)
         bin_folder.mkdir()

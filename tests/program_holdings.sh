@@ -7,18 +7,13 @@ if ! [ -x "$program" ]; then
     echo "left out: example_holdings is not built (rt ci builds it, and rt run in crates/example_holdings)"
     exit
 fi
-failed=0
+# shellcheck source=tests/expect.sh
+. "$top/tests/expect.sh"
 
 # INPUT and the line that is wanted
 refused() {
     said=$(printf '%b' "$1" | "$program" 2>&1)
-    status=$?
-    if [ "$status" -eq 1 ] && [ "$said" = "Error: $2" ]; then
-        echo "ok      $2"
-    else
-        echo "FAILED  holdings: wanted status 1 and 'Error: $2', saw status $status and '$said'"
-        failed=1
-    fi
+    expect "$2" 1 "Error: $2" $? "$said"
 }
 
 refused '' 'two lines are wanted, there are 0'

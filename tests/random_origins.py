@@ -15,7 +15,7 @@ from pathlib import Path
 from random import Random
 
 from reference import route_lines, slurm, vrp_files
-from reference.addresses import Family, print_address
+from reference.addresses import Family
 from reference.faults import Fault
 from reference.prefixes import MaxLenPrefix, Prefix, Vrp
 

@@ -11,16 +11,7 @@ top=$PWD
 out=$(mktemp -d) || exit 1
 trap 'rm -rf "$out"' EXIT
 version=$(cat VERSION)
-failed=0
-
-has() {
-    what=$1
-    shift
-    for tool; do
-        command -v "$tool" >/dev/null || { echo "left out: $what needs $tool"; return 1; }
-    done
-}
-fail() { echo "FAILED: $1"; failed=1; }
+. tests/expect.sh
 
 # ---- in a copy, beside a kit that proves nothing
 

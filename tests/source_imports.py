@@ -6,15 +6,11 @@ A name at the head of a file serves all clauses of that file, one in a block tho
 is something to mend. With --wide it lists the lines of clauses over 100 columns instead, which rt fmt leaves as they are."""
 import re
 import sys
-from pathlib import Path
 
-ROOT = Path(__file__).resolve().parent.parent / "crates"
+from page_proved import TOP, without_comments
+
+ROOT = TOP / "crates"
 WIDTH = 100
-
-
-def without_comments(text):
-    """The text with its comments blanked, so that places stay the same."""
-    return re.sub(r"//[^\n]*", lambda it: " " * len(it[0]), text)
 
 
 def clauses(text):

@@ -5,15 +5,14 @@ two, so nothing has to be built. The tests of bench/regress.py and of commands o
 own, some of them right.
 """
 
-import os
 import re
 import shutil
-import subprocess
 from collections.abc import Iterator
 from dataclasses import dataclass
 from pathlib import Path
 
-TOP = Path(__file__).resolve().parent.parent
+from copies import TOP, built, copied, said_by, written
+
 WRONG = "#!/bin/sh\necho wrong\necho wrong >&2\nexit 77\n"
 # A script that begins with a call of ./respath or ./origins ends at once if that call fails.
 AFTER_THE_FIRST = WRONG.replace("\n", '\nif [ ! -e "$0.begun" ]; then : >"$0.begun"; exit; fi\n', 1)
@@ -30,8 +29,8 @@ OF_THE_TEST = ("the last answer is longer than 64 KiB", "an estimate after four 
 
 
 def program(name: str) -> str:
-    """The place of a built program."""
-    return f"crates/{name}/out/{name}"
+    """Returns the path of a built program, as `written` takes it."""
+    return str(built(name))
 
 
 @dataclass(frozen=True)
@@ -47,7 +46,8 @@ SCRIPTS = {"respath": AFTER_THE_FIRST, "origins": AFTER_THE_FIRST}
 ALL_FAIL = r"(FAILED .*\n[^\0]*){10}"
 STUBBED = (
     Stubbed(("tests/program_front.sh",), {"respath": WRONG, "origins": WRONG, "tests/page_logic.sh": WRONG}, ALL_FAIL),
-    Stubbed(("tests/program_streams.sh",), SCRIPTS | {program(it): WRONG for it in ("respath", "respath_files", "origins")}, ALL_FAIL),
+    Stubbed(("tests/program_streams.sh",),
+            SCRIPTS | {program(it): WRONG for it in ("respath", "respath_files", "origins")}, ALL_FAIL),
     Stubbed(("tests/program_origins.sh",), SCRIPTS | {program("origins"): WRONG}, ALL_FAIL),
     Stubbed(("tests/program_holdings.sh",), {program("example_holdings"): WRONG}, r"(FAILED .*\n[^\0]*){6}"),
     Stubbed(("tests/program_verified_set.py",), {program("example_verified_set"): WRONG},
@@ -134,38 +134,18 @@ OF_PAGES = (
 )
 
 
-def written(folder: Path, stubs: dict[str, str]) -> None:
-    """Puts programs or files in their places in a copy."""
-    for name, text in stubs.items():
-        path = folder / name
-        path.parent.mkdir(parents=True, exist_ok=True)
-        path.write_text(text)
-        path.chmod(0o755)
-
-
-def run_in(folder: Path, words: tuple[str, ...], path: Path | None = None) -> tuple[int, str]:
-    """The status and the output of a test in a copy, with the programs of a folder in front of all others."""
-    own = {"TMPDIR": str(folder.parent), "PYTHONDONTWRITEBYTECODE": "1"}
-    if path:
-        own["PATH"] = f"{path}:{os.environ['PATH']}"
-    done = subprocess.run(words, cwd=folder, env=os.environ | own, stdout=subprocess.PIPE, stderr=subprocess.STDOUT,
-                          stdin=subprocess.DEVNULL, timeout=120)
-    return done.returncode, done.stdout.decode("utf-8", "replace")
-
-
-def copied(folder: Path) -> Path:
-    """A copy of the repository without what is built, and with six rows of sets."""
-    shutil.copytree(TOP, folder, symlinks=True, ignore=shutil.ignore_patterns(".git", "out", "__pycache__"))
-    rows = folder / "crates" / "rows_sets" / "stdin"
+def with_few_rows(folder: Path) -> Path:
+    """Copies the repository without what is built, and with six rows of sets. Returns the copy."""
+    rows = copied(folder) / "crates" / "rows_sets" / "stdin"
     rows.write_bytes(b"".join(rows.read_bytes().splitlines(keepends=True)[:6]))
     return folder
 
 
 def of_stubbed(case: Stubbed, folder: Path) -> Iterator[tuple[str, str | None]]:
     """Runs a test beside wrong programs, in a copy of its own."""
-    copy = copied(folder)
+    copy = with_few_rows(folder)
     written(copy, case.stubs)
-    status, said = run_in(copy, case.test)
+    status, said = said_by(case.test, copy)
     passed = [it for it in re.findall(r"^ok +(.*)", said, re.MULTILINE) if it not in OF_THE_TEST]
     fault = None
     if status != 1 or passed or not re.search(case.said, said):
@@ -197,22 +177,22 @@ def of_expect(folder: Path) -> Iterator[tuple[str, str | None]]:
     (folder / "tests").mkdir(parents=True)
     shutil.copy(TOP / "tests" / "expect.sh", folder / "tests")
     written(folder, {"asks.sh": EXPECTED})
-    found = run_in(folder, ("sh", "asks.sh"))
+    found = said_by(("sh", "asks.sh"), folder)
     yield "tests/expect.sh: a text and a status differ", None if found == (1, EXPECTED_SAID) else f"{found}"
 
 
 def of_exchanged(folder: Path) -> Iterator[tuple[str, str | None]]:
     """Runs tests/random_origins.py on the built program, of which one word is another one."""
-    built = TOP / program("origins")
-    if not built.is_file():
+    own = TOP / built("origins")
+    if not own.is_file():
         print("left out: tests/random_origins.py with one wrong word needs origins")
         return
     for word, other in (("valid", "not-found"), ("withdraw", "announce"), ("error: ", "error:"), ("match:", "as:")):
         copy = copied(folder / word.strip(": "))
-        answers = f'found=$("{built}" "$@" && echo status 0 || echo status $?)\n'
+        answers = f'found=$("{own}" "$@" && echo status 0 || echo status $?)\n'
         shown = f"printf '%s\\n' \"$found\" | sed '$d; s/{word}/{other}/'\nexit ${{found##* }}\n"
         written(copy, {program("origins"): f"#!/bin/sh\n{answers}{shown}"})
-        status, said = run_in(copy, ("tests/random_origins.py", "1", "200"))
+        status, said = said_by(("tests/random_origins.py", "1", "200"), copy)
         counts = [int(it) for it in re.findall(r": (\d+) answers compared, (\d+) differ", said) for it in it]
         is_so = status == 1 and len(counts) == 2 and 0 < counts[1] < counts[0]
         fault = None if is_so else f"status {status}: {said[-300:]}"
@@ -225,7 +205,7 @@ def of_blocks(folder: Path) -> Iterator[tuple[str, str | None]]:
     written(copy, {"respath": "#!/bin/sh\nexec cat\n", "origins": NOTHING, "docs/CALLING.md": ""})
     for test, page, text, wrong, counts in OF_PAGES:
         written(copy, {page: text})
-        status, said = run_in(copy, test)
+        status, said = said_by(test, copy)
         found = re.findall(rf"^FAILED +{page}:(\d+): ", said, re.MULTILINE)
         is_so = (status, found, said.splitlines()[-1:]) == (int(bool(wrong)), wrong, [counts])
         yield f"{' '.join(test)}: right and wrong outputs", None if is_so else f"status {status}: {said}"
@@ -250,23 +230,23 @@ def of_figures(folder: Path) -> Iterator[tuple[str, str | None]]:
     copy = copied(folder)
     written(copy, TOOLS)
     figures, asked, path = copy / "bench" / "regress.txt", ("bench/regress.py",), copy / "bin"
-    status, said = run_in(copy, (*asked, "--write"), path)
+    status, said = said_by((*asked, "--write"), copy, path)
     made = dict(it.split() for it in figures.read_text().splitlines()[1:])
     is_so = status == 0 and {*OFF, *NEAR, "why-nested"} <= made.keys() and set(made.values()) == {"1000"}
     yield "bench/regress.py: figures are written", None if is_so else f"status {status}: {said}"
-    status, said = run_in(copy, asked, path)
+    status, said = said_by(asked, copy, path)
     yield "bench/regress.py: right figures", None if status == 0 else f"status {status}: {said}"
     head = figures.read_text().splitlines()[0]
     stored = made | OFF | NEAR | {"moon": "1000"}
     del stored["why-nested"]
     figures.write_text("\n".join([head, *(f"{name} {figure}" for name, figure in stored.items())]) + "\n")
-    status, said = run_in(copy, asked, path)
+    status, said = said_by(asked, copy, path)
     found = {*re.findall(r"^([\w-]+): \d+ instructions, where (\d+) are stored$", said, re.MULTILINE)}
     is_so = status == 1 and found == {*OFF.items()} and "figures of no input: moon\n" in said
     is_so = is_so and "why-nested: 1000 instructions, no stored figure\n" in said
     yield "bench/regress.py: wrong figures, one without input, and an input without one", None if is_so else said
     (copy / "crates" / "pigyelund_c" / "out" / "libpigyelund_c.a").unlink()
     before = figures.read_bytes()
-    status, said = run_in(copy, (*asked, "--write"), path)
+    status, said = said_by((*asked, "--write"), copy, path)
     is_so = status == 1 and figures.read_bytes() == before and "libpigyelund_c.a is not built" in said
     yield "bench/regress.py: no figures are written for a part", None if is_so else f"status {status}: {said}"

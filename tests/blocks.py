@@ -77,12 +77,22 @@ def program(name: str) -> Path:
     return TOP / "crates" / name / "out" / name
 
 
-def manual(name: str) -> str:
-    """Returns the words of a manual page in one line, without its macros, escapes and quotes."""
-    roff = (TOP / "docs" / f"{name}.1").read_text()
-    text = re.sub(r"\\f[A-Z]", "", roff.replace("\\-", "-").replace("\\(aq", "'").replace("\\e", "\\"))
-    lines = (re.sub(r"^\.(?:[A-Z]+|[a-z]+) ?", "", line) for line in text.splitlines())
+def without_escapes(page: str) -> str:
+    """Returns a manual page with its macros, and without the escapes."""
+    text = (TOP / page).read_text().replace("\\-", "-").replace("\\(aq", "'").replace("\\e", "\\")
+    return re.sub(r"\\f[A-Z]", "", text)
+
+
+def manual(page: str) -> str:
+    """Returns the words of a manual page in one line, without its macros and quotes."""
+    lines = (re.sub(r"^\.(?:[A-Z]+|[a-z]+) ?", "", line) for line in without_escapes(page).splitlines())
     return " ".join(" ".join(lines).replace('"', "").split())
+
+
+def examples_of(page: str) -> Block:
+    """Returns the examples of a manual page."""
+    text = without_escapes(page).partition(".SH EXAMPLES\n.nf\n")[2].partition(".fi\n")[0]
+    return with_output(page, "console", text, "")
 
 
 class Report:

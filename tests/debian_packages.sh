@@ -60,20 +60,13 @@ later_package() {
         dpkg-deb --root-owner-group --build "$tree" "$folder/tmp/work/later" >/dev/null
 }
 
-# Prints the examples of a page of the manual as the page shows them.
-printed() { sed -n '/^\.SH EXAMPLES/,/^\.fi/{s/\\-/-/g; s/\\(aq/'"'"'/g; s/\\e/\\/g; /^\./d; p}' "$1"; }
-
 # programs: each example of the installed manual pages prints what the page shows
 programs() {
     local program
     for program in respath origins; do
         gzip -d <"$folder/usr/share/man/man1/$program.1.gz" >"$work/page" || { fail "the page of $program"; continue; }
-        printed "$work/page" >"$work/shown"
-        grep -q "^\\\$ .*$program" "$work/shown" || fail "the page of $program has no example"
-        sed -n 's/^\$ //p' "$work/shown" | while IFS= read -r line; do
-            printf '$ %s\n' "$line"
-            in_root "$line" 2>/dev/null
-        done | diff "$work/shown" - || fail "the examples of $program"
+        grep -q "^\\\$ .*$program" "$work/page" || fail "the page of $program has no example"
+        examples "the examples of $program" "$work/page" in_root
     done
 }
 

@@ -34,3 +34,16 @@ needs_more() {
 takes_long() {
     [ -n "${UNPROVED-}" ] && echo "left out  $1: a program with run-time checks takes minutes"
 }
+
+# examples WHAT PAGE COMMAND ..: each example of a page of the manual prints what the page shows. The command runs a
+# line.
+examples() {
+    what=$1
+    shown=$(sed -n '/^\.SH EXAMPLES/,/^\.fi/{s/\\-/-/g; s/\\(aq/'"'"'/g; s/\\e/\\/g; /^\./d; p}' "$2")
+    shift 2
+    said=$(printf '%s\n' "$shown" | sed -n 's/^\$ //p' | while IFS= read -r line; do
+        printf '$ %s\n' "$line"
+        "$@" "$line" </dev/null 2>/dev/null
+    done)
+    expect "$what" 0 "${shown:-an example}" 0 "$said"
+}

@@ -139,6 +139,7 @@ PAGES = (
     Case(NUMBERS, "CONTRIBUTING.md", "20,000 random lines", "2,000 random lines", "CONTRIBUTING.md: 2000, and check"),
     Case(NUMBERS, "README.md", "commands and 20,000", "commands and 2,000", "README.md: 2000, and check asks"),
     Case(NUMBERS, "check", "tests/rows.py --random 1 20000", "tests/rows.py --random 1 200", "and check asks 200\n"),
+    Case(MANUAL, "docs/respath.1", "\n10.0.0.0/8\n", "\n10.0.0.0/9\n", "- 10.0.0.0/9\n"),
     Case(MANUAL, "respath", "        exit 2\n", "        exit 3\n", "respath --help: names status 2 for 'usage'"),
     Case(MANUAL, "crates/respath_files/src/help.rt", "  3  with --check", "  2  with --check",
          "respath --help: names status 2 for 'check'"),
@@ -182,6 +183,7 @@ OF_VERSIONS = (
 OF_ORIGINS = (
     # The help is in the program, and is replaced by as many octets.
     Case(MANUAL, str(ORIGINS), "--diff OLD NEW", "--diff NEW OLD", "origins --help: says of withdraw"),
+    Case(MANUAL, "docs/origins.1", "0/24\\-24 AS64498", "0/24\\-24 AS64499", "- 192.0.2.0/24-24 AS64499\n"),
     Case(MANUAL, "docs/origins.1", ".I OLD NEW", ".I NEW OLD", "docs/origins.1: says of withdraw"),
     Case(MANUAL, "docs/origins.1", "\nis the standard input", "\nis a file of that name", "does not say that - is"),
 )

@@ -2,9 +2,11 @@
 """Compares what the help and the manual pages of `respath` and `origins` say with what the programs do.
 
 It compares each exit status that a page names, the order of the two files of --diff, and the meaning of the name `-`.
-The programs have to be built; one that is not is left out by name. The status is 1 if something differs.
+It also runs the examples of the manual pages. The programs have to be built; one that is not is left out by name. The
+status is 1 if something differs.
 """
 
+import os
 import re
 import shutil
 import sys
@@ -14,7 +16,7 @@ from dataclasses import dataclass
 from pathlib import Path
 from subprocess import CompletedProcess
 
-from blocks import TOP, Report, manual, program, run
+from blocks import TOP, Report, examples_of, manual, program, run, write_script
 
 IF = "(?:(?:where|if|when|for|on|after) )?"
 # What a page says of a status, each with the number of the status.
@@ -125,10 +127,10 @@ def pages(folder: Path) -> Iterator[Page]:
     if (built := program("respath_files")).is_file():
         script = script_of(folder)
         yield Page("respath --help", help_of(script, folder), script, RESPATH, DASHES_OF_RESPATH)
-        yield Page("docs/respath.1", manual("respath"), built, INSTALLED)
+        yield Page("docs/respath.1", manual("docs/respath.1"), built, INSTALLED)
     if (built := program("origins")).is_file():
         yield Page("origins --help", help_of(built, folder), built, ORIGINS, kinds=("failed", "usage", "check"))
-        yield Page("docs/origins.1", manual("origins"), built, ORIGINS, DASHES_OF_ORIGINS)
+        yield Page("docs/origins.1", manual("docs/origins.1"), built, ORIGINS, DASHES_OF_ORIGINS)
 
 
 def faults_of(page: Page, folder: Path) -> Iterator[str]:
@@ -139,18 +141,28 @@ def faults_of(page: Page, folder: Path) -> Iterator[str]:
     yield from faults_of_dashes(page, folder)
 
 
+def compare_examples(report: Report, name: str, built: Path, folder: Path) -> None:
+    """Runs the examples of a manual page with the program by its installed name, and compares what they print."""
+    write_script(folder / name, f'exec "{built}" "$@"')
+    block = examples_of(f"docs/{name}.1")
+    ran = run(block.text, folder, "-c", PATH=f"{folder}:{os.environ['PATH']}")
+    report.compare(f"the examples of {block.place}", block.shown or "an example", ran.stdout, ran.stderr)
+
+
 def main() -> int:
     """Compares each page."""
     report = Report()
-    for name in ("respath_files", "origins"):
-        if not program(name).is_file():
-            report.leave_out(f"the pages of {name}", "it is not built")
-    with tempfile.TemporaryDirectory() as name:
-        folder = Path(name)
+    with tempfile.TemporaryDirectory() as temporary:
+        folder = Path(temporary)
         for file, asn in (("OLD", 1), ("NEW", 2), ("-", 2)):
             (folder / file).write_text(f"AS{asn},10.0.0.0/8,8\n")
         for page in pages(folder):
             report.add(page.name, faults_of(page, folder))
+        for name, crate in (("respath", "respath_files"), ("origins", "origins")):
+            if program(crate).is_file():
+                compare_examples(report, name, program(crate), Path(tempfile.mkdtemp(dir=folder)))
+            else:
+                report.leave_out(f"the pages of {name}", f"{crate} is not built")
     return report.status()
 
 

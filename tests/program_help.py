@@ -71,7 +71,7 @@ def asked(name: str, *words: str) -> tuple[int, str, float]:
 
 def faults_of(name: str) -> Iterator[str]:
     """What is wrong with the texts of a script."""
-    page, said = manual(name), entries(asked(name, "--help")[1].partition("\nOptions of the script")[0])
+    page, said = manual(f"docs/{name}.1"), entries(asked(name, "--help")[1].partition("\nOptions of the script")[0])
     if len(said) < 8:
         yield f"{name} --help has {len(said)} entries: {', '.join(said)}"
     for term, description in said.items():

@@ -404,17 +404,10 @@ rm -rf "$copy" "$out/made"
 
 # ---- of this tree
 
-# Prints the examples of a page of the manual as the page shows them.
-printed() { sed -n '/^\.SH EXAMPLES/,/^\.fi/{s/\\-/-/g; s/\\(aq/'"'"'/g; s/\\e/\\/g; /^\./d; p}' "$1"; }
-
-# answers FOLDER PAGE: whether the program in FOLDER prints for each example what the page shows
-answers() {
-    printed "$2" >"$out/shown"
+# run_line FOLDER LINE: runs a line of the shell with the programs of a folder
+run_line() {
     mkdir -p "$out/examples"
-    sed -n 's/^\$ //p' "$out/shown" | while IFS= read -r line; do
-        printf '$ %s\n' "$line"
-        (cd "$out/examples" && PATH="$1:$PATH" sh -c "$line" 2>/dev/null)
-    done | diff "$out/shown" - && grep -q '^\$ ' "$out/shown"
+    (cd "$out/examples" && PATH="$1:$PATH" sh -c "$2")
 }
 
 of_archive() {
@@ -424,7 +417,7 @@ of_archive() {
     tree="$out/un packed/pigyelund-$version"
     (cd "$tree" && sha256sum --quiet -c SHA256SUMS) || fail "the sums of the files"
     for program in respath origins; do
-        answers "$tree/bin" "$tree/share/man/man1/$program.1" || fail "the manual's examples of $program"
+        examples "the manual's examples of $program" "$tree/share/man/man1/$program.1" run_line "$tree/bin"
         crate=$(crate_of "$program")
         cmp "crates/$crate/out/$crate" "$tree/bin/$program" || fail "the program $program"
         "./$program" --version | grep -q '^proved here' || fail "$program is noted"
@@ -452,7 +445,7 @@ of_packages() {
     diff -r "$tree/bin" "$out/root/usr/bin" || fail "the same tree makes the same programs"
     for program in respath origins; do
         gzip -d <"$out/root/usr/share/man/man1/$program.1.gz" >"$out/page"
-        answers "$out/root/usr/bin" "$out/page" || fail "the installed $program"
+        examples "the installed $program" "$out/page" run_line "$out/root/usr/bin"
     done
     ./release --deb "$version" "$out/again" >"$out/log" 2>&1 && same_packages "$out/deb" "$out/again" ||
         fail "the same tree makes the same packages"

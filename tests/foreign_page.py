@@ -90,26 +90,15 @@ def of_page(numbers: dict[str, int]) -> list[str]:
     return faults + [f"{PAGE.name} has no status {name}" for name in sorted(missing)]
 
 
-# The first minor version of Python 3 that has a name of the standard library, of those that the package may use.
-NEW_NAMES = {
-    "pairwise": 10,
-    "ParamSpec": 10,
-    "TypeAlias": 10,
-    "TypeGuard": 10,
-    "StrEnum": 11,
-    "Self": 11,
-    "Never": 11,
-    "assert_never": 11,
-    "LiteralString": 11,
-    "tomllib": 11,
-    "ExceptionGroup": 11,
-    "batched": 12,
-    "override": 12,
-    "Buffer": 12,
-    "deprecated": 13,
-    "TypeIs": 13,
+# The names of the standard library that a minor version of Python 3 has first, of those that the package may use.
+NEW_IN = {
+    10: "pairwise ParamSpec TypeAlias TypeGuard",
+    11: "StrEnum Self Never assert_never LiteralString tomllib ExceptionGroup",
+    12: "batched override Buffer",
+    13: "deprecated TypeIs",
 }
-# And that has a form of the syntax.
+NEW_NAMES = {name: minor for minor, names in NEW_IN.items() for name in names.split()}
+# The first minor version that has a form of the syntax.
 NEW_FORMS = {"Match": 10, "TryStar": 11, "TypeAlias": 12}
 
 

@@ -61,76 +61,24 @@ STUBBED = (
             r": (\d\d+) lines are wrong or refused, .* \1 differ\n"),
 )
 
-RECIPES = """
-```sh
-echo one
-```
-```text
-one
-```
-```sh
-echo two
-```
-```text
-three
-```
-```sh
-kept=4
-```
-```sh
-echo $kept
-```
-```text
-5
-```
-```sh
-echo more
-```
-"""
-COMMANDS = """
-```console
-$ echo one
-one
-```
-```console
-$ echo two
-three
-```
-```sh
-echo 4 | ./respath   # 4
-```
-```sh
-echo 5 | ./respath   # 6
-```
-```sh
-false
-```
-"""
-FOREIGN = """
-### C
-```c
-one
-```
-```sh
-cat program.c
-```
-```text
-one
-```
-### Rust
-```sh
-echo two
-```
-```text
-three
-```
-"""
+
+def page_of(*blocks: tuple[str, str]) -> str:
+    """Returns a page of these blocks, each of three lines or more."""
+    return "".join(f"```{kind}\n{text}\n```\n" for kind, text in blocks)
+
+
+ONE, TWO = (("sh", "echo one"), ("text", "one")), (("sh", "echo two"), ("text", "three"))
+KEPT = ("sh", "kept=4"), ("sh", "echo $kept"), ("text", "5")
+RECIPES = page_of(*ONE, *TWO, *KEPT, ("sh", "echo more"))
+SESSIONS = ("console", "$ echo one\none"), ("console", "$ echo two\nthree")
+COMMANDS = page_of(*SESSIONS, ("sh", "echo 4 | ./respath   # 4"), ("sh", "echo 5 | ./respath   # 6"), ("sh", "false"))
+FOREIGN = f"\n### C\n{page_of(('c', 'one'), ('sh', 'cat program.c'), ('text', 'one'))}\n### Rust\n{page_of(*TWO)}"
 # A script with its words, its page, the text of this page, the lines of the examples that fail, and the counts.
 OF_PAGES = (
-    (("tests/page_recipes.py",), "docs/RECIPES.md", RECIPES, ["8", "17", "23"], "5 examples, 3 differ, 0 left out"),
-    (("tests/page_commands.py",), "README.md", COMMANDS, ["6", "13", "16"], "5 examples, 3 differ, 0 left out"),
+    (("tests/page_recipes.py",), "docs/RECIPES.md", RECIPES, ["7", "16", "22"], "5 examples, 3 differ, 0 left out"),
+    (("tests/page_commands.py",), "README.md", COMMANDS, ["5", "12", "15"], "5 examples, 3 differ, 0 left out"),
     (("tests/foreign_page.py", "C", "usr"), "docs/FOREIGN.md", FOREIGN, [], "1 examples, 0 differ, 0 left out"),
-    (("tests/foreign_page.py", "Rust", "usr"), "docs/FOREIGN.md", FOREIGN, ["13"], "1 examples, 1 differ, 0 left out"),
+    (("tests/foreign_page.py", "Rust", "usr"), "docs/FOREIGN.md", FOREIGN, ["14"], "1 examples, 1 differ, 0 left out"),
 )
 
 

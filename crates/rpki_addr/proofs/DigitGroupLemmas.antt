@@ -6,20 +6,20 @@ use Rattle.std.proofs.lemmas.List.{get_or_past, take-append-drop, take_rest}
 use Rattle.std.proofs.NetLemmas.Numbers.{digit_count-append, read_number_empty, read_number_large_at, read_number_some, read_number_some_at}
 
 -- the first k bytes of a text are digits
-abbrev AreDigits : ℕ → List ℕ → ℕ → Type 0
+abbrev pub AreDigits : ℕ → List ℕ → ℕ → Type 0
 AreDigits radix s zero = Unit {0}
 AreDigits radix s (suc k) = AreDigits radix s k × (digit_value (get_or s k 0) < radix)
 
 -- which write this number
-abbrev written : ℕ → List ℕ → ℕ → ℕ
+abbrev pub written : ℕ → List ℕ → ℕ → ℕ
 written radix s zero = 0
 written radix s (suc k) = written radix s k * radix + digit_value (get_or s k 0)
 
 -- so the first k bytes are digits that write n
-abbrev AreWritten : ℕ → List ℕ → ℕ → ℕ → Type 0
+abbrev pub AreWritten : ℕ → List ℕ → ℕ → ℕ → Type 0
 AreWritten radix s k n = (k ≤ length s) × AllDigits radix (take k s) × (digits_value radix (take k s) ≡ n)
 
-digits_are : (radix : ℕ) (s : List ℕ) (k : ℕ) → radix ≤ 36 → AreDigits radix s k
+pub digits_are : (radix : ℕ) (s : List ℕ) (k : ℕ) → radix ≤ 36 → AreDigits radix s k
     → AreWritten radix s k (written radix s k)
 digits_are radix s zero most all = (omega arith, tt, refl)
 digits_are radix s (suc k) most (before, small) =
@@ -31,7 +31,7 @@ digits_are radix s (suc k) most (before, small) =
     (omega (arith, here), digits_more radix s k here digits small, number)
 
 -- these k digits are read, and what is behind them is left
-abbrev Reads : (List ℕ → Read ℕ) → ℕ → List ℕ → ℕ → Type 0
+abbrev pub Reads : (List ℕ → Read ℕ) → ℕ → List ℕ → ℕ → Type 0
 Reads read radix s k = read s ≡ Some (written radix s k, take (length s - k) (drop k s))
 
 -- no digit, no octet
@@ -90,10 +90,10 @@ unfolding read_segment
 group_none s stop = rw (read_number_empty 16 0xffff s stop) refl
 
 -- one to four of them
-group_fits : (ds : List ℕ) → AllDigits 16 ds → length ds ≤ 4 → digits_value 16 ds ≤ 0xffff
+pub group_fits : (ds : List ℕ) → AllDigits 16 ds → length ds ≤ 4 → digits_value 16 ds ≤ 0xffff
 group_fits ds digits few = grind (arith, digits_value-lt, pow-le-pow_right)
 
-group_some : (s : List ℕ) (k : ℕ) → 0 < k → k ≤ 4 → AreDigits 16 s k → 16 ≤ digit_value (get_or s k 0)
+pub group_some : (s : List ℕ) (k : ℕ) → 0 < k → k ≤ 4 → AreDigits 16 s k → 16 ≤ digit_value (get_or s k 0)
     → Reads read_segment 16 s k
 unfolding read_segment
 group_some s k some few all stop =

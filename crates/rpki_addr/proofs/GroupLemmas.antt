@@ -1,5 +1,7 @@
 -- Groups as one number while they are read.
-use Rattle.rpki_addr.proofs.Common.{Bor, List, None, Some, [], ap, append-nil, append_assoc, arith, false, length, length-append, lit<, lit≤, nat_lt, option_map, refl, replicate, suc, true, zero, ℕ, ◌*◌, ◌++◌, ◌+◌, ◌-◌, ◌<◌, ◌==◌, ◌^◌, ◌∷◌, ◌≡◌, ◌≢◌, ◌≤◌, mul-one, mul_assoc, pow-le-pow_right, pow-succ', pow-zero, read_ipv4_sound, nat_tests, number_after_append, number_push, length-replicate, mul-add-lt, pow-add, none-some, number_from_digits_after, segments_of, read_ipv4, read_ipv4_if, read_segment, read_segments, read_separator, below_power, next_below, from_groups, from_octets, numbered, with_octets, IsSoFar, parts}
+use Rattle.rpki_addr.proofs.Common.{Bor, List, None, Some, [], ap, append-nil, append_assoc, arith, false, length, length-append, lit<, lit≤, nat_lt, option_map, refl, replicate, suc, true, zero, ℕ, ◌*◌, ◌++◌, ◌+◌, ◌-◌, ◌<◌, ◌==◌, ◌^◌, ◌∷◌, ◌≡◌, ◌≢◌, ◌≤◌, mul-one, pow-le-pow_right, pow-succ', pow-zero, read_ipv4_sound, nat_tests, number_after_append, number_push, length-replicate, mul-add-lt, pow-add, none-some, number_from_digits_after, segments_of, read_ipv4, read_ipv4_if, read_segment, read_segments, read_separator, below_power, next_below, from_groups, from_octets, numbered, with_octets, IsSoFar, parts}
+use Rattle.std.proofs.Common.{◌%◌}
+use Rattle.std.proofs.Math.Nat.{mod-eq_of_lt}
 use Rattle.rpki_addr.specs.declared.addr.read.Groups.{Groups}
 use Rattle.rpki_addr.proofs.AddressFronts.{seen_some}
 use Rattle.rpki_addr.proofs.AddressLemmas.{two_groups}
@@ -24,22 +26,30 @@ number_elided front back within_bound =
     grind (arith, append_assoc, number_after_append, number_after_is, zeros_front, length-append, length-replicate)
 
 -- what fits behind so many groups
+pub fits_behind : (high low i j : ℕ) → high < 0x10000 ^ i → low < 0x10000 ^ j → i + j ≤ 8
+    → high * 0x10000 ^ (8 - i) + low < 2 ^ 128
+fits_behind high low i j small few within_bound =
+    let up : 0x10000 ^ j ≤ 0x10000 ^ (8 - i) = pow-le-pow_right (lit≤ tt) (omega (arith, within_bound)) in
+    let fits = mul-add-lt high (0x10000 ^ (8 - i)) low (0x10000 ^ i) in
+    grind (arith, fits, pow-add 0x10000 (8 - i) i)
+
 pub elided_fits : (front back : Groups) → front.bits < 0x10000 ^ front.count → back.bits < 0x10000 ^ back.count
     → front.count + back.count ≤ 8 → front.bits * 0x10000 ^ (8 - front.count) + back.bits < 2 ^ 128
 elided_fits front back low high within_bound =
-    let up : 0x10000 ^ back.count ≤ 0x10000 ^ (8 - front.count) = pow-le-pow_right (lit≤ tt) (omega (arith, within_bound)) in
-    let fits = mul-add-lt front.bits (0x10000 ^ (8 - front.count)) back.bits (0x10000 ^ front.count) in
-    grind (arith, fits, pow-add 0x10000 (8 - front.count) front.count)
+    fits_behind front.bits back.bits front.count back.count low high within_bound
 
--- one zero group more
-pub one_zero_more : (bits n : ℕ) → 0 < n → bits * 0x10000 * 0x10000 ^ (n - 1) ≡ bits * 0x10000 ^ n
-one_zero_more bits zero some = absurd (omega (arith, some))
-one_zero_more bits (suc m) some = grind (arith, mul_assoc, pow-succ')
+-- zero groups as a shift
+power_of_two : (n : ℕ) → 2 ^ (16 * n) ≡ 0x10000 ^ n
+power_of_two zero = refl
+power_of_two (suc n) = grind (arith, power_of_two n, pow-add 2 (16 * n) 16, pow-succ')
 
-pub power_less : (n : ℕ) → 0 < n → 0x10000 ≤ 0x10000 ^ n
-power_less n some =
-    let up : 0x10000 ^ 1 ≤ 0x10000 ^ n = pow-le-pow_right (lit≤ tt) some in
-    omega (arith, up)
+pub shifted : (bits n : ℕ) → bits * 0x10000 ^ n < 2 ^ 128 → (bits * 2 ^ (16 * n)) % 2 ^ 128 ≡ bits * 0x10000 ^ n
+shifted bits n fits = rw (power_of_two n) (mod-eq_of_lt fits)
+
+pub none_before_eight : (bits n : ℕ) → n ≡ 8 → bits * 0x10000 ^ n < 2 ^ 128 → 0 ≡ bits * 0x10000 ^ n
+none_before_eight bits n eight fits =
+    let none : bits * 0x10000 ^ 8 < 2 ^ 128 = rw eight at fits in
+    rw eight (omega (arith, none))
 
 two_more : (bits count low : ℕ) → bits < 0x10000 ^ count → low < 2 ^ 32
     → bits * 0x100000000 + low < 0x10000 ^ (count + 2)
@@ -50,6 +60,11 @@ pub one_fits : (groups : Groups) → groups.bits < 0x10000 ^ groups.count → gr
     → groups.bits * 0x10000 + 0xffff < 2 ^ 128
 one_fits groups small few =
     omega (arith, below_power 0x10000 (lit< tt) groups.count 8 groups.bits 0xffff few small (lit< tt))
+
+pub one_more_fits : (bits count value : ℕ) → bits < 0x10000 ^ count → count < 8 → value < 0x10000
+    → bits * 0x10000 + value < 2 ^ 128
+one_more_fits bits count value small few fits =
+    omega (arith, fits, below_power 0x10000 (lit< tt) count 8 bits 0xffff few small (lit< tt))
 
 pub two_fit : (groups : Groups) → groups.bits < 0x10000 ^ groups.count → groups.count + 2 ≤ 8
     → groups.bits * 0x100000000 + 0xffffffff < 2 ^ 128

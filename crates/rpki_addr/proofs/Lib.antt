@@ -8,5 +8,6 @@ pub mod DigitGroupLemmas
 pub mod GroupLemmas
 pub mod LookupTables
 pub mod PrintedAddressLemmas
+pub mod UsualGroups
 pub mod WidthLemmas
 pub mod WrittenBytes

@@ -9,6 +9,7 @@ mod groups;
 pub mod print;
 mod read;
 mod text;
+mod usual;
 
 use groups::split_groups;
 use std::error::Error;

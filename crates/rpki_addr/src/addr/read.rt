@@ -8,6 +8,8 @@ ghost use Rattle.rpki_text.specs.Digits.{from_octets};
 ghost use Rattle.rpki_addr.specs.ReaderResults.{numbered, with_number, with_octets, hex_value};
 ghost use Rattle.rpki_addr.specs.GroupProgress.{IsSoFar, parts};
 
+use super::usual::take_usual_ipv6;
+
 /// Returns the value of the decimal digit at an index, or 10 or more if there is no digit.
 #[inline(always)]
 fn decimal_at(text: &[u8], at: usize) -> u8
@@ -137,7 +139,7 @@ static HEX_VALUES: [u8; 256] = [
 
 /// Returns the value of a hexadecimal digit, or 16 for any other byte.
 #[inline(always)]
-fn hex_value(byte: u8) -> u8
+pub(super) fn hex_value(byte: u8) -> u8
     ensures { result ≡ hex_value byte }
 {
     HEX_VALUES[usize::from(byte)]
@@ -285,23 +287,22 @@ fn strip_colons(text: &[u8]) -> Option<&[u8]>
 }
 
 /// Returns the number of the groups of `bits` followed by `count` zero groups.
-#[tactic(auto, using(crate::proofs::GroupLemmas::one_zero_more, crate::proofs::GroupLemmas::power_less))]
-fn with_zeros(bits: u128, count: usize) -> u128
-    requires { bits * 0x10000 ^ count < 2 ^ 128 }
+#[inline(always)]
+#[tactic(auto, using(crate::proofs::GroupLemmas::shifted, crate::proofs::GroupLemmas::none_before_eight))]
+pub(super) fn with_zeros(bits: u128, count: usize) -> u128
+    requires few { count ≤ 8 }
+    requires fits { bits * 0x10000 ^ count < 2 ^ 128 }
     ensures { result ≡ bits * 0x10000 ^ count }
 {
-    let mut all = bits;
-    let mut left = count;
-    while left > 0 {
-        all = all * 0x10000;
-        left -= 1;
+    if count == 8 {
+        return 0;
     }
-    all
+    bits << (16 * count)
 }
 
-/// Takes an IPv6 address and returns its number.
+/// Takes an IPv6 address of any form and returns its number.
 #[tactic(auto, using(crate::proofs::GroupLemmas::number_elided, crate::proofs::GroupLemmas::elided_fits), unfolding(std::specs::Net::Reader::read_ipv6))]
-pub(super) fn take_ipv6(text: &[u8]) -> Option<(u128, &[u8])>
+fn take_any_ipv6(text: &[u8]) -> Option<(u128, &[u8])>
     ensures { Reader.read_view (λ n. n) result
         ≡ option_map with_number (Reader.read_ipv6 text.now) }
 {
@@ -319,6 +320,17 @@ pub(super) fn take_ipv6(text: &[u8]) -> Option<(u128, &[u8])>
     let back = take_groups(text, 7 - front.count);
     let bits = with_zeros(front.bits, 8 - front.count) + back.bits;
     Some((bits, back.rest))
+}
+
+/// Takes an IPv6 address and returns its number.
+pub(super) fn take_ipv6(text: &[u8]) -> Option<(u128, &[u8])>
+    ensures { Reader.read_view (λ n. n) result
+        ≡ option_map with_number (Reader.read_ipv6 text.now) }
+{
+    match take_usual_ipv6(text) {
+        Some(read) => Some(read),
+        None => take_any_ipv6(text),
+    }
 }
 
 /// Returns the value, if no text is left after it.

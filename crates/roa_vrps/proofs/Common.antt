@@ -1,9 +1,11 @@
 -- What the proofs of this crate use of std, of the crates below and of its own definitions, passed on by one name.
-pub use Rattle.std.proofs.Common.{Err, IfOk, IsTrue, List, MatchResult, None, Ok, Option, Result, Some, Vec, [], ap, append-nil, append_assoc, arith, false, if◌then◌else◌, inl, inr, length, not, refl, suc, sym, take, true, zero, ℕ, ◌++◌, ◌+◌, ◌-◌, ◌<◌, ◌^◌, ◌∙◌, ◌∷◌, ◌≡◌, ◌≢◌, ◌≤◌, ◌↔◌, ◌⊎◌}
+pub use Rattle.std.proofs.Common.{Err, IfOk, IsTrue, List, MatchResult, None, Ok, Option, Result, Some, Vec, [], ap, append-nil, append_assoc, arith, drop, false, if◌then◌else◌, inl, inr, length, lit≤, not, refl, suc, sym, take, true, zero, ℕ, ◌++◌, ◌+◌, ◌-◌, ◌<◌, ◌^◌, ◌∙◌, ◌∷◌, ◌≡◌, ◌≢◌, ◌≤◌, ◌↔◌, ◌⊎◌}
 pub use Rattle.std.proofs.lemmas.Bool.{eqb-false, eqb-true}
-pub use Rattle.std.proofs.lemmas.List.{length-append, nil_from_length, take_more}
+pub use Rattle.std.proofs.lemmas.List.{length-append, length-take, nil_from_length, take_more}
+pub use Rattle.std.proofs.lemmas.List.Elements.{All-append, All-cons, All-weaker}
+pub use Rattle.std.specs.Int.{IsInRange}
 pub use Rattle.std.specs.Option.{option_and_then}
-pub use Rattle.std.specs.List.{after_first, before_first}
+pub use Rattle.std.specs.List.{All, after_first, before_first, count_by}
 pub use Rattle.std.specs.Str.{IsUtf8, bytes_eq, trim}
 pub use denote.Shadow.{shadow}
 pub use denote.Text.{Utf8}
@@ -13,6 +15,7 @@ pub use Rattle.json.specs.Reads.{token_of}
 pub use Rattle.json.specs.Token.{Token}
 pub use Rattle.json.specs.Value.{members_view, value_view}
 pub use Rattle.rpki_prefix.specs.MaxLen.{HasMaxLenError, IsMaxLenOf, MaxLenValue}
+pub use Rattle.rpki_text.specs.Lists.{comma}
 pub use Rattle.rpki_text.specs.Reading.{Answers, AnswersOrMemory}
 pub use Rattle.roa_vrps.specs.Columns.{IsColumn, IsHeader, Names, usual}
 pub use Rattle.roa_vrps.specs.Fields.{after_commas, field, is_comma, unquoted}
@@ -20,6 +23,7 @@ pub use Rattle.roa_vrps.specs.Items.{AreItems, HasItemFault, HasTexts, HaveWrong
 pub use Rattle.roa_vrps.specs.JsonFiles.{HasJsonFault, IsJsonFile, IsRoasResult, roas}
 pub use Rattle.roa_vrps.specs.Members.{AreWrong, HasMemberFault, HasText, IsFound, values_in}
 pub use Rattle.roa_vrps.specs.Rows.{AreVrpTexts, HasRowFault, HaveFault, IsBody, IsRow}
+pub use Rattle.roa_vrps.specs.UsualRows.{AreFurther, AreShown, EndsField, IsUsualLine}
 pub use Rattle.roa_vrps.specs.declared.columns.Columns.{Columns}
 pub use Rattle.roa_vrps.specs.declared.fault.FileFault.{FileFault}
 pub use Rattle.roa_vrps.specs.declared.fault.FileFault.TheVariants.{Item, Line, NoVrp, Roas}

@@ -10,3 +10,5 @@ pub mod JsonLemmas
 pub mod MemberLemmas
 pub mod RoasLemmas
 pub mod RowLemmas
+pub mod UsualFieldLemmas
+pub mod UsualRowLemmas

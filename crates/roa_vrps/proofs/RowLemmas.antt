@@ -1,5 +1,5 @@
 -- A line writes one thing alone, or has one fault.
-use Rattle.roa_vrps.proofs.Common.{List, MatchResult, Result, Some, [], ap, arith, inl, inr, sym, ℕ, ◌-◌, ◌^◌, ◌∙◌, ◌≡◌, ◌≢◌, ◌⊎◌, IsUtf8, trim, HasMaxLenError, IsMaxLenOf, MaxLenValue, Answers, IsHeader, field, AreVrpTexts, HasRowFault, HaveFault, IsBody, IsRow, Columns, VrpFault, Row, Vrp}
+use Rattle.roa_vrps.proofs.Common.{List, MatchResult, Result, Some, [], ap, arith, inl, inr, sym, ℕ, ◌-◌, ◌^◌, ◌∙◌, ◌≡◌, ◌≢◌, ◌⊎◌, IsUtf8, trim, HasMaxLenError, IsMaxLenOf, MaxLenValue, Answers, IsHeader, AreVrpTexts, HasRowFault, HaveFault, IsBody, IsRow, Columns, VrpFault, Row, Vrp}
 use Rattle.roa_vrps.specs.Rows.{FitsColumns, HasCountFault, HaveColumnsFault}
 use Rattle.rpki_text.proofs.ReadingLemmas.{Answers-from_found}
 use Rattle.rpki_base.proofs.AsnLemmas.{IsAsnText-one}

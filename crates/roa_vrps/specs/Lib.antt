@@ -9,3 +9,4 @@ pub mod JsonFiles
 pub mod Marks
 pub mod Members
 pub mod Rows
+pub mod UsualRows

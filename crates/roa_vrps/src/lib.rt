@@ -14,6 +14,7 @@ pub mod mark;
 pub mod member;
 mod roas;
 pub mod row;
+mod usual_row;
 mod vrp;
 
 pub use fault::{FileFault, ItemFault, MemberFault, VrpFault};

@@ -7,6 +7,7 @@ ghost use Rattle.std.specs.Str.{trim};
 use crate::columns::Columns;
 use crate::fault::VrpFault;
 use crate::field::{field_at, field_count};
+use crate::usual_row::usual_vrp;
 use crate::vrp::Vrp;
 use rpki_base::Asn;
 use rpki_base::number::parse_u8;
@@ -42,9 +43,19 @@ pub fn read_row(columns: Columns, line: &[u8]) -> Result<Row, VrpFault>
     read_row_matched(columns, line)
 }
 
-/// Returns the content of a line, or its first fault.
-#[tactic(auto, using(crate::proofs::RowLemmas::row_fault, crate::proofs::RowLemmas::count_fault, crate::proofs::RowLemmas::body_of))]
+/// Returns the content of a line, or its first fault. A line of the usual form is read in one pass.
 fn read_row_matched(columns: Columns, line: &[u8]) -> Result<Row, VrpFault>
+    ensures { MatchResult result (IsRow columns line.now) (HasRowFault columns line.now) }
+{
+    match usual_vrp(columns, line) {
+        Some(vrp) => Ok(Row::Vrp(vrp)),
+        None => read_any(columns, line),
+    }
+}
+
+/// Returns the content of a line of any form, or its first fault.
+#[tactic(auto, using(crate::proofs::RowLemmas::row_fault, crate::proofs::RowLemmas::count_fault, crate::proofs::RowLemmas::body_of))]
+fn read_any(columns: Columns, line: &[u8]) -> Result<Row, VrpFault>
     ensures { MatchResult result (IsRow columns line.now) (HasRowFault columns line.now) }
 {
     let Ok(text) = str::from_utf8(line) else {

@@ -1,0 +1,67 @@
+-- Lines with a VRP in the usual form: the AS number, the prefix and the maximum length come first, and neither white
+-- space nor quotes are in the line.
+use Rattle.std.specs.Prelude.{◌≡◌, ◌⊎◌, ℕ, ◌+◌, ◌-◌, ◌^◌, ◌≤◌, List, [], ◌∷◌, ◌++◌, All, Some, true}
+use Rattle.std.specs.Int.{IsInRange}
+use Rattle.std.specs.List.{count_by}
+use Rattle.std.specs.Str.Parse.{AllDigits}
+use Rattle.rpki_addr.specs.declared.addr.IpAddr.{IpAddr}
+use Rattle.rpki_prefix.specs.MaxLen.{IsMaxLenOf, MaxLenValue}
+use Rattle.rpki_prefix.specs.Values.{IsPrefixOf}
+use Rattle.rpki_text.specs.Lists.{comma}
+use Rattle.rpki_text.specs.Numbers.{IsNumberText}
+use Rattle.roa_vrps.specs.Fields.{is_comma}
+use Rattle.roa_vrps.specs.Rows.{AreVrpTexts}
+use Rattle.roa_vrps.specs.declared.columns.Columns.{Columns}
+
+-- The bytes of a field of the usual form: visible ASCII characters from `-` on. None is a comma, a quote or a space.
+abbrev pub AreShown : List ℕ → Type 0
+AreShown = All (IsInRange 45 126)
+
+-- the text is a field of the usual form, a comma, and rest
+pub record IsFirstField (Writes : List ℕ → Type 0) (text rest : List ℕ) : Type 0 where
+  pub field : List ℕ
+  pub split : text ≡ field ++ comma ∷ rest
+  pub shown : AreShown field
+  pub writes : Writes field
+
+-- the text is digits, which write a number of 8 bits
+pub record IsDigitText (text : List ℕ) (n : ℕ) : Type 0 where
+  pub digits : AllDigits 10 text
+  pub number : IsNumberText (2 ^ 8 - 1) text n
+
+-- a field ends where this text begins: the text is empty, or begins with a comma
+abbrev pub EndsField : List ℕ → Type 0
+EndsField text = (text ≡ []) ⊎ ((rest : List ℕ) × (text ≡ comma ∷ rest))
+
+-- the text has this number of commas, and no other byte than commas and visible ASCII characters after the comma
+pub record AreFurther (text : List ℕ) (fields : ℕ) : Type 0 where
+  pub shown : All (IsInRange 44 126) text
+  pub count : fields ≡ count_by is_comma text
+
+-- the first three fields of a line denote the VRP, and this number of fields follows them
+pub record IsUsualLine (line : List ℕ) (vrp : MaxLenValue × ℕ) (fields : ℕ) : Type 0 where
+  pub asn : List ℕ
+  pub prefix : List ℕ
+  pub max_len : List ℕ
+  pub more : List ℕ
+  pub split : line ≡ asn ++ comma ∷ (prefix ++ comma ∷ (max_len ++ more))
+  pub asn_shown : AreShown asn
+  pub prefix_shown : AreShown prefix
+  pub max_len_shown : AreShown max_len
+  pub ends : EndsField more
+  pub further : AreFurther more fields
+  pub texts : AreVrpTexts asn prefix max_len vrp.0 vrp.1
+
+-- the VRP has this AS number, the prefix of this address and this length, and this maximum length
+pub record IsVrpOf (asn : ℕ) (addr : IpAddr) (len max_len : ℕ) (vrp : MaxLenValue × ℕ) : Type 0 where
+  pub asn_is : vrp.1 ≡ asn
+  pub prefix : IsPrefixOf addr len vrp.0.prefix
+  pub max_len_is : vrp.0.max_len ≡ Some max_len
+  pub within : IsMaxLenOf vrp.0.prefix (Some max_len)
+
+-- the first three columns are those of a VRP, and a line may have this number of fields after them
+pub record AllowUsual (columns : Columns) (fields : ℕ) : Type 0 where
+  pub asn : columns.asn ≡ 0
+  pub prefix : columns.prefix ≡ 1
+  pub max_len : columns.max_len ≡ 2
+  pub count : columns.is_named ≡ true → fields + 3 ≤ columns.count

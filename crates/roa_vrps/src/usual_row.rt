@@ -1,0 +1,177 @@
+//! Reads lines with a VRP in the usual form, in one pass.
+//!
+//! A line of the usual form begins with the AS number, the prefix and the maximum length. It has neither white space
+//! nor quotes. Each call returns None for a line of another form, even for one that [`crate::row::read_row`] accepts.
+ghost use Rattle.std.specs.Prelude.{◌≡◌, ◌∷◌, IfSome, IsTrue};
+ghost use Rattle.rpki_addr.specs.AddressFronts.{IsAtFront};
+ghost use Rattle.rpki_addr.specs.AddressText.{IsIpText};
+ghost use Rattle.rpki_base.specs.AsnText.{IsAsnText};
+ghost use Rattle.rpki_prefix.specs.PrefixText.{HasParts};
+ghost use Rattle.roa_vrps.specs.Rows.{IsRow};
+ghost use Rattle.roa_vrps.specs.UsualRows.{AllowUsual, AreFurther, EndsField, IsDigitText, IsFirstField, IsVrpOf};
+ghost use Rattle.roa_vrps.specs.declared.row.Row.TheVariants.{Vrp as the_vrp};
+
+use crate::columns::Columns;
+use crate::vrp::Vrp;
+use rpki_base::Asn;
+use rpki_base::addr::IpAddr;
+use rpki_base::addr::front::{ipv4_at_front, ipv6_at_front};
+use rpki_base::asn::at_index::asn_at;
+use rpki_base::number::digits_from;
+use rpki_prefix::{MaxLenPrefix, Prefix};
+
+/// Returns the text after `byte` if the byte is at the front.
+#[inline(always)]
+fn strip_byte(byte: u8, text: &[u8]) -> Option<&[u8]>
+    ensures { IfSome result (λ rest. text.now ≡ byte ∷ rest.now) }
+{
+    let (first, rest) = text.split_first()?;
+    if *first == byte { Some(rest) } else { None }
+}
+
+/// Returns the value of the AS number that is the first field, and the text after its comma.
+#[inline(always)]
+fn take_asn(text: &[u8]) -> Option<(u32, &[u8])>
+    ensures { IfSome result (λ found. IsFirstField (λ field. IsAsnText field found.0) text.now found.1.now) }
+{
+    let (asn, end) = asn_at(text, 0)?;
+    let rest = strip_byte(b',', &text[end..])?;
+    Some((asn.into_u32(), rest))
+}
+
+/// Returns the address at the front, and the text after it.
+#[inline(always)]
+fn take_addr(text: &[u8]) -> Option<(IpAddr, &[u8])>
+    ensures { IfSome result (λ found. IsAtFront IsIpText text.now found.0 found.1.now) }
+{
+    if let Some((addr, rest)) = ipv4_at_front(text) {
+        return Some((IpAddr::V4(addr), rest));
+    }
+    match ipv6_at_front(text) {
+        Some((addr, rest)) => Some((IpAddr::V6(addr), rest)),
+        None => None,
+    }
+}
+
+/// Returns the number of 8 bits that digits at the front write, and the text after the digits.
+#[inline(always)]
+fn take_number(text: &[u8]) -> Option<(u8, &[u8])>
+    ensures { IfSome result (λ found. IsAtFront IsDigitText text.now found.0 found.1.now) }
+{
+    let (value, end) = digits_from(text, 0);
+    if end == 0 || value > u64::from(u8::MAX) {
+        return None;
+    }
+    Some((value as u8, &text[end..]))
+}
+
+/// Returns the address and the length of the prefix that is the first field, and the text after its comma.
+#[inline(always)]
+fn take_prefix(text: &[u8]) -> Option<(IpAddr, u8, &[u8])>
+    ensures { IfSome result
+        (λ found. IsFirstField (λ field. HasParts field found.0 found.1) text.now found.2.now) }
+{
+    let Some((addr, behind)) = take_addr(text) else {
+        return None;
+    };
+    let Some(digits) = strip_byte(b'/', behind) else {
+        return None;
+    };
+    let Some((len, left)) = take_number(digits) else {
+        return None;
+    };
+    match strip_byte(b',', left) {
+        Some(rest) => Some((addr, len, rest)),
+        None => None,
+    }
+}
+
+/// Returns the number of commas of a text, or None if a byte is neither a comma nor a visible ASCII character after it.
+#[inline(always)]
+fn count_commas(text: &[u8]) -> Option<usize>
+    ensures { IfSome result (λ count. AreFurther text.now count) }
+{
+    let mut count = 0;
+    for byte in text {
+        if *byte < b',' || *byte > b'~' {
+            return None;
+        }
+        if *byte == b',' {
+            count += 1;
+        }
+    }
+    Some(count)
+}
+
+/// Returns whether no text follows, or a comma does.
+#[inline(always)]
+fn ends_field(text: &[u8]) -> bool
+    ensures { IsTrue result → EndsField text.now }
+{
+    matches!(text, [] | [b',', ..])
+}
+
+/// Returns the number of fields after the maximum length. The text is what follows the maximum length in the line.
+///
+/// The call returns None if the field of the maximum length does not end there, or if a field after it is not of the
+/// usual form.
+#[inline(always)]
+fn count_fields(text: &[u8]) -> Option<usize>
+    ensures { IfSome result (λ count. EndsField text.now × AreFurther text.now count) }
+{
+    if ends_field(text) {
+        count_commas(text)
+    } else {
+        None
+    }
+}
+
+/// Returns the VRP of an AS number, an address, a prefix length and a maximum length, if they give one.
+#[inline(always)]
+fn vrp_of(asn: u32, addr: IpAddr, len: u8, max_len: u8) -> Option<Vrp>
+    ensures { IfSome result (IsVrpOf asn addr len max_len) }
+{
+    let Ok(prefix) = Prefix::new(addr, len) else {
+        return None;
+    };
+    match MaxLenPrefix::new(prefix, Some(max_len)) {
+        Ok(prefix) => Some((prefix, Asn::from_u32(asn))),
+        Err(_) => None,
+    }
+}
+
+/// Returns whether the first three columns are those of a VRP, and the columns allow a line with `count` more fields.
+fn allow(columns: Columns, count: usize) -> bool
+    ensures { IsTrue result → AllowUsual columns count }
+{
+    if columns.asn != 0 || columns.prefix != 1 || columns.max_len != 2 {
+        return false;
+    }
+    if !columns.is_named {
+        return true;
+    }
+    3 <= columns.count && count <= columns.count - 3
+}
+
+/// Returns the VRP of a line of the usual form, or None if the line has another form.
+pub(crate) fn usual_vrp(columns: Columns, line: &[u8]) -> Option<Vrp>
+    ensures { IfSome result (λ vrp. IsRow columns line.now (the_vrp vrp)) }
+{
+    let Some((asn, after_asn)) = take_asn(line) else {
+        return None;
+    };
+    let Some((addr, len, after_prefix)) = take_prefix(after_asn) else {
+        return None;
+    };
+    let Some((max_len, rest)) = take_number(after_prefix) else {
+        return None;
+    };
+    let Some(count) = count_fields(rest) else {
+        return None;
+    };
+    if allow(columns, count) {
+        vrp_of(asn, addr, len, max_len)
+    } else {
+        None
+    }
+}

@@ -10,4 +10,5 @@ pub mod Members
 pub mod OrderLemmas
 pub mod RouteAnswerLemmas
 pub mod RouteLineLemmas
+pub mod VrpTextLemmas
 pub mod WhyLemmas

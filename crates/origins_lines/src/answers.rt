@@ -4,7 +4,7 @@ ghost use Rattle.std.specs.String.{string_bytes};
 ghost use Rattle.origins_lines.specs.Answers.{IsRouteAnswer};
 
 use crate::explanation::{Form, push_why};
-use crate::outcome::{asked_asn, outcome_of};
+use crate::outcome::{asked_asn, outcome_of, word_for};
 use crate::route::{Route, read_route};
 use lines_engine::answers::Answers;
 use roa_origin::{Lookup, OriginTable};
@@ -86,7 +86,7 @@ fn write_answer<A: Allocator, B: Allocator>(
 {
     let lookup = ended_lookup(table, route, asn);
     let outcome = outcome_of(&lookup);
-    write!(text, "{outcome}")?;
+    text.push_str(word_for(outcome))?;
     if !why {
         return Ok(());
     }

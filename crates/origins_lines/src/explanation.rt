@@ -1,12 +1,16 @@
 //! Explains the outcome for a route by the VRPs that cover it.
-ghost use Rattle.std.specs.Prelude.{◌≡◌, ◌↔◌, ◌++◌, ℕ, List, IsTrue, OnOk};
+ghost use Rattle.std.specs.Prelude.{◌≡◌, ◌↔◌, ◌+◌, ◌≤◌, ◌++◌, ℕ, List, IsTrue, OnOk, codes, length, take};
 ghost use Rattle.std.specs.String.{string_bytes};
 ghost use Rattle.roa_origin.specs.Tables.{as_sent};
-ghost use Rattle.origins_lines.specs.Explanations.{IsReason, IsSentAgain, IsNextReasonText, IsExplanationText, asn_key, is_first, item_text, max_length_key, prefix_key, reason_and_vrp_text, reason_key, vrp_back, vrp_front, vrp_object};
+ghost use Rattle.origins_lines.specs.Explanations.{IsReason, IsSentAgain, IsNextReasonText, IsExplanationText, asn_key, is_first, item_text, max_length_key, prefix_key, reason_and_vrp_text, reason_key, reason_text, vrp_back, vrp_front, vrp_object};
 ghost use Rattle.origins_lines.specs.declared.explanation.Reason.{Reason};
 
+use crate::buffer::{
+    MAX_ASN, MAX_PREFIX, push_before, put_all, put_asn, put_dash_and_len, put_prefix,
+};
 use crate::outcome::has_as;
 use roa_origin::{Lookup, Vrp};
+use rpki_addr::addr::print::{put, put_octet};
 use rpki_base::Asn;
 use rpki_prefix::Prefix;
 use std::alloc::{AllocError, Allocator};
@@ -31,11 +35,19 @@ impl fmt::Display for Reason {
     ghost output = { λ reason. Some (reason_text reason) };
 
     fn fmt<W: fmt::Write>(&self, f: &mut fmt::Formatter<W>) -> fmt::Result {
-        f.write_str(match self {
-            Reason::Match => "match",
-            Reason::Length => "length",
-            Reason::As => "as",
-        })
+        f.write_str(word_for(*self))
+    }
+}
+
+/// Returns the word for a relation.
+fn word_for(reason: Reason) -> &'static str
+    ensures text { result.now ≡ reason_text reason }
+    ensures len { length result.now ≤ 6 }
+{
+    match reason {
+        Reason::Match => "match",
+        Reason::Length => "length",
+        Reason::As => "as",
     }
 }
 
@@ -161,7 +173,7 @@ fn push_item<A: Allocator>(
     ensures { OnOk result (string_bytes text.new ≡ string_bytes text.old ++ item_text form is_first reason vrp.now) }
 {
     match form {
-        Form::Words => push_words(text, reason, vrp),
+        Form::Words => push_word(text, reason, vrp),
         Form::Json => if is_first {
             push_object(text, reason, vrp)
         } else {
@@ -171,19 +183,54 @@ fn push_item<A: Allocator>(
     }
 }
 
+/// The maximum number of bytes of a word: a space, a reason of six letters, a prefix, a length of three digits, an AS
+/// number, two colons and a dash.
+const MAX_WORD: usize = 1 + 6 + MAX_PREFIX + 3 + MAX_ASN + 3;
+
 /// Appends a VRP with its relation to a route, as a word after a space.
-fn push_words<A: Allocator>(
+fn push_word<A: Allocator>(
     text: &mut String<A>,
     reason: Reason,
     vrp: &Vrp,
 ) -> Result<(), AllocError>
     ensures { OnOk result (string_bytes text.new ≡ string_bytes text.old ++ reason_and_vrp_text reason vrp.now) }
 {
-    let prefix = vrp.0.prefix();
-    let len = vrp.0.resolved_max_len();
-    let holder = vrp.1;
-    write!(text, " {reason}:{prefix}-{len}:{holder}")
+    vrp.0.recall_invariant();
+    vrp.1.recall_invariant();
+    let mut out = [0; MAX_WORD];
+    let end = put_word(&mut out, reason, vrp);
+    push_before(text, &out, end)
 }
+
+/// Writes a VRP with its relation to a route at the front of a buffer, as a word after a space, and returns the end
+/// index.
+fn put_word(out: &mut [u8], reason: Reason, vrp: &Vrp) -> usize
+    requires { 69 ≤ length out.old }
+    ensures text { take result out.new ≡ reason_and_vrp_text reason vrp.now }
+    ensures end { result ≤ 69 }
+{
+    let end = put_all(out, 0, before_prefix(reason));
+    let end = put_prefix(out, end, vrp.0.prefix());
+    let end = put_dash_and_len(out, end, vrp.0.resolved_max_len());
+    let end = put(out, end, b':');
+    put_asn(out, end, vrp.1)
+}
+
+/// Returns a space, a reason and a colon.
+fn before_prefix(reason: Reason) -> &'static [u8]
+    ensures text { result.now ≡ codes " " ++ reason_text reason ++ codes ":" }
+    ensures len { length result.now ≤ 8 }
+{
+    match reason {
+        Reason::Match => b" match:",
+        Reason::Length => b" length:",
+        Reason::As => b" as:",
+    }
+}
+
+/// The maximum number of bytes of an object: its texts between the values, a reason of six letters, a prefix, a length
+/// of three digits and an AS number.
+const MAX_OBJECT: usize = 48 + 6 + MAX_PREFIX + 3 + MAX_ASN;
 
 /// Appends a VRP with its relation to a route, as an object of JSON.
 fn push_object<A: Allocator>(
@@ -193,39 +240,44 @@ fn push_object<A: Allocator>(
 ) -> Result<(), AllocError>
     ensures { OnOk result (string_bytes text.new ≡ string_bytes text.old ++ vrp_object reason vrp.now) }
 {
-    push_front(text, reason, vrp)?;
-    push_back(text, vrp)
+    vrp.0.recall_invariant();
+    vrp.1.recall_invariant();
+    let mut out = [0; MAX_OBJECT];
+    let end = put_front(&mut out, reason, vrp);
+    let end = put_back(&mut out, end, vrp);
+    push_before(text, &out, end)
 }
 
-/// Appends the first two members of an object of JSON for a VRP.
-fn push_front<A: Allocator>(
-    text: &mut String<A>,
-    reason: Reason,
-    vrp: &Vrp,
-) -> Result<(), AllocError>
-    ensures { OnOk result (string_bytes text.new ≡ string_bytes text.old ++ vrp_front reason vrp.now) }
+/// Writes the first two members of an object of JSON for a VRP at the front of a buffer, and returns the end index.
+fn put_front(out: &mut [u8], reason: Reason, vrp: &Vrp) -> usize
+    requires { 73 ≤ length out.old }
+    ensures text { take result out.new ≡ vrp_front reason vrp.now }
+    ensures end { result ≤ 73 }
 {
-    let prefix = vrp.0.prefix();
-    let before_reason = reason_key();
-    let before_prefix = prefix_key();
-    write!(text, "{before_reason}{reason}{before_prefix}{prefix}")
+    let end = put_all(out, 0, reason_key().as_bytes());
+    let end = put_all(out, end, word_for(reason).as_bytes());
+    let end = put_all(out, end, prefix_key().as_bytes());
+    put_prefix(out, end, vrp.0.prefix())
 }
 
-/// Appends the last two members of an object of JSON for a VRP.
-fn push_back<A: Allocator>(text: &mut String<A>, vrp: &Vrp) -> Result<(), AllocError>
-    ensures { OnOk result (string_bytes text.new ≡ string_bytes text.old ++ vrp_back vrp.now) }
+/// Writes the last two members of an object of JSON for a VRP from index `at` on, and returns the end index.
+fn put_back(out: &mut [u8], at: usize, vrp: &Vrp) -> usize
+    requires { at + 40 ≤ length out.old }
+    ensures text { take result out.new ≡ take at out.old ++ vrp_back vrp.now }
+    ensures end { result ≤ at + 40 }
 {
-    let len = vrp.0.resolved_max_len();
-    let holder = vrp.1;
-    let before_len = max_length_key();
-    let before_asn = asn_key();
-    write!(text, "{before_len}{len}{before_asn}{holder}\"}}")
+    let end = put_all(out, at, max_length_key().as_bytes());
+    let end = put_octet(out, end, vrp.0.resolved_max_len());
+    let end = put_all(out, end, asn_key().as_bytes());
+    let end = put_asn(out, end, vrp.1);
+    put_all(out, end, b"\"}")
 }
 
 /// Returns the text before the reason in an object of JSON.
 #[tactic(auto, unfolding(crate::specs::Explanations::reason_key))]
 fn reason_key() -> &'static str
-    ensures { result.now ≡ reason_key }
+    ensures text { result.now ≡ reason_key }
+    ensures len { length result.now ≡ 11 }
 {
     "{\"reason\":\""
 }
@@ -233,7 +285,8 @@ fn reason_key() -> &'static str
 /// Returns the text before the prefix in an object of JSON.
 #[tactic(auto, unfolding(crate::specs::Explanations::prefix_key))]
 fn prefix_key() -> &'static str
-    ensures { result.now ≡ prefix_key }
+    ensures text { result.now ≡ prefix_key }
+    ensures len { length result.now ≡ 12 }
 {
     "\",\"prefix\":\""
 }
@@ -241,7 +294,8 @@ fn prefix_key() -> &'static str
 /// Returns the text before the maximum length in an object of JSON.
 #[tactic(auto, unfolding(crate::specs::Explanations::max_length_key))]
 fn max_length_key() -> &'static str
-    ensures { result.now ≡ max_length_key }
+    ensures text { result.now ≡ max_length_key }
+    ensures len { length result.now ≡ 15 }
 {
     "\",\"max_length\":"
 }
@@ -249,7 +303,8 @@ fn max_length_key() -> &'static str
 /// Returns the text before the AS in an object of JSON.
 #[tactic(auto, unfolding(crate::specs::Explanations::asn_key))]
 fn asn_key() -> &'static str
-    ensures { result.now ≡ asn_key }
+    ensures text { result.now ≡ asn_key }
+    ensures len { length result.now ≡ 8 }
 {
     ",\"asn\":\""
 }

@@ -7,6 +7,7 @@
 #![tactic(auto)]
 
 pub mod answers;
+mod buffer;
 pub mod check;
 pub mod check_sink;
 pub mod error;

@@ -1,7 +1,7 @@
 //! The outcome for a route: one word.
 ghost use Rattle.std.specs.Prelude.{◌≡◌, ◌↔◌, IsTrue};
 ghost use Rattle.roa_origin.specs.Vrps.{HasAs};
-ghost use Rattle.origins_lines.specs.Outcomes.{IsOutcomeOf, asked_asn};
+ghost use Rattle.origins_lines.specs.Outcomes.{IsOutcomeOf, asked_asn, outcome_text};
 
 use roa_origin::{Lookup, Validity, Vrp};
 use rpki_base::Asn;
@@ -25,17 +25,23 @@ pub enum Outcome {
 /// Prints `valid`, `invalid-length`, `invalid-as` or `not-found`.
 impl fmt::Display for Outcome {
     ghost use Rattle.std.specs.Prelude.{Some};
-    ghost use Rattle.origins_lines.specs.Outcomes.{outcome_text};
 
     ghost output = { λ outcome. Some (outcome_text outcome) };
 
     fn fmt<W: fmt::Write>(&self, f: &mut fmt::Formatter<W>) -> fmt::Result {
-        f.write_str(match self {
-            Outcome::Valid => "valid",
-            Outcome::InvalidLength => "invalid-length",
-            Outcome::InvalidAs => "invalid-as",
-            Outcome::NotFound => "not-found",
-        })
+        f.write_str(word_for(*self))
+    }
+}
+
+/// Returns the word for an outcome.
+pub(crate) fn word_for(outcome: Outcome) -> &'static str
+    ensures { result.now ≡ outcome_text outcome }
+{
+    match outcome {
+        Outcome::Valid => "valid",
+        Outcome::InvalidLength => "invalid-length",
+        Outcome::InvalidAs => "invalid-as",
+        Outcome::NotFound => "not-found",
     }
 }
 

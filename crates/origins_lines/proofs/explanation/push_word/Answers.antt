@@ -1,0 +1,8 @@
+use Rattle.origins_lines.proofs.VrpTextLemmas.{word_is_utf8}
+use Rattle.origins_lines.proofs.explanation.push_word.Goals as goal
+
+pub push_before-requires-clause-utf8 : goal.push_before-requires-clause-utf8
+push_before-requires-clause-utf8 g c =
+    let lawful = c.recall_invariant.ensures in
+    let small = c.recall_invariant-2.ensures in
+    rw c.put_word-end.ensures.text (word_is_utf8 c.args.vrp.now lawful small c.args.reason)

@@ -12,7 +12,7 @@ use Rattle.roa_vrps.proofs.ItemLemmas.{Vrps}
 use Rattle.roa_vrps.proofs.JsonLemmas.{json_apart, json_fault_one, json_one}
 
 -- a file has one text
-unmarked_one : (file a b : List ℕ) → IsUnmarked file a → IsUnmarked file b → a ≡ b
+pub unmarked_one : (file a b : List ℕ) → IsUnmarked file a → IsUnmarked file b → a ≡ b
 unmarked_one file a b (inl h) (inl k) = cc
 unmarked_one file a b (inl h) (inr (_, none)) = absurd (none a h)
 unmarked_one file a b (inr (_, none)) (inl k) = absurd (none b k)

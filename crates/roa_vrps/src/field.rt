@@ -5,7 +5,7 @@ ghost use Rattle.std.specs.Str.{trim};
 ghost use Rattle.roa_vrps.specs.Fields.{field, field_count, is_comma, unquoted};
 
 /// Returns the text before the first comma, and the text after it, which is empty if there is no comma.
-pub(crate) fn cut_at_comma(text: &str) -> (&str, &str)
+pub fn cut_at_comma(text: &str) -> (&str, &str)
     ensures before { result.0.now ≡ before_first is_comma text.now }
     ensures behind { result.1.now ≡ after_first is_comma text.now }
     ensures shorter { 0 < length text.now → length result.1.now < length text.now }
@@ -28,7 +28,7 @@ fn without_quotes(text: &str) -> &str
 }
 
 /// Returns the value of a field: `part` without white space at its ends, and then without quotes at its ends.
-pub(crate) fn value_of(part: &str) -> &str
+pub fn value_of(part: &str) -> &str
     ensures { result.now ≡ unquoted (trim part.now) }
 {
     without_quotes(part.trim())
@@ -36,7 +36,7 @@ pub(crate) fn value_of(part: &str) -> &str
 
 /// Returns the value of the field after `commas` commas. It is empty if the line has fewer commas.
 #[tactic(auto, using(crate::proofs::FieldLemmas::after_commas_next))]
-pub(crate) fn field_at(line: &str, commas: usize) -> &str
+pub fn field_at(line: &str, commas: usize) -> &str
     ensures { result.now ≡ field commas line.now }
 {
     let mut rest = line;

@@ -67,7 +67,7 @@ fn read_text<A: Allocator + Copy>(alloc: A, text: &[u8]) -> Result<Vec<Vrp, A>, 
 }
 
 /// Returns whether the first octet that is not white space opens an object.
-fn opens_object(text: &[u8]) -> bool
+pub fn opens_object(text: &[u8]) -> bool
     ensures { IsTrue result ↔ IsObjectText text.now }
 {
     text.trim_ascii_start().starts_with(b"{")

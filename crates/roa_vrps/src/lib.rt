@@ -6,7 +6,7 @@
 pub mod columns;
 mod csv;
 pub mod fault;
-mod field;
+pub mod field;
 pub mod file;
 mod item;
 mod json_file;

@@ -100,6 +100,7 @@ respath_places 120
 roa_origin 301
 roa_vrps 187
 roa_slurm 120
+roa_expiry 120
 rpki_addr 135
 rpki_as 167
 rpki_as_block 101

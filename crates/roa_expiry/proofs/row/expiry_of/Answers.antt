@@ -1,0 +1,12 @@
+use Rattle.std.proofs.lemmas.Bool.{eqb-false, eqb-true}
+use Rattle.std.proofs.lemmas.List.{nil_from_length}
+use Rattle.roa_expiry.proofs.Common.{arith, ◌≡◌}
+use Rattle.roa_expiry.proofs.CsvLemmas.{line_fault}
+use Rattle.roa_expiry.proofs.row.expiry_of.Goals as goal
+
+-- the field is neither empty nor a time
+pub returns-in-None : goal.returns-in-None
+returns-in-None c =
+    let same : c.in-Ok.text.now ≡ c.args.line.now = grind arith in
+    line_fault c.args.expires c.in-Some.index c.args.line.now c.in-Ok.text.now c.field_at-field.result.now c.in-Some.is
+    same c.field_at-field.ensures (λ e. grind (arith, eqb-false, eqb-true, nil_from_length)) c.in-None.ensures

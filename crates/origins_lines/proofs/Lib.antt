@@ -10,5 +10,6 @@ pub mod Members
 pub mod OrderLemmas
 pub mod RouteAnswerLemmas
 pub mod RouteLineLemmas
+pub mod UnexpiredLemmas
 pub mod VrpTextLemmas
 pub mod WhyLemmas

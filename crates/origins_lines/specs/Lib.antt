@@ -9,4 +9,5 @@ pub mod Outcomes
 pub mod Readers
 pub mod Routes
 pub mod Runs
+pub mod Unexpired
 pub mod Words

@@ -1,5 +1,6 @@
 //! The errors of a run.
 use lines_engine::error::RunError;
+use roa_expiry::ExpiryFault;
 use roa_slurm::SlurmFault;
 use roa_vrps::FileFault;
 use thiserror::Error;
@@ -13,6 +14,20 @@ pub enum ReadVrpsError {
     /// The file is invalid. The field is its first fault.
     #[error("{0}")]
     File(FileFault),
+    /// An allocation failed.
+    #[error("out of memory")]
+    Memory,
+}
+
+/// The reason why the unexpired VRPs of a file could not be read.
+#[derive(Clone, Copy, Debug, PartialEq, Eq, Error)]
+pub enum ReadUnexpiredError {
+    /// A read failed.
+    #[error("read failed")]
+    Read,
+    /// The file is invalid. The field is its first fault.
+    #[error("{0}")]
+    File(ExpiryFault),
     /// An allocation failed.
     #[error("out of memory")]
     Memory,

@@ -24,6 +24,7 @@ pub mod retrying;
 pub mod route;
 pub mod routes;
 pub mod tables;
+pub mod unexpired;
 pub mod until_end;
 
 pub use answers::Routes;

@@ -2,7 +2,7 @@
 
 from collections.abc import Callable
 
-from . import asn, ip, lines, paths, prefixes, resources, route_lines, sets, slurm, texts, vrp_files
+from . import asn, expiry, ip, lines, paths, prefixes, resources, route_lines, sets, slurm, texts, vrp_files
 from .addresses import Family
 from .calls_of_sets import print_changes, print_triple, read_triple
 from .faults import DerFault, Fault
@@ -514,6 +514,16 @@ def _applied(text: str) -> str:
     return ", ".join(f"{vrp.prefix.text()} AS{vrp.asn}" for vrp in found)
 
 
+def _unexpired(text: str) -> str:
+    time, file = texts.cut(text, ";")
+    try:
+        now = texts.number(texts.trim(time), 2**64 - 1)
+    except Fault:
+        return "no such time"
+    kept, expired = expiry.unexpired(file.replace("|", "\n").encode(), now)
+    return "; ".join(filter(None, (", ".join(f"{vrp.prefix.text()} AS{vrp.asn}" for vrp in kept), f"{expired} expired")))
+
+
 _ORIGIN_COMMANDS = {
     "origin": _origin,
     "outside": _outside,
@@ -524,4 +534,5 @@ _ORIGIN_COMMANDS = {
     "vrps": lambda text: vrp_files.answer(text.replace("|", "\n").encode()),
     "octets": _vrps_of_octets,
     "slurm": _applied,
+    "unexpired": _unexpired,
 }

@@ -1,5 +1,5 @@
 //! Answers to lines, by their commands.
-use crate::{claims, long, outside, route_lines, routes, slurm, triples, vrps};
+use crate::{claims, long, outside, route_lines, routes, slurm, triples, unexpired, vrps};
 use rows_support::print::cut_at;
 use rows_support::refusals::Call;
 use std::alloc::{AllocError, Allocator};
@@ -42,6 +42,7 @@ fn answer_of_vrps<A: Allocator + Copy>(
         "vrps" => vrps::of_text(alloc, rest),
         "octets" => vrps::of_octets(alloc, rest),
         "slurm" => slurm::answer(alloc, rest),
+        "unexpired" => unexpired::answer(alloc, rest),
         _ => String::from_str(alloc, "no such command"),
     }
 }

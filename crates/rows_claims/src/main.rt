@@ -7,7 +7,7 @@
 //! - sets of the three kinds
 //! - the validity of a route, and the answer to its line
 //! - the first prefix that a set of resources does not have
-//! - a VRP file, and VRPs after a SLURM file
+//! - a VRP file, with or without its expired VRPs, and VRPs after a SLURM file
 //!
 //! The program repeats each call with each of its requests for memory refused. If such a run does anything except
 //! report out of memory, the line's answer says so.
@@ -23,6 +23,7 @@ mod route_lines;
 mod routes;
 mod slurm;
 mod triples;
+mod unexpired;
 mod vrps;
 
 use line::Line;

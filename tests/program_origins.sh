@@ -237,6 +237,64 @@ expect "exceptions that leave no VRP" 0 "not-found
 not-found
 origins: 2 VRPs; 0 after none.json" $? "$said"
 
+# VRPs that have expired. A VRP is valid through the second of its expiry.
+printf 'ASN,IP Prefix,Max Length,Trust Anchor,Expires\n%s\n' 'AS64496,192.0.2.0/23,24,x,1732600000
+AS64497,2001:db8::/32,48,x,1732600001
+AS64498,198.51.100.0/24,24,x,' >dated
+printf '{"roas":[{"asn":64499,"prefix":"10.0.0.0/8","maxLength":8,"expires":1732599999},
+{"asn":64500,"prefix":"203.0.113.0/24","maxLength":24}]}' >dated.json
+said=$("$program" --table --now 1732600000 dated 2>&1)
+expect "the table at the last second of a VRP" 0 "192.0.2.0/23-24 AS64496
+198.51.100.0/24-24 AS64498
+2001:db8::/32-48 AS64497
+origins: 3 VRPs; 0 expired" $? "$said"
+said=$("$program" --now 1732600001 --table dated 2>&1)
+expect "the table a second later" 0 "198.51.100.0/24-24 AS64498
+2001:db8::/32-48 AS64497
+origins: 3 VRPs; 1 expired" $? "$said"
+said=$("$program" --table dated 2>&1)
+expect "the table without a time" 0 "192.0.2.0/23-24 AS64496
+198.51.100.0/24-24 AS64498
+2001:db8::/32-48 AS64497
+origins: 3 VRPs" $? "$said"
+said=$("$program" --why --now 1732600001 --vrps dated.json dated 2>&1 <<'END'
+192.0.2.0/24 AS64496
+10.0.0.0/8 AS64499
+203.0.113.0/24 AS64500
+2001:db8::/32 AS64497
+END
+)
+expect "routes by two files at a time" 0 "not-found
+not-found
+valid match:203.0.113.0/24-24:AS64500
+valid match:2001:db8::/32-48:AS64497
+origins: 5 VRPs: 2 in dated.json, 3 in dated; 2 expired" $? "$said"
+said=$("$program" --table --now 18446744073709551615 - 2>&1 <dated.json)
+expect "the standard input at the last time" 0 "203.0.113.0/24-24 AS64500
+origins: 2 VRPs; 1 expired" $? "$said"
+said=$("$program" --table --now 1732600001 --slurm slurm.json --vrps dated.json dated 2>&1)
+expect "exceptions apply after expired VRPs are left out" 0 "10.0.0.0/8-16 AS64501
+192.0.2.0/24-24 AS64500
+198.51.100.0/24-24 AS64498
+203.0.113.0/24-24 AS64500
+origins: 5 VRPs: 2 in dated.json, 3 in dated; 2 expired; 4 after slurm.json" $? "$said"
+sed 's/1732600001/never/' dated >dated.wrong
+said=$("$program" --now 0 dated.wrong 2>&1 <fine)
+expect "a wrong expiry of a line" 1 "origins: dated.wrong: line 3: expires: not a whole number below 2^64" $? "$said"
+said=$("$program" --table dated.wrong 2>/dev/null | wc -l)
+expect "a wrong expiry without a time" 0 "3" $? "$said"
+sed 's/1732599999/"1732599999"/' dated.json >wrong.json
+said=$("$program" --now 0 --vrps wrong.json dated 2>&1 <fine)
+expect "a wrong expiry of an item" 1 "origins: wrong.json: item 1: expires: wrong kind of value" $? "$said"
+said=$("$program" --now 0 wrong 2>&1 <fine)
+expect "another fault of a file at a time" 1 "origins: wrong: line 2: invalid prefix: non-zero host portion" $? "$said"
+said=$("$program" --now 0 none 2>&1 <fine)
+expect "no such file at a time" 1 "origins: none: can't be opened" $? "$said"
+said=$("$program" --now 0 . 2>&1 <fine)
+expect "a folder at a time" 1 "origins: .: read failed" $? "$said"
+said=$("$program" --table --now 0 - 2>&1 <&-)
+expect "no standard input at a time" 1 "origins: standard input: read failed" $? "$said"
+
 # Answers as objects of JSON. A line is a string: quotes, backslashes and control characters are escaped, and a line that
 # is not UTF-8 is null.
 printf '192.0.2.0/24 "AS\\\t\001\177\r\n\303\244\n\377 AS1\n\n' >escaped
@@ -435,6 +493,16 @@ vrps --vrps: --vrps needs a file name
 --table vrps --slurm: --slurm needs a file name
 --slurm slurm.json: too few file names
 vrps --slurm slurm.json --slurm none.json: too many SLURM files: none.json
+--now: --now needs a time
+vrps --now: --now needs a time
+--now 0: too few file names
+vrps --now x: invalid time: x, where seconds since 1970 are expected
+vrps --now -1: invalid time: -1, where seconds since 1970 are expected
+vrps --now 1.0: invalid time: 1.0, where seconds since 1970 are expected
+vrps --now 18446744073709551616: invalid time: 18446744073709551616, where seconds since 1970 are expected
+vrps --now 1 --now 2: too many times: 2
+vrps --now 1 --now x: too many times: x
+--diff vrps next --now 1: --now does not go with --diff
 vrps --vrps next wrong: too many file names: wrong
 --diff vrps --vrps next: --vrps does not go with --diff
 --diff vrps next --slurm slurm.json: --slurm does not go with --diff

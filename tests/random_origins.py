@@ -1,9 +1,9 @@
 #!/usr/bin/env python3
 """Compares what the program `origins` prints with what the reference beside this file says.
 
-From a seed it makes files of VRPs in each form that validators write, wrong ones too, SLURM files, and lines of routes;
-it asks the built program for answers, in words and in JSON, for what explains them, for tables and for what changes
-between two files. Status 1 where something differs.
+From a seed it makes files of VRPs in each form that validators write, wrong ones too, files with expiries, SLURM
+files, and lines of routes. It asks the built program for answers, in words and in JSON, for what explains them, for
+tables and for what changes between two files. Status 1 where something differs.
 """
 
 import argparse
@@ -14,7 +14,7 @@ import tempfile
 from pathlib import Path
 from random import Random
 
-from reference import route_lines, slurm, vrp_files
+from reference import expiry, route_lines, slurm, vrp_files
 from reference.addresses import Family
 from reference.faults import Fault
 from reference.prefixes import MaxLenPrefix, Prefix, Vrp
@@ -122,6 +122,23 @@ class Maker:
         at = self.random.randrange(len(lines))
         lines[at] = self.resized(lines[at]) if self.one_in(3) else self.damaged(lines[at])
         return "\n".join(lines).encode()
+
+    def dated(self, vrps: list[Vrp]) -> bytes:
+        """A file of VRPs, of which some have an expiry of a few seconds around 1000, or a wrong one."""
+        times = [self.random.choice(("", *map(str, range(997, 1004)), "x" if self.one_in(30) else "")) for _ in vrps]
+        if self.one_in(2):
+            lines = [
+                f"AS{asn},{one.prefix.text()},{one.max_length},x,{time}"
+                for (one, asn), time in zip(vrps, times, strict=True)
+            ]
+            return "\n".join(["ASN,IP Prefix,Max Length,Trust Anchor,Expires", *lines, ""]).encode()
+        items = []
+        for (one, asn), time in zip(vrps, times, strict=True):
+            item: dict = {"asn": asn, "prefix": one.prefix.text(), "maxLength": one.max_length, "ta": "x"}
+            if time:
+                item["expires"] = int(time) if time.isdigit() else time
+            items.append(item)
+        return json.dumps({"roas": items}).encode()
 
     def slurm(self) -> bytes:
         """A SLURM file, which may be wrong."""
@@ -289,6 +306,17 @@ class Comparison:
         for line, found in zip(lines, answers, strict=False):
             self.same(repr(line), answer(line, listed, True), found)
 
+    def expired(self) -> None:
+        """Asks for the VRPs that are valid at a time."""
+        vrps = [self.maker.vrp() for _ in range(self.maker.random.choice((1, 5, 40)))]
+        file, now = self.kept("dated", self.maker.dated(vrps)), self.maker.random.randint(995, 1005)
+        try:
+            kept, expired = expiry.unexpired(file.read_bytes(), now)
+            wanted = (0, [text(one) for one in table(kept)], f"origins: {counted(vrps)}; {expired} expired\n")
+        except Fault as fault:
+            wanted = (1, [], f"origins: {file}: {fault}\n")
+        self.same(repr(file.read_bytes()), wanted, run(self.program, ["--table", "--now", str(now), file]))
+
     def tables(self) -> None:
         """Asks for tables, and for what changes between two files."""
         maker = self.maker
@@ -336,6 +364,7 @@ def main() -> int:
             comparison.tables()
             for _ in range(10):
                 comparison.wrong()
+                comparison.expired()
     print(f"origins, seed {options.seed}: {comparison.compared} answers compared, {comparison.differing} differ")
     return 1 if comparison.differing else 0
 

@@ -4,9 +4,10 @@
 pub const VERSION: &str = "0.2.0";
 
 /// The forms of a call of the program.
-pub const USAGE: &str = "usage: origins [--why] [--json] [--check] [--slurm FILE] [--vrps FILE]..
-               VRPS < ROUTES
-       origins --table [--of ASN] [--slurm FILE] [--vrps FILE].. VRPS
+pub const USAGE: &str = "usage: origins [--why] [--json] [--check] [--now TIME] [--slurm FILE]
+               [--vrps FILE].. VRPS < ROUTES
+       origins --table [--of ASN] [--now TIME] [--slurm FILE]
+               [--vrps FILE].. VRPS
        origins --diff OLD NEW
        origins --help | --version";
 
@@ -54,6 +55,9 @@ Options:
                option the status is 0 in these cases too. A skipped line changes no status
   --vrps FILE  use the VRPs of this file too. You can repeat this option. With it you can leave out
                VRPS
+  --now TIME   leave out the VRPs that expired before TIME, the seconds since 1970-01-01 UTC that
+               date +%s prints. The expiry of a VRP is the member expires of its item in JSON, or the
+               field in the column Expires in CSV. VRPs without it do not expire
   --slurm FILE  apply the local exceptions of this SLURM file (RFC 8416) to the VRPs of all files
   --table      print the VRPs, sorted and each once: 192.0.2.0/23-24 AS64496
   --of ASN     with --table: print only the VRPs of this AS
@@ -66,8 +70,9 @@ Options:
 The program prints on standard error how many VRPs it read. Check this number: the program cannot
 detect that the last lines of a CSV file are missing. If the last line was cut, the program reports
 this only if the part that is left is invalid. If there are several files, the program prints a
-number for each. With --slurm it prints how many VRPs there are after the exceptions. The program
-ignores the date at which a VRP expires: an old file is used like a new one.
+number for each. With --now it prints how many of the VRPs have expired, and with --slurm how many
+there are after the exceptions. Without --now the program ignores the time at which a VRP expires:
+an old file is used like a new one.
 
 Exit status:
 

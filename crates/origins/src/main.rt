@@ -24,6 +24,7 @@ use origins_lines::json_routes::answer_json_by;
 use origins_lines::retrying::Retrying;
 use origins_lines::routes::answer_by;
 use origins_lines::tables::{write_changes, write_listed};
+use origins_lines::unexpired::{Numbers, add_unexpired_file};
 use origins_lines::until_end::UntilEnd;
 use roa_origin::Vrp;
 use roa_slurm::Slurm;
@@ -127,24 +128,33 @@ fn print_table<'a>(
     }
 }
 
-/// Reads the VRPs of all files, one file after another, and applies the local exceptions to them.
+/// Reads the VRPs of all files, one file after another, without the expired ones if a time was passed, and applies the
+/// local exceptions to them.
 fn read_vrps<'a>(
     rt: &HostRuntime,
     input: &Input<'a>,
 ) -> Result<(Vec<Vrp>, Report<'a>), Failure<'a>> {
     let mut listed = Vec::new(rt.alloc());
     let mut files = Vec::new(rt.alloc());
+    let mut expired: usize = 0;
     for name in &input.files {
-        let count = add_vrps(rt, *name, &mut listed)?;
+        let added = match input.time {
+            Some(time) => add_unexpired(rt, *name, time, &mut listed)?,
+            None => add_vrps(rt, *name, &mut listed)?,
+        };
+        expired = expired.saturating_add(added.expired);
+        let count = added.unexpired.saturating_add(added.expired);
         if files.push((shown(*name), count)).is_err() {
             return Err(Failure::Run(RunError::Memory));
         }
     }
-    let read = listed.len();
+    let read = listed.len().saturating_add(expired);
+    let expired = input.time.map(|_| expired);
     let Some(name) = input.slurm else {
         let report = Report {
             read,
             files,
+            expired,
             applied: None,
         };
         return Ok((listed, report));
@@ -156,6 +166,7 @@ fn read_vrps<'a>(
             let report = Report {
                 read,
                 files,
+                expired,
                 applied,
             };
             Ok((changed, report))
@@ -164,20 +175,42 @@ fn read_vrps<'a>(
     }
 }
 
-/// Appends the VRPs of a file, or of the standard input, and returns their number.
+/// Appends the VRPs of a file, or of the standard input, and returns their number. None of them counts as expired.
 fn add_vrps<'a>(
     rt: &HostRuntime,
     name: &'a str,
     listed: &mut Vec<Vrp>,
-) -> Result<usize, Failure<'a>> {
+) -> Result<Numbers, Failure<'a>> {
     let added = if name == STANDARD_INPUT {
         add_file(rt.alloc(), &mut standard_input(rt), listed)
     } else {
         add_file(rt.alloc(), &mut open(rt, name)?, listed)
     };
     match added {
-        Ok(count) => Ok(count),
+        Ok(count) => Ok(Numbers {
+            unexpired: count,
+            expired: 0,
+        }),
         Err(error) => Err(Failure::Vrps(shown(name), error)),
+    }
+}
+
+/// Appends the VRPs of a file, or of the standard input, that have not expired. Returns their number, and the number of
+/// the expired ones.
+fn add_unexpired<'a>(
+    rt: &HostRuntime,
+    name: &'a str,
+    time: u64,
+    listed: &mut Vec<Vrp>,
+) -> Result<Numbers, Failure<'a>> {
+    let added = if name == STANDARD_INPUT {
+        add_unexpired_file(rt.alloc(), &mut standard_input(rt), time, listed)
+    } else {
+        add_unexpired_file(rt.alloc(), &mut open(rt, name)?, time, listed)
+    };
+    match added {
+        Ok(numbers) => Ok(numbers),
+        Err(error) => Err(Failure::Unexpired(shown(name), error)),
     }
 }
 

@@ -15,6 +15,8 @@ pub struct Input<'a> {
     pub files: Vec<&'a str>,
     /// The SLURM file, if one was passed.
     pub slurm: Option<&'a str>,
+    /// The time in seconds since 1970-01-01 UTC, if one was passed. VRPs that have expired at this time are left out.
+    pub time: Option<u64>,
 }
 
 /// How routes are answered.
@@ -67,6 +69,12 @@ pub enum Misuse<'a> {
     NoAsn(&'a str),
     /// `--of` is the last word.
     OfWithoutAsn,
+    /// The word after `--now` is not a time.
+    NoTime(&'a str),
+    /// `--now` is the last word.
+    NowWithoutTime,
+    /// There are two times. The field is the second.
+    SecondTime(&'a str),
     /// `--of` is passed without `--table`.
     OfWithoutTable,
     /// The last word is an option that needs a file name.
@@ -93,6 +101,12 @@ impl fmt::Display for Misuse<'_> {
             Misuse::UnknownOption(word) => write!(f, "unknown option: {word}"),
             Misuse::NoAsn(word) => write!(f, "invalid AS number: {word}"),
             Misuse::OfWithoutAsn => f.write_str("--of needs an AS number"),
+            Misuse::NoTime(word) => write!(
+                f,
+                "invalid time: {word}, where seconds since 1970 are expected"
+            ),
+            Misuse::NowWithoutTime => f.write_str("--now needs a time"),
+            Misuse::SecondTime(word) => write!(f, "too many times: {word}"),
             Misuse::OfWithoutTable => f.write_str("--of needs --table"),
             Misuse::WithoutName(option) => write!(f, "{option} needs a file name"),
             Misuse::Options(one, other) => write!(f, "{one} does not go with {other}"),
@@ -119,6 +133,7 @@ struct Options<'a> {
     vrps: bool,
     of: Option<u32>,
     slurm: Option<&'a str>,
+    now: Option<u64>,
 }
 
 /// The file names that were read so far, without those of options.
@@ -144,6 +159,8 @@ enum Next {
     Vrps,
     /// The file name of `--slurm`.
     Slurm,
+    /// The time of `--now`.
+    Time,
 }
 
 /// The words that were read so far.
@@ -173,6 +190,7 @@ pub fn parse(alloc: Global, words: &[String]) -> Result<Task<'_>, OrMemory<Misus
             vrps: false,
             of: None,
             slurm: None,
+            now: None,
         },
         names: Names::None,
         files: Vec::new(alloc),
@@ -204,6 +222,7 @@ fn take<'a>(read: &mut Read<'a>, word: &'a str) -> Result<(), OrMemory<Misuse<'a
             None => read.options.slurm = Some(word),
             Some(_) => return Err(OrMemory::Refused(Misuse::SecondSlurm(word))),
         },
+        Next::Time => read.options.now = Some(time_after(read.options.now, word)?),
         Next::Name => return take_name(read, word),
         Next::Word => if !word.starts_with('-') || word == STANDARD_INPUT {
             return take_name(read, word);
@@ -213,6 +232,15 @@ fn take<'a>(read: &mut Read<'a>, word: &'a str) -> Result<(), OrMemory<Misuse<'a
     }
     read.next = Next::Word;
     Ok(())
+}
+
+/// Returns the time of `--now`. `before` is that of an earlier `--now`.
+fn time_after<'a>(before: Option<u64>, word: &'a str) -> Result<u64, OrMemory<Misuse<'a>>> {
+    match (before, u64::from_str(word)) {
+        (Some(_), _) => Err(OrMemory::Refused(Misuse::SecondTime(word))),
+        (None, Ok(time)) => Ok(time),
+        (None, Err(_)) => Err(OrMemory::Refused(Misuse::NoTime(word))),
+    }
 }
 
 /// Reads a file name that belongs to no option.
@@ -236,6 +264,7 @@ fn take_option<'a>(read: &mut Read<'a>, word: &'a str) -> Result<(), OrMemory<Mi
             read.next = Next::Vrps;
         }
         "--slurm" => read.next = Next::Slurm,
+        "--now" => read.next = Next::Time,
         "--" => read.next = Next::Name,
         _ => return Err(OrMemory::Refused(Misuse::UnknownOption(word))),
     }
@@ -264,6 +293,7 @@ fn task_of(read: Read<'_>) -> Result<Task<'_>, Misuse<'_>> {
         Next::Asn => return Err(Misuse::OfWithoutAsn),
         Next::Vrps => return Err(Misuse::WithoutName("--vrps")),
         Next::Slurm => return Err(Misuse::WithoutName("--slurm")),
+        Next::Time => return Err(Misuse::NowWithoutTime),
         Next::Word | Next::Name => {}
     }
     check_options(options)?;
@@ -277,6 +307,7 @@ fn task_of(read: Read<'_>) -> Result<Task<'_>, Misuse<'_>> {
     let input = Input {
         files,
         slurm: options.slurm,
+        time: options.now,
     };
     check_input(options.table, &input)?;
     if options.table {
@@ -326,6 +357,9 @@ fn check_options<'a>(options: Options<'a>) -> Result<(), Misuse<'a>> {
     }
     if options.slurm.is_some() && options.diff {
         return Err(Misuse::Options("--slurm", "--diff"));
+    }
+    if options.now.is_some() && options.diff {
+        return Err(Misuse::Options("--now", "--diff"));
     }
     Ok(())
 }

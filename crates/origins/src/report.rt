@@ -14,15 +14,19 @@ impl fmt::Display for Counted {
     }
 }
 
-/// The numbers of VRPs that were read and used, printed as `3 VRPs: 1 in a.csv, 2 in b.csv; 4 after slurm.json`.
+/// The numbers of VRPs that were read and used, printed as
+/// `3 VRPs: 1 in a.csv, 2 in b.csv; 1 expired; 4 after slurm.json`.
 ///
-/// The files are left out if there is one, and the last part if there is no SLURM file.
+/// The files are left out if there is one, the number of expired VRPs if no time was passed, and the last part if there
+/// is no SLURM file.
 #[derive(Debug, Drop)]
 pub struct Report<'a> {
-    /// The number of VRPs that all files have.
+    /// The number of VRPs that all files have, with the expired ones.
     pub read: usize,
     /// The files, each with the number of its VRPs.
     pub files: Vec<(&'a str, usize)>,
+    /// The number of VRPs that have expired, if a time was passed.
+    pub expired: Option<usize>,
     /// The SLURM file, with the number of VRPs after its filters and assertions.
     pub applied: Option<(&'a str, usize)>,
 }
@@ -36,6 +40,9 @@ impl fmt::Display for Report<'_> {
                 write!(f, "{separator}{count} in {name}")?;
                 separator = ", ";
             }
+        }
+        if let Some(count) = self.expired {
+            write!(f, "; {count} expired")?;
         }
         if let Some((name, count)) = &self.applied {
             write!(f, "; {count} after {name}")?;

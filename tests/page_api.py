@@ -41,6 +41,7 @@ Contents: [How to read a page](#how-to-read-a-page) · [Libraries](#libraries)
 | route origin validation | [roa_origin](api/roa_origin.md), [roa_check](api/roa_check.md) |
 | files of VRPs | [roa_vrps](api/roa_vrps.md) |
 | SLURM files | [roa_slurm](api/roa_slurm.md) |
+| the VRPs of a file that have not expired | [roa_expiry](api/roa_expiry.md) |
 | the meaning of a word in a contract | [DEFINITIONS.md](DEFINITIONS.md) |
 | the meaning of a sign in a contract | [TRUSTED.md](TRUSTED.md#signs-of-a-contract) |
 
@@ -163,6 +164,8 @@ INTERNAL = (
     "rpki_ip_block::list",
     "rpki_ipres::OverclaimedIpResources::display_with_family",
     "rpki_family::iter::BlockOfSet",
+    "roa_vrps::field",
+    "roa_vrps::file::opens_object",
     "pigyelund_routes",
 )
 # Ghost lines that are left out, since they have no meaning for callers: imports, proofs, and how a value is stored.

@@ -29,32 +29,49 @@ begun xs at h = record {
 module _ (xs : List Vrp) (place at : ℕ) (x y : Vrp) (h : IsInserting xs place at) (some : 0 < place)
     (there : at < length xs) (before : x ≡ get_or xs (place - 1) x) (here : y ≡ get_or xs place y)
   where
-  x_is : (d : Vrp) → x ≡ get_or xs (place - 1) d
-  x_is = get_or_read xs (place - 1) x (omega (arith, h.within)) before
+    x_is : (d : Vrp) → x ≡ get_or xs (place - 1) d
+    x_is = get_or_read xs (place - 1) x (omega (arith, h.within)) before
 
-  y_is : (d : Vrp) → y ≡ get_or xs place d
-  y_is = get_or_read xs place y (omega (arith, h.within)) here
+    y_is : (d : Vrp) → y ≡ get_or xs place d
+    y_is = get_or_read xs place y (omega (arith, h.within)) here
 
-  -- it passes the VRP before it
-  pub passed : nat_le (table_place x) (table_place y) ≡ false → (ys : List Vrp) → SwappedAt xs ys (place - 1) place
-      → IsInserting ys (place - 1) at
-  passed e ys swapped =
-      let below : table_place y < table_place x = leb-false (table_place x) (table_place y) e in
-      record {
-        within = omega (arith, h.within);
-        others = λ i j d le last other same.
-            grind (arith, cases_eq i place, cases_eq j place, swapped.1 d, swapped.2 i d, swapped.2 j d,
-            h.others i j d, h.others i (place - 1) d, h.others (place - 1) j d);
-        later = λ j d less last.
-            grind (arith, cases_eq j place, swapped.0 d, swapped.1 d, swapped.2 j d, x_is d, y_is d, h.later j d);
-      }
+    -- it passes the VRP before it
+    pub passed : nat_le (table_place x) (table_place y) ≡ false → (ys : List Vrp) → SwappedAt xs ys (place - 1) place
+        → IsInserting ys (place - 1) at
+    passed e ys swapped =
+        let below : table_place y < table_place x = leb-false (table_place x) (table_place y) e in
+        record {
+          within = omega (arith, h.within);
+          others = λ i j d le last other same.
+              grind (
+                arith,
+                cases_eq i place,
+                cases_eq j place,
+                swapped.1 d,
+                swapped.2 i d,
+                swapped.2 j d,
+                h.others i j d,
+                h.others i (place - 1) d,
+                h.others (place - 1) j d,
+              );
+          later = λ j d less last.
+              grind (arith, cases_eq j place, swapped.0 d, swapped.1 d, swapped.2 j d, x_is d, y_is d, h.later j d);
+        }
 
-  -- or it is at its place
-  pub stopped : nat_le (table_place x) (table_place y) ≡ true → RisesTo (at + 1) xs
-  stopped e i j d le less =
-      let above : table_place x ≤ table_place y = leb-true (table_place x) (table_place y) e in
-      grind (arith, cases_eq i place, cases_eq j place, x_is d, y_is d, h.others i j d, h.others i (place - 1) d,
-      h.later j d)
+    -- or it is at its place
+    pub stopped : nat_le (table_place x) (table_place y) ≡ true → RisesTo (at + 1) xs
+    stopped e i j d le less =
+        let above : table_place x ≤ table_place y = leb-true (table_place x) (table_place y) e in
+        grind (
+          arith,
+          cases_eq i place,
+          cases_eq j place,
+          x_is d,
+          y_is d,
+          h.others i j d,
+          h.others i (place - 1) d,
+          h.later j d,
+        )
 
 -- the first place is its place
 pub first : (xs : List Vrp) (place at : ℕ) → IsInserting xs place at → place ≡ 0 → RisesTo (at + 1) xs

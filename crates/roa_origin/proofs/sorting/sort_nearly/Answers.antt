@@ -1,5 +1,5 @@
 -- At the end all VRPs are in order.
-use Rattle.roa_origin.proofs.Common.{arith, refl, ◌∙◌}
+use Rattle.roa_origin.proofs.Common.{arith, refl}
 use Rattle.std.proofs.lemmas.List.Sorted.{IsPermutation-refl, length_permutation}
 use Rattle.roa_origin.proofs.Insertions.{moved_on, one_alone}
 use Rattle.roa_origin.proofs.sorting.sort_nearly.Goals as goal

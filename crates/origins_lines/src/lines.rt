@@ -144,8 +144,8 @@ fn write_vrp<A: Allocator + Copy, W: Sink>(
     }
 }
 
-/// The maximum number of bytes of a VRP and the end of its line: a prefix, a dash, a length of three digits, a space and
-/// an AS number.
+/// The maximum number of bytes of a VRP and the end of its line: a prefix, a dash, a length of three digits, a space
+/// and an AS number.
 const MAX_VRP: usize = MAX_PREFIX + 1 + 3 + 1 + MAX_ASN + 1;
 
 /// Returns the line of a VRP.

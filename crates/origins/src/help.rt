@@ -29,10 +29,10 @@ from the standard input and prints one line for each line of ROUTES:
                    the state of a session
   error: ..        the line is not a route
 
-A route is a prefix, a space and an AS number, for example 192.0.2.0/24 AS64496, or a line of
-bgpdump -m for a table or an announcement. The origin AS of a line of bgpdump -m is the last AS of
-its path. A route has no origin AS if its path is empty, or ends in a set of AS numbers or in a
-segment of a confederation.
+A route is a line of one of two forms. The first form is a prefix, a space and an AS number, for
+example 192.0.2.0/24 AS64496. The second form is a line of bgpdump -m for a table or an
+announcement. The origin AS of such a line is the last AS of its path. A route has no origin AS if
+its path is empty, or ends in a set of AS numbers or in a segment of a confederation.
 
 Warning: if a path is empty or ends in a segment of a confederation, the origin AS is the AS of the
 router itself (RFC 6811, 2). The program does not know this AS. Your own routes can therefore be
@@ -68,18 +68,18 @@ Options:
   --version    print the version
 
 The program prints on standard error how many VRPs it read. Check this number: the program cannot
-detect that the last lines of a CSV file are missing. If the last line was cut, the program reports
-this only if the part that is left is invalid. If there are several files, the program prints a
-number for each. With --now it prints how many of the VRPs have expired, and with --slurm how many
-there are after the exceptions. Without --now the program ignores the time at which a VRP expires:
-an old file is used like a new one.
+detect that the last lines of a CSV file are missing. A last line that was cut can still be a valid
+line, and the program then reports no error. If there are several files, the program prints a number
+for each. With --now it prints how many of the VRPs have expired, and with --slurm how many there
+are after the exceptions. Without --now the program ignores the time at which a VRP expires: an old
+file is used like a new one.
 
 Exit status:
 
   0  every line was answered, or with --table or --diff every line was printed. With --diff the
      status is 0 also if the files differ
   1  a file or a stream could not be read or written, memory ran out, or a file of VRPs or a SLURM
-     file is invalid. For an invalid file the program reports the first invalid line, item or
+     file is invalid. For an invalid file the program reports one invalid line, item or
      member, and answers no route
   2  wrong usage
   3  with --check: a route is invalid or a line is not a route

@@ -13,7 +13,7 @@ use crate::help::{HELP, USAGE, VERSION};
 use crate::options::{Answers, Input, STANDARD_INPUT, Task, parse};
 use crate::report::{Counted, Report};
 use lines_engine::adapters::{FromRead, IntoWrite};
-use lines_engine::device::Source;
+use lines_engine::device::{Sink, Source};
 use lines_engine::error::RunError;
 use origins_lines::check::STATE;
 use origins_lines::check_sink::Watched;
@@ -89,23 +89,44 @@ fn status_after_print<'a>(printed: io::Result<()>) -> Result<u8, Failure<'a>> {
 /// Answers the routes of the standard input by the VRPs of files.
 ///
 /// Each file is closed before any route is read. Therefore the program doesn't read a file as its standard input if the
-/// standard input was closed when it started.
+/// standard input was closed when it started. Only with `--check` the program looks at each byte that it writes.
 fn answer<'a>(rt: &HostRuntime, input: &Input<'a>, answers: Answers) -> Result<u8, Failure<'a>> {
-    let Answers { why, json, check } = answers;
     let (listed, report) = read_vrps(rt, input)?;
-    let mut routes = standard_input(rt);
-    let place = if json { STATE } else { 0 };
-    let mut writer = Watched::with_place(IntoWrite::new(buffered(rt)?), place);
-    let ended = if json {
-        answer_json_by(rt.alloc(), listed.as_slice(), why, &mut routes, &mut writer)
+    let mut writer = IntoWrite::new(buffered(rt)?);
+    let has_found = if answers.check {
+        let place = if answers.json { STATE } else { 0 };
+        let mut watched = Watched::with_place(writer, place);
+        write_answers(rt, listed.as_slice(), answers, &mut watched)?;
+        watched.has_found()
     } else {
-        answer_by(rt.alloc(), listed.as_slice(), why, &mut routes, &mut writer)
+        write_answers(rt, listed.as_slice(), answers, &mut writer)?;
+        false
+    };
+    let _ = eprintln!(rt; "origins: {report}");
+    Ok(if has_found { 3 } else { 0 })
+}
+
+/// Writes the answers to the routes of the standard input.
+///
+/// # Preconditions
+///
+/// No call of `writer` has failed.
+fn write_answers<'a, W: Sink>(
+    rt: &HostRuntime,
+    listed: &[Vrp],
+    answers: Answers,
+    writer: &mut W,
+) -> Result<(), Failure<'a>>
+    requires { W.mark writer.old ≡ false }
+{
+    let mut routes = standard_input(rt);
+    let ended = if answers.json {
+        answer_json_by(rt.alloc(), listed, answers.why, &mut routes, writer)
+    } else {
+        answer_by(rt.alloc(), listed, answers.why, &mut routes, writer)
     };
     match ended {
-        Ok(()) => {
-            let _ = eprintln!(rt; "origins: {report}");
-            Ok(if check && writer.has_found() { 3 } else { 0 })
-        }
+        Ok(()) => Ok(()),
         Err(error) => Err(Failure::Run(error)),
     }
 }

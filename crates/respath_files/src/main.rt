@@ -1,6 +1,8 @@
 //! The program that a release installs as `respath`. It answers the lines of files, or of the standard input.
 #![tactic(auto)]
 
+ghost use Rattle.std.specs.Prelude.{◌≡◌, false};
+
 mod failure;
 mod help;
 mod options;
@@ -9,6 +11,7 @@ use crate::failure::Failure;
 use crate::help::{HELP, USAGE, VERSION};
 use crate::options::{Misuse, Options, Task, parse};
 use lines_engine::adapters::{FromRead, IntoWrite};
+use lines_engine::device::Sink;
 use lines_engine::error::RunError;
 use respath_lines::run;
 use respath_places::{Watched, run_with_places};
@@ -62,7 +65,7 @@ fn after_print(rt: &HostRuntime, printed: io::Result<()>) -> ExitCode {
 fn answer(rt: &HostRuntime, options: Options, names: &[&str]) -> ExitCode {
     if names.is_empty() {
         return match answer_input(rt, options) {
-            Ok(has_found) => status(options, has_found),
+            Ok(has_found) => status(has_found),
             Err(failure) => fail(rt, failure),
         };
     }
@@ -83,16 +86,16 @@ fn answer(rt: &HostRuntime, options: Options, names: &[&str]) -> ExitCode {
     if has_failed {
         ExitCode::FAILURE
     } else {
-        status(options, has_found)
+        status(has_found)
     }
 }
 
-/// Returns the exit status after all lines were answered. With `--check` it is 3 if an answer is an error or a refusal.
-fn status(options: Options, has_found: bool) -> ExitCode {
-    ExitCode::from(if options.check && has_found { 3 } else { 0 })
+/// Returns the exit status after all lines were answered: 3 if the check found an error or a refusal.
+fn status(has_found: bool) -> ExitCode {
+    ExitCode::from(if has_found { 3 } else { 0 })
 }
 
-/// Answers a file, or the standard input, whose name is `-`. Returns whether an answer is an error or a refusal.
+/// Answers a file, or the standard input, whose name is `-`. Returns the same as [`answer_lines`].
 fn answer_name<'a>(rt: &HostRuntime, options: Options, name: &'a str) -> Result<bool, Failure<'a>> {
     if name == "-" {
         return answer_input(rt, options);
@@ -103,27 +106,51 @@ fn answer_name<'a>(rt: &HostRuntime, options: Options, name: &'a str) -> Result<
     }
 }
 
-/// Answers the standard input. Returns whether an answer is an error or a refusal.
+/// Answers the standard input. Returns the same as [`answer_lines`].
 fn answer_input<'a>(rt: &HostRuntime, options: Options) -> Result<bool, Failure<'a>> {
     answer_lines(rt, options, None, rt.stdin())
 }
 
-/// Answers the lines of `reader` on the standard output. Returns whether an answer is an error or a refusal.
+/// Answers the lines of `reader` on the standard output. With `--check` it returns whether an answer is an error or a
+/// refusal, and otherwise false. Only with `--check` the program looks at each byte that it writes.
 fn answer_lines<'a, R: Read + Drop>(
     rt: &HostRuntime,
     options: Options,
     name: Option<&'a str>,
     reader: R,
 ) -> Result<bool, Failure<'a>> {
+    let mut writer = IntoWrite::new(buffered(rt, name)?);
+    if !options.check {
+        write_answers(rt, options, name, reader, &mut writer)?;
+        return Ok(false);
+    }
+    let mut watched = Watched::new(writer);
+    write_answers(rt, options, name, reader, &mut watched)?;
+    Ok(watched.has_found())
+}
+
+/// Writes the answers to the lines of `reader`.
+///
+/// # Preconditions
+///
+/// No call of `writer` has failed.
+fn write_answers<'a, R: Read + Drop, W: Sink>(
+    rt: &HostRuntime,
+    options: Options,
+    name: Option<&'a str>,
+    reader: R,
+    writer: &mut W,
+) -> Result<(), Failure<'a>>
+    requires { W.mark writer.old ≡ false }
+{
     let mut reader = FromRead::new(reader);
-    let mut writer = Watched::new(IntoWrite::new(buffered(rt, name)?));
     let answered = if options.places {
-        run_with_places(rt.alloc(), &mut reader, &mut writer)
+        run_with_places(rt.alloc(), &mut reader, writer)
     } else {
-        run(rt.alloc(), &mut reader, &mut writer)
+        run(rt.alloc(), &mut reader, writer)
     };
     match answered {
-        Ok(()) => Ok(writer.has_found()),
+        Ok(()) => Ok(()),
         Err(error) => Err(Failure::Run(name, error)),
     }
 }

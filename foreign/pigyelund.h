@@ -52,8 +52,8 @@
  *
  * MEMORY. Except for tables, the library keeps nothing between calls and hands out no memory. Each call frees all that
  * it takes from malloc before it returns. A table of 500,000 VRPs takes some 42 octets for each VRP. PIGY_MEMORY means
- * that malloc failed, that an array of the library would have 2^63 octets or more, or that a table would have 2^32 VRPs
- * or more. It does not say that an argument is invalid.
+ * that malloc or realloc failed, that an array of the library would have 2^63 octets or more, or that a table would
+ * have 2^32 VRPs or more. It does not say that an argument is invalid.
  *
  * TABLES. pigy_table_new and pigy_table_changed return the handle of a table of VRPs. The caller owns the table until
  * pigy_table_free. A table never changes. With an error these two calls store NULL as the handle. For a NULL handle the
@@ -106,7 +106,7 @@ extern "C" {
  * - PIGY_NODISCARD: A program that ignores the result gets a warning. pigy_table_len does not have this attribute,
  *   since its only error is a NULL handle.
  * - PIGY_NONNULL(...): The parameters with these numbers must not be NULL. The first parameter has number 1. Without
- *   numbers no pointer parameter may be NULL. A program that passes the constant NULL gets a warning. */
+ *   numbers no pointer parameter may be NULL. With -Wall a program that passes the constant NULL gets a warning. */
 #ifdef __GNUC__
 #define PIGY_NODISCARD __attribute__((__warn_unused_result__))
 #define PIGY_NONNULL(...) __attribute__((__nonnull__(__VA_ARGS__)))
@@ -154,7 +154,7 @@ extern "C" {
  *   pigy_table_changed                    a withdrawn VRP         an announced VRP
  *   the other calls with routes           a route */
 #define PIGY_SECOND 0x1000u
-/* PIGY_FAULT(status) is n, the number of the first error, if the status is one of the following sums with n.
+/* PIGY_FAULT(status) is n, the number of the first error. Use it only for a status that is one of these sums with n.
  *
  * PIGY_BAD_AS + n, PIGY_BAD_IP + n, also with PIGY_SECOND:
  *
@@ -166,7 +166,7 @@ extern "C" {
  * - 6: A NULL has content.
  * - 7: Octets follow the value.
  * - 8: A prefix is longer than its family allows.
- * - 9: An address family is unknown.
+ * - 9: An address family is neither IPv4 nor IPv6, or has a third octet (SAFI).
  * - 10: The first bound of a range is above the second.
  * - 11: A list has no blocks.
  * - 12: An address family appears twice.
@@ -188,8 +188,8 @@ extern "C" {
  *
  * PIGY_BAD_FILE + n:
  *
- * - 1: The file is a JSON array. An object with the member roas is expected.
- * - 2: The file begins with {, and is not a JSON object, or nests deeper than 128.
+ * - 1: The file begins with [. An object with the member roas is expected.
+ * - 2: The file begins with {, and is not a JSON object in UTF-8, or nests deeper than 128 levels.
  * - 3, 4, 5: The member roas is missing, is repeated, or is not an array.
  * - 6: The file has no VRP.
  *
@@ -200,7 +200,7 @@ extern "C" {
  * - 3: An element is not a range of AS numbers, or its first number is above the second.
  * - 4: An address is invalid.
  * - 5: A prefix length is not a number, or is above 32 (IPv4) or 128 (IPv6).
- * - 6: An address is of the other family.
+ * - 6: An element is of the other family: it has a colon in a list of IPv4, or a dot and no colon in a list of IPv6.
  * - 7: The first address of a range is above the second. */
 #define PIGY_FAULT(s) ((s) & 0xffu)
 
@@ -534,15 +534,15 @@ uint32_t pigy_origins(const pigy_vrp *vrps, size_t vrp_count, const pigy_route *
  * Reads the VRPs of a validator's file, as rpki-client, FORT and Routinator write it. They are in the order of the
  * file.
  *
- * The first character that is not white space decides how the file is read. If it is {, the file is JSON (RFC 8259).
- * Its VRPs are the items of the member roas, an array. An item is an object with the members asn (a number or a
+ * The first character that is not ASCII white space decides how the file is read. If it is {, the file is JSON (RFC
+ * 8259). Its VRPs are the items of the member roas, an array. An item is an object with the members asn (a number or a
  * string), prefix (a string) and maxLength (a number), each exactly once. Other members are ignored.
  *
  * If this character is [, the file is invalid. Any other file is CSV. A line is blank, names the columns, or is a VRP:
- * an AS number, a prefix and a maximum length. These are its first three fields, or the fields in the columns that an
- * earlier line names. Names are ASN; IP Prefix or Prefix; Max Length or Max prefix length. Capital and small letters
- * differ. White space around a field and quotes around its text are ignored. Each comma ends a field, also a comma
- * between quotes.
+ * an AS number, a prefix and a maximum length. The names of a line hold for the lines after it. Before any names, a VRP
+ * is the first three fields of its line. Names are ASN; IP Prefix or Prefix; Max Length or Max prefix length. Capital
+ * and small letters differ. White space around a field and quotes around its text are ignored. Each comma ends a field,
+ * also a comma between quotes.
  *
  * A byte order mark at the beginning is ignored. No line and no item is skipped: one that is invalid makes the whole
  * file invalid. The last 12 octets of an IPv4 address are 0. A VRP that the file repeats is listed again.

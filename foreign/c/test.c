@@ -703,7 +703,8 @@ static questions read_rows(const char *folder) {
   return found;
 }
 
-/* Makes the call of a row, with buffers of the expected lengths. */
+/* Makes the call of a row, with buffers of the expected lengths. Calls with tables, files and ranges have buffers of
+ * several lengths. */
 static void ask_once(const question *one) {
   if (is_of_table(one)) ask_table(one);
   else if (one->call == READ) ask_read(one);
@@ -712,7 +713,7 @@ static void ask_once(const question *one) {
   else ask(one, one->expected[0].length, one->expected[1].length);
 }
 
-/* Makes the call of each row once. Begins at the row first, and wraps around. */
+/* Runs ask_once for each row. Begins at the row first, and wraps around. */
 static void *ask_round(void *of) {
   const questions *q = (const questions *)of;
   for (unsigned i = 0; i < q->count; i++) ask_once(q->all + (q->first + i) % q->count);

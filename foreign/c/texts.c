@@ -11,8 +11,8 @@ const char *pigy_version_string(void) { return PIGY_RELEASE; }
    of "trailing data", of "bad prefix", of "bad family", of "reversed range", of "no blocks", of "family twice",       \
    of "no family", of "not canonical"}
 
-/* Returns the text of a status PIGY_BAD_LINE + n, PIGY_BAD_ITEM + n, PIGY_BAD_FILE + n or PIGY_BAD_TEXT + n, or NULL for
- * any other. */
+/* Returns the text of a status PIGY_BAD_LINE + n, PIGY_BAD_ITEM + n, PIGY_BAD_FILE + n or PIGY_BAD_TEXT + n, or NULL
+ * for any other. */
 static const char *text_of_input(uint32_t status) {
   static const char *const of_line[7] = {"line of VRPs: not UTF-8",
                                          "line of VRPs: too many fields",

@@ -138,11 +138,13 @@ library_package() {
     build_package libpigyelund1 "$architecture" libs "Multi-Arch: same" "Depends: $depends" <<END_OF_TEXT
 Description: RPKI resource sets and route origin validation (C library)
  Calls on the resources of RPKI certificates (RFC 3779) and on routes: canonical
- sets and their DER, verification along certification paths (RFC 6487, RFC
- 8360), shortest lists of prefixes, tables of VRPs, and route origin validation
- (RFC 6811). The code that computes the answers is formally verified.
+ sets and their DER, comparison of resources along certification paths (RFC
+ 6487, RFC 8360), shortest lists of prefixes, tables of VRPs, and route origin
+ validation (RFC 6811). No call checks signatures. The code that computes the
+ answers is formally verified.
  .
- This package has the shared library.
+ This package has the shared library, which needs a processor of level
+ x86-64-v2.
 END_OF_TEXT
 }
 
@@ -159,9 +161,10 @@ development_package() {
         "Depends: libpigyelund1 (= $version)" <<END_OF_TEXT
 Description: RPKI resource sets and route origin validation (development files)
  Calls on the resources of RPKI certificates (RFC 3779) and on routes: canonical
- sets and their DER, verification along certification paths (RFC 6487, RFC
- 8360), shortest lists of prefixes, tables of VRPs, and route origin validation
- (RFC 6811). The code that computes the answers is formally verified.
+ sets and their DER, comparison of resources along certification paths (RFC
+ 6487, RFC 8360), shortest lists of prefixes, tables of VRPs, and route origin
+ validation (RFC 6811). No call checks signatures. The code that computes the
+ answers is formally verified.
  .
  This package has the header, the static library, the file that pkg-config
  reads, and two examples in C.
@@ -205,9 +208,10 @@ END_OF_TEXT
         "Depends: python3 (>= $least), libpigyelund1 (>= $newest)" <<END_OF_TEXT
 Description: RPKI resource sets and route origin validation (Python 3)
  Calls on the resources of RPKI certificates (RFC 3779) and on routes: canonical
- sets and their DER, verification along certification paths (RFC 6487, RFC
- 8360), shortest lists of prefixes, tables of VRPs, and route origin validation
- (RFC 6811). The code that computes the answers is formally verified.
+ sets and their DER, comparison of resources along certification paths (RFC
+ 6487, RFC 8360), shortest lists of prefixes, tables of VRPs, and route origin
+ validation (RFC 6811). No call checks signatures. The code that computes the
+ answers is formally verified.
  .
  This package has the Python module pigyelund, which calls the C library.
 END_OF_TEXT
@@ -224,10 +228,12 @@ programs_package() {
 Description: RPKI resource sets and route origin validation (programs)
  The program respath computes with sets of AS numbers and IP addresses of RPKI
  certificates (RFC 3779): canonical sets, their DER, shortest lists of prefixes,
- and certification paths (RFC 6487, RFC 8360). The program origins prints the
- validity of routes by the VRPs of a validator's file (RFC 6811), and what
- changes between two files. The code that computes the answers is formally
- verified.
+ and what remains along certification paths (RFC 6487, RFC 8360). The program
+ origins prints the validity of routes by the VRPs of a validator's file (RFC
+ 6811), and what changes between two files. Neither program checks signatures.
+ The code that computes the answers is formally verified.
+ .
+ The programs need a processor of level x86-64-v2.
 END_OF_TEXT
 }
 

@@ -159,8 +159,8 @@ class Extensions(NamedTuple):
     def octets(self) -> Resources:
         """Returns the extensions as a set of resources. Pass it as the set of a trust anchor.
 
-        An absent extension is `b""` in the set. An extension that is present but empty is invalid in a certificate. In
-        the set it is `b""` too.
+        An extension that is absent, or present but empty, is `b""` in the set. A certificate with an empty extension is
+        invalid, but this call does not check that.
         """
         return Resources(self.asn or b"", self.ip or b"")
 
@@ -208,15 +208,16 @@ class Pigyelund:
     - `OutOfMemoryError`: It says nothing about the input.
     - `BadNumberError`: You pass a number for an `Encoding`, `Mode` or `Family`, and the number is no member of it.
     - `OverflowError`: You pass such a number, and it does not fit 32 bits.
-    - `ctypes.ArgumentError` or `TypeError`: You pass DER that is no `bytes`.
+    - `ctypes.ArgumentError` or `TypeError`: You pass DER or a file that is no `bytes`, or an encoding, mode or family
+      that is no integer.
 
     Args:
         path: The file of the shared library. None means the library that the list above names.
 
     Raises:
         ImportError: The file is missing, is not the library, or lacks calls that this package requires. The text names
-            the file, the folders that were searched, and PIGYELUND_LIB, and says how to get the library. No other file
-            is tried.
+            the file and PIGYELUND_LIB, and says how to get the library. Without a path it also names the folders that
+            were searched. No other file is tried.
     """
 
     def __init__(self, path: str | os.PathLike[str] | None = None) -> None:
@@ -357,7 +358,8 @@ class Pigyelund:
             >>> library.asns(library.from_text(asn="AS64496, 64498-AS64499"))
             [64496, 64498, 64499]
 
-        Commas separate the elements of a list. They may be in any order and may overlap.
+        Commas separate the elements of a list. Elements may be in any order and may overlap. Empty elements, and white
+        space at the ends of an element, are ignored.
 
         Args:
             asn: AS numbers and ranges of these: `AS64496`, `64496`, `AS64496-AS64511`.
@@ -382,7 +384,7 @@ class Pigyelund:
     def as_ranges(self, resources: Resources, encoding: Encoding = Encoding.LENIENT) -> list[tuple[int, int]]:
         """Returns the ranges of the AS numbers of a set, ascending: the least and the greatest number of each.
 
-        The ranges neither overlap nor touch, so these are the fewest.
+        The ranges neither overlap nor touch, so the list has as few ranges as possible.
 
         Args:
             resources: The set. Its IP address blocks are not read.
@@ -401,7 +403,7 @@ class Pigyelund:
         return [(it.min, it.max) for it in found[:length]]
 
     def asns(self, resources: Resources, encoding: Encoding = Encoding.LENIENT) -> list[int]:
-        """Returns the AS numbers of a set, ascending. Use `as_ranges` if the set can have many.
+        """Returns the AS numbers of a set, ascending. Use `as_ranges` if the set can have many AS numbers.
 
         Raises:
             DerError, InheritedError: As in `as_ranges`.
@@ -411,9 +413,9 @@ class Pigyelund:
     def ip_ranges(
         self, resources: Resources, family: Family, encoding: Encoding = Encoding.LENIENT
     ) -> list[tuple[IPv4Address, IPv4Address]] | list[tuple[IPv6Address, IPv6Address]]:
-        """Returns the ranges of the addresses of one family of a set, ascending: the first and the last address of each.
+        """Returns the address ranges of one family of a set, ascending: the first and the last address of each.
 
-        The ranges neither overlap nor touch, so these are the fewest. `prefixes` returns prefixes.
+        The ranges neither overlap nor touch, so the list has as few ranges as possible. `prefixes` returns prefixes.
 
         Args:
             resources: The set. Its AS identifiers are not read.
@@ -468,9 +470,10 @@ class Pigyelund:
             >>> library.read_vrps(b"ASN,IP Prefix,Max Length\\nAS64496,10.0.0.0/8,16\\n")
             [Vrp.of(prefix=IPv4Network('10.0.0.0/8'), asn=64496, max_len=16)]
 
-        A file whose first character that is not white space is `{` is JSON, with the VRPs in the array `roas`. Any other
-        file is CSV. `pigy_vrps_read` in `pigyelund.h` says what is valid. No line and no item is skipped: one that is
-        invalid makes the whole file invalid.
+        The first character that is not white space decides how the file is read. If it is `{`, the file is JSON, with
+        the VRPs in the array `roas`. If it is `[`, the file is invalid. Any other file is CSV. `pigy_vrps_read` in
+        `pigyelund.h` says what is valid. No line and no item is skipped: one that is invalid makes the whole file
+        invalid. Expired VRPs are not left out.
 
         Args:
             file: The octets of the whole file.

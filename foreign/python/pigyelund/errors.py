@@ -129,7 +129,8 @@ class PigyelundError(Exception):
             `OutOfMemoryError`. For any other call it is None.
         index: For calls with VRPs or routes the index, from 0, of the refused one. For any other call, and in an
             `OutOfMemoryError`, it is None.
-        line: In a `VrpFileError` the number of the invalid line or item. In any other error it is None.
+        line: In a `VrpFileError` the number, from 1, of the first invalid line or item, or 0 if the file is invalid as
+            a whole. In any other error it is None.
         item: In an `OriginError` a copy of the refused `Vrp` or `Route`. In any other error it is None.
     """
 
@@ -231,7 +232,10 @@ class VrpFileError(PigyelundError):
 
 
 class SetTextError(PigyelundError):
-    """A text is not a list of AS numbers, or of addresses of one family. The text of the exception says why."""
+    """A text is not a list of AS numbers, or of addresses of one family.
+
+    The text of the exception says why, and does not name the element.
+    """
 
 
 class BadNumberError(PigyelundError):

@@ -46,9 +46,9 @@ class Status(IntEnum):
 
     Attributes:
         OK: Success. From a comparison: yes.
-        TOO_SMALL: A buffer is too small. Nothing is written, and the lengths are the required capacities.
+        TOO_SMALL: A buffer is too small. No buffer is changed, and the lengths are the required capacities.
         MEMORY: Out of memory: `malloc` failed, an array of the library would have 2^63 octets or more, or a table would
-            have 2^32 VRPs or more. Nothing is written, and the status does not say whether the input is valid.
+            have 2^32 VRPs or more. No buffer is changed, and the status does not say whether the input is valid.
         INHERITED: A set has `inherit` in place of a list of resources.
         BAD_MODE: The mode is unknown.
         OVERCLAIM_AS: The certificate claims AS numbers that the issuer does not have. The outputs are these AS numbers.
@@ -147,7 +147,7 @@ class Family(IntEnum):
 
 
 class Kind(IntEnum):
-    """The kind of the elements of a text.
+    """The kind of the elements of a text. Only `raw.Library.set_from_text` takes it.
 
     Attributes:
         ASN: AS numbers.
@@ -294,7 +294,10 @@ class AsRange(ctypes.Structure):
 
 
 class IpRange(ctypes.Structure):
-    """A range of addresses: the struct `pigy_ip_range` of `pigyelund.h`. An IPv4 address is the first four octets."""
+    """A range of addresses: the struct `pigy_ip_range` of `pigyelund.h`.
+
+    An IPv4 address is the first four octets, and the others are 0.
+    """
 
     _fields_ = [("min", ctypes.c_uint8 * 16), ("max", ctypes.c_uint8 * 16)]
     min: ctypes.Array[ctypes.c_uint8]
@@ -332,7 +335,8 @@ class Vrp(Prefixed, Struct):
 
     A VRP can be compared and hashed, so it can be in a `set`. Two VRPs are equal if all their fields are. The field
     `address` has 16 octets for IPv4 too, so VRPs are not equal if they differ in the last 12 octets of an IPv4 address.
-    The library takes such VRPs as the same. `Vrp.of` and `Table` set these octets to 0.
+    The library takes such VRPs as the same. These octets are 0 in the VRPs of `Vrp.of`, of a `Table` and of
+    `Pigyelund.read_vrps`.
 
     `Vrp.of` raises `OverflowError` if `asn` is out of range, or if `max_len` is not from 0 to 255. It does not check
     the narrower range of `max_len` below. A call that reads the VRP checks all ranges, and raises `OriginError`.

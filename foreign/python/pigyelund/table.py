@@ -83,7 +83,7 @@ class Table:
     The address is in network byte order, and an IPv4 address is its first four octets. The AS is in the byte order of
     the processor. The family is 1 for IPv4 and 2 for IPv6. Lengths are in bits.
 
-    Calls that return validities, VRPs or a table may raise `OutOfMemoryError`. This error says nothing about the input.
+    Each call except `close` and `len` may raise `OutOfMemoryError`. This error says nothing about the input.
     """
 
     _owner: _Owner | None = None
@@ -210,7 +210,7 @@ class Table:
         return result.contents[0]
 
     def changed_routes(self, following: "Table", routes: Routes) -> list[int]:
-        """Returns the routes whose validity differs between this table and another one (RFC 6811, 4).
+        """Returns the indices of the routes whose validity differs between this table and another one (RFC 6811, 4).
 
             >>> with library.table([]) as old, library.table([Vrp.of(ip_network("10.0.0.0/8"), asn=64496)]) as new:
             ...     old.changed_routes(new, [Route.of(ip_network("10.0.0.0/8"), asn=64496)])
@@ -221,7 +221,7 @@ class Table:
             routes: The routes: an iterable of `Route`, or a buffer of C structs.
 
         Returns:
-            The indices of these routes in `routes`, from 0, ascending.
+            The indices in `routes`, from 0, ascending.
 
         Raises:
             OriginError: A route is malformed. The attribute `index` is the index, from 0, of the first one.
@@ -231,7 +231,7 @@ class Table:
         return [at for at, octet in enumerate(self.changed_octets(following, routes)) if octet]
 
     def changed_octets(self, following: "Table", routes: Routes) -> bytes:
-        """Compares validities like `changed_routes`, and returns one octet for each route. Use it for millions of routes.
+        """Compares validities like `changed_routes`. Returns one octet for each route. Use it for millions of routes.
 
         Args:
             following: The other table.
@@ -309,8 +309,8 @@ class Table:
         prefix come by descending AS number. VRPs of the same prefix and AS come by ascending maximum length. `covering`
         has another order.
 
-        The last 12 octets of an IPv4 address are 0, as in a VRP that `Vrp.of` makes. You can therefore compare the VRPs
-        of a table with those of your list as sets.
+        The last 12 octets of an IPv4 address are 0, as in the VRPs of `Vrp.of` and `Pigyelund.read_vrps`. You can
+        therefore compare the VRPs of a table as a set with those of another table, of `Vrp.of` and of `read_vrps`.
 
         Raises:
             ValueError: The table is closed.

@@ -4,7 +4,8 @@ use core::fmt::{Debug, Formatter, Result as Written};
 use crate::raw;
 use crate::{Extensions, Octets, Resources, Route, Vrp};
 
-/// Writes the values, for example `Vrp { prefix: 10.0.0.0/8, max_len: 16, asn: 64496 }`. An unknown family comes first.
+/// Writes the values, for example `Vrp { prefix: 10.0.0.0/8, max_len: 16, asn: 64496 }`. If the family is unknown, its
+/// number comes first.
 impl Debug for Vrp {
     fn fmt(&self, out: &mut Formatter<'_>) -> Written {
         let mut out = out.debug_struct("Vrp");
@@ -18,7 +19,8 @@ impl Debug for Vrp {
     }
 }
 
-/// Writes the values, for example `Route { prefix: 10.0.0.0/8, asn: 64496 }`. An unknown family comes first.
+/// Writes the values, for example `Route { prefix: 10.0.0.0/8, asn: 64496 }`. If the family is unknown, its number
+/// comes first.
 impl Debug for Route {
     fn fmt(&self, out: &mut Formatter<'_>) -> Written {
         let mut out = out.debug_struct("Route");

@@ -54,8 +54,8 @@
 //!
 //! let vrp: Vrp = "10.0.0.0/8-16 AS64496".parse().unwrap();
 //! assert_eq!((vrp.prefix().len, vrp.max_len(), vrp.asn()), (8, 16, 64496));
-//! let route = Route::try_new("10.1.0.0".parse().unwrap(), 8, 64496).unwrap_err();
-//! assert_eq!(route.to_string(), "prefix 10.1.0.0/8 has host bits set: expected 10.0.0.0/8");
+//! let refused = Route::try_new("10.1.0.0".parse().unwrap(), 8, 64496).unwrap_err();
+//! assert_eq!(refused.to_string(), "prefix 10.1.0.0/8 has host bits set: expected 10.0.0.0/8");
 //! ```
 //!
 //! # Other interfaces
@@ -134,8 +134,8 @@ impl<'a> Extensions<'a> {
 
     /// Returns the extensions as a set of resources. Pass it as the set of a trust anchor.
     ///
-    /// The value of an absent extension is empty in the set. An extension that is present but empty is invalid in a
-    /// certificate. Its value is empty in the set too.
+    /// An extension that is absent, or present but empty, is `&[]` in the set. A certificate with an empty extension is
+    /// invalid, but this function does not check that.
     ///
     /// # Example
     ///
@@ -175,9 +175,10 @@ pub struct Resources {
 impl Resources {
     /// Returns the set of three lists: AS numbers, IPv4 addresses and IPv6 addresses.
     ///
-    /// Commas separate the elements of a list. They may be in any order and may overlap. An element is an AS number or
-    /// a range of these (`AS64496`, `64496`, `AS64496-AS64511`), or an address, a prefix or a range (`10.0.0.1`,
-    /// `10.0.0.0/8`, `10.0.0.1-10.0.0.9`). The bits of an address after the length of its prefix are ignored.
+    /// Commas separate the elements of a list. Elements may be in any order and may overlap. Empty elements, and white
+    /// space at the ends of an element, are ignored. `asn` has AS numbers and ranges of these: `AS64496`, `64496`,
+    /// `AS64496-AS64511`. `v4` and `v6` have addresses, prefixes and ranges: `10.0.0.1`, `10.0.0.0/8`,
+    /// `10.0.0.1-10.0.0.9`. The bits of an address after the length of its prefix are ignored.
     ///
     /// # Errors
     ///
@@ -204,7 +205,9 @@ impl Resources {
         Ok(set)
     }
 
-    /// Returns the set of the addresses of some prefixes, in any order. They may overlap. The set has no AS numbers.
+    /// Returns the set of the addresses of some prefixes. The set has no AS numbers.
+    ///
+    /// The prefixes may be in any order and may overlap. Host bits of a prefix are ignored.
     ///
     /// # Errors
     ///
@@ -472,7 +475,7 @@ fn set_of(kind: u32, text: &str) -> Result<Resources, ResourceError> {
 
 /// Returns the ranges of the AS numbers of a set.
 ///
-/// The ranges ascend, and neither overlap nor touch. These are the fewest.
+/// The ranges ascend, and neither overlap nor touch. The list has as few ranges as possible.
 ///
 /// # Parameters
 ///
@@ -499,7 +502,7 @@ pub fn as_ranges(
 
 /// Returns the ranges of the addresses of one family of a set. [`cover`] returns the prefixes.
 ///
-/// The ranges ascend, and neither overlap nor touch. These are the fewest.
+/// The ranges ascend, and neither overlap nor touch. The list has as few ranges as possible.
 ///
 /// # Parameters
 ///
@@ -569,9 +572,10 @@ pub fn origins(vrps: &[Vrp], routes: &[Route]) -> Result<Vec<Validity>, OriginEr
 ///
 /// The VRPs are in the order of the file. A VRP that the file repeats is repeated in the result.
 ///
-/// A file whose first character that is not white space is `{` is JSON, with the VRPs in the array `roas`. Any other
-/// file is CSV. `pigy_vrps_read` in `pigyelund.h` says what is valid. No line and no item is skipped: one that is
-/// invalid makes the whole file invalid.
+/// The first character that is not white space decides how the file is read. If it is `{`, the file is JSON, with the
+/// VRPs in the array `roas`. If it is `[`, the file is invalid. Any other file is CSV. `pigy_vrps_read` in
+/// `pigyelund.h` says what is valid. No line and no item is skipped: one that is invalid makes the whole file invalid.
+/// Expired VRPs are not left out.
 ///
 /// # Errors
 ///

@@ -273,7 +273,8 @@ impl Error for ValueError {}
 
 /// The error of a text that is not a prefix, a VRP or a route.
 ///
-/// `Display` writes the wrong part of the text between quotation marks, and what is expected.
+/// `Display` writes the wrong part of the text between quotation marks, and what is expected. For
+/// [`ParseError::Value`] it writes the text of the [`ValueError`].
 #[non_exhaustive]
 #[derive(Clone, Debug, PartialEq, Eq)]
 pub enum ParseError {

@@ -29,10 +29,10 @@ use crate::Family;
 
 /// Success. From a comparison: yes.
 pub const OK: u32 = 0;
-/// A buffer is too small. Nothing is written, and the lengths are the required ones.
+/// A buffer is too small. No buffer is changed, and the lengths are the required ones.
 pub const TOO_SMALL: u32 = 1;
 /// Out of memory: `malloc` failed, an array of the library would have 2^63 octets or more, or a table would have 2^32
-/// VRPs or more. Nothing is written, and the status does not say whether the input is valid.
+/// VRPs or more. No buffer is changed, and the status does not say whether the input is valid.
 pub const MEMORY: u32 = 2;
 /// A set has `inherit`, and does not list its resources.
 pub const INHERITED: u32 = 3;
@@ -469,7 +469,8 @@ impl Route {
     ///
     /// - `address`: the first address of the prefix. All bits after `len` (host bits) are 0.
     /// - `len`: the prefix length in bits, 0 to 32 for IPv4, 0 to 128 for IPv6.
-    /// - `asn`: the AS that originates the route, or 0 if the path ends in an AS_SET.
+    /// - `asn`: the AS that originates the route, or 0 if the path ends in an AS_SET. The field `asn` says what to pass
+    ///   for an empty path.
     pub fn new(address: IpAddr, len: u8, asn: u32) -> Route {
         let (address, family) = octets_and_family(address);
         Route {

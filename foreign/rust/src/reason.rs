@@ -51,15 +51,16 @@ pub enum Fault {
     BadLength = 3,
     /// An INTEGER is not from 0 to 4294967295, or is not as short as possible (X.690, 8.3; RFC 3779, 3.2.3.10).
     BadInteger = 4,
-    /// A BIT STRING has more than seven unused bits, or unused bits but no octet for them (X.690, 8.6.2).
+    /// The number of unused bits of a BIT STRING is missing, is above seven, or is not 0 although there are no octets
+    /// (X.690, 8.6.2).
     BadBitString = 5,
     /// A NULL has content (X.690, 8.8.2).
     BadNull = 6,
     /// Octets follow the end of a value.
     TrailingData = 7,
-    /// A prefix has more bits than its family: 32 for IPv4, 128 for IPv6 (RFC 3779, 2.1.1).
+    /// A prefix or a bound of a range has more bits than its family: 32 for IPv4, 128 for IPv6 (RFC 3779, 2.1.1).
     BadPrefix = 8,
-    /// The family is neither IPv4 nor IPv6 (RFC 3779, 2.2.3.3).
+    /// The octets of a family do not name IPv4 or IPv6, for example because they have a SAFI (RFC 3779, 2.2.3.3).
     BadFamily = 9,
     /// A range ends before it begins (RFC 3779, 2.2.3.9 and 3.2.3.8).
     ReversedRange = 10,
@@ -155,7 +156,7 @@ pub enum Reason {
     BadLine(VrpFault),
     /// An item of a VRP file in JSON is invalid. The field is its first error.
     BadItem(VrpFault),
-    /// A VRP file is invalid as a whole.
+    /// A VRP file is invalid as a whole. The field is the error.
     BadFile(FileFault),
     /// Any other status. Only the calls of [`raw`] return such a status.
     Other(u32),

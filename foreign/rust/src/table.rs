@@ -152,9 +152,9 @@ impl Table {
         Ok(octets.into_iter().map(validity_of).collect())
     }
 
-    /// Returns the routes whose validity differs between this table and `next` (RFC 6811, 4).
+    /// Returns the indices of the routes whose validity differs between this table and `next` (RFC 6811, 4).
     ///
-    /// The result has the indices of these routes in `routes`, from 0, ascending.
+    /// These are indices in `routes`, from 0, ascending.
     ///
     /// # Parameters
     ///

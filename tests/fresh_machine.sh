@@ -24,10 +24,11 @@ commands=${COMMANDS-$default}
     exit 1
 }
 folder=$(readlink -f "$folder")
-unmount() { umount -l "$folder$kit" "$folder/proc" "$folder/dev" 2>/dev/null; }
+unmount() { umount -l "$folder$kit" "$folder/proc" "$folder/dev/pts" "$folder/dev" 2>/dev/null; }
 trap unmount EXIT
 mkdir -p "$folder$kit"
-mount --bind -o ro "$kit" "$folder$kit" && mount -t proc proc "$folder/proc" && mount --bind /dev "$folder/dev" || exit 1
+mount --bind -o ro "$kit" "$folder$kit" && mount -t proc proc "$folder/proc" && mount --bind /dev "$folder/dev" &&
+    mount --bind /dev/pts "$folder/dev/pts" || exit 1
 
 status=0
 for cpus; do

@@ -1,5 +1,5 @@
 #!/usr/bin/env python3
-"""vectors.py [FILE]: validates vectors/, runs the examples of docs/CONFORMANCE.md, and asks respath and origins all
+"""program_vectors.py [FILE]: validates vectors/, runs the examples of docs/CONFORMANCE.md, and asks respath and origins all
 cases, or those of one file.
 
 Each case has to agree. If UNPROVED is set, the programs have run-time checks and are slow: one of ten files of VRPs is

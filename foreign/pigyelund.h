@@ -206,7 +206,7 @@ extern "C" {
 
 /* Encodings. PIGY_STRICT accepts canonical DER only (RFC 3779, 2.2.3.3, 2.2.3.6, 2.2.3.9 and 3.2.3.4). PIGY_LENIENT
  * also accepts other encodings of the same resources, for example blocks in any order, and blocks that overlap or
- * touch. */
+ * touch. Both reject a SAFI and routing domain identifiers (RDI), which RFC 6487 excludes (4.8.10 and 4.8.11). */
 #define PIGY_LENIENT 0u
 #define PIGY_STRICT 1u
 

@@ -47,8 +47,9 @@ class Status(IntEnum):
     Attributes:
         OK: Success. From a comparison: yes.
         TOO_SMALL: A buffer is too small. No buffer is changed, and the lengths are the required capacities.
-        MEMORY: Out of memory: `malloc` failed, an array of the library would have 2^63 octets or more, or a table would
-            have 2^32 VRPs or more. No buffer is changed, and the status does not say whether the input is valid.
+        MEMORY: Out of memory: `malloc` or `realloc` failed, an array of the library would have 2^63 octets or more, or
+            a table would have 2^32 VRPs or more. No buffer is changed, and the status does not say whether the input is
+            valid.
         INHERITED: A set has `inherit` in place of a list of resources.
         BAD_MODE: The mode is unknown.
         OVERCLAIM_AS: The certificate claims AS numbers that the issuer does not have. The outputs are these AS numbers.

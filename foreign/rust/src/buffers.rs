@@ -7,8 +7,9 @@ use crate::Resources;
 
 /// Returns a capacity in octets for the DER of a result. `len` is the length of the DER of all inputs.
 ///
-/// In the golden tests no result has more octets than 64 plus 0.7 times `len`. A difference can be longer: between two
-/// AS numbers of 3 octets each can be a range of 8 octets. The 64 octets are for the headers of an extension.
+/// In the golden tests no result has more octets than 64 plus 0.7 times `len`. A difference can be longer. For example,
+/// the second set has AS numbers of 3 octets each, and the result has a range of 8 octets between each two of them. The
+/// 64 octets are for the headers of an extension.
 pub(crate) fn der_capacity(len: usize) -> usize {
     len.saturating_mul(3).saturating_add(64)
 }

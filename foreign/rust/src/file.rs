@@ -4,8 +4,10 @@ use core::fmt::{Display, Formatter, Result};
 
 use crate::Reason;
 
-/// The first error of a line or of an item of a VRP file. Lines of CSV have those up to [`VrpFault::MaxLen`], and items
-/// of JSON those from [`VrpFault::Asn`] on.
+/// The first error of a line or of an item of a VRP file.
+///
+/// The number of each variant is n of `pigyelund.h`. The error of a line of CSV has a number from 1 to 7. The error of
+/// an item of JSON has a number from 4 to 16.
 #[non_exhaustive]
 #[derive(Clone, Copy, Debug, PartialEq, Eq, Hash)]
 pub enum VrpFault {

@@ -31,8 +31,8 @@ use crate::Family;
 pub const OK: u32 = 0;
 /// A buffer is too small. No buffer is changed, and the lengths are the required ones.
 pub const TOO_SMALL: u32 = 1;
-/// Out of memory: `malloc` failed, an array of the library would have 2^63 octets or more, or a table would have 2^32
-/// VRPs or more. No buffer is changed, and the status does not say whether the input is valid.
+/// Out of memory: `malloc` or `realloc` failed, an array of the library would have 2^63 octets or more, or a table
+/// would have 2^32 VRPs or more. No buffer is changed, and the status does not say whether the input is valid.
 pub const MEMORY: u32 = 2;
 /// A set has `inherit`, and does not list its resources.
 pub const INHERITED: u32 = 3;

@@ -46,7 +46,7 @@ use crate::{address_of, validity_of, OriginError, Prefix, Reason, Route, Validit
 /// ```
 pub struct Table(raw::Table);
 
-/// The number of covering VRPs for which one call of the library is enough. More than this many are rare in practice.
+/// The number of covering VRPs for which one call of the library is enough. A route with more needs a second call.
 const COVERING: usize = 16;
 
 /// Writes the number of VRPs, for example `Table { len: 3 }`.

@@ -5,9 +5,9 @@
  * The program connects to a cache at PORT of 127.0.0.1 and asks for all VRPs. It asks for the changes when the cache
  * sends a Serial Notify with a new serial, and when the Refresh Interval has passed. It asks for all VRPs after a Cache
  * Reset. It prints each table to the standard output: a line with its number, a line for each VRP, and the line "end".
- * It prints messages for people to the standard error. It stops after TABLES tables or after SECONDS. It stops later
- * than after SECONDS if connect or its output blocks for longer. For example, "router 3323 1 60" prints one table of
- * the cache at port 3323, and waits up to 60 seconds for it. The program validates no routes.
+ * It prints messages for people to the standard error. It stops after TABLES tables or after SECONDS. It stops later if
+ * connect or its output blocks at that time. For example, "router 3323 1 60" prints one table of the cache at port
+ * 3323, and waits up to 60 seconds for it. The program validates no routes.
  *
  * In one response the program accepts at most 8,388,608 announced and as many withdrawn VRPs. It changes its table at
  * End of Data: it removes all withdrawn VRPs, and then adds all announced ones. The order of the VRPs in the response
@@ -15,20 +15,22 @@
  *
  * - Intervals (6): End of Data of version 1 has three intervals. The router replaces an interval outside of its range
  *   by the nearest bound. A Refresh or Retry Interval that is not less than the Expire Interval becomes one second less
- *   than it. With version 0 the router uses the defaults. A second of an interval takes UNIT milliseconds. The default
- *   is 1000. Tests pass less, so that they need not wait.
+ *   than it. With version 0 the router uses the defaults. Each second of an interval lasts UNIT milliseconds, by
+ *   default 1000. Tests pass less, so that the intervals end sooner.
  * - The table expires if no later End of Data arrives within the Expire Interval. Then the router drops the table. It
  *   also ends the session. Without a table it ends the session if no End of Data arrives within the default Expire
  *   Interval after its query.
  * - When a session or the connection is over, the router connects again after the Retry Interval, or at once (Versions,
- *   below). It asks for the changes since its table. Without a table, and after an error, it asks for all VRPs.
+ *   below). It asks for the changes since its table. Without a table, and after an error or a Cache Reset, it asks for
+ *   all VRPs.
  * - An Error Report of the cache ends the session. The router keeps its table. There is one exception: if a query is
- *   open and the code is "No Data Available", the session goes on (8.4). The router asks for all VRPs after the Retry
- *   Interval.
- * - Versions (7): On a new connection the router asks in version 1, except for the changes of a session of version 0.
- *   The first answer to a query of version 1 may have version 0. If the query was a Reset Query, the router then goes
- *   on in version 0, unless the answer is an Error Report with another code than "No Data Available". In all other
- *   cases the router connects again at once, and asks for all VRPs in version 0.
+ *   open, the code is "No Data Available" and the lengths are valid, the session goes on (8.4). The router asks for all
+ *   VRPs after the Retry Interval.
+ * - Versions (7): The first answer to a query of version 1 may have version 0. After a Serial Query the router then
+ *   connects again at once, and asks for all VRPs in version 0. It does the same after a Reset Query if the answer is
+ *   an Error Report with another code than "No Data Available". After any other answer to a Reset Query it goes on in
+ *   version 0. On a connection after the Retry Interval it asks for the changes of a session of version 0 in version 0,
+ *   and for all VRPs in version 1.
  * - It ignores the content of Router Keys (5.10). In version 0 their type is unknown.
  *
  * The status is 0 if it printed all tables, and 1 if it did not. It is 2 if an argument is missing, is one too many, or
@@ -418,7 +420,8 @@ static int take(router *r) {
   }
 }
 
-/* Runs a session until it is over, or all tables are printed, or the table expires. Asks when a query is due. */
+/* Runs a session until it is over, all tables are printed, the table expires or SECONDS have passed. Asks when a query
+ * is due. */
 static void converse(router *r, unsigned wanted) {
   if (!ask(r)) return;
   while (r->tables < wanted) {

@@ -35,7 +35,7 @@ Contents: [How to read a page](#how-to-read-a-page) · [Libraries](#libraries)
 | a task and an example of it | [CALLING.md](CALLING.md) |
 | a type of the Rust crate `rpki` by its name, as `AsBlocks` | [PATHS.md](PATHS.md); its links lead to the pages here |
 | a call by its name, as `contains_roa` | no index lists the calls of all libraries: search the folder `docs/api` for the name; for a function of a program, search its `src` |
-| `OrMemory`, the error of most calls; `refused_as` | [`OrMemory`](api/rpki_text.md#rpki_textormemory), [`refused_as`](api/rpki_text.md#rpki_textrefused_as); `rpki_resources` re-exports both ([Errors](CALLING.md#errors)) |
+| `OrMemory`, the error of calls that can refuse their input and run out of memory; `refused_as` | [`OrMemory`](api/rpki_text.md#rpki_textormemory), [`refused_as`](api/rpki_text.md#rpki_textrefused_as); `rpki_resources` re-exports both ([Errors](CALLING.md#errors)) |
 | sets, blocks, claims and prefixes, under one crate | [rpki_resources](api/rpki_resources.md#re-exports), "Re-exports" |
 | the resource extensions of a certificate | [rpki_extensions](api/rpki_extensions.md) |
 | route origin validation | [roa_origin](api/roa_origin.md), [roa_check](api/roa_check.md) |

@@ -65,7 +65,7 @@ def of_library() -> dict[str, int]:
     specs = "".join(file.with_suffix(".antt").read_text() for file in named)
     choices = dict(re.findall(r"^(\w+_number \w+) = (\d+)$", specs, re.MULTILINE))
     found |= {name: int(choices[of]) for name, of in CHOICES.items()} | MISMATCHES
-    calls = (CRATE / "src" / "verify_exports.rt").read_text()
+    calls = (CRATE / "src" / "exports" / "verify.rt").read_text()
     version = re.search(r"fn pigy_version\(\) -> u32\s+ensures \{ result ≡ (\d+) \}", calls)
     return found | {"VERSION": int(version[1])} if version else found
 

@@ -173,7 +173,7 @@ OF_VERSIONS = (
     Case(VERSIONS, "foreign/numbers.txt", "(VERSION, ", "(VERSION, 9", "foreign/pigyelund.h: version of the calls 5"),
     Case(VERSIONS, "foreign/pigyelund.h", "PIGY_VERSION 5", "PIGY_VERSION 95", "pigyelund.h: version of the calls 95"),
     Case(VERSIONS, "foreign/python/pigyelund/raw.py", "\nVERSION = ", "\nVERSION = 9", "raw.py: version of the calls"),
-    Case(VERSIONS, "crates/pigyelund_c/src/verify_exports.rt", "result ≡ ", "result ≡ 9", "verify_exports.rt: version"),
+    Case(VERSIONS, "crates/pigyelund_c/src/exports/verify.rt", "result ≡ ", "result ≡ 9", "verify.rt: version"),
     Case(VERSIONS, "docs/PROVED.md", "5: `pigy_version`", "6: `pigy_version`", "PROVED.md: version of the calls 6"),
     Case(VERSIONS, "tests/foreign.sh", "package needs version ", "package needs version 9", "foreign.sh: version of the"),
     Case(VERSIONS, "tests/release.sh", "{ return ", "{ return 9", "release.sh: version of the calls 9"),

@@ -35,7 +35,7 @@ MADE = {
 }
 # The files with the version of the calls.
 CALLS = {
-    "crates/pigyelund_c/src/verify_exports.rt": r"fn pigy_version\(\) -> u32\n    ensures \{ result ≡ (\d+) \}",
+    "crates/pigyelund_c/src/exports/verify.rt": r"fn pigy_version\(\) -> u32\n    ensures \{ result ≡ (\d+) \}",
     "docs/PROVED.md": r"(\d+): `pigy_version`",
     "foreign/numbers.txt": r"^NUMBER\(VERSION, (\d+)\)$",
     "foreign/pigyelund.h": r"^#define PIGY_VERSION (\d+)u$",

@@ -1,3 +1,3 @@
 pub mod CertificatePathLemmas
-pub mod CoverExportLemmas
+pub mod CoverOctetLemmas
 pub mod RangeLemmas

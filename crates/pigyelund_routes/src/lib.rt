@@ -1,7 +1,7 @@
 //! VRPs, routes and tables as callers in C pass and receive them (RFC 6811, 2; RFC 8210, 5.6).
 //!
 //! The exports of `pigyelund_c` on route origins call this crate. They report its results, as
-//! `pigyelund_c::table_exports` does:
+//! `pigyelund_c::exports::tables` does:
 //!
 //! ```rust
 //! match made_table(alloc, vrps) {

@@ -1,4 +1,4 @@
-use Rattle.pigyelund_c.proofs.CoverExportLemmas.{all_done, one_more}
+use Rattle.pigyelund_c.proofs.CoverOctetLemmas.{all_done, one_more}
 use Rattle.pigyelund_c.proofs.cover.ip_cover.Goals as goal
 
 pub loop-prefix-preserved : goal.loop-prefix-preserved

@@ -1,7 +1,7 @@
 -- What is put behind octets in two parts is behind them as one.
 use Rattle.std.proofs.Common.{ap, ◌∙◌}
 use Rattle.std.specs.Int.{to_be_bytes, w128}
-use Rattle.pigyelund_c.proofs.CoverExportLemmas.{behind}
+use Rattle.pigyelund_c.proofs.CoverOctetLemmas.{behind}
 use Rattle.pigyelund_c.proofs.cover.put_v6.Goals as goal
 
 pub returns : goal.returns

@@ -1,0 +1,13 @@
+//! The functions that C calls, a module for each subject. No other function is here.
+//!
+//! The other modules of this crate read the arguments of a call and compute its result. `pigyelund_routes` does so for
+//! routes, tables and VRP files, `respath_lines` for lines.
+mod cover;
+mod files;
+mod lines;
+mod origins;
+mod ranges;
+mod sets;
+mod tables;
+mod texts;
+mod verify;

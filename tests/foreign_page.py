@@ -2,11 +2,11 @@
 """Compares the table of numbers of the foreign calls with the library's own and with the page about them, and runs the
 page's programs.
 
-Without arguments: foreign/numbers.txt has each number of crates/pigyelund_c, the header defines these names and no
-others, and each row of the table of statuses in docs/FOREIGN.md has the number of its name. The package for Python
-requires the first Python that has all that its sources use, and pages and tests name the same Python. The header and
-the page state the stack on which foreign/c/test.c makes its calls. The package of the shared library lists the symbols
-of foreign/c/exports.map, each with the first version that has it. tests/source_versions.py compares the versions.
+Without arguments: foreign/numbers.txt has each number of the library, the header defines these names and no others,
+and each row of the table of statuses in docs/FOREIGN.md has the number of its name. The package for Python requires the
+first Python that has all that its sources use, and pages and tests name the same Python. The header and the page state
+the stack on which foreign/c/test.c makes its calls. The package of the shared library lists the symbols of
+foreign/c/exports.map, each with the first version that has it. tests/source_versions.py compares the versions.
 
 With SECTION PREFIX, as C or `A table in C`: the program of that section, in an empty folder, built by its commands with
 the library that is installed under PREFIX, prints what the page says. The status is 1 if something differs.
@@ -55,12 +55,9 @@ def stored() -> dict[str, int]:
 
 def of_library() -> dict[str, int]:
     """The library's own numbers: its statuses, those that choose, by their definitions, and its version."""
-    files = [crate / "src" / "status.rt" for crate in (CRATE, ROUTES)]
-    texts = "".join(file.read_text() for file in files)
-    found = {}
-    for name, number in re.findall(r"^pub const (\w+): u32 = (\d+);$", texts, re.MULTILINE):
-        if found.setdefault(name, int(number)) != int(number):
-            raise SystemExit(f"{name} has two numbers in {' and '.join(map(str, files))}")
+    statuses = (ROUTES / "src" / "status.rt").read_text()
+    constants = re.findall(r"^pub const (\w+): u32 = (\d+);$", statuses, re.MULTILINE)
+    found = {name: int(number) for name, number in constants}
     named = CRATE / "specs/Numbers", CRATE / "specs/Texts", ROUTES / "specs/Families", ROUTES / "specs/Origins"
     specs = "".join(file.with_suffix(".antt").read_text() for file in named)
     choices = dict(re.findall(r"^(\w+_number \w+) = (\d+)$", specs, re.MULTILINE))

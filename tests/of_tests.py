@@ -124,7 +124,7 @@ CASES = (
     Case(API, "crates/rpki_base/src/asn.rt", "type Err = ParseAsnError;", "type Err = Asn;", "api/rpki_base.md is not"),
     Case(API, "crates/rpki_as/src/blocks.rt", "/// Returns the empty set as the default.\nimpl", "impl",
          "api/rpki_as.md is not"),
-    Case(API, "foreign/pigyelund.h", "PIGY_ABSENT 10u", "PIGY_ABSENT 11u", "api/pigyelund_c.md is not"),
+    Case(API, "foreign/pigyelund.h", "PIGY_ABSENT 10u", "PIGY_ABSENT 11u", "api/pigyelund_routes.md is not"),
 )
 
 

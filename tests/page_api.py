@@ -109,7 +109,7 @@ Contents: {parts}
 """
 # What a page of a static library says of all its items.
 OF_C = """No item of this library has a path that a `use` line can name. C calls the functions by name.
-`foreign/pigyelund.h` declares them.
+`foreign/pigyelund.h` declares them. The statuses that they return are in [pigyelund_routes](pigyelund_routes.md).
 """
 NO_PATH = "This item has no public path: a `use` line can't name it. You get its values from calls."
 PATHS_HEAD = """//! A `use` line of each public path that docs/api shows. `tests/page_api.py --write` makes this file.

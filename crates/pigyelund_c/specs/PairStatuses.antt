@@ -1,4 +1,5 @@
--- The statuses of the calls on two sets (numbered in `src/status.rt`), and the set that is returned with each.
+-- The statuses of the calls on two sets (numbered in `pigyelund_routes::status`), and the set that is returned with
+-- each.
 use Rattle.std.specs.Prelude.{ℕ, ◌+◌, Bool, true, false, Result, Ok, Err}
 use Rattle.rpki_text.specs.declared.memory.OrMemory.{OrMemory}
 use Rattle.rpki_text.specs.declared.memory.OrMemory.TheVariants.{Refused, Memory}

@@ -1,4 +1,4 @@
--- The statuses of outcomes (numbered in `src/status.rt`), and the set that is returned with each.
+-- The statuses of outcomes (numbered in `pigyelund_routes::status`), and the set that is returned with each.
 use Rattle.std.specs.Prelude.{ℕ, ◌+◌, Result, Ok, Err}
 use Rattle.rpki_der.specs.Faults.{fault_number}
 use Rattle.rpki_text.specs.declared.memory.OrMemory.{OrMemory}

@@ -1,5 +1,5 @@
--- The status (numbered in `src/status.rt`) and the overclaimed resources for the reason why an issuer does not verify a
--- certificate's extensions.
+-- The status (numbered in `pigyelund_routes::status`) and the overclaimed resources for the reason why an issuer does
+-- not verify a certificate's extensions.
 use Rattle.std.specs.Prelude.{ℕ, ◌+◌, []}
 use Rattle.rpki_der.specs.Faults.{fault_number}
 use Rattle.rpki_resources.specs.Triples.{Triple, no_resources}

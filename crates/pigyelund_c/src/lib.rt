@@ -27,7 +27,6 @@ mod path;
 mod ranges;
 mod read;
 mod refusal;
-mod status;
 mod text;
 mod verification;
 mod write;

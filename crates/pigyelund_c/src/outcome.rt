@@ -4,8 +4,8 @@ ghost use Rattle.pigyelund_c.specs.Sets.{IsSetReturned};
 ghost use Rattle.pigyelund_c.specs.Statuses.{status_of, returned_set};
 
 use crate::refusal::Refusal;
-use crate::status;
 use crate::write::write_set;
+use pigyelund_routes::status;
 use rpki_resources::OrMemory;
 use rpki_resources::repository::resources::ResourceSet;
 use std::alloc::{AllocError, Global};

@@ -7,7 +7,7 @@ ghost use Rattle.pigyelund_c.specs.PairStatuses.{made_set, made_status, test_sta
 use crate::encodings::encoding_of;
 use crate::read::set_of;
 use crate::refusal::ReadSetError;
-use crate::status;
+use pigyelund_routes::status;
 use rpki_extensions::encoding::Encoding;
 use rpki_resources::repository::resources::ResourceSet;
 use rpki_resources::{OrMemory, refused_as};

@@ -3,7 +3,7 @@ ghost use Rattle.std.specs.Prelude.{◌≡◌, ◌<◌, IfOk};
 ghost use Rattle.pigyelund_c.specs.Statuses.{excess_of, argument_error_status, refusal_status, read_set_error_status};
 ghost use Rattle.pigyelund_c.specs.VerifyErrors.{verify_error_excess, verify_error_status};
 
-use crate::status;
+use pigyelund_routes::status;
 use rpki_der::DerError;
 use rpki_extensions::error::VerifyError;
 use rpki_resources::repository::resources::{AsBlocks, Ipv4Blocks, Ipv6Blocks, ResourceSet};

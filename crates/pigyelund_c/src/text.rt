@@ -4,7 +4,7 @@ ghost use Rattle.rpki_text.specs.Memory.{IfRefused};
 ghost use Rattle.pigyelund_c.specs.Texts.{HasTextFault, IsNoTextSet, IsTextOf, IsTextSet, as_text_number, ip_text_number, kind_number, text_error_status, text_number, text_set, text_status};
 ghost use Rattle.pigyelund_c.specs.declared.text.Kind.{Kind as OfKind};
 
-use crate::status;
+use pigyelund_routes::status;
 use rpki_resources::repository::resources::{ResourceSet, asres, ipres};
 use rpki_resources::{FromStrError, OrMemory};
 use std::alloc::Global;

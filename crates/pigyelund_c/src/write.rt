@@ -2,7 +2,7 @@
 ghost use Rattle.std.specs.Prelude.{◌≡◌, option_map, IfOk};
 ghost use Rattle.pigyelund_c.specs.Sets.{IsSetReturned, as_value, ip_value, octets_or_none};
 
-use crate::status;
+use pigyelund_routes::status;
 use pigyelund_routes::write::put;
 use rpki_extensions::write::{write_as_extension, write_ip_extension};
 use rpki_resources::repository::resources::ResourceSet;

@@ -1,26 +1,58 @@
-//! Statuses of calls on routes and tables. A released number never changes its meaning.
+//! The statuses of all calls from C. A released number never changes its meaning.
 //!
-//! The other statuses are in `pigyelund_c`.
+//! `pigyelund_c` has no other statuses. `foreign/pigyelund.h` defines each name with the prefix `PIGY_`.
 
-/// Success.
+/// Success. For tests of two sets: yes.
 pub const OK: u32 = 0;
-/// A buffer is too small. No buffer is changed, and the length is the required one.
+/// A buffer is too small. No buffer is changed, and each length is the required one.
 pub const TOO_SMALL: u32 = 1;
+/// Out of memory: an allocation failed.
+pub const MEMORY: u32 = 2;
+/// A set has "inherit" where it has to list its resources.
+pub const INHERITED: u32 = 3;
+/// The mode is unknown.
+pub const BAD_MODE: u32 = 4;
+/// Overclaimed AS numbers: the certificate claims more than the issuer has.
+pub const OVERCLAIM_AS: u32 = 5;
+/// Overclaimed IPv4 addresses: the certificate claims more than the issuer has.
+pub const OVERCLAIM_V4: u32 = 6;
+/// Overclaimed IPv6 addresses: the certificate claims more than the issuer has.
+pub const OVERCLAIM_V6: u32 = 7;
+/// For tests of two sets: no.
+pub const NO: u32 = 8;
+/// The encoding is unknown.
+pub const BAD_ENCODING: u32 = 9;
+/// The certificate has neither extension.
+pub const ABSENT: u32 = 10;
+/// The range of a certificate's extension does not lie in the run of octets.
+pub const OUTSIDE: u32 = 11;
+/// The number of the extensions that are present is above 3.
+pub const BAD_PRESENT: u32 = 12;
 /// The family is unknown.
 pub const BAD_FAMILY: u32 = 13;
 /// An address and a length are not a prefix.
 pub const BAD_PREFIX: u32 = 14;
 /// The maximum length is invalid for its prefix: it is below the prefix length, or above the family's number of bits.
 pub const BAD_MAX_LEN: u32 = 15;
+/// The handle of a table is null.
+pub const NO_TABLE: u32 = 16;
 /// A withdrawn VRP is not in the table, or is withdrawn twice (RFC 8210, 12: error 6).
 pub const UNKNOWN_WITHDRAWAL: u32 = 17;
 /// An announced VRP is in the table and not withdrawn, or is announced twice (RFC 8210, 12: error 7).
 pub const DUPLICATE_ANNOUNCEMENT: u32 = 18;
+/// The kind of a text is unknown.
+pub const BAD_KIND: u32 = 19;
+/// The AS identifiers are invalid. The number of the first error is added.
+pub const BAD_AS: u32 = 256;
+/// The IP address blocks are invalid. The number of the first error is added.
+pub const BAD_IP: u32 = 512;
 /// A line of a VRP file is invalid. The number of its first fault is added.
 pub const BAD_LINE: u32 = 1024;
 /// An item of a VRP file is invalid. The number of its first fault is added.
 pub const BAD_ITEM: u32 = 2048;
 /// A VRP file is invalid as a whole. The number of its first fault is added.
 pub const BAD_FILE: u32 = 3072;
-/// Added to a status if the error is in a route or in a withdrawn VRP.
+/// Added to a status if the error is in the second set, a certificate, a route or a withdrawn VRP.
 pub const SECOND: u32 = 4096;
+/// The text of a set is invalid. The number of the first fault is added.
+pub const BAD_TEXT: u32 = 8192;

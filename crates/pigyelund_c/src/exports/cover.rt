@@ -4,7 +4,7 @@ ghost use Rattle.pigyelund_routes.specs.Written.{IsAnswered};
 ghost use Rattle.pigyelund_c.specs.declared.cover.CoverError.{CoverError};
 
 use crate::cover::cover;
-use crate::status;
+use pigyelund_routes::status;
 use pigyelund_routes::write::write_items;
 use rpki_resources::OrMemory;
 use std::alloc::Global;

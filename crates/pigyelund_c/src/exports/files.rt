@@ -1,10 +1,10 @@
 //! The export of the VRPs of a validator's file.
 ghost use Rattle.pigyelund_routes.specs.VrpFiles.{AreFileVrpsReturned};
 
-use crate::status;
 use pigyelund_routes::file::file_vrps;
 use pigyelund_routes::file_fault::{file_fault_line, file_fault_status};
 use pigyelund_routes::route::RawVrp;
+use pigyelund_routes::status;
 use pigyelund_routes::write::write_items;
 use rpki_resources::OrMemory;
 use std::alloc::Global;

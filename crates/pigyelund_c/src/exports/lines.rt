@@ -3,7 +3,7 @@ ghost use Rattle.std.specs.Prelude.{◌≡◌, ◌⊎◌, ℕ, List};
 ghost use Rattle.respath_lines.specs.Answer.{IsAnswer};
 ghost use Rattle.pigyelund_routes.specs.Written.{AreWritten};
 
-use crate::status;
+use pigyelund_routes::status;
 use pigyelund_routes::write::write_items;
 use respath_lines::answer;
 use std::alloc::Global;

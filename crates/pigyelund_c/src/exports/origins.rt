@@ -1,9 +1,9 @@
 //! The export of route origin validation.
 ghost use Rattle.pigyelund_routes.specs.Origins.{AreOriginsReturned};
 
-use crate::status;
 use pigyelund_routes::origin::origins;
 use pigyelund_routes::route::{RawVrp, Route};
+use pigyelund_routes::status;
 use pigyelund_routes::write::write_items;
 use rpki_resources::OrMemory;
 use std::alloc::Global;

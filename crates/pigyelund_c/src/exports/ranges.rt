@@ -5,7 +5,7 @@ ghost use Rattle.pigyelund_c.specs.Ranges.{AreAsRanges, AreIpRanges, HaveNoAsRan
 ghost use Rattle.pigyelund_c.specs.declared.cover.CoverError.{CoverError};
 
 use crate::ranges::{RawAsRange, RawIpRange, as_ranges, ip_ranges};
-use crate::status;
+use pigyelund_routes::status;
 use pigyelund_routes::write::write_items;
 use rpki_resources::OrMemory;
 use std::alloc::Global;

@@ -2,10 +2,10 @@
 ghost use Rattle.pigyelund_routes.specs.RouteChanges.{AreRouteChangesReturned};
 ghost use Rattle.pigyelund_routes.specs.Tables.{AreCoveringsReturned, AreVrpsReturned, AreTableOriginsReturned, IsChangedTableReturned, IsCountReturned, IsMadeTableReturned};
 
-use crate::status;
 use pigyelund_routes::change::changed_table;
 use pigyelund_routes::route::{Covering, RawVrp, Route};
 use pigyelund_routes::route_changes::route_changes;
+use pigyelund_routes::status;
 use pigyelund_routes::table::{all_vrps, coverings, made_table, table_origins};
 use pigyelund_routes::table_handle::{TableOutput, TableOwner, TableRef};
 use pigyelund_routes::write::write_items;

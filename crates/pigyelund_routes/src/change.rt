@@ -8,7 +8,7 @@ use crate::route::RawVrp;
 use crate::status;
 use box_pointer::BoxPointer;
 use roa_origin::{ChangeFault, OriginTable};
-use rpki_text::memory::OrMemory;
+use rpki_text::memory::{OrMemory, refused_as};
 use std::alloc::{AllocError, Global};
 
 /// The reason why there is no table after changes.
@@ -85,20 +85,15 @@ pub fn changed_table(
         (λ parts. IsChangedTable table.now announced.now withdrawn.now parts.value)
         (IfRefused (HasChangeTableError table.now announced.now withdrawn.now)) }
 {
-    let announced = match vrps_of(alloc, announced) {
-        Ok(read) => read,
-        Err(OrMemory::Refused(first)) => return Err(OrMemory::Refused(ChangeTableError::Announced(
-            first,
-        ))),
-        Err(OrMemory::Memory(error)) => return Err(OrMemory::Memory(error)),
-    };
-    let withdrawn = match vrps_of(alloc, withdrawn) {
-        Ok(read) => read,
-        Err(OrMemory::Refused(first)) => return Err(OrMemory::Refused(ChangeTableError::Withdrawn(
-            first,
-        ))),
-        Err(OrMemory::Memory(error)) => return Err(OrMemory::Memory(error)),
-    };
+    let announced = refused_as(
+        vrps_of(alloc, announced),
+        |first| ChangeTableError::Announced(first),
+    )?;
+    let withdrawn = refused_as(
+        vrps_of(alloc, withdrawn),
+        |first| ChangeTableError::Withdrawn(first),
+    )?;
+    // No `refused_as` here: the written proof names the fault, which a closure hides.
     let next = match table.with_changes(alloc, announced.as_slice(), withdrawn.as_slice()) {
         Ok(next) => next,
         Err(OrMemory::Refused(fault)) => return Err(OrMemory::Refused(ChangeTableError::Fault(

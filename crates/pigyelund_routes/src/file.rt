@@ -38,12 +38,7 @@ pub fn file_vrps(alloc: Global, file: &[u8]) -> Result<Vec<RawVrp, Global>, OrMe
     ensures { MatchResult result (λ list. AreFileVrps file.now list.items)
         (IfRefused (HasFileFault file.now)) }
 {
-    let vrps = match read_vrps(alloc, file) {
-        Ok(vrps) => vrps,
-        Err(error) => return Err(error),
-    };
-    match raw_vrps(alloc, vrps.as_slice()) {
-        Ok(list) => Ok(list),
-        Err(error) => Err(OrMemory::Memory(error)),
-    }
+    let vrps = read_vrps(alloc, file)?;
+    let list = raw_vrps(alloc, vrps.as_slice())?;
+    Ok(list)
 }

@@ -54,18 +54,10 @@ fn marked_routes(
         (λ octets. AreEach (IsRouteChange old.now new.now) routes.now octets.items)
         (IfRefused (IsFirstElementError IsRoute IsNoRoute routes.now)) }
 {
-    let before = match origins_in(alloc, old, routes) {
-        Ok(octets) => octets,
-        Err(error) => return Err(error),
-    };
-    let after = match origins_in(alloc, new, routes) {
-        Ok(octets) => octets,
-        Err(error) => return Err(error),
-    };
-    match marks(alloc, before.as_slice(), after.as_slice()) {
-        Ok(octets) => Ok(octets),
-        Err(error) => Err(OrMemory::Memory(error)),
-    }
+    let before = origins_in(alloc, old, routes)?;
+    let after = origins_in(alloc, new, routes)?;
+    let octets = marks(alloc, before.as_slice(), after.as_slice())?;
+    Ok(octets)
 }
 
 /// Returns 1 for each route whose validity differs between two tables, and 0 for each other route.

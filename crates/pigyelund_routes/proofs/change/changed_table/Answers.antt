@@ -1,23 +1,29 @@
 -- Both lists are read, and their changes are those of the table.
 use Rattle.pigyelund_routes.proofs.Common.{subst, sym, ◌∙◌}
 use Rattle.roa_origin.specs.Updates.{IsUpdated}
+use Rattle.pigyelund_routes.specs.declared.change.ChangeTableError.{ChangeTableError}
+use Rattle.pigyelund_routes.proofs.RefusalLemmas.{value_kept}
 use Rattle.pigyelund_routes.proofs.change.changed_table.Goals as goal
 
-pub returns-in-Err-Refused-with_changes : goal.returns-in-Err-Refused-with_changes
-returns-in-Err-Refused-with_changes c =
-    let written = rw c.in-Err-Refused-with_changes.field-0-is at c.in-Err-Refused-with_changes.ensures.faults in
-    rw c.in-Err-Refused-with_changes.fault-is (
-      (c.in-Ok.read.items, c.in-Ok-vrps_of.read.items),
-      record { announced_are = c.in-Ok.ensures; withdrawn_are = c.in-Ok-vrps_of.ensures },
+pub returns-in-Err-Refused : goal.returns-in-Err-Refused
+returns-in-Err-Refused c =
+    let announced = value_kept ChangeTableError _ _ _ _ c.vrps_of.ensures c.in_ok-announced.ensures in
+    let withdrawn = value_kept ChangeTableError _ _ _ _ c.vrps_of-2.ensures c.in_ok-withdrawn.ensures in
+    let written = rw c.in-Err-Refused.field-0-is at c.in-Err-Refused.ensures.faults in
+    rw c.in-Err-Refused.fault-is (
+      (c.in_ok-announced.announced.items, c.in_ok-withdrawn.withdrawn.items),
+      record { announced_are = announced; withdrawn_are = withdrawn },
       rw c.as_slice.ensures.value at (rw c.as_slice-2.ensures.value at written),
     )
 
 pub returns-in-Ok-new : goal.returns-in-Ok-new
 returns-in-Ok-new c =
-    let fresh = rw c.as_slice.ensures.value at (rw c.as_slice-2.ensures.value at c.in-Ok-with_changes.ensures.faults) in
-    let next = rw c.as_slice.ensures.value at (rw c.as_slice-2.ensures.value at c.in-Ok-with_changes.ensures.next) in (
-      (c.in-Ok.read.items, c.in-Ok-vrps_of.read.items),
-      record { announced_are = c.in-Ok.ensures; withdrawn_are = c.in-Ok-vrps_of.ensures },
+    let announced = value_kept ChangeTableError _ _ _ _ c.vrps_of.ensures c.in_ok-announced.ensures in
+    let withdrawn = value_kept ChangeTableError _ _ _ _ c.vrps_of-2.ensures c.in_ok-withdrawn.ensures in
+    let fresh = rw c.as_slice.ensures.value at (rw c.as_slice-2.ensures.value at c.in-Ok.ensures.faults) in
+    let next = rw c.as_slice.ensures.value at (rw c.as_slice-2.ensures.value at c.in-Ok.ensures.next) in (
+      (c.in_ok-announced.announced.items, c.in_ok-withdrawn.withdrawn.items),
+      record { announced_are = announced; withdrawn_are = withdrawn },
       fresh,
-      subst (IsUpdated c.args.table.now c.in-Ok.read.items c.in-Ok-vrps_of.read.items) (sym (c.of.ensures ∙ c.in-Ok-new.ensures.ok)) next,
+      subst (IsUpdated c.args.table.now c.in_ok-announced.announced.items c.in_ok-withdrawn.withdrawn.items) (sym (c.of.ensures ∙ c.in-Ok-new.ensures.ok)) next,
     )

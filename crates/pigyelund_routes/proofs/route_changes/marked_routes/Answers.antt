@@ -1,22 +1,24 @@
 -- The marks of the validities by two tables; the first route that is no prefix.
 use Rattle.pigyelund_routes.proofs.Common.{IsOrigin}
 use Rattle.pigyelund_routes.proofs.RouteChangeLemmas.{as_many, changes, first_refused}
+use Rattle.pigyelund_routes.proofs.RefusalLemmas.{passed_on}
 use Rattle.pigyelund_routes.proofs.route_changes.marked_routes.Goals as goal
 
-pub returns-in-Err : goal.returns-in-Err
-returns-in-Err c = first_refused c.args.old.now c.args.routes.now c.in-Err.error c.in-Err.ensures
+pub returns-in_err-before : goal.returns-in_err-before
+returns-in_err-before c =
+    passed_on _ _ _ _ c.from_residual.ensures (first_refused c.args.old.now c.args.routes.now _ c.in_err-before.ensures)
 
-pub returns-in-Err-origins_in : goal.returns-in-Err-origins_in
-returns-in-Err-origins_in c =
-    first_refused c.args.new.now c.args.routes.now c.in-Err-origins_in.error c.in-Err-origins_in.ensures
+pub returns-in_err-after : goal.returns-in_err-after
+returns-in_err-after c =
+    passed_on _ _ _ _ c.from_residual-in_err-after.ensures (first_refused c.args.new.now c.args.routes.now _ c.in_err-after.ensures)
 
 pub marks-requires : goal.marks-requires
 marks-requires c =
-    let one = as_many (IsOrigin c.args.old.now) c.args.routes.now c.in-Ok.octets.items c.in-Ok.ensures in
-    let other = as_many (IsOrigin c.args.new.now) c.args.routes.now c.in-Ok-origins_in.octets.items c.in-Ok-origins_in.ensures in
+    let one = as_many (IsOrigin c.args.old.now) c.args.routes.now c.in_ok-before.before.items c.in_ok-before.ensures in
+    let other = as_many (IsOrigin c.args.new.now) c.args.routes.now c.in_ok-after.after.items c.in_ok-after.ensures in
     rw (c.as_slice.ensures.value, c.as_slice-2.ensures.value, one, other)
 
-pub returns-in-Ok-marks : goal.returns-in-Ok-marks
-returns-in-Ok-marks c =
-    rw (c.in-Ok-marks.ensures, c.as_slice.ensures.value, c.as_slice-2.ensures.value)
-    (changes c.args.old.now c.args.new.now c.args.routes.now _ _ c.in-Ok.ensures c.in-Ok-origins_in.ensures)
+pub returns : goal.returns
+returns c =
+    rw (c.in_ok-octets.ensures, c.as_slice.ensures.value, c.as_slice-2.ensures.value)
+    (changes c.args.old.now c.args.new.now c.args.routes.now _ _ c.in_ok-before.ensures c.in_ok-after.ensures)

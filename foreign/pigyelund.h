@@ -68,7 +68,7 @@
  * OBLIGATIONS of the caller, which nothing checks:
  *
  * - No pointer is NULL, even at length 0. There are two exceptions: the handle of a table, and the members of pigy_set
- *   and pigy_buffers.
+ *   and pigy_buffers. In C++ data() of an empty std::vector may be a null pointer.
  * - Each pointer points to an array of the length that is passed with it, aligned as C requires for its type. This also
  *   holds for the size_t that receives a length, an index or a count, and for the pointer that receives a handle.
  * - A handle that is not NULL came from pigy_table_new or pigy_table_changed, and was not passed to pigy_table_free. It
@@ -391,9 +391,9 @@ uint32_t pigy_cover(const uint8_t *ip, size_t ip_len, uint32_t encoding, uint32_
  *
  * Commas separate the elements. White space at the ends of an element is ignored, and so are elements that are empty.
  * Elements may be in any order, overlap or touch. An element of PIGY_ASN is an AS number or a range of these: AS64496,
- * 64496, AS64496-AS64511. Any other element is an address, a prefix or a range: 10.0.0.1, 10.0.0.0/8,
- * 10.0.0.1-10.0.0.9. The bits of an address after the length of its prefix are ignored. The program respath reads the
- * same lists.
+ * 64496, AS64496-AS64511. The letters AS may be capital or small letters. Any other element is an address, a prefix or
+ * a range: 10.0.0.1, 10.0.0.0/8, 10.0.0.1-10.0.0.9. The bits of an address after the length of its prefix are ignored.
+ * The program respath reads the same lists.
  *
  * The outputs are the set. AS numbers are written to `as_out`, and addresses to `ip_out`. The length of the other
  * output is 0. pigy_union joins the sets of several texts.
@@ -975,7 +975,8 @@ static inline size_t pigy_len_or_zero(const uint8_t *octets, size_t len) { retur
  * Verifies the resources of a certificate against those of its issuer: a short form of pigy_verify.
  *
  * @param issuer    The issuer's set, as for pigy_verify. Members may be NULL.
- * @param cert      The certificate's extensions. A NULL member is an absent extension.
+ * @param cert      The certificate's extensions. A NULL member is an absent extension. Any other pointer with length 0
+ *                  is an extension that is present and invalid. Pass NULL for an output of length 0.
  * @param encoding  PIGY_LENIENT or PIGY_STRICT, for the certificate and for the issuer.
  * @param mode      PIGY_REFUSE or PIGY_TRIM.
  * @param out       Buffers, and the lengths that the call stores. Not NULL. Buffers in it may be NULL.

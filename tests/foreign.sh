@@ -471,6 +471,8 @@ if has "C, and all that is installed," gcc make ar objcopy nm readelf; then
     has_python && { tests/foreign_page.py C "$prefix" || fail "the program in C"; of_python; }
     has_python && { tests/foreign_page.py "A table in C" "$prefix" || fail "the table in C"; }
     has_python && { tests/foreign_page.py "A set from text in C" "$prefix" || fail "the set in C"; }
+    has_python && has "the vectors in C++" g++ &&
+        { tests/foreign_page.py "Vectors in C++" "$prefix" || fail "the vectors in C++"; }
     has_python && of_openssl
     has "Rust" cargo cc tar && of_rust
 fi

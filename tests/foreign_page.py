@@ -44,7 +44,7 @@ CHOICES = {
 }
 # Why a VRP that covers a route doesn't match it: the first two cases of IsMismatch, and their sum is the third.
 MISMATCHES = {"OTHER_AS": 1, "TOO_LONG": 2}
-SOURCES = {"c": "program.c", "toml": "Cargo.toml", "rust": "src/main.rs", "python": "program.py"}
+SOURCES = {"c": "program.c", "cpp": "program.cpp", "toml": "Cargo.toml", "rust": "src/main.rs", "python": "program.py"}
 
 
 def stored() -> dict[str, int]:

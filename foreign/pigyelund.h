@@ -25,7 +25,7 @@
  *   // ip has the DER of 12.0.0.0/8, in out.ip_len octets
  *
  * The guide has the installation, complete programs, a table of all calls, and a table of all statuses. It is
- * docs/FOREIGN.md in the repository.
+ * docs/FOREIGN.md in the repository, and in the Debian package /usr/share/doc/libpigyelund-dev/FOREIGN.md.
  *
  * SHORT FORMS. pigy_verify_set, pigy_combine and pigy_compare are at the end of this file. They take structs instead of
  * 9 to 17 parameters. Pointers in these structs may be NULL.

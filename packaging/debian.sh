@@ -4,7 +4,7 @@
 #
 #   pigyelund           the programs, their man pages, and the prover's verdicts on them and on the library
 #   libpigyelund1       the shared library, by the number of its ABI
-#   libpigyelund-dev    the header, the static library, the link for the linker, pigyelund.pc, the examples
+#   libpigyelund-dev    the header, the static library, the link for the linker, pigyelund.pc, the examples, the guide
 #   python3-pigyelund   the Python package
 #   pigyelund-vectors   the conformance vectors
 #
@@ -157,6 +157,7 @@ development_package() {
     install -m 644 "$stage/usr/lib/$triplet/pkgconfig/pigyelund.pc" "$tree/usr/lib/$triplet/pkgconfig"
     ln -s "$soname" "$tree/usr/lib/$triplet/libpigyelund.so"
     install -m 644 foreign/c/example.c foreign/rtr/router.c "$doc/examples"
+    install -m 644 docs/FOREIGN.md "$doc"
     build_package libpigyelund-dev "$architecture" libdevel "Multi-Arch: same" \
         "Depends: libpigyelund1 (= $version)" <<END_OF_TEXT
 Description: RPKI resource sets and route origin validation (development files)
@@ -167,7 +168,7 @@ Description: RPKI resource sets and route origin validation (development files)
  answers is formally verified.
  .
  This package has the header, the static library, the file that pkg-config
- reads, and two examples in C.
+ reads, a guide, and two examples in C.
 END_OF_TEXT
 }
 

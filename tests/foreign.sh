@@ -260,6 +260,8 @@ END
     mkdir "$out/runtime" && cp "$prefix/lib/libpigyelund.so" "$out/runtime/libpigyelund.so.1" || fail "a library alone"
     finds env PIGYELUND_LIB="$out/runtime"
     finds env -u PIGYELUND_LIB LD_LIBRARY_PATH="$out/runtime"
+    older "$out/runtime"
+    finds env -u PIGYELUND_LIB LD_LIBRARY_PATH="$out/runtime"
     names "$out/older" env PIGYELUND_LIB="$out/older" LD_LIBRARY_PATH="$prefix/lib"
     cp "$out/older/libpigyelund.so" "$package"
     finds env PIGYELUND_LIB="$prefix/lib"

@@ -200,7 +200,7 @@ class Pigyelund:
     1. The variable PIGYELUND_LIB is set and not empty: `libpigyelund.so` in the folder that it names, or else
        `libpigyelund.so.1` there.
     2. The folder of the package has `libpigyelund.so`: that file.
-    3. Otherwise: `libpigyelund.so` where the system's loader searches, or else `libpigyelund.so.1`.
+    3. Otherwise: `libpigyelund.so.1` where the system's loader searches, or else `libpigyelund.so`.
 
     The description of each call lists its own exceptions. Each call except `version` and `version_string` may also
     raise these:

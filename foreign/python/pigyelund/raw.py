@@ -29,7 +29,7 @@ if TYPE_CHECKING:
     from _typeshed import ReadableBuffer
 
 NAME = "libpigyelund.so"
-SONAME = "libpigyelund.so.1"  # the name that an installation for programs alone has
+SONAME = "libpigyelund.so.1"  # the name of the ABI that the calls below have; it is there without NAME too
 BESIDE = Path(__file__).parent / NAME
 VERSION = 5  # the version of the calls below; a library of a later version has them too
 HOW_TO_GET = (
@@ -658,7 +658,7 @@ def find_library() -> str:
     1. The variable PIGYELUND_LIB is set and not empty: `libpigyelund.so` in the folder that it names, or else
        `libpigyelund.so.1` there.
     2. The folder of this package has `libpigyelund.so`: that file.
-    3. Otherwise: the name alone. The system's loader searches for it.
+    3. Otherwise: the name alone. The system's loader searches for it, as in `open_library`.
     """
     folder = os.environ.get("PIGYELUND_LIB")
     if folder:
@@ -682,20 +682,20 @@ def searched_folders() -> str:
 
 
 def open_library(file: str) -> ctypes.CDLL:
-    """Opens a shared library. If `file` is `NAME`, the loader also searches for `SONAME`.
+    """Opens a shared library. If `file` is `NAME`, the loader searches for `SONAME` first: `NAME` may have another ABI.
 
     Raises:
-        OSError: The loader does not open the file. The text is that for `file`.
+        OSError: The loader does not open the file. If `file` is `NAME`, the text is that for `SONAME` if the loader
+            finds this file, and else that for `NAME`.
     """
-    try:
+    if file != NAME:
         return ctypes.CDLL(file)
-    except OSError:
-        if file == NAME:
-            try:
-                return ctypes.CDLL(SONAME)
-            except OSError:
-                pass
-        raise
+    try:
+        return ctypes.CDLL(SONAME)
+    except OSError as fault:
+        if not str(fault).startswith(f"{SONAME}: cannot open shared object file: No such file"):
+            raise
+    return ctypes.CDLL(NAME)
 
 
 def load_library(file: str, searched: str = "") -> ctypes.CDLL:

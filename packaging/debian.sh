@@ -154,7 +154,9 @@ development_package() {
     install -d "$tree/usr/include" "$tree/usr/lib/$triplet/pkgconfig" "$doc/examples"
     install -m 644 "$stage/usr/include/pigyelund.h" "$tree/usr/include"
     install -m 644 "$stage/usr/lib/$triplet/libpigyelund.a" "$tree/usr/lib/$triplet"
-    install -m 644 "$stage/usr/lib/$triplet/pkgconfig/pigyelund.pc" "$tree/usr/lib/$triplet/pkgconfig"
+    # By this prefix pkg-config knows that the compiler searches the folders anyway, and finds them below a sysroot.
+    sed 's|^prefix=.*|prefix=/usr|' "$stage/usr/lib/$triplet/pkgconfig/pigyelund.pc" >"$work/pigyelund.pc"
+    install -m 644 "$work/pigyelund.pc" "$tree/usr/lib/$triplet/pkgconfig"
     ln -s "$soname" "$tree/usr/lib/$triplet/libpigyelund.so"
     install -m 644 foreign/c/example.c foreign/rtr/router.c "$doc/examples"
     install -m 644 docs/FOREIGN.md "$doc"
@@ -241,8 +243,16 @@ END_OF_TEXT
 vectors_package() {
     tree=$(tree_of pigyelund-vectors)
     put_vectors "$tree/usr" pigyelund-vectors
+    # Python stores compiled runners there if root runs them.
+    cat >"$tree/DEBIAN/prerm" <<'END_OF_TEXT'
+#!/bin/sh
+set -e
+rm -rf "${DPKG_ROOT:-}/usr/share/pigyelund/vectors/run/__pycache__"
+END_OF_TEXT
+    chmod 755 "$tree/DEBIAN/prerm"
+    modules="python3-jsonschema, python3-netaddr, python3-pyasn1-modules, libnetaddr-ip-perl, libnet-cidr-lite-perl"
     build_package pigyelund-vectors all net "Multi-Arch: foreign" "Recommends: python3" \
-        "Suggests: python3-jsonschema, python3-netaddr, python3-pyasn1-modules, libssl-dev, librtr-dev" <<END_OF_TEXT
+        "Suggests: $modules, gcc | c-compiler, libssl-dev, librtr-dev" <<END_OF_TEXT
 Description: RPKI resource sets and route origin validation (test vectors)
  Test cases as JSON for any implementation: the resource extensions of
  certificates (RFC 3779, RFC 6487), set operations, certification paths (RFC

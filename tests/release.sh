@@ -323,6 +323,7 @@ try_packages() {
     [ "$(objdump -p "$lib/$so" | sed -n 's/^  SONAME *//p')" = "$so" ] || fail "the soname"
     [ "$(readlink "$lib/libpigyelund.so")" = "$so" ] || fail "the link for the linker"
     grep -qx "Version: $version" "$lib/pkgconfig/pigyelund.pc" || fail "the version of pigyelund.pc"
+    grep -qx "prefix=/usr" "$lib/pkgconfig/pigyelund.pc" || fail "the prefix of pigyelund.pc"
     [ "$(member libpigyelund1 shlibs)" = "libpigyelund 1 libpigyelund1 (>= 0.2.0)" ] || fail "shlibs"
     [ "$(member libpigyelund1 triggers)" = "activate-noawait ldconfig" ] || fail "triggers"
     case $(field libpigyelund1 Depends) in "libc6 (>= 2."*) ;; *) fail "Depends of the library" ;; esac

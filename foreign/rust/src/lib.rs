@@ -237,7 +237,7 @@ impl Resources {
 }
 
 /// The encodings that a call accepts. The choice applies to all DER that the call reads, the issuer's too.
-#[derive(Clone, Copy, Debug, PartialEq, Eq)]
+#[derive(Clone, Copy, Debug, PartialEq, Eq, Hash)]
 pub enum Encoding {
     /// Canonical DER, and also other encodings, for example blocks in any order, which may overlap. `docs/FOREIGN.md`,
     /// "The encoding", lists them.
@@ -247,7 +247,7 @@ pub enum Encoding {
 }
 
 /// The policy for overclaimed resources: those that a certificate claims and its issuer does not have.
-#[derive(Clone, Copy, Debug, PartialEq, Eq)]
+#[derive(Clone, Copy, Debug, PartialEq, Eq, Hash)]
 pub enum Overclaim {
     /// A certificate that overclaims is refused (RFC 6487, 7.2).
     Refuse = raw::REFUSE as isize,
@@ -276,7 +276,7 @@ impl From<IpAddr> for Family {
 }
 
 /// The validity of a route (RFC 6811, 2), numbered as in RFC 8097, 2.
-#[derive(Clone, Copy, Debug, PartialEq, Eq)]
+#[derive(Clone, Copy, Debug, PartialEq, Eq, Hash)]
 pub enum Validity {
     /// A VRP matches the route.
     Valid = raw::VALID as isize,

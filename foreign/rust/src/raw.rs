@@ -658,7 +658,7 @@ fn octets_and_family(address: IpAddr) -> ([u8; 16], Family) {
 }
 
 /// An operation that makes a set from two.
-#[derive(Clone, Copy, Debug, PartialEq, Eq)]
+#[derive(Clone, Copy, Debug, PartialEq, Eq, Hash)]
 pub enum Operation {
     /// The resources of one set or the other.
     Union,
@@ -679,7 +679,7 @@ impl Operation {
 }
 
 /// A predicate on two sets.
-#[derive(Clone, Copy, Debug, PartialEq, Eq)]
+#[derive(Clone, Copy, Debug, PartialEq, Eq, Hash)]
 pub enum Comparison {
     /// The first set has each AS number and each address of the second.
     Contains,

@@ -3,7 +3,8 @@
 use pigyelund::{
     raw, Extensions, Family, Octets, OriginError, ParseError, PathError, Prefix, Reason,
 };
-use pigyelund::{ResourceError, Resources, Route, ValueError, Vrp};
+use pigyelund::{ResourceError, Resources, Route, Validity, ValueError, Vrp};
+use std::collections::HashMap;
 use std::error::Error;
 use std::fmt::{Debug, Display};
 use std::net::{IpAddr, Ipv4Addr, Ipv6Addr};
@@ -371,4 +372,15 @@ fn wrapped_errors() {
     let source = origin.source().unwrap().downcast_ref::<Reason>();
     assert_eq!(source, Some(&Reason::BadMaxLen));
     assert!(sources(&Reason::Memory).is_empty());
+}
+
+#[test]
+fn validities_are_keys() {
+    let mut counts = HashMap::new();
+    for validity in [Validity::Valid, Validity::Invalid, Validity::Valid] {
+        *counts.entry(validity).or_insert(0) += 1;
+    }
+    let counts =
+        [Validity::Valid, Validity::NotFound, Validity::Invalid].map(|it| counts.get(&it).copied());
+    assert_eq!(counts, [Some(2), None, Some(1)]);
 }

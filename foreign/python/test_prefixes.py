@@ -103,6 +103,19 @@ def wrong_items(library: Pigyelund, _: Path) -> Iterator[str]:
         ]
         for call, text in asked:
             yield from refuses(call, TypeError, text)
+        yield from refuses(lambda: table.covering(vrp), TypeError, f"{vrp} is no Route")  # type: ignore[arg-type]
+
+
+def wrong_texts(library: Pigyelund, _: Path) -> Iterator[str]:
+    """A file that is no `bytes`, and a list that is no `str`, are refused with the name of the argument."""
+    asked: list[tuple[Callable[[], object], str]] = [
+        (lambda: library.from_text(v4=None), "v4: None is no str"),  # type: ignore[arg-type]
+        (lambda: library.from_text("AS1", v6=b""), "v6: b'' is no str"),  # type: ignore[arg-type]
+    ]
+    for call, text in asked:
+        yield from refuses(call, TypeError, text)
+    text = "file: a str is no bytes; for the name of a file pass Path(name).read_bytes()"
+    yield from refuses(lambda: library.read_vrps("vrps.csv"), TypeError, text)  # type: ignore[arg-type]
 
 
 def refused_items(library: Pigyelund, _: Path) -> Iterator[str]:
@@ -179,4 +192,13 @@ def no_item_otherwise(library: Pigyelund, _: Path) -> Iterator[str]:
     yield from refuses(lambda: closed.changed([], [Vrp.of(TEN, 1, 7)]), ValueError, "the table is closed")
 
 
-OF_PREFIXES = (addresses, no_prefixes, wrong_numbers, wrong_items, refused_items, sets_of_prefixes, no_item_otherwise)
+OF_PREFIXES = (
+    addresses,
+    no_prefixes,
+    wrong_numbers,
+    wrong_items,
+    wrong_texts,
+    refused_items,
+    sets_of_prefixes,
+    no_item_otherwise,
+)

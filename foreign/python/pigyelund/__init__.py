@@ -208,8 +208,8 @@ class Pigyelund:
     - `OutOfMemoryError`: It says nothing about the input.
     - `BadNumberError`: You pass a number for an `Encoding`, `Mode` or `Family`, and the number is no member of it.
     - `OverflowError`: You pass such a number, and it does not fit 32 bits.
-    - `ctypes.ArgumentError` or `TypeError`: You pass DER or a file that is no `bytes`, or an encoding, mode or family
-      that is no integer.
+    - `ctypes.ArgumentError` or `TypeError`: You pass DER that is no `bytes`, or an encoding, mode or family that is no
+      integer.
 
     Args:
         path: The file of the shared library. None means the library that the list above names.
@@ -373,6 +373,8 @@ class Pigyelund:
         """
         found = Resources()
         for kind, text in ((Kind.ASN, asn), (Kind.V4, v4), (Kind.V6, v6)):
+            if not isinstance(text, str):
+                raise TypeError(f"{kind.name.lower()}: {text!r} is no str")
             if text:
                 found = self.union(found, self._set_of(kind, text.encode("utf-8")))
         return found
@@ -484,7 +486,11 @@ class Pigyelund:
         Raises:
             VrpFileError: The file is invalid. The attribute `line` is the number, from 1, of the first invalid line or
                 item, or 0 if the file is invalid as a whole.
+            TypeError: `file` is no `bytes`, for example the name of the file.
         """
+        if not isinstance(file, bytes):
+            kind = type(file).__name__
+            raise TypeError(f"file: a {kind} is no bytes; for the name of a file pass Path(name).read_bytes()")
         result = self.raw.vrps_read(file, len(file) // 24)
         if result.status == Status.TOO_SMALL:
             result = self.raw.vrps_read(file, result.length)

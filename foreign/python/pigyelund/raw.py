@@ -1043,7 +1043,12 @@ class Library:
 
         Returns:
             The status, the content of the buffer, and the length in VRPs that the call reports.
+
+        Raises:
+            TypeError: `route` is no `Route`.
         """
+        if not isinstance(route, Route):
+            raise TypeError(f"{route!r} is no Route")
         contents, length = (Covering * max(capacity, 1))(), ctypes.c_size_t()
         arguments = [table, ctypes.byref(route), contents, capacity, ctypes.byref(length)]
         status = self._call("pigy_table_covering", arguments)

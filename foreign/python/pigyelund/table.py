@@ -284,8 +284,7 @@ class Table:
 
         Raises:
             OriginError: The route is malformed.
-            TypeError: `route` is not an object of ctypes.
-            ctypes.ArgumentError: `route` is an object of ctypes but no `Route`, for example a `Vrp`.
+            TypeError: `route` is no `Route`.
             ValueError: The table is closed.
         """
         status, contents, length = self._with_handle(lambda handle: self._library.table_covering(handle, route, 8))

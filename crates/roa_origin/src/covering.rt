@@ -5,6 +5,7 @@ ghost use Rattle.roa_origin.specs.Coverings.{IsWalk, covering_before};
 
 use crate::links::{Link, nearest};
 use crate::packed_vrp::PackedVrp;
+use crate::route_key::RouteKey;
 use crate::vrp::Vrp;
 use std::fmt;
 use std::marker::Model;
@@ -18,7 +19,7 @@ pub struct Covering<'a> {
     vrps: &'a [PackedVrp],
     links: &'a [Link],
     at: usize,
-    route: PackedVrp,
+    route: RouteKey,
 }
 
 impl<'a> Model for Covering<'a> {
@@ -28,9 +29,9 @@ impl<'a> Model for Covering<'a> {
 
     ghost Value = { List Vrp };
 
-    ghost view = { λ c. covering_before c.route.0.prefix c.vrps.now c.at };
+    ghost view = { λ c. covering_before c.route.0 c.vrps.now c.at };
 
-    ghost invariant = { λ c. IsWalk c.vrps.now c.links.now c.at c.route.0.prefix };
+    ghost invariant = { λ c. IsWalk c.vrps.now c.links.now c.at c.route.0 };
 }
 
 impl<'a> Covering<'a> {
@@ -39,10 +40,10 @@ impl<'a> Covering<'a> {
         vrps: &'a [PackedVrp],
         links: &'a [Link],
         at: usize,
-        route: PackedVrp,
+        route: RouteKey,
     ) -> Covering<'a>
-        requires { IsWalk vrps.now links.now at route.0.prefix }
-        ensures { result ≡ covering_before route.0.prefix vrps.now at }
+        requires { IsWalk vrps.now links.now at route.0 }
+        ensures { result ≡ covering_before route.0 vrps.now at }
     {
         Covering {
             vrps,

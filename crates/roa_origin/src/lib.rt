@@ -35,6 +35,7 @@ mod listing;
 pub mod lookup;
 mod packed_vrp;
 mod reevaluation;
+mod route_key;
 mod sorting;
 mod starts;
 pub mod table;

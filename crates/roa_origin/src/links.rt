@@ -5,6 +5,7 @@ ghost use Rattle.roa_origin.specs.Links.{AreLinks, AreUpTo, IsInOrder, IsLink, I
 ghost use Rattle.roa_origin.specs.Vrps.{CoversRoute, Vrp};
 
 use crate::packed_vrp::PackedVrp;
+use crate::route_key::RouteKey;
 use std::alloc::{AllocError, Allocator};
 
 /// The maximum number of VRPs in a table. With this limit its links and starts take half the memory.
@@ -37,17 +38,17 @@ impl Link {
 /// Returns how many of the first `from` VRPs are left after the last ones that don't cover the route are dropped.
 ///
 /// Each step gets to a shorter prefix, so there are at most 129 steps.
-pub(crate) fn nearest(vrps: &[PackedVrp], links: &[Link], from: usize, route: &PackedVrp) -> usize
+pub(crate) fn nearest(vrps: &[PackedVrp], links: &[Link], from: usize, route: &RouteKey) -> usize
     requires in_order { IsInOrder vrps.now }
-    requires is_prefix { IsFamilyPrefix route.now.0.prefix }
-    requires up_to { AreUpTo vrps.now from route.now.0.prefix }
+    requires is_prefix { IsFamilyPrefix route.now.0 }
+    requires up_to { AreUpTo vrps.now from route.now.0 }
     requires linked { AreLinks vrps.now links.now }
     requires within { from ≤ length links.now }
     requires as_many { length links.now ≤ length vrps.now }
     ensures back { result ≤ from }
-    ensures none { NoneCovers vrps.now route.now.0.prefix result from }
+    ensures none { NoneCovers vrps.now route.now.0 result from }
     ensures found { (d : Vrp) → 0 < result →
-        CoversRoute route.now.0.prefix (slice_index_or vrps.now (result - 1) d) }
+        CoversRoute route.now.0 (slice_index_or vrps.now (result - 1) d) }
 {
     let mut at = from;
     while at > 0 {
@@ -75,7 +76,7 @@ fn next_link(vrps: &[PackedVrp], links: &[Link], at: usize) -> Link
     if vrps[at - 1].has_prefix_of(vrp) {
         return links[at - 1];
     }
-    let back = nearest(vrps, links, at, vrp);
+    let back = nearest(vrps, links, at, &vrp.route_key());
     Link {
         first: at as u32,
         back: back as u32,

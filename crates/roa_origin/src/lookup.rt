@@ -12,6 +12,7 @@ ghost use Rattle.roa_origin.specs.Vrps.{CoversRoute, prefix_len};
 use crate::covering::Covering;
 use crate::links::Link;
 use crate::packed_vrp::PackedVrp;
+use crate::route_key::RouteKey;
 use crate::table::{count_between, has_covering_asn_in, validity_in};
 use crate::validation::Validity;
 use std::fmt;
@@ -28,7 +29,7 @@ pub struct Lookup<'a> {
     links: &'a [Link],
     from: usize,
     to: usize,
-    route: PackedVrp,
+    route: RouteKey,
 }
 
 impl<'a> Model for Lookup<'a> {
@@ -38,11 +39,11 @@ impl<'a> Model for Lookup<'a> {
 
     ghost view = { λ s. record {
       vrps = s.vrps.now;
-      route = s.route.0.prefix;
+      route = s.route.0;
       asn = s.route.1;
     } };
 
-    ghost invariant = { λ s. IsLookupBetween s.vrps.now s.links.now s.from s.to s.route.0.prefix };
+    ghost invariant = { λ s. IsLookupBetween s.vrps.now s.links.now s.from s.to s.route.0 };
 }
 
 impl<'a> Lookup<'a> {
@@ -57,13 +58,13 @@ impl<'a> Lookup<'a> {
         links: &'a [Link],
         starts: &[u32],
         bits: u8,
-        route: PackedVrp,
+        route: RouteKey,
     ) -> Lookup<'a>
         requires table { IsTable vrps.now links.now }
-        requires is_prefix { IsFamilyPrefix route.0.prefix }
+        requires is_prefix { IsFamilyPrefix route.0 }
         requires starts { AreStarts bits vrps.now starts.now }
         ensures vrps { result.vrps ≡ vrps.now }
-        ensures route { result.route ≡ route.0.prefix }
+        ensures route { result.route ≡ route.0 }
         ensures asn { result.asn ≡ route.1 }
     {
         let number = route.first_bits(bits);
@@ -146,10 +147,9 @@ impl<'a> Lookup<'a> {
 /// Prints the route, and not the table's VRPs.
 impl fmt::Debug for Lookup<'_> {
     fn fmt<W: fmt::Write>(&self, f: &mut fmt::Formatter<W>) -> fmt::Result {
-        let (prefix, asn) = self.route.vrp();
         f.debug_struct("Lookup")
-            .field("route", &prefix.prefix())
-            .field("asn", &asn)
+            .field("route", &self.route.prefix())
+            .field("asn", &self.route.asn)
             .finish_non_exhaustive()
     }
 }

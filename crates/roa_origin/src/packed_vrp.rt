@@ -1,14 +1,13 @@
 //! VRPs as a table stores them: in 32 octets each.
-ghost use Rattle.std.specs.Prelude.{◌+◌, ◌-◌, ◌*◌, ◌^◌, ◌<◌, ◌≡◌, ◌↔◌, ◌≤◌, IsTrue, nat_le, nat_lt};
+ghost use Rattle.std.specs.Prelude.{◌+◌, ◌-◌, ◌^◌, ◌<◌, ◌≡◌, ◌↔◌, ◌≤◌, IsTrue, nat_le, nat_lt};
 ghost use Rattle.std.specs.Ordering.{nat_cmp};
 ghost use Rattle.rpki_prefix.specs.Values.{IsFamilyPrefix, is_v6, width};
 ghost use Rattle.roa_origin.specs.Vrps.{CoversRoute, HasAs, IsLawfulVrp, Matches, longest, prefix_len};
-ghost use Rattle.roa_origin.specs.Places.{vrp_place, rank, sent_place, sent_rank, table_place, max_len_flag};
-ghost use Rattle.roa_origin.specs.Starts.{first_bits};
+ghost use Rattle.roa_origin.specs.Places.{place, vrp_place, rank, sent_place, sent_rank, table_place, max_len_flag};
 
+use crate::route_key::RouteKey;
 use crate::vrp::Vrp;
 use rpki_base::Asn;
-use rpki_base::addr::{IpAddr, Ipv4Addr, Ipv6Addr};
 use rpki_prefix::{MaxLenPrefix, Prefix};
 use std::cmp::Ordering;
 use std::marker::Model;
@@ -39,11 +38,11 @@ impl Model for PackedVrp {
         × (e.asn < 2 ^ 32) };
 
     ghost inverse = { λ p. record {
-      bits = address_bits p;
+      bits = address_bits p.0.prefix;
       asn = p.1;
       len = p.0.prefix.len;
       max_len = p.0.max_len;
-      is_v6 = is_of_v6 p;
+      is_v6 = is_of_v6 p.0.prefix;
     } };
 }
 
@@ -55,34 +54,14 @@ impl PackedVrp {
     {
         let (prefix, asn) = vrp;
         asn.recall_invariant();
-        let len = prefix.prefix().len();
-        let max_len = prefix.max_len();
-        match prefix.addr() {
-            IpAddr::V4(addr) => PackedVrp {
-                bits: u128::from(addr.to_bits()),
-                asn,
-                len,
-                max_len,
-                is_v6: false,
-            },
-            IpAddr::V6(addr) => PackedVrp {
-                bits: addr.to_bits(),
-                asn,
-                len,
-                max_len,
-                is_v6: true,
-            },
+        let key = RouteKey::new(prefix.prefix(), asn);
+        PackedVrp {
+            bits: key.bits,
+            asn,
+            len: key.len,
+            max_len: prefix.max_len(),
+            is_v6: key.is_v6,
         }
-    }
-
-    /// Returns the packed form of a route: a VRP of its prefix and AS without a maximum length. A lookup makes it once.
-    pub(crate) fn of_route(route: Prefix, asn: Asn) -> PackedVrp
-        ensures route { result.0.prefix ≡ route }
-        ensures asn { result.1 ≡ asn }
-        ensures prefix { IsFamilyPrefix route }
-    {
-        route.recall_invariant();
-        PackedVrp::new((MaxLenPrefix::from(route), asn))
     }
 
     /// Returns the VRP.
@@ -99,14 +78,20 @@ impl PackedVrp {
     pub(crate) fn prefix(&self) -> Prefix
         ensures { result ≡ self.now.0.prefix }
     {
-        let addr = if self.is_v6 {
-            IpAddr::V6(Ipv6Addr::from_bits(self.bits))
-        } else {
-            IpAddr::V4(Ipv4Addr::from_bits(self.bits as u32))
-        };
-        match Prefix::new(addr, self.len) {
-            Ok(prefix) => prefix,
-            Err(_) => unreachable!(),
+        self.route_key().prefix()
+    }
+
+    /// Returns the key of the route to the VRP's prefix that the VRP's AS originates.
+    pub(crate) fn route_key(&self) -> RouteKey
+        ensures route { result.0 ≡ self.now.0.prefix }
+        ensures asn { result.1 ≡ self.now.1 }
+        ensures prefix { IsFamilyPrefix self.now.0.prefix }
+    {
+        RouteKey {
+            bits: self.bits,
+            asn: self.asn,
+            len: self.len,
+            is_v6: self.is_v6,
         }
     }
 
@@ -215,14 +200,14 @@ impl PackedVrp {
         self.cmp_sent(other).is_eq()
     }
 
-    /// Returns whether the VRP's prefix comes no later than the prefix of `other` in a table's order.
-    pub(crate) fn comes_by(&self, other: &PackedVrp) -> bool
-        ensures { IsTrue result ↔ (vrp_place self.now ≤ vrp_place other.now) }
+    /// Returns whether the VRP's prefix comes no later than the route's prefix in a table's order.
+    pub(crate) fn comes_by(&self, route: &RouteKey) -> bool
+        ensures { IsTrue result ↔ (vrp_place self.now ≤ place route.now.0) }
     {
-        if self.is_v6 != other.is_v6 {
-            return other.is_v6;
+        if self.is_v6 != route.is_v6 {
+            return route.is_v6;
         }
-        self.bits < other.bits || (self.bits == other.bits && self.len <= other.len)
+        self.bits < route.bits || (self.bits == route.bits && self.len <= route.len)
     }
 
     /// Returns whether both VRPs have the same prefix.
@@ -230,21 +215,6 @@ impl PackedVrp {
         ensures { IsTrue result ↔ (self.now.0.prefix ≡ other.now.0.prefix) }
     {
         self.cmp_prefix(other).is_eq()
-    }
-
-    /// Returns the number that the first `count` bits of the prefix's address write, plus 2^`count` for IPv6.
-    #[tactic(auto, using(crate::proofs::FirstBits::few_numbers, crate::proofs::FirstBits::first_part))]
-    pub(crate) fn first_bits(&self, count: u8) -> usize
-        requires some { 1 ≤ count }
-        requires few { count ≤ 20 }
-        ensures value { result ≡ first_bits count self.now.0.prefix }
-        ensures below { result < 2 * 2 ^ count }
-    {
-        if self.is_v6 {
-            (1 << count) + (self.bits >> (128 - count)) as usize
-        } else {
-            (self.bits >> (32 - count)) as usize
-        }
     }
 
     /// Returns how many of 128 bits the prefix fixes. An IPv4 address is in the last 32 bits.
@@ -262,17 +232,17 @@ impl PackedVrp {
         if fixed == 128 { 0 } else { u128::MAX >> fixed }
     }
 
-    /// Returns whether both are of the same address family.
-    fn has_family_of(&self, other: &PackedVrp) -> bool
-        ensures { IsTrue result ↔ (is_v6 self.now.0.prefix.addr ≡ is_v6 other.now.0.prefix.addr) }
+    /// Returns whether the VRP and the route are of the same address family.
+    fn has_family_of(&self, route: &RouteKey) -> bool
+        ensures { IsTrue result ↔ (is_v6 self.now.0.prefix.addr ≡ is_v6 route.now.0.addr) }
     {
-        self.is_v6 == other.is_v6
+        self.is_v6 == route.is_v6
     }
 
     /// Returns whether the VRP covers the route (RFC 6811, 2).
     #[tactic(auto, using(crate::proofs::NestedRoutes::starts_by, crate::proofs::OrderNumbers::covers_len))]
-    pub(crate) fn covers(&self, route: &PackedVrp) -> bool
-        ensures { IsTrue result ↔ CoversRoute route.now.0.prefix self.now }
+    pub(crate) fn covers(&self, route: &RouteKey) -> bool
+        ensures { IsTrue result ↔ CoversRoute route.now.0 self.now }
     {
         if !self.has_family_of(route) {
             return false;
@@ -287,23 +257,23 @@ impl PackedVrp {
     }
 
     /// Returns whether the VRP's AS number is not below the route's.
-    pub(crate) fn has_asn_from(&self, route: &PackedVrp) -> bool
+    pub(crate) fn has_asn_from(&self, route: &RouteKey) -> bool
         ensures { result ≡ nat_le route.now.1 self.now.1 }
     {
         route.asn.into_u32() <= self.asn.into_u32()
     }
 
     /// Returns whether the VRP's AS is the route's, and is not AS0.
-    pub(crate) fn has_as_of(&self, route: &PackedVrp) -> bool
+    pub(crate) fn has_as_of(&self, route: &RouteKey) -> bool
         ensures { IsTrue result ↔ HasAs route.now.1 self.now }
     {
         route.asn != Asn::MIN && self.asn == route.asn
     }
 
     /// Returns whether the VRP matches a route that it covers (RFC 6811, 2; RFC 9582, 4.3.2).
-    pub(crate) fn allows(&self, route: &PackedVrp) -> bool
-        requires { CoversRoute route.now.0.prefix self.now }
-        ensures { IsTrue result ↔ Matches route.now.0.prefix route.now.1 self.now }
+    pub(crate) fn allows(&self, route: &RouteKey) -> bool
+        requires { CoversRoute route.now.0 self.now }
+        ensures { IsTrue result ↔ Matches route.now.0 route.now.1 self.now }
     {
         self.has_as_of(route) && route.len <= self.longest()
     }

@@ -39,7 +39,7 @@ fn start_from(vrps: &[PackedVrp], bits: u8, number: usize, from: usize) -> usize
     ensures { IsStart bits vrps.now number result }
 {
     let mut at = from;
-    while at < vrps.len() && vrps[at].first_bits(bits) < number {
+    while at < vrps.len() && vrps[at].route_key().first_bits(bits) < number {
         at += 1;
     }
     at

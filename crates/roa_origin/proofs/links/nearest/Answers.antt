@@ -18,7 +18,7 @@ loop-at-preserved c =
     let (far, none) = c.loop-at.invariant in
     let inside : at < c.args.from = omega (arith, c.loop-at-test.true, far) in
     let link = λ (d : Vrp). r.linked at d _ (omega (arith, inside, r.within)) in
-    let free : ¬ CoversRoute c.args.route.now.0.prefix x.result = λ h.
+    let free : ¬ CoversRoute c.args.route.now.0 x.result = λ h.
     let is_true = c.covers.ensures.1 h in
     let f = c.if-covers.false in
     cc in

@@ -16,7 +16,7 @@ pub nearest-back-requires-clause-up_to : goal.nearest-back-requires-clause-up_to
 nearest-back-requires-clause-up_to c k d small =
     let x = c.index-vrps-at in
     let here = get_or_default c.args.vrps.now c.args.at d x.result c.requires.within in
-    grind (arith, here, x.is, c.requires.in_order.ordered k c.args.at d)
+    grind (arith, here, x.is, c.route_key.ensures.route, c.requires.in_order.ordered k c.args.at d)
 
 pub returns : goal.returns
 returns c =
@@ -25,7 +25,7 @@ returns c =
     let x = c.index-vrps-at in
     let y = c.index-vrps-at-2 in
     let link : Link = record { first = at; back = c.nearest-back.result } in
-    let near = c.nearest-back.ensures in
+    let near = rw c.route_key.ensures.route at c.nearest-back.ensures in
     link_new c.args.vrps.now at x.result y.result link c.requires.within some x.is y.is c.requires.in_order refl
     near.back (λ same. let is_true = c.has_prefix_of.ensures.1 same in let f = c.if-has_prefix_of.false in cc)
     near.none near.found

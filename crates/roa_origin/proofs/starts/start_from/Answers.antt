@@ -12,4 +12,5 @@ returns-else-first_bits-number c =
     let up = first_up c.args.bits (get_or xs at x.result).0.prefix in
     let ensured = c.first_bits.ensures.value in
     let there = c.loop-at-test.true in
-    grind (arith, x.is, ensured, c.loop-at.invariant, get_or_default xs at x.result, r.few, r.ordered at, r.prefixes)
+    let key = c.route_key.ensures.route in
+    grind (arith, x.is, key, ensured, c.loop-at.invariant, get_or_default xs at x.result, r.few, r.ordered at, r.prefixes)

@@ -1,5 +1,5 @@
 -- What comes no later than the prefix is what stands before the first place, and what the search parts behind it.
-use Rattle.roa_origin.proofs.Common.{arith, rules, ◌+◌, ◌-◌, cases_lt, IsNonDecreasingBy-drop, IsNonDecreasingBy-take, slice_range, vrp_place, IsSearched}
+use Rattle.roa_origin.proofs.Common.{arith, rules, ◌+◌, ◌-◌, cases_lt, IsNonDecreasingBy-drop, IsNonDecreasingBy-take, slice_range, place, vrp_place, IsSearched}
 use Rattle.roa_origin.proofs.SortedSearch.{counted_to}
 use Rattle.roa_origin.proofs.PrefixGroups.{piece_at, piece_length}
 use Rattle.roa_origin.proofs.table.count_between.Goals as goal
@@ -7,10 +7,10 @@ use Rattle.roa_origin.proofs.table.count_between.Goals as goal
 -- the point found parts the piece
 counted : (c : goal.After-partition_point)
     → IsSearched vrp_place (slice_range c.args.vrps.now c.args.from c.args.to)
-    (vrp_place c.args.route.now + 1) c.partition_point.result
+    (place c.args.route.now.0 + 1) c.partition_point.result
 counted c =
     let ordered = IsNonDecreasingBy-drop vrp_place c.args.from _ c.requires.in_order.ordered in
-    counted_to c.partition_point.ensures.partitioned vrp_place (vrp_place c.args.route.now)
+    counted_to c.partition_point.ensures.partitioned vrp_place (place c.args.route.now.0)
     (IsNonDecreasingBy-take vrp_place (c.args.to - c.args.from) _ ordered) (λ a r q k. search rules)
 
 pub returns-clause-up_to : goal.returns-clause-up_to

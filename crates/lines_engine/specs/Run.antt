@@ -53,14 +53,16 @@ abbrev pub BeginsAnswersOf : (List ℕ → List ℕ → Type 0) → Option (List
 BeginsAnswersOf Is old new lines = (rest : List (List ℕ)) × ((unwritten : List ℕ) × HasAnswered Is old new lines rest unwritten)
 
 -- The answers to some first lines of the input were written whole. The other lines are those of `part`, which was read,
--- followed by `left`, which is left to read.
+-- followed by `left`, which is left to read. `input` and `left` are the known bytes of the reader before and after the
+-- run. Nothing is said if those before it are unknown (None), and known bytes do not become unknown.
 abbrev pub AnswersBut : (List ℕ → List ℕ → Type 0) → Option (List ℕ) → Option (List ℕ) → Option (List ℕ)
     → Option (List ℕ) → List ℕ → Type 0
 AnswersBut Is old new None left part = ⊤
 AnswersBut Is old new (Some input) None part = ⊥
 AnswersBut Is old new (Some input) (Some left) part = HasAnswered Is old new (lines_of input) (lines_of (part ++ left)) []
 
--- the answers to the lines whose ends were read, and to no other line, were written whole
+-- The answers to the lines whose ends were read, and to no other line, were written whole: `part`, which was read and
+-- not answered, has no end of line. `input` and `left` are as in `AnswersBut`.
 abbrev pub AnswersEnded : (List ℕ → List ℕ → Type 0) → Option (List ℕ) → Option (List ℕ) → Option (List ℕ)
     → Option (List ℕ) → Type 0
 AnswersEnded Is old new input left = (part : List ℕ) × HasNo 10 part × AnswersBut Is old new input left part

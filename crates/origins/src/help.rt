@@ -16,8 +16,8 @@ pub const HELP: &str = "
 Validate the origin of BGP routes (RFC 6811) against validated ROA payloads (VRPs). VRPS, OLD and
 NEW are files of VRPs, which rpki-client, FORT, Routinator or another validator wrote as CSV or
 JSON. rpki-client -c and routinator vrps --format csv write such a file. With --table or --diff, one
-of the files can have the name -. The file name - is the standard input. The program reads ROUTES
-from the standard input and prints one line for each line of ROUTES:
+of the files can be -, the standard input. The program reads ROUTES from the standard input and
+prints one line for each line of ROUTES:
 
   valid            a VRP matches the route
   invalid-length   a VRP with the AS of the route covers the route, but the route is longer than the

@@ -6,7 +6,7 @@
 pub const OK: u32 = 0;
 /// A buffer is too small. No buffer is changed, and each length is the required one.
 pub const TOO_SMALL: u32 = 1;
-/// Out of memory: an allocation failed.
+/// Out of memory: an allocation failed, an array would have 2^63 octets or more, or a table 2^32 VRPs or more.
 pub const MEMORY: u32 = 2;
 /// A set has "inherit" where it has to list its resources.
 pub const INHERITED: u32 = 3;

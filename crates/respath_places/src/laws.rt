@@ -13,7 +13,7 @@ ghost use Rattle.respath_places.specs.Faults.{IsFaultless};
 ghost use Rattle.respath_places.specs.Laws.{norm_line, path_line};
 ghost use Rattle.respath_places.specs.declared.fault.Fault.TheVariants.{Element};
 
-/// States that each element of a list is read, if the line with this list is faultless.
+/// States that each element of a list in UTF-8 is read, if the line with this list is faultless.
 ///
 /// A position names the element after a faultless beginning of its line, so no element before it is wrong.
 #[tactic(auto, using(crate::proofs::LawLemmas::as_list_read, crate::proofs::LawLemmas::ip_list_read))]
@@ -24,8 +24,8 @@ pub fn lists_read()
         → IsFaultless Element (norm_line family list) → (set : Runs) × IsSetOf (HasBlocks family list) set }
 {}
 
-/// States that each element of a path is read, and that each part after the first is a step, if the line with this path
-/// is faultless.
+/// States that each element of a path in UTF-8 is read, and that each part after the first is a step, if the line with
+/// this path is faultless.
 #[tactic(auto, using(crate::proofs::LawLemmas::as_path_read, crate::proofs::LawLemmas::ip_path_read))]
 pub fn paths_read()
     ensures as_numbers { (path : List ℕ) → IsUtf8 path → IsFaultless Element (codes "path as " ++ path)

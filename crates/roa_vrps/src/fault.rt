@@ -112,7 +112,7 @@ pub enum FileFault {
     /// The text opens a JSON array.
     #[error("a JSON array, where an object with the member roas is expected")]
     JsonArray,
-    /// The text opens an object, but it is not a JSON object, or nests deeper than 128.
+    /// The text begins with `{`, and is not a JSON object in UTF-8, or nests deeper than 128 levels.
     #[error("not a JSON object")]
     NotObject,
     /// A fault of the object's member `roas`, which must be an array.

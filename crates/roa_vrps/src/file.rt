@@ -34,7 +34,8 @@ use std::alloc::Allocator;
 /// - [`FileFault::Line`]: the first invalid line, by its number, from 1, and its first fault.
 /// - [`FileFault::Item`]: the first invalid item of `roas`, by its number, from 1, and its first fault.
 /// - [`FileFault::JsonArray`]: the text opens an array.
-/// - [`FileFault::NotObject`]: the text opens an object, and is not valid JSON or nests deeper than 128.
+/// - [`FileFault::NotObject`]: the text begins with `{`, and is not a JSON object in UTF-8, or nests deeper
+///   than 128 levels.
 /// - [`FileFault::Roas`]: the object has no member `roas`, or several, or one that is not an array.
 /// - [`FileFault::NoVrp`]: the file has no VRP, and no other fault.
 /// - [`OrMemory::Memory`]: an allocation failed.

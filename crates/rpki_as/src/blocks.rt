@@ -223,7 +223,7 @@ impl<A: Allocator> AsBlocks<A> {
     ///
     /// # Errors
     ///
-    /// [`AllocError`]: out of memory for the result.
+    /// [`AllocError`]: out of memory for the result, or a reference count is at its maximum.
     pub fn intersection(&self, alloc: A, other: &AsBlocks<A>) -> Result<AsBlocks<A>, AllocError>
     where
         A: Copy,
@@ -237,7 +237,7 @@ impl<A: Allocator> AsBlocks<A> {
     ///
     /// # Errors
     ///
-    /// [`AllocError`]: out of memory for the result. The set is unchanged then.
+    /// [`AllocError`]: out of memory for the result, or a reference count is at its maximum. The set is unchanged then.
     pub fn intersection_assign(&mut self, alloc: A, other: &AsBlocks<A>) -> Result<(), AllocError>
     where
         A: Copy,

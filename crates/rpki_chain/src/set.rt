@@ -209,7 +209,7 @@ impl<T: Block, A: Allocator> BlockSet<T, A> {
     ///
     /// # Errors
     ///
-    /// [`AllocError`]: out of memory for the result.
+    /// [`AllocError`]: out of memory for the result, or a reference count is at its maximum.
     pub fn intersection(&self, alloc: A, other: &BlockSet<T, A>) -> Result<Self, AllocError>
     where
         A: Copy,
@@ -226,7 +226,7 @@ impl<T: Block, A: Allocator> BlockSet<T, A> {
     ///
     /// # Errors
     ///
-    /// [`AllocError`]: out of memory for the result. The set is unchanged then.
+    /// [`AllocError`]: out of memory for the result, or a reference count is at its maximum. The set is unchanged then.
     pub fn intersection_assign(
         &mut self,
         alloc: A,

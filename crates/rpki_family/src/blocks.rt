@@ -205,7 +205,7 @@ impl<F: Family, A: Allocator> FamilyBlocks<F, A> {
     ///
     /// # Errors
     ///
-    /// [`AllocError`] if an allocation fails.
+    /// [`AllocError`] if an allocation fails, or if a reference count is at its maximum.
     pub fn intersection(
         &self,
         alloc: A,

@@ -304,7 +304,7 @@ impl<A: Allocator> IpBlocks<A> {
     ///
     /// # Errors
     ///
-    /// [`AllocError`] if an allocation fails.
+    /// [`AllocError`] if an allocation fails, or if a reference count is at its maximum.
     pub fn intersection(&self, alloc: A, other: &IpBlocks<A>) -> Result<IpBlocks<A>, AllocError>
     where
         A: Copy,

@@ -249,7 +249,7 @@ impl<A: Allocator> ResourceSet<A> {
     ///
     /// # Errors
     ///
-    /// [`AllocError`] if an allocation fails.
+    /// [`AllocError`] if an allocation fails, or if a reference count is at its maximum.
     #[tactic(auto, using(crate::proofs::TripleLemmas::made))]
     pub fn intersection(
         &self,

@@ -15,7 +15,8 @@ use std::alloc::Global;
 ///
 /// `kind` is 0 for AS numbers, 1 for IPv4 and 2 for IPv6. The elements of the list are separated by commas, and may
 /// have white space at their ends. Each is an AS number, an address, a prefix or a range. Elements may be in any order
-/// and may overlap. `as_len` and `ip_len` receive lengths in octets, written or required. One of them is 0.
+/// and may overlap. `as_len` and `ip_len` receive lengths in octets, written or required. A list of AS numbers has
+/// no addresses, and a list of addresses has no AS numbers: that length is 0.
 ///
 /// Returns the first status that applies:
 ///

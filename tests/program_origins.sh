@@ -500,6 +500,8 @@ vrps --now x: invalid time: x, where seconds since 1970 are expected
 vrps --now -1: invalid time: -1, where seconds since 1970 are expected
 vrps --now 1.0: invalid time: 1.0, where seconds since 1970 are expected
 vrps --now 18446744073709551616: invalid time: 18446744073709551616, where seconds since 1970 are expected
+--table --of 1 vrps --of 2: too many AS numbers: 2
+--table --of 1 --of x vrps: too many AS numbers: x
 vrps --now 1 --now 2: too many times: 2
 vrps --now 1 --now x: too many times: x
 --diff vrps next --now 1: --now does not go with --diff

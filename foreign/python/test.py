@@ -422,6 +422,34 @@ def no_bits_are_dropped(library: Pigyelund, _: Path) -> Iterator[str]:
             pass
 
 
+def members_of_others(library: Pigyelund) -> Iterator[Callable[[], object]]:
+    """Yields calls with a member of another enumeration than the parameter's."""
+    extensions = Extensions(ip=ISSUER.ip)
+    yield lambda: library.verify(ISSUER, extensions, Mode.TRIM)
+    yield lambda: library.verify(ISSUER, extensions, mode=Encoding.STRICT)
+    yield lambda: library.verify_path(ISSUER, [Certificate(extensions)], Mode.TRIM)
+    yield lambda: library.verify_path(ISSUER, [Certificate(extensions, Encoding.STRICT)])
+    yield lambda: library.cover(ISSUER.ip, Encoding.STRICT)
+    yield lambda: library.cover(ISSUER.ip, Family.IPV4, Mode.TRIM)
+    yield lambda: library.union(ISSUER, ISSUER, Mode.TRIM)
+    yield lambda: library.equal(ISSUER, ISSUER, Mode.TRIM)
+    yield lambda: library.as_ranges(ISSUER, Mode.TRIM)
+    yield lambda: library.ip_ranges(ISSUER, Encoding.STRICT)
+    yield lambda: library.ip_ranges(ISSUER, Family.IPV4, Mode.TRIM)
+
+
+def no_other_enumeration(library: Pigyelund, _: Path) -> Iterator[str]:
+    """A member of another enumeration raises `TypeError`, though its number fits. The number itself is accepted."""
+    for at, call in enumerate(members_of_others(library)):
+        try:
+            yield f"member {at} of another enumeration answers {call()}"
+        except TypeError as reason:
+            if " is no " not in str(reason):
+                yield f"member {at} of another enumeration: {reason}"
+    if library.union(ISSUER, ISSUER, 1) != ISSUER:
+        yield "the number of an encoding"
+
+
 def defaults(library: Pigyelund, _: Path) -> Iterator[str]:
     """The defaults are the VRP's own length, and `Mode.REFUSE`. Iterators are accepted."""
     long = IPv4Network("10.0.0.0/9")
@@ -631,8 +659,8 @@ def copies(library: Pigyelund, _: Path) -> Iterator[str]:
                     yield f"{reason!r} of copies"
 
 
-OTHERS = (names_and_numbers, same_versions, texts, no_bits_are_dropped, defaults, lenient, reasons, tables)
-OTHERS += (equal_fields, item_texts, changes_by_sets, copies, *OF_PREFIXES, *OF_TABLES)
+OTHERS = (names_and_numbers, same_versions, texts, no_bits_are_dropped, no_other_enumeration, defaults, lenient)
+OTHERS += (reasons, tables, equal_fields, item_texts, changes_by_sets, copies, *OF_PREFIXES, *OF_TABLES)
 
 
 def main() -> int:

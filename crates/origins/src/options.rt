@@ -69,6 +69,8 @@ pub enum Misuse<'a> {
     NoAsn(&'a str),
     /// `--of` is the last word.
     OfWithoutAsn,
+    /// There are two AS numbers. The field is the second.
+    SecondAsn(&'a str),
     /// The word after `--now` is not a time.
     NoTime(&'a str),
     /// `--now` is the last word.
@@ -101,6 +103,7 @@ impl fmt::Display for Misuse<'_> {
             Misuse::UnknownOption(word) => write!(f, "unknown option: {word}"),
             Misuse::NoAsn(word) => write!(f, "invalid AS number: {word}"),
             Misuse::OfWithoutAsn => f.write_str("--of needs an AS number"),
+            Misuse::SecondAsn(word) => write!(f, "too many AS numbers: {word}"),
             Misuse::NoTime(word) => write!(
                 f,
                 "invalid time: {word}, where seconds since 1970 are expected"
@@ -213,10 +216,7 @@ pub fn parse(alloc: Global, words: &[String]) -> Result<Task<'_>, OrMemory<Misus
 /// Reads a word that is neither `--help` nor `--version`.
 fn take<'a>(read: &mut Read<'a>, word: &'a str) -> Result<(), OrMemory<Misuse<'a>>> {
     match read.next {
-        Next::Asn => match Asn::from_str(word) {
-            Ok(asn) => read.options.of = Some(asn.into_u32()),
-            Err(_) => return Err(OrMemory::Refused(Misuse::NoAsn(word))),
-        },
+        Next::Asn => read.options.of = Some(asn_after(read.options.of, word)?),
         Next::Vrps => read.files.push(word)?,
         Next::Slurm => match read.options.slurm {
             None => read.options.slurm = Some(word),
@@ -232,6 +232,15 @@ fn take<'a>(read: &mut Read<'a>, word: &'a str) -> Result<(), OrMemory<Misuse<'a
     }
     read.next = Next::Word;
     Ok(())
+}
+
+/// Returns the AS number of `--of`. `before` is that of an earlier `--of`.
+fn asn_after<'a>(before: Option<u32>, word: &'a str) -> Result<u32, OrMemory<Misuse<'a>>> {
+    match (before, Asn::from_str(word)) {
+        (Some(_), _) => Err(OrMemory::Refused(Misuse::SecondAsn(word))),
+        (None, Ok(asn)) => Ok(asn.into_u32()),
+        (None, Err(_)) => Err(OrMemory::Refused(Misuse::NoAsn(word))),
+    }
 }
 
 /// Returns the time of `--now`. `before` is that of an earlier `--now`.

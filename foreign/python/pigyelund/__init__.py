@@ -182,9 +182,13 @@ def concatenate(certificates: Iterable[Certificate]) -> tuple[bytes, list[raw.Ce
 
     Returns:
         The array, and for each certificate the positions of its extensions in the array.
+
+    Raises:
+        TypeError: The mode of a certificate is a member of another enumeration.
     """
     run, positions = bytearray(), []
     for extensions, mode in certificates:
+        refuse_others(Mode, mode)
         asn, ip = extensions.octets()
         at = len(run)
         positions.append(raw.Certificate(at, len(asn), at + len(asn), len(ip), extensions.present(), mode))
@@ -209,7 +213,7 @@ class Pigyelund:
     - `BadNumberError`: You pass a number for an `Encoding`, `Mode` or `Family`, and the number is no member of it.
     - `OverflowError`: You pass such a number, and it does not fit 32 bits.
     - `ctypes.ArgumentError` or `TypeError`: You pass DER that is no `bytes`, or an encoding, mode or family that is no
-      integer.
+      integer. Another example is a `Mode` in place of an `Encoding`.
 
     Args:
         path: The file of the shared library. None means the library that the list above names.
@@ -264,6 +268,8 @@ class Pigyelund:
             OverclaimedError: The certificate overclaims, and `mode` is `Mode.REFUSE`. The attribute `excess` has the
                 overclaimed resources.
         """
+        refuse_others(Encoding, encoding)
+        refuse_others(Mode, mode)
         present, octets = certificate.present(), certificate.octets()
         return with_buffers(lambda capacities: self.raw.verify(issuer, present, octets, encoding, mode, capacities))
 
@@ -291,6 +297,7 @@ class Pigyelund:
             PigyelundError: The anchor's set or a certificate is refused. The exception is one of the subclasses that
                 `verify` raises. Its attribute `verified` is the number of verified certificates.
         """
+        refuse_others(Encoding, encoding)
         run, positions = concatenate(certificates)
         return with_buffers(lambda capacities: self.raw.verify_path(anchor, run, positions, encoding, capacities))
 
@@ -311,6 +318,8 @@ class Pigyelund:
             DerError: `ip` is invalid.
             InheritedError: `ip` has `inherit` for IPv4 or IPv6, even if `family` is the other one.
         """
+        refuse_others(Family, family)
+        refuse_others(Encoding, encoding)
         octets = with_buffers(lambda capacities: self.raw.cover(ip, encoding, family, capacities[0])).asn
         if family == Family.V4:
             return [IPv4Network((octets[at : at + 4], octets[at + 4])) for at in range(0, len(octets), 5)]
@@ -396,6 +405,7 @@ class Pigyelund:
             DerError: The AS identifiers are invalid.
             InheritedError: The AS identifiers have `inherit`.
         """
+        refuse_others(Encoding, encoding)
         asn = resources.asn
         status, found, length = self.raw.as_ranges(asn, encoding, len(asn) // 3)
         if status == Status.TOO_SMALL:
@@ -428,6 +438,8 @@ class Pigyelund:
             DerError: The IP address blocks are invalid.
             InheritedError: The IP address blocks have `inherit` for IPv4 or IPv6, even if `family` is the other one.
         """
+        refuse_others(Family, family)
+        refuse_others(Encoding, encoding)
         ip = resources.ip
         status, found, length = self.raw.ip_ranges(ip, encoding, family, len(ip) // 3)
         if status == Status.TOO_SMALL:
@@ -551,6 +563,7 @@ class Pigyelund:
             DerError: An extension of `a` or of `b` is invalid.
             InheritedError: `a` or `b` has `inherit` in place of a list of resources.
         """
+        refuse_others(Encoding, encoding)
         return with_buffers(lambda capacities: self.raw.combine(operation, a, b, encoding, capacities))
 
     def union(self, a: Resources, b: Resources, encoding: Encoding = Encoding.LENIENT) -> Resources:
@@ -594,6 +607,7 @@ class Pigyelund:
         Raises:
             DerError, InheritedError: As in `combine`.
         """
+        refuse_others(Encoding, encoding)
         status = self.raw.compare(comparison, a, b, encoding)
         if status not in (Status.OK, Status.NO):
             raise error_for_status(status)
@@ -614,6 +628,15 @@ class Pigyelund:
             DerError, InheritedError: As in `combine`.
         """
         return self.compare(Comparison.EQUAL, a, b, encoding)
+
+
+def refuse_others(expected: type[IntEnum], value: object) -> None:
+    """Raises `TypeError` if a value is a member of another enumeration than the expected one, for example a `Mode`.
+
+    Other numbers pass: the library refuses those that it does not know.
+    """
+    if isinstance(value, IntEnum) and not isinstance(value, expected):
+        raise TypeError(f"{value!r} is no {expected.__name__}")
 
 
 def with_buffers(call: Callable[[Lengths], CallResult]) -> Resources:

@@ -118,15 +118,21 @@ rpki_text 54
 END
 }
 
-# The plan of a build: a line for each crate in the order in which the crates end, with the second at which it ends. It
-# simulates the build: crates without unproved dependencies run side by side and share the processors. A crate that an
-# earlier run proved takes a second.
-plan() {
+# Prints a line for each crate of the build, lowest first: its seconds, its name and its direct dependencies. A crate
+# that an earlier run proved takes a second.
+timed_lines() {
     needed_lines | while read -r crate below; do
         seconds=$(seconds_of_crates | sed -n "s/^$crate //p")
         ! grep -qx "$crate" "$work/kept" || seconds=1
         echo "${seconds:-60} $crate $below"
-    done | awk -v processors="$(nproc)" '
+    done
+}
+
+# Prints the plan of a build: a line for each crate in the order in which the crates end. The line has the name, the
+# second at which the crate ends, and the work that all crates have done by then, in seconds of one processor. The plan
+# simulates the build: crates without unproved dependencies run side by side and share the processors.
+plan() {
+    timed_lines | awk -v processors="$(nproc)" '
         { left[$2] = $1; names[NR] = $2; for (at = 3; at <= NF; at++) needs[$2] = needs[$2] " " $at }
         function is_open(name,    words, count, at) {
             if (name in done) return 0
@@ -137,31 +143,34 @@ plan() {
         # How much faster a crate is proved by so many jobs.
         function gain(jobs) { return jobs < 1.5 ? 1 : jobs < 2.5 ? 1.4 : jobs < 3.5 ? 1.65 : 1.8 }
         END {
-            for (ended = 0; ended < NR;) {
-                all = jobs = 0
-                for (at = 1; at <= NR; at++) if (is_open(names[at])) all += left[names[at]]
-                for (at = 1; at <= NR; at++) {
-                    if (!is_open(name = names[at])) continue
-                    share = int(processors * left[name] / all + 0.5)
+            while (ended < NR) {
+                open = all = jobs = 0
+                for (at = 1; at <= NR; at++)
+                    if (is_open(names[at])) {
+                        running[++open] = names[at]
+                        all += left[names[at]]
+                    }
+                for (at = 1; at <= open; at++) {
+                    share = int(processors * left[running[at]] / all + 0.5)
                     if (share < 1) share = 1
                     if (share > 4) share = 4
-                    rate[name] = gain(share)
+                    rate[at] = gain(share)
                     jobs += share
                 }
                 slower = jobs > processors ? processors / jobs : 1
                 step = -1
-                for (at = 1; at <= NR; at++) {
-                    if (!is_open(name = names[at])) continue
-                    rate[name] *= slower
-                    if (step < 0 || left[name] / rate[name] < step) step = left[name] / rate[name]
+                for (at = 1; at <= open; at++) {
+                    rate[at] *= slower
+                    if (step < 0 || left[running[at]] / rate[at] < step) step = left[running[at]] / rate[at]
                 }
                 now += step
-                for (at = 1; at <= NR; at++) if (is_open(names[at])) running[names[at]]
-                for (name in running) {
-                    left[name] -= step * rate[name]
-                    if (left[name] < 0.001) { done[name]; ended++; print name, int(now + 0.5) }
-                    delete running[name]
-                }
+                for (at = 1; at <= open; at++) { left[running[at]] -= step * rate[at]; worked += step * rate[at] }
+                for (at = 1; at <= open; at++)
+                    if (left[name = running[at]] < 0.001) {
+                        done[name]
+                        ended++
+                        print name, int(now + 0.5), int(worked + 0.5)
+                    }
             }
         }'
 }
@@ -177,9 +186,37 @@ note_proved() {
     { cat "$work/kept" && sed -n 's/^rt: \([a-z0-9_]*\) proved$/\1/p' "$work/log"; } >"$work/proved"
 }
 
+# Prints an estimate of the seconds left, after this number of seconds. It scales the rest of the plan by the ratio of
+# the time gone to the time that the plan has for the work done. Two minutes are added to both times, so that the first
+# crates, which take seconds, do not decide the ratio.
+# The work done is that of the proved crates, and an eighth of the work of each crate in progress. The share of an
+# eighth was the best in simulated builds. The plan divides the processors better than rt does, and a crate may still
+# wait for a processor. A crate is in progress if its dependencies were proved before the last proved crate. At most as
+# many crates as there are processors are in progress, the first ones in the order of the plan.
+seconds_left() {
+    timed_lines | awk -v gone="$1" -v processors="$(nproc)" '
+        file == "proved" { proved[$1]; last = $1; next }
+        file == "crates" {
+            seconds[$2] = $1
+            for (at = 3; at <= NF; at++) if (!($at in proved) || $at == last) waits[$2]
+            next
+        }
+        {
+            whole = ends[++count] = $2
+            work[count] = $3
+            if ($1 in proved) done += seconds[$1]
+            else if (!($1 in waits) && begun++ < processors) done += seconds[$1] / 8
+        }
+        END {
+            for (at = 1; at < count && work[at] < done;) at++
+            part = (done - work[at - 1]) / (work[at] - work[at - 1])
+            planned = ends[at - 1] + (ends[at] - ends[at - 1]) * part
+            print int((gone + 120) * (whole - planned) / (planned + 120))
+        }
+    ' file=proved "$work/proved" file=crates - file=plan "$work/plan"
+}
+
 # Prints how many crates are proved, if there are more than at the last call, and an estimate of the time that is left.
-# The rest of the plan is scaled by the ratio of the time gone to the time that the plan has for the proved crates. Two
-# minutes are added to both times, so that the first crates, which take seconds, do not decide the ratio.
 report_proved() {
     note_proved
     proved=$(wc -l <"$work/proved")
@@ -187,13 +224,8 @@ report_proved() {
     reported=$proved
     gone=$(($(date +%s) - began))
     plan >"$work/plan"
-    seconds_left=$(awk -v gone="$gone" '
-        NR == FNR { marked[$1]; next }
-        { all = $2 }
-        $1 in marked { planned = $2 }
-        END { print int((gone + 120) * (all - planned) / (planned + 120)) }
-    ' "$work/proved" "$work/plan")
-    tell "$((proved)) of $((all)) crates are proved, $(in_minutes "$gone") gone, about $(in_minutes "$seconds_left") left"
+    tell "$((proved)) of $((all)) crates are proved, $(in_minutes "$gone") gone, about\
+ $(in_minutes "$(seconds_left "$gone")") left"
 }
 
 # Reports the progress until this job is ended.
@@ -220,7 +252,8 @@ build() {
     : >"$work/kept"
     : >"$work/log"
     plan >"$work/plan"
-    tell "proving and building the program first: $((all)) crates, about $(in_minutes "$(sed -n '$s/.* //p' "$work/plan")")\
+    whole=$(awk 'END { print $2 }' "$work/plan")
+    tell "proving and building the program first: $((all)) crates, about $(in_minutes "$whole")\
  on $(nproc) processors; --try answers at once, unproved"
     ending=
     trap 'ending=130' INT

@@ -238,27 +238,59 @@ expect "each crate that takes its time is reported when it is proved" 0 "$(seq 1
     "$(echo "$said" | sed -n "s/^respath: \([0-9]*\) of $all crates are proved, [0-9]* min gone, about [0-9]* min left\$/\1/p")"
 expect "a program that was proved by the script" 0 "proved here with the-kit logic 12" $? "$(version respath)"
 
-# The estimate: the rest of the plan, slower by as much as the proved crates were and two minutes more. Four are proved,
-# twice as slowly. A crate that was kept takes a second of the plan, or two if others share the processors with it.
-estimate() (
-    top=$copy started=respath program_crate=respath_files all=$all work=$copy/tmp reported=2
-    . "$top/program.sh"
+# Six crates, with plans and estimates worked out by hand. On two processors the first three crates share both processors
+# up to second 1800, since they need 3600 seconds of work. `left` and `right` get one processor each. `top` gets both
+# processors, which prove it 1.4 times as fast. On one processor each second of the plan is a second of work.
+mkdir "$files/six" "$files/six/tmp"
+cat >"$files/six/crates.txt" <<'END'
+one:
+two:
+three:
+left: one
+right: two
+top: three left right
+END
+
+# Prepares a build of these crates, on so many processors, and so many seconds after the build began.
+six() {
+    top=$files/six started=six program_crate=top all=6 work=$files/six/tmp reported=0 began=0 processors=$1 gone=$2
+    . "$copy/program.sh"
     : >"$work/kept"
-    plan >"$work/plan"
-    for crate in $(head -n 4 "$work/plan" | cut -d ' ' -f 1); do echo "rt: $crate proved"; done >"$work/log"
-    planned=$(sed -n '4s/.* //p' "$work/plan")
-    whole=$(sed -n '$s/.* //p' "$work/plan")
-    began=$(($(date +%s) - 2 * planned))
-    rest=$(((2 * planned + 120) * (whole - planned) / (planned + 120)))
-    report_proved 2>&1 | sed "s/about $(((rest + 59) / 60)) min/about the rest/; s/ [0-9]* min gone/ gone/"
-    sed -i '1s/ proved/ is kept: an earlier run/' "$work/log"
-    report_proved 2>/dev/null
-    awk 'NR == 1 { print ($2 <= 2 ? "at once" : $2) }' "$work/plan"
-    rm "$work/plan" "$work/log" "$work/kept" "$work/proved"
+    seconds_of_crates() { printf '%s\n' 'one 1200' 'two 1200' 'three 1200' 'left 1680' 'right 1680' 'top 3360'; }
+    nproc() { echo "$processors"; }
+    date() { echo "$gone"; }
+}
+
+# Prints the minutes left. The words are the processors, the seconds gone, and the lines of the log of rt.
+estimate() (
+    six "$1" "$2"
+    shift 2
+    printf 'rt: %s\n' "$@" >"$work/log"
+    report_proved 2>&1 | sed 's/.* gone, about //'
 )
-said=$(PATH=$copy/bin:$copy/tools estimate)
-expect "an estimate after four crates" 0 "respath: 4 of $all crates are proved, gone, about the rest left
-at once" $? "$said"
+said=$(six 2 0 && plan)
+expect "a plan of six crates" 0 "one 1800 3600
+two 1800 3600
+three 1800 3600
+left 3480 6960
+right 3480 6960
+top 5880 10320" $? "$said"
+# An eighth of `left` counts, and nothing of `right`, since `two` was proved last. The work of 3600 + 210 seconds is done
+# at second 1905 of the plan. The build takes twice as long as the plan, so 3930 * 3975 / 2025 seconds are left.
+said=$(estimate 2 3810 "one proved" "three proved" "two proved")
+expect "an estimate with work in progress" 0 "129 min left" $? "$said"
+# The plan has `left` after `two` and `three`, of which an eighth each counts. The work of 2880 + 300 seconds is done at
+# second 1590 of the plan, so 3300 * 4290 / 1710 seconds are left.
+said=$(estimate 2 3180 "one proved" "left proved")
+expect "an estimate after a crate that is late in the plan" 0 "138 min left" $? "$said"
+# One processor proves one crate at a time, so an eighth of `two` counts, and nothing of `three`. The work of 1200 + 150
+# seconds took 1350 seconds, so the other 8970 seconds are left.
+said=$(estimate 1 1350 "one proved")
+expect "an estimate on one processor" 0 "150 min left" $? "$said"
+# A crate that was kept counts one second, in the plan and in the work. The work of 1 + 1200 + 150 seconds took 1351
+# seconds, so the other 7770 seconds are left.
+said=$(estimate 1 1351 "one is kept: an earlier run" "two proved")
+expect "an estimate with a crate that was kept" 0 "130 min left" $? "$said"
 
 # Without a build
 touch "$copy/crates/rpki_text/new"

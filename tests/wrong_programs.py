@@ -25,7 +25,14 @@ WITHOUT_PLACES = "#!/bin/sh\nLC_ALL=C exec sed 's/.*/error/'\n"
 
 
 # Cases about what the test itself expects, or about program.sh: no program changes them.
-OF_THE_TEST = ("the last answer is longer than 64 KiB", "an estimate after four crates")
+OF_THE_TEST = (
+    "the last answer is longer than 64 KiB",
+    "a plan of six crates",
+    "an estimate with work in progress",
+    "an estimate after a crate that is late in the plan",
+    "an estimate on one processor",
+    "an estimate with a crate that was kept",
+)
 
 
 def program(name: str) -> str:

@@ -13,7 +13,7 @@ CALLS = ("verify", "union", "intersection", "difference", "contains")
 
 
 def value(tag, content):
-    """A DER value (X.690, 8.1)."""
+    """Returns a DER value (X.690, 8.1)."""
     length = len(content)
     if length < 128:
         return bytes([tag, length]) + content
@@ -26,7 +26,7 @@ def integer(number):
 
 
 def bits(number, width, ones):
-    """An address as a BIT STRING without its last bits, which are 0, or those that are 1 (RFC 3779, 2.2.3.8)."""
+    """Returns an address as a BIT STRING without its last bits that are all `ones` (RFC 3779, 2.2.3.8)."""
     left = width
     while left and number >> width - left & 1 == ones:
         left -= 1
@@ -35,7 +35,7 @@ def bits(number, width, ones):
 
 
 def numbers(blocks):
-    """AS identifiers (RFC 3779, 3.2.3)."""
+    """Returns AS identifiers (RFC 3779, 3.2.3)."""
     listed = b"".join(value(0x30, integer(first) + integer(last)) for first, last in blocks)
     return value(0x30, value(0xA0, value(0x30, listed)))
 
@@ -48,12 +48,12 @@ def family(number, width, shift, blocks):
 
 
 def addresses(blocks):
-    """IP address blocks (RFC 3779, 2.2.3)."""
+    """Returns IP address blocks (RFC 3779, 2.2.3)."""
     return value(0x30, family(1, 32, 8, blocks) + family(2, 128, 80, blocks))
 
 
 def written(one, other):
-    """The words for a file of four values: those of one set, and those of the other."""
+    """Writes a file of four values, two of one set and two of the other. Returns the words that name them."""
     values = [numbers(one), addresses(one), numbers(other), addresses(other)]
     with open(f"{folder}/octets", "wb") as file:
         file.write(b"".join(values))
@@ -61,7 +61,7 @@ def written(one, other):
 
 
 def shares(call, words):
-    """The thousands of instructions of one call, and the share of them in the border's own functions."""
+    """Returns the thousands of instructions of one call, and the share of them in the border's own functions."""
     log = f"{folder}/callgrind"
     run = ["valgrind", "--tool=callgrind", f"--callgrind-out-file={log}", f"{folder}/calls", call, str(TIMES), *words]
     subprocess.run(run, check=True, capture_output=True)
@@ -72,7 +72,10 @@ def shares(call, words):
 
 
 def annotated(log, inclusive):
-    """Each function with its instructions, those of the functions that it calls included or not."""
+    """Returns each function with its instructions.
+
+    If `inclusive` is `yes`, they include the instructions of the functions that it calls.
+    """
     words = ["callgrind_annotate", f"--inclusive={inclusive}", "--threshold=100", log]
     lines = subprocess.run(words, check=True, capture_output=True, text=True).stdout.splitlines()
     found = (re.match(r"\s*([\d,]+) \([\d. ]+%\)\s+\S*?:([\w:+<>#.]+)", line) for line in lines)

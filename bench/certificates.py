@@ -1,10 +1,11 @@
 #!/usr/bin/env python3
-"""How the time of a path of ten certificates grows with the blocks of each: of N of AS numbers, of IPv4 and of IPv6.
+"""Measures how the time of a path of ten certificates grows with the number of blocks in each certificate.
 
-Each certificate claims a little less than its issuer. `octets` is one call of `pigy_verify_path` over canonical octets,
-in process; `lines` is one run of respath over the same path as three lines `path`, which are texts. Both must leave
-what the last certificate claims. Seconds of the processor, each the least of RUNS in turn, for N of 1,000 to 64,000 or
-those that are given. Growth per doubling is about 2.
+Each certificate has N blocks of AS numbers, of IPv4 and of IPv6. It claims a little less than its issuer. `octets` is
+one call of `pigy_verify_path` with canonical octets, in process. `lines` is one run of respath with the same path as
+three lines `path`, which are texts. Both must leave what the last certificate claims. Times are in seconds of the
+processor, each the least of RUNS in turn. N is 1,000 to 64,000, or the numbers that are given. Growth per doubling is
+about 2.
 """
 
 import os
@@ -29,7 +30,7 @@ RUNS = 15
 
 
 def written(kind: str, number: int) -> str:
-    """A number below 2^32 as an AS number or an address."""
+    """Returns a number below 2^32 as an AS number or an address."""
     if kind == "as":
         return f"AS{number}"
     if kind == "v6":
@@ -38,13 +39,16 @@ def written(kind: str, number: int) -> str:
 
 
 def listed(kind: str, count: int, step: int) -> str:
-    """So many blocks, ascending, none touching the next; those of a later step lie inside those of the ones before."""
+    """Returns a list of `count` ascending blocks that do not touch.
+
+    The blocks of a later step are inside those of the steps before.
+    """
     blocks = ((32 * at, 32 * at + at % 9 + STEPS - step) for at in range(count))
     return ", ".join(f"{written(kind, least)}-{written(kind, greatest)}" for least, greatest in blocks)
 
 
 def answers(lines: list[str]) -> tuple[list[str], float]:
-    """What respath answers, and the seconds of the processor that it took."""
+    """Runs respath on lines. Returns its answers and the seconds of the processor."""
     with tempfile.TemporaryFile("w+") as asked:
         asked.writelines(line + "\n" for line in lines)
         asked.seek(0)
@@ -56,7 +60,7 @@ def answers(lines: list[str]) -> tuple[list[str], float]:
 
 
 def extensions(library: Pigyelund, lists: list[str]) -> Resources:
-    """The octets of both extensions that list three lists."""
+    """Returns the octets of both extensions of the set that three lists describe."""
     (asn, v4, v6), _ = answers([f"der {kind} {it}" for kind, it in zip(KINDS, lists)])
     return library.union(
         Resources(bytes.fromhex(asn), bytes.fromhex(v4)), Resources(b"", bytes.fromhex(v6))
@@ -71,7 +75,7 @@ class OfOctets:
         self._run, self._positions = concatenate(Certificate(Extensions(*claim)) for claim in claims[1:])
 
     def seconds(self) -> float:
-        """How long it takes to verify it."""
+        """Returns how long the path takes to verify."""
         lengths = (len(self._last.asn), len(self._last.ip))
         before = time.process_time()
         result = self._library.raw.verify_path(self._anchor, self._run, self._positions, Encoding.STRICT, lengths)
@@ -82,7 +86,7 @@ class OfOctets:
 
 
 class OfLines:
-    """The same as lines."""
+    """The same path as lines."""
 
     def __init__(self, lists: list[list[str]]) -> None:
         self._last, _ = answers([f"norm {kind} {it}" for kind, it in zip(KINDS, lists[-1])])
@@ -91,7 +95,7 @@ class OfLines:
         ]
 
     def seconds(self) -> float:
-        """How long it takes to answer them."""
+        """Returns how long the lines take to answer."""
         left, took = answers(self._lines)
         if left != self._last:
             sys.exit("the lines are answered otherwise")
@@ -99,7 +103,10 @@ class OfLines:
 
 
 def built(folder: str) -> Pigyelund:
-    """The shared library, made of the static one, which is proved first where it isn't there; and so is respath."""
+    """Builds the shared library from the static one, and builds respath.
+
+    The static library is proved first if it is missing.
+    """
     subprocess.run([TOP / "respath"], stdin=subprocess.DEVNULL, check=True)
     if not LIBRARY.exists():
         subprocess.run(["rt", "lib"], cwd=LIBRARY.parent.parent, check=True, stdout=sys.stderr)

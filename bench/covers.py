@@ -23,7 +23,7 @@ callers = {
 
 
 def prefixes(count):
-    """Random prefixes, whose host bits are clear; of every three, two are neighbours that join."""
+    """Yields random prefixes, whose host bits are clear. Two of every three are neighbours that join."""
     made = random.Random(count)
     for at in range(count):
         if at % 3 != 2:
@@ -35,7 +35,7 @@ def prefixes(count):
 
 
 def asked(name, list_of, folder):
-    """The answer, one prefix a line, and the seconds of the processor."""
+    """Returns the status, the answer as a list of prefixes, and the seconds of the processor."""
     path = os.path.join(folder, "input")
     with open(path, "w") as file:
         file.write("cover v4 " + ",".join(list_of) + "\n" if name == "respath" else "\n".join(list_of) + "\n")

@@ -25,7 +25,7 @@ def ipv6(number):
 
 
 def blocks(written, count):
-    """Blocks that neither overlap nor touch, ascending."""
+    """Returns ascending blocks that neither overlap nor touch."""
     return [f"{written(16 * at)}-{written(16 * at + at % 9)}" for at in range(count)]
 
 
@@ -40,7 +40,7 @@ def ascending(kind, written, count):
 
 
 def covered(written, count):
-    """Random prefixes of 18 to 32 bits."""
+    """Returns a line of `cover` with random prefixes of 18 to 32 bits."""
     chance = random.Random(count)
     made = ((chance.getrandbits(32), chance.randint(18, 32)) for _ in range(count))
     return "cover v4 " + ", ".join(f"{written(bits)}/{length}" for bits, length in made) + "\n"
@@ -57,12 +57,12 @@ def peak_of(process):
 
 
 def measured(program, path):
-    """Seconds of the processor and peak MiB of one run over the file."""
+    """Returns the seconds of the processor and the peak MiB of one run on the file."""
     peak = 0.0
     with open(path) as given:
         process = subprocess.Popen([program], stdin=given, stdout=subprocess.PIPE)
     while True:
-        # The program waits while its answers aren't taken, so the last look finds nearly all that it held.
+        # The program waits until its answers are read, so the last look finds nearly all memory that it held.
         select.select([process.stdout], [], [])
         peak = max(peak, peak_of(process))
         if not os.read(process.stdout.fileno(), 1 << 16):
@@ -88,7 +88,7 @@ def compare(program, inputs):
     """Prints the seconds and the peak memory for each input, and how they grow with its size."""
     print(f"{'input':<14}{'N':>8}{'MiB in':>8}{'seconds':>9}{'growth':>8}{'peak MiB':>10}{'growth':>8}")
     for name in [f"{kind}-{made}" for kind in ("as", "v4", "v6") for made in ("shuffled", "sorted", "lines")] + ["v4-cover"]:
-        # In rounds over all sizes, so that a slow moment of the machine doesn't meet one size alone.
+        # Each round has all sizes, so that a slow moment of the machine does not affect only one size.
         rounds = [[measured(program, f"{inputs}/{name}.{size}") for size in SIZES] for _ in range(RUNS)]
         before = None
         for size, runs in zip(SIZES, zip(*rounds)):

@@ -1,9 +1,9 @@
 #!/usr/bin/env python3
-"""How long `origins` takes to answer routes by a validator's file, and in how much memory, beside rtrlib's table.
+"""Measures the time and the memory that `origins` takes to answer routes by a validator's file, beside rtrlib's table.
 
-VRPs and routes are made at random: flat, of which most are of 24 bits, and nested some 80 deep. Each answer is
-compared with that of rtrlib (Debian's librtr-dev), where it is there; rtrlib's time is that of its table alone, in
-memory, without any reading. Seconds of the processor, the least of some runs, and the peak of memory in MiB.
+VRPs and routes are made at random. They are flat, mostly of 24 bits, or nested about 80 deep. Each answer is compared
+with that of rtrlib (Debian's librtr-dev), if rtrlib is there. rtrlib's time is that of its table alone, in memory,
+without any reading. Times are in seconds of the processor, the least of some runs. The peak of memory is in MiB.
 """
 
 import argparse
@@ -23,14 +23,14 @@ Route = tuple[int, int, int, int]
 
 
 def address(bits: int, number: int) -> str:
-    """An address as text."""
+    """Returns an address as text."""
     if bits == 32:
         return ".".join(str(number >> shift & 255) for shift in (24, 16, 8, 0))
     return ":".join(f"{number >> shift & 0xFFFF:x}" for shift in range(112, -1, -16))
 
 
 def flat(made: random.Random, count: int) -> Iterator[Vrp]:
-    """VRPs of which four of five are of IPv4, most of 24 bits."""
+    """Yields VRPs, four of five of IPv4 and most of these of 24 bits."""
     for _ in range(count):
         bits = 32 if made.randrange(5) else 128
         length = (24 if made.randrange(5) else made.randint(16, 24)) if bits == 32 else made.randint(29, 48)
@@ -40,7 +40,7 @@ def flat(made: random.Random, count: int) -> Iterator[Vrp]:
 
 
 def nested(made: random.Random, count: int) -> Iterator[Vrp]:
-    """VRPs of IPv6 each of whose prefixes lies in some 80 others: chains of every length from 32 to 112 bits."""
+    """Yields VRPs of IPv6 in chains of every length from 32 to 112 bits. Each prefix is in a chain of about 80."""
     while count > 0:
         number = made.getrandbits(128)
         for length in range(32, min(113, 32 + count)):
@@ -50,7 +50,7 @@ def nested(made: random.Random, count: int) -> Iterator[Vrp]:
 
 
 def routes_of(made: random.Random, vrps: list[Vrp], count: int) -> Iterator[Route]:
-    """Routes of which three of five are VRPs', some of them longer or by another AS."""
+    """Yields routes. Three of five are of VRPs, some of these longer or by another AS."""
     for _ in range(count):
         bits, number, length, longest, asn = made.choice(vrps)
         if made.randrange(5) < 2:
@@ -65,7 +65,7 @@ def routes_of(made: random.Random, vrps: list[Vrp], count: int) -> Iterator[Rout
         yield bits, number, length, asn
 
 
-# A process is counted with the memory that its parent had as it was begun: a small one begins the program.
+# A process counts with the memory that its parent had at its start, so a small process starts the program.
 CHILD = """
 import os, resource, subprocess, sys
 status = subprocess.call(sys.argv[1:], stderr=subprocess.DEVNULL)
@@ -75,7 +75,7 @@ print(status, used.ru_utime + used.ru_stime, used.ru_maxrss, file=sys.stderr)
 
 
 def run(words: list[object], stdin: Path | None, stdout: Path) -> tuple[float, float]:
-    """Seconds of the processor and the peak of memory in MiB of a program."""
+    """Runs a program. Returns the seconds of the processor and the peak of memory in MiB."""
     with open(stdin or os.devnull, "rb") as given, open(stdout, "wb") as taken:
         small = [sys.executable, "-S", "-E", "-c", CHILD, *words]
         measured = subprocess.run(small, stdin=given, stdout=taken, stderr=subprocess.PIPE, text=True, check=True).stderr
@@ -86,7 +86,7 @@ def run(words: list[object], stdin: Path | None, stdout: Path) -> tuple[float, f
 
 
 def rtrlib(folder: Path) -> Path | None:
-    """The program over rtrlib, if it can be compiled here."""
+    """Returns the program that uses rtrlib, or None if it cannot be compiled here."""
     built = folder / "rtrlib_origins"
     compiler = shutil.which("cc")
     source = TOP / "bench" / "rtrlib_origins.c"
@@ -99,25 +99,25 @@ def rtrlib(folder: Path) -> Path | None:
 
 
 def write(path: Path, lines: Iterator[str]) -> Path:
-    """A file of these lines."""
+    """Writes a file of these lines. Returns its path."""
     with path.open("w", encoding="ascii") as file:
         file.writelines(f"{line}\n" for line in lines)
     return path
 
 
 def word(answer: str) -> str:
-    """The validity in an answer."""
+    """Returns the validity in an answer."""
     return answer.split("-")[0] if answer.startswith("invalid") else answer
 
 
 def prefix(one: Vrp | Route) -> str:
-    """The prefix of a VRP or a route."""
+    """Returns the prefix of a VRP or a route."""
     bits, number, length, *_ = one
     return f"{address(bits, number)}/{length}"
 
 
 def written(folder: Path, vrps: list[Vrp], routes: list[Route]) -> None:
-    """The files that are asked: VRPs in both forms, routes, and both as rtrlib's program reads them."""
+    """Writes the input files: VRPs in both forms, routes, and both for rtrlib's program."""
     write(folder / "csv", (f"AS{one[4]},{prefix(one)},{one[3]}" for one in vrps))
     items = (f'{{"asn":{one[4]},"prefix":"{prefix(one)}","maxLength":{one[3]},"ta":"x"}}' for one in vrps)
     (folder / "json").write_text('{"roas":[' + ",\n".join(items) + "]}", encoding="ascii")

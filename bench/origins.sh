@@ -1,9 +1,15 @@
 #!/bin/sh
-# Times lookups in the tables that slow a lookup most, beside rtrlib's pfx_table (Debian's librtr-dev): 40,000 AS
-# numbers of one prefix, prefixes of all lengths inside one another, and 40,000 VRPs of these. Each table is asked for
-# three routes: one that its longest prefixes don't cover, one that they cover and none matches, and one that an AS may
-# originate. A time is in microseconds of the processor, the least of RUNS (5). Both must print the same answers.
-# bench/slowest_tables.py measures. The library of bench/clock.c makes each clock count the time of the processor.
+# Times lookups in the tables that slow a lookup most, beside rtrlib's pfx_table (Debian's librtr-dev). The tables are
+# these:
+#
+# - 40,000 AS numbers of one prefix
+# - prefixes of all lengths inside one another
+# - 40,000 VRPs of such prefixes
+#
+# Each table is asked for three routes. Its longest prefixes do not cover the first route. They cover the second route,
+# but no VRP matches. An AS may originate the third route. A time is in microseconds of the processor, the least of
+# RUNS (5). Both programs must print the same answers. bench/slowest_tables.py measures. The library of bench/clock.c
+# makes each clock count the time of the processor.
 top=$(CDPATH= cd -- "$(dirname -- "$0")/.." && pwd) || exit 1
 work=$(mktemp -d) || exit 1
 trap 'rm -rf "$work"' EXIT

@@ -1,7 +1,12 @@
 #!/usr/bin/env python3
-"""Draws the tables of docs/SPEED.md: docs/speed-ratios.svg, our time divided by that of the Rust crate, a bar for each line
-and call, docs/speed-growth.svg, the times of calls by the number of blocks, and docs/speed-covers.svg, those of covers by the
-number of prefixes. Run it after a table has changed."""
+"""Draws the tables of docs/SPEED.md. Run it after a table has changed.
+
+It draws three files:
+
+* `docs/speed-ratios.svg` has our time divided by that of the Rust crate, with a bar for each line and call.
+* `docs/speed-growth.svg` has the times of calls by the number of blocks.
+* `docs/speed-covers.svg` has the times of covers by the number of prefixes.
+"""
 
 import math
 import re
@@ -14,7 +19,7 @@ COLOURS = ["#1b6ca8", "#d1495b", "#66a182", "#edae49", "#8d6a9f", "#5c5c5c", "#0
 
 
 def table(first: str) -> list[list[str]]:
-    """The rows below a table's head, which begins with a word."""
+    """Returns the rows below the head of a table. The head begins with a given word."""
     block = next(it for it in re.findall(r"```\n(.*?)```", PAGE, re.S) if it.startswith(first))
     return [line.split() for line in block.splitlines()[1:] if line.strip()]
 
@@ -34,7 +39,7 @@ def picture(name: str, width: int, height: int, parts: list[str]) -> None:
 
 
 def ratios() -> None:
-    """A bar for each ratio: below 1 ours takes less time."""
+    """Draws a bar for each ratio. A ratio below 1 means that ours takes less time."""
     lines = [(row[0], float(row[3])) for row in table("input ")]
     calls = [(row[0], float(row[-1])) for row in table("call")]
     left, top, unit, step = 210, 40, 190, 20
@@ -57,8 +62,10 @@ def ratios() -> None:
 
 
 def powers(name: str, title: str, lines: dict[str, list[tuple[float, float]]], below: list[float], beside: list[float]) -> None:
-    """A line for each name, both ways by powers: a slope of one is time that grows as the number does. Those of the Rust crate
-    are dashed, in the colour of ours."""
+    """Draws a line for each name, with both axes logarithmic. A slope of one means that time grows as the number does.
+
+    The lines of the Rust crate are dashed, in the colour of ours.
+    """
     left, top, width, height = 90, 40, 380, 420
 
     def place(number: float, seconds: float) -> tuple[float, float]:
@@ -81,7 +88,7 @@ def powers(name: str, title: str, lines: dict[str, list[tuple[float, float]]], b
         path = " ".join(f"{x:.0f},{y:.0f}" for x, y in (place(*it) for it in points))
         parts.append(f'<polyline points="{path}" fill="none" stroke="{colour}" stroke-width="2"{dash}/>')
         ends.append((*place(*points[-1]), label))
-    # The names stand at the ends of the lines, and below each other where those are near.
+    # The names are at the ends of the lines. They are below each other if the ends are near.
     lowest: dict[float, float] = {}
     for x, y, label in sorted(ends):
         lowest[x] = max(y, lowest.get(x, y - 14) + 14)
@@ -90,7 +97,7 @@ def powers(name: str, title: str, lines: dict[str, list[tuple[float, float]]], b
 
 
 def growth() -> None:
-    """Calls on addresses by the number of blocks, ours and those of the Rust crate."""
+    """Draws the calls on addresses by the number of blocks, ours and those of the Rust crate."""
     sizes = [1e3, 1e5, 1e6]
     times: dict[str, list[tuple[float, float]]] = {}
     for row in table("call"):
@@ -103,7 +110,7 @@ def growth() -> None:
 
 
 def covers() -> None:
-    """Covers by the number of prefixes, ours and those of three other programs."""
+    """Draws the covers by the number of prefixes, ours and those of three other programs."""
     times: dict[str, list[tuple[float, float]]] = {}
     for row in table("       N     left"):
         for name, seconds in zip(("respath", "aggregate", "netmask", "netaddr"), row[2:]):

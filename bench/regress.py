@@ -1,10 +1,11 @@
 #!/usr/bin/env python3
 """regress.py [--write]: compares how many instructions the programs take with the figures in bench/regress.txt.
 
-Valgrind's callgrind counts the instructions of the built programs, and of calls from C, over inputs that are made
-here. The same program and input give the same count, whatever else the machine does. A count that is more than one part
-in twenty off its figure, in either direction, is printed, and the status is 1. So is an input without a figure, since
-nothing was compared then. A change that is meant moves the figures with its commit (--write).
+Valgrind's callgrind counts the instructions of the built programs, and of calls from C, on inputs that are made here.
+The same program and input give the same count, independent of other work of the machine. The script prints each count
+that is more than one part in twenty off its figure, in either direction. Then the status is 1. It is also 1 for an
+input without a figure, because nothing was compared. A commit that changes counts on purpose also changes the figures
+(--write).
 
 The first line of bench/regress.txt names the kit, the C library and the processor of the figures. Nothing is counted
 with others, without valgrind, or if `respath` or `bench_growth` is not built. Inputs of `origins` and of the C library
@@ -47,7 +48,7 @@ class Input:
 
 
 def written(kind: str, number: int) -> str:
-    """An AS number or address, by its number."""
+    """Returns the AS number or address with a number."""
     if kind == "as":
         return f"AS{number}"
     if kind == "v4":
@@ -56,7 +57,7 @@ def written(kind: str, number: int) -> str:
 
 
 def ranges(kind: str, count: int, skipped: int = 0) -> list[str]:
-    """Ranges that ascend, of which no two touch, but for each so manieth, which is left out."""
+    """Returns ascending ranges that do not touch. It leaves out every range whose number is a multiple of `skipped`."""
     listed = (at for at in range(count) if not skipped or at % skipped)
     return [f"{written(kind, 16 * at)}-{written(kind, 16 * at + 1 + at % 9)}" for at in listed]
 
@@ -67,13 +68,13 @@ def shuffled(elements: list[str]) -> list[str]:
 
 
 def path(kind: str, count: int) -> str:
-    """Ten steps, each of nearly as many blocks as are left."""
+    """Returns a path of ten steps. Each has nearly as many blocks as are left."""
     steps = (f"{('refuse', 'trim')[at % 2]} {', '.join(ranges(kind, count, 1000 - at))}" for at in range(10))
     return f"path {kind} {', '.join(ranges(kind, count))} | {' | '.join(steps)}\n"
 
 
 def short_lines(count: int) -> str:
-    """Short lines of the commands in turn."""
+    """Returns short lines of the commands in turn."""
     made = []
     for at in range(count):
         kind = KINDS[at % 3]
@@ -83,13 +84,13 @@ def short_lines(count: int) -> str:
 
 
 def answer(line: str) -> str:
-    """What the program answers to a line."""
+    """Returns the program's answer to a line."""
     ran = subprocess.run([RESPATH], input=line, stdout=subprocess.PIPE, text=True, check=True)
     return ran.stdout
 
 
 def lines() -> Iterator[tuple[str, str]]:
-    """Names of inputs of `respath`, and the inputs."""
+    """Yields the names of inputs of `respath`, and the inputs."""
     for kind in KINDS:
         yield f"norm-{kind}", f"norm {kind} {', '.join(ranges(kind, 20_000))}\n"
     for kind in KINDS:
@@ -108,7 +109,11 @@ def lines() -> Iterator[tuple[str, str]]:
 
 
 def of_vrps(folder: Path, kind: str) -> Iterator[Input]:
-    """A file of 20,000 VRPs in both forms, in random order and in that of the table; 50,000 routes by 2,000 VRPs."""
+    """Yields the inputs of one kind of VRPs.
+
+    They are files of 20,000 VRPs in both forms, in random order and in the order of the table, and 50,000 routes by
+    2,000 VRPs.
+    """
     vrps = list(getattr(origins, kind)(random.Random(kind), 20_000))
     few = vrps[:2_000]
     routes = list(origins.routes_of(random.Random(f"{kind} routes"), few, 50_000))
@@ -126,7 +131,7 @@ def of_vrps(folder: Path, kind: str) -> Iterator[Input]:
 
 
 def of_origins(folder: Path) -> Iterator[Input]:
-    """Inputs of `origins`: VRPs and routes, many routes by few VRPs, a long line, and what changes."""
+    """Yields inputs of `origins`: VRPs and routes, many routes by few VRPs, a long line, and what changes."""
     for kind in ("flat", "nested"):
         yield from of_vrps(folder, kind)
     few, next_file = folder / "few", folder / "next"
@@ -140,7 +145,7 @@ def of_origins(folder: Path) -> Iterator[Input]:
 
 
 def of_calls(folder: Path) -> Iterator[Input]:
-    """Calls from C: on two sets of 1,000 blocks (bench/calls.c), and on a table (bench/routes.c)."""
+    """Yields calls from C: on two sets of 1,000 blocks (bench/calls.c), and on a table (bench/routes.c)."""
     for name in ("calls", "routes"):
         built = [folder / name, TOP / "bench" / f"{name}.c", LIBRARY, kit() / "c" / "liblibc_c.a"]
         subprocess.run(["gcc", "-O2", "-o", *built], check=True)
@@ -155,7 +160,7 @@ def of_calls(folder: Path) -> Iterator[Input]:
 
 
 def instructions(asked: Input) -> int:
-    """How many instructions a program takes over an input."""
+    """Returns how many instructions a program takes for an input."""
     with tempfile.TemporaryFile("w+") as file:
         file.write(asked.given)
         file.seek(0)
@@ -174,7 +179,10 @@ def instructions(asked: Input) -> int:
 
 
 def parts_left_out() -> dict[str, str]:
-    """The groups of inputs that can't be counted here, by the beginnings of their names, and what they need."""
+    """Returns the groups of inputs that cannot be counted here, and what they need.
+
+    A group is named by the beginnings of the names of its inputs.
+    """
     absent = {}
     if not ORIGINS.exists():
         absent["table- routes- why- diff-"] = "origins is not built"
@@ -186,7 +194,7 @@ def parts_left_out() -> dict[str, str]:
 
 
 def inputs(folder: Path) -> Iterator[Input]:
-    """All inputs of what is built."""
+    """Yields all inputs of the programs that are built."""
     for name, given in lines():
         yield Input(name, (RESPATH,), given)
     yield Input("sets", (GROWTH, "5000"))
@@ -199,14 +207,14 @@ def inputs(folder: Path) -> Iterator[Input]:
 
 
 def counted() -> Iterator[tuple[str, int]]:
-    """Each input's name, and its instructions."""
+    """Yields each input's name and its instructions."""
     with tempfile.TemporaryDirectory() as folder, ThreadPoolExecutor(min(4, os.cpu_count() or 1)) as pool:
         asked = list(inputs(Path(folder)))
         yield from zip((it.name for it in asked), pool.map(instructions, asked), strict=True)
 
 
 def left_out() -> str:
-    """Why nothing is counted; an empty text if the inputs are counted."""
+    """Returns why nothing is counted, or an empty text if the inputs are counted."""
     if shutil.which("valgrind") is None:
         return "valgrind is not there"
     for program in (RESPATH, GROWTH):
@@ -219,12 +227,12 @@ def left_out() -> str:
 
 
 def kit() -> Path:
-    """The folder of the kit."""
+    """Returns the folder of the kit."""
     return Path(shutil.which("rt") or "rt").resolve().parent.parent
 
 
 def what_counts() -> str:
-    """The kit, the C library and the processor."""
+    """Returns the names of the kit, the C library and the processor."""
     kit = subprocess.run(["rt", "version"], stdout=subprocess.PIPE, text=True, check=True).stdout.split()[0]
     processor = re.search(r"^model name\s*: (.*)", Path("/proc/cpuinfo").read_text(), re.MULTILINE)
     return ", ".join([kit, " ".join(platform.libc_ver()), processor[1] if processor else platform.machine()])

@@ -1,8 +1,10 @@
 #!/bin/sh
-# How the time of making a set of ascending blocks grows, and that of union, intersection, difference and inclusion of two
-# sets of N blocks of AS numbers or of addresses each that interleave; and how that of reading and writing DER grows:
-# SEQUENCEs of N blocks of AS numbers or addresses, in another order than ascending, and the sets that they say; for N of
-# 100,000, 200,000 and 400,000. Growth per doubling is about 2.
+# Measures how the time of calls on sets grows with N blocks of AS numbers or of addresses. N is 100,000, 200,000 and
+# 400,000. Growth per doubling is about 2. There are three kinds of calls:
+#
+# - making a set of ascending blocks
+# - union, intersection, difference and inclusion of two sets whose blocks interleave
+# - reading DER, a SEQUENCE whose blocks do not ascend, and writing its set
 top=$(CDPATH= cd -- "$(dirname -- "$0")/.." && pwd) || exit 1
 program=$top/crates/bench_growth/out/bench_growth
 if ! [ -x "$program" ]; then

@@ -32,18 +32,18 @@ class Module:
     exports: dict[str, tuple[str, ...]] = field(default_factory=dict)
 
     def all(self) -> Iterator["Module"]:
-        """The module and those below it, in the order of their `mod` lines."""
+        """Yields the module and those below it, in the order of their `mod` lines."""
         yield self
         for child in self.children.values():
             yield from child.all()
 
     def is_public(self) -> bool:
-        """Whether the module's own path can be written outside its crate."""
+        """Returns whether the module's own path can be written outside its crate."""
         return self.parent is None or (self.path[-1] in self.parent.public and self.parent.is_public())
 
 
 def names_of(tree: str) -> Iterator[tuple[str, tuple[str, ...]]]:
-    """The names that a `use` tree brings, each with its path."""
+    """Yields the names that a `use` tree imports, each with its path."""
     front, brace, inside = tree.partition("{")
     if not brace:
         path, _, name = tree.strip().partition(" as ")
@@ -77,13 +77,13 @@ def read(module: Module, folder: Path) -> Module:
 
 @cache
 def root_of(crate: str) -> Module:
-    """The root module of a library."""
+    """Returns the root module of a library."""
     folder = TOP / "crates" / crate / "src"
     return read(Module((crate,), folder / "lib.rt"), folder)
 
 
 def meant_by(module: Module, path: tuple[str, ...]) -> Module | Key | None:
-    """The module or the item that a path of a `use` line stands for; None if it is outside the repository."""
+    """Returns the module or item that a path of a `use` line names. Returns None if it is outside the repository."""
     first, *rest = path
     if first == "crate":
         place: Module | Key | None = root_of(module.path[0])
@@ -109,7 +109,7 @@ def meant_by(module: Module, path: tuple[str, ...]) -> Module | Key | None:
 
 @cache
 def public_paths(crate: str) -> dict[Key, str]:
-    """The shortest public path of each item that can be reached through a library."""
+    """Returns the shortest public path of each item that a library exports."""
     found: dict[Key, str] = {}
     todo: list[tuple[str, Module]] = [(crate, root_of(crate))]
     seen: set[Module] = set()

@@ -9,19 +9,19 @@ MARK = re.compile(r"\s*(?:- |\d+\. )")
 
 
 def anchor(path: str) -> str:
-    """The link to a heading, as GitHub makes it."""
+    """Returns the link to a heading, as GitHub makes it."""
     return "#" + re.sub(r"[^a-z0-9_ -]", "", path.lower()).replace(" ", "-")
 
 
 def wrapped(text: str, indent: str = "") -> list[str]:
-    """The lines of a text. Links are not cut, and no line but the first begins as an item of a list."""
+    """Returns the lines of a text. It cuts no link, and no line but the first begins like an item of a list."""
     whole = re.sub(r"(?<=\S) (?=(?:[-+*#>]|\d+[.)]) )", "\0", text)
     lines = textwrap.wrap(whole, WIDTH, subsequent_indent=indent, break_long_words=False, break_on_hyphens=False)
     return [line.replace("\0", " ") for line in lines]
 
 
 def filled(lines: list[str]) -> list[str]:
-    """The lines of one paragraph or of one item of a list, filled as a whole."""
+    """Returns the lines of one paragraph or of one list item, filled as a whole."""
     indent = lines[0][: len(lines[0]) - len(lines[0].lstrip())]
     mark = MARK.match(lines[0])
     text = " ".join(line.strip() for line in lines)
@@ -29,7 +29,7 @@ def filled(lines: list[str]) -> list[str]:
 
 
 def laid_out(lines: list[str]) -> Iterator[str]:
-    """The lines of a text: paragraphs and items are filled, and blocks of code and tables stay as they are."""
+    """Yields the lines of a text. It fills paragraphs and list items, and copies blocks of code and tables."""
     part: list[str] = []
     in_code = False
     for line in [*lines, ""]:

@@ -1,7 +1,7 @@
-"""The blocks of the pages, with what the pages show as their output: finds them, runs them, and reports what differs.
+"""Finds the blocks of the pages, runs them, and compares what they print with what the pages show.
 
-The tests of pages use this module, so their reports have one form: the difference for each example whose output is not
-the one that its page shows, a line for each example that is left out, and a last line with the counts.
+The tests of pages use this module, so their reports have one form. A report has the difference for each example whose
+output is not the one on its page. It has a line for each example that is left out, and a last line with the counts.
 """
 
 import difflib
@@ -20,8 +20,11 @@ ANSWER = re.compile(r"\| \./respath .*# (.*\n)")
 
 @dataclass(frozen=True)
 class Block:
-    """A block of a page: the page with the line of its fence, the words after the fence, its text without output, and
-    the output that the page shows."""
+    """A block of a page.
+
+    `place` is the page with the line of the block's fence. `kind` has the words after the fence. `text` is the text
+    without output, and `shown` is the output that the page shows.
+    """
 
     place: str
     kind: str
@@ -30,8 +33,11 @@ class Block:
 
 
 def with_output(place: str, kind: str, text: str, next_text: str) -> Block:
-    """Returns a block with its output. In a block `console` the commands begin with `$ `, and the other lines are the
-    output. The output of a block `sh` is the next block, if that is one of `text`, or the comments behind its lines."""
+    """Returns a block with its output.
+
+    In a block `console` the commands begin with `$ `, and the other lines are the output. The output of a block `sh` is
+    the next block, if that is a block `text`. Otherwise it is the comments after the lines of the block.
+    """
     if kind == "console":
         lines = text.splitlines(keepends=True)
         shown = "".join(it for it in lines if not it.startswith("$ "))
@@ -40,7 +46,10 @@ def with_output(place: str, kind: str, text: str, next_text: str) -> Block:
 
 
 def blocks_of(page: str, title: str = "") -> list[Block]:
-    """Returns the blocks of a page. With the line of a heading it returns those between this heading and the next."""
+    """Returns the blocks of a page.
+
+    With the line of a heading it returns the blocks between this heading and the next.
+    """
     text = (TOP / page).read_text()
     heading, found = "", []
     for part, after in pairwise([*HEADING_OR_BLOCK.finditer(text), None]):
@@ -114,7 +123,7 @@ class Report:
         self.differing += bool(found)
 
     def compare(self, example: str, shown: str, printed: str, errors: str = "") -> None:
-        """Compares what a page shows with what was printed. `errors` is what else to print if they differ."""
+        """Compares what a page shows with what was printed. `errors` is extra text to print if they differ."""
         lines = [*difflib.ndiff(shown.splitlines(), printed.splitlines()), errors]
         fault = "\n".join(["the page (-) and what is printed (+)", *lines])
         self.add(example, [] if shown == printed else [fault])

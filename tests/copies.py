@@ -1,5 +1,7 @@
-"""Copies of the repository, and what a test says if one thing is made wrong in a copy. The tests of the tests use this
-module: tests/of_tests.py and the modules wrong_*."""
+"""Copies the repository, makes one thing wrong in the copy, and runs a test there.
+
+The tests of the tests use this module: tests/of_tests.py and the modules wrong_*.
+"""
 
 import os
 import shutil
@@ -12,7 +14,7 @@ from blocks import TOP, program
 
 @dataclass(frozen=True)
 class Case:
-    """What is made wrong, and the test that has to tell it, with its words."""
+    """A change that makes a file wrong, and the test that has to report it with these words."""
 
     test: str
     file: str
@@ -27,7 +29,7 @@ def built(name: str) -> Path:
 
 
 def copied(to: Path, *programs: str) -> Path:
-    """Copies the sources, and these programs, as far as they are built. Returns the copy."""
+    """Copies the sources, and these programs as far as they are built. Returns the copy."""
     shutil.copytree(TOP, to, symlinks=True, ignore=shutil.ignore_patterns(".git", "out", "__pycache__"))
     for path in (built(it) for it in programs if (TOP / built(it)).is_file()):
         (to / path).parent.mkdir()
@@ -36,7 +38,7 @@ def copied(to: Path, *programs: str) -> Path:
 
 
 def written(folder: Path, files: dict[str, str]) -> None:
-    """Writes programs or files of a copy. Each can be run."""
+    """Writes the files of a copy, and makes each one executable."""
     for name, text in files.items():
         path = folder / name
         path.parent.mkdir(parents=True, exist_ok=True)
@@ -45,8 +47,10 @@ def written(folder: Path, files: dict[str, str]) -> None:
 
 
 def said_by(words: tuple[str, ...], copy: Path, bin_folder: Path | None = None, **variables: str) -> tuple[int, str]:
-    """Runs a command in a copy, with the programs of a folder before all others. Returns its status and its whole
-    output."""
+    """Runs a command in a copy, with the programs of a folder before all others.
+
+    Returns its status and its whole output.
+    """
     own = {"TMPDIR": str(copy.parent), "PYTHONDONTWRITEBYTECODE": "1"}
     if bin_folder:
         own["PATH"] = f"{bin_folder}:{os.environ['PATH']}"
@@ -56,7 +60,7 @@ def said_by(words: tuple[str, ...], copy: Path, bin_folder: Path | None = None, 
 
 
 def fault_of(case: Case, copy: Path, command: tuple[str, ...] = (), failing: int = 1, **variables: str) -> str | None:
-    """Returns what a test does not say of a case, None if it says it. The copy is as before then."""
+    """Returns what a test does not report of a case, or None if it reports the case. It restores the copy."""
     path = copy / case.file
     before = path.read_bytes()
     if case.old.encode() not in before:

@@ -1,15 +1,15 @@
 #!/usr/bin/env python3
 """Tests the recipe "Validate routes on more than one machine" of docs/RECIPES.md: foreign_dask.py LIBRARY [ROUTES].
 
-The recipe's two programs run by a scheduler and workers of Dask, which are processes of this machine. LIBRARY is the
-folder of the shared library. The test needs Debian's python3-distributed, and is left out by name without it.
+A scheduler and workers of Dask run the recipe's two programs. They are processes of this machine. LIBRARY is the folder
+of the shared library. The test needs Debian's python3-distributed, and is left out by name without it.
 
-- With the files of the page's first recipe, the program prints what the page shows.
-- With made VRPs and routes, one worker, two workers and four workers print the same lines. The reference has the same
-  validities (tests/reference). Each worker makes the table once.
+* With the files of the page's first recipe, the program has to print what the page shows.
+* With made VRPs and routes, one worker, two workers and four workers have to print the same lines. The validities have
+  to be those of the reference (tests/reference). Each worker has to make the table once.
 
-ROUTES is the number of made routes. With it the test also prints the seconds by one, two and four workers.
-The status is 1 if something differs.
+ROUTES is the number of made routes. With it the test also prints the seconds by one, two and four workers. The status
+is 1 if something differs.
 """
 
 import os
@@ -62,7 +62,7 @@ def write_example(folder: Path) -> str:
 
 
 def network(source: Random, length: int) -> IPv4Network | IPv6Network:
-    """A prefix of this length among few addresses, so that VRPs cover routes."""
+    """Returns a prefix of this length among few addresses, so that VRPs cover routes."""
     if source.randrange(3):
         return IPv4Network((10 << 24 | source.getrandbits(16) << 8, length), strict=False)
     return IPv6Network((0x20010DB8 << 96 | source.getrandbits(16) << 72, length + 24), strict=False)
@@ -85,7 +85,7 @@ def write_made(folder: Path, count: int) -> None:
 
 
 def expected(folder: Path) -> tuple[list[str], dict[str, int]]:
-    """The invalid routes and the numbers of the validities, by the definitions of RFC 6811, 2."""
+    """Returns the invalid routes, and the number of routes of each validity, by the definitions of RFC 6811, 2."""
     from reference import prefixes
 
     table: dict[prefixes.Prefix, list[tuple[int, int]]] = {}
@@ -109,7 +109,7 @@ def expected(folder: Path) -> tuple[list[str], dict[str, int]]:
 
 @contextmanager
 def cluster(folder: Path, environment: dict[str, str], count: int) -> Iterator[str]:
-    """Starts a scheduler and some workers. Yields the address of the scheduler, and kills all processes."""
+    """Starts a scheduler and some workers. Yields the address of the scheduler, and ends all processes afterwards."""
     address = folder / f"scheduler-{count}.json"
     own = ["--scheduler-file", str(address)]
     logs = (folder / f"dask-{count}.log").open("w")
@@ -145,7 +145,7 @@ def run(folder: Path, environment: dict[str, str], *words: str) -> subprocess.Co
 
 
 def faults_of(folder: Path, environment: dict[str, str], count: int | None) -> Iterator[str]:
-    """Runs the recipe by one, two and four workers. Yields what differs."""
+    """Runs the recipe with one, two and four workers. Yields what differs."""
     shown = write_example(folder)
     files = [str(folder / "csv"), str(folder / "routes")]
     with cluster(folder, environment, 2) as scheduler:

@@ -1,15 +1,21 @@
 #!/usr/bin/env python3
-"""Compares the table of numbers of the foreign calls with the library's own and with the page about them, and runs the
-page's programs.
+"""Compares the numbers of the foreign calls in the library and on the page about them, and runs the page's programs.
 
-Without arguments: foreign/numbers.txt has each number of the library, the header defines these names and no others,
-and each row of the table of statuses in docs/FOREIGN.md has the number of its name. The package for Python requires the
-first Python that has all that its sources use, and pages and tests name the same Python. The header and the page state
-the stack on which foreign/c/test.c makes its calls. The package of the shared library lists the symbols of
-foreign/c/exports.map, each with the first version that has it. tests/source_versions.py compares the versions.
+Without arguments it checks these things:
 
-With SECTION PREFIX, as C or `A table in C`: the program of that section, in an empty folder, built by its commands with
-the library that is installed under PREFIX, prints what the page says. The status is 1 if something differs.
+* foreign/numbers.txt has each number of the library.
+* The header defines the names of foreign/numbers.txt and no others.
+* Each row of the table of statuses in docs/FOREIGN.md has the number of its name.
+* The package for Python requires the first Python that has all that its sources use.
+* Pages and tests name the same Python.
+* The header and the page state the stack on which foreign/c/test.c makes its calls.
+* The package of the shared library lists the symbols of foreign/c/exports.map. Each has the first version with it.
+
+tests/source_versions.py compares the versions.
+
+With SECTION PREFIX it runs the program of that section, for example C or `A table in C`. The section's commands build
+the program in an empty folder, with the library that is installed under PREFIX. The program has to print what the page
+says. The status is 1 if something differs.
 """
 
 import ast
@@ -26,7 +32,7 @@ HEADER = TOP / "foreign" / "pigyelund.h"
 CRATE = TOP / "crates" / "pigyelund_c"
 ROUTES = TOP / "crates" / "pigyelund_routes"
 SYMBOLS = TOP / "packaging" / "libpigyelund1.symbols"
-# Which name in pigyelund.h is which one in the library's definitions.
+# The names in pigyelund.h, each with its name in the library's definitions.
 CHOICES = {
     "LENIENT": "encoding_number Any",
     "STRICT": "encoding_number Canonical",
@@ -42,19 +48,19 @@ CHOICES = {
     "NOT_FOUND": "validity_number NotFound",
     "INVALID": "validity_number Invalid",
 }
-# Why a VRP that covers a route doesn't match it: the first two cases of IsMismatch, and their sum is the third.
+# The reasons why a covering VRP does not match a route: two cases of IsMismatch. Their sum is the third case.
 MISMATCHES = {"OTHER_AS": 1, "TOO_LONG": 2}
 SOURCES = {"c": "program.c", "cpp": "program.cpp", "toml": "Cargo.toml", "rust": "src/main.rs", "python": "program.py"}
 
 
 def stored() -> dict[str, int]:
-    """The table that the tests in each language share."""
+    """Returns the numbers of foreign/numbers.txt, which the tests in each language share."""
     text = (TOP / "foreign" / "numbers.txt").read_text()
     return {name: int(number) for name, number in re.findall(r"^NUMBER\((\w+), (\d+)\)$", text, re.MULTILINE)}
 
 
 def of_library() -> dict[str, int]:
-    """The library's own numbers: its statuses, those that choose, by their definitions, and its version."""
+    """Returns the library's own numbers: its statuses, its other constants, and the version of the calls."""
     statuses = (ROUTES / "src" / "status.rt").read_text()
     constants = re.findall(r"^pub const (\w+): u32 = (\d+);$", statuses, re.MULTILINE)
     found = {name: int(number) for name, number in constants}
@@ -68,13 +74,13 @@ def of_library() -> dict[str, int]:
 
 
 def of_header() -> set[str]:
-    """The names that the header defines as numbers."""
+    """Returns the names that the header defines as numbers."""
     text = HEADER.read_text()
     return set(re.findall(r"^#define PIGY_(\w+) \w+u\b", text, re.MULTILINE))
 
 
 def of_page(numbers: dict[str, int]) -> list[str]:
-    """What differs in the page's table of statuses."""
+    """Returns what differs in the page's table of statuses."""
     text = PAGE.read_text()
     rows = re.findall(r"^\| (\d\w*)(?: \+ n)? \| ([A-Z_0-9]+(?: \+ [A-Z_0-9]+)?) \|", text, re.MULTILINE)
     faults = [
@@ -87,7 +93,7 @@ def of_page(numbers: dict[str, int]) -> list[str]:
     return faults + [f"{PAGE.name} has no status {name}" for name in sorted(missing)]
 
 
-# The names of the standard library that a minor version of Python 3 has first, of those that the package may use.
+# Names of the standard library that the package may use, by the first minor version of Python 3 that has them.
 NEW_IN = {
     10: "pairwise ParamSpec TypeAlias TypeGuard",
     11: "StrEnum Self Never assert_never LiteralString tomllib ExceptionGroup",
@@ -95,7 +101,7 @@ NEW_IN = {
     13: "deprecated TypeIs",
 }
 NEW_NAMES = {name: minor for minor, names in NEW_IN.items() for name in names.split()}
-# The first minor version that has a form of the syntax.
+# The first minor version of Python 3 that has a form of the syntax.
 NEW_FORMS = {"Match": 10, "TryStar": 11, "TypeAlias": 12}
 
 
@@ -148,7 +154,7 @@ def of_python() -> list[str]:
 
 
 def of_stack() -> list[str]:
-    """Returns where another stack is stated than the one on which foreign/c/test.c makes its calls."""
+    """Returns the places that state another stack than the one on which foreign/c/test.c makes its calls."""
     test = (TOP / "foreign" / "c" / "test.c").read_text()
     names = ("STACK", "USED", "USED_TO_READ")
     stack, used, to_read = (re.search(rf"\b{name} = (\d+) << 10\b", test) for name in names)
@@ -180,7 +186,7 @@ def numbered(version: str) -> list[int]:
 
 
 def numbers_differ() -> list[str]:
-    """What differs in numbers and names."""
+    """Returns what differs in numbers and names."""
     numbers, own = stored(), of_library()
     faults = [
         f"{name} is {own.get(name)} in the library and {numbers.get(name)} in numbers.txt"
@@ -206,7 +212,7 @@ def compare_program(title: str, prefix: str) -> int:
 
 
 def main() -> int:
-    """Compares, or runs what is named."""
+    """Compares the numbers, or runs the program that the arguments name."""
     if sys.argv[1:]:
         return compare_program(*sys.argv[1:])
     faults = numbers_differ()

@@ -1,19 +1,36 @@
 #!/usr/bin/env python3
-"""Compares foreign/rows.txt, the questions and answers of the tests in C, Rust and Python, with the reference.
+"""Compares foreign/rows.txt, the test vectors of the packages for C, Rust and Python, with the reference.
 
-A row has a call and its numbers, joined by commas; four words that go in, in hexadecimal and - where there are no
-octets; the status, the two words that are told, and how many certificates of a path are verified. What goes in are the
-two extensions of the issuer, of the first set or of the anchor, and then those of the certificate or of the second set;
-or a run of octets and the certificates of a path, each as six numbers; or VRPs, 23 octets each, and routes, 22 each:
-address, AS number, family, length, maximum length. Of these the last word is the place of the first that is none. Of a
-table the first word has its VRPs; the third a route that is covered, whose answer has 24 octets for each VRP, the
-last of them why it doesn't match; or the VRPs that are announced, and the fourth those that are withdrawn: these are
-answered by all VRPs of the next table. Of two tables the first two words have their VRPs, and the third
-the routes; the answer is 1 for each route with another validity by the second, and 0 for any other. Of a file the first
-word has its octets; the answer has its VRPs, and the last
-word is the number of the line or item at fault. Of a text the first word has its octets; the answer is a
-set. The ranges of a set are pairs of numbers, 8 octets each for AS numbers and 32 for addresses. With --write the file
-is written anew. Status 1 where it differs.
+With --write the script writes the file anew. The status is 1 if the file differs.
+
+A row has nine words with spaces between them. Octets are in hexadecimal. A word without octets is `-`.
+
+1. The first word is the call and its numbers, joined by commas.
+2. The second to the fifth word are the input.
+3. The sixth word is the status.
+4. The seventh and the eighth word are the output.
+5. The last word is a count, an index, the number of a line or item, or `-`. It depends on the call.
+
+The input and the output depend on the call:
+
+* `verify` and the calls on two sets: a set or a certificate is two words, its AS extension and its IP extension. The
+  output is a set. The tests `contains` and `equal` have no output.
+* `path`: the anchor's set, the octets of all extensions, and the certificates. A certificate is six numbers. The last
+  word is the number of certificates that are verified.
+* `cover`: the octets of an IP extension. The output has each prefix's address and length.
+* `as_ranges` and `ip_ranges`: the octets of an extension. The output has two numbers for each range. A number has 4
+  octets for AS numbers and 16 for addresses.
+* `origins`: VRPs of 23 octets each, and routes of 22 octets each. Both have an address, an AS number, a family and a
+  length. A VRP also has a maximum length. The last word is the index of the first VRP or route that is invalid.
+* `covering`: the VRPs of a table, and a route. The output has 24 octets for each VRP that covers the route. The last
+  octet says why the VRP does not match.
+* `vrps`: the VRPs of a table. The output is the same VRPs in the order of a table.
+* `changed`: the VRPs of a table, the announced VRPs and the withdrawn VRPs. The output is all VRPs of the next table.
+* `differ`: the VRPs of two tables, and routes. The output is 1 for each route whose validity differs, and 0 for any
+  other route.
+* `read`: a file of VRPs. The output is its VRPs. The last word is the number of the first line or item that is invalid.
+* `text`: a list of resources as text. The output is a set.
+* `answer`: a line for `respath`. The output is the line that it prints.
 """
 
 import sys
@@ -53,7 +70,11 @@ ON_SETS = [*OPERATIONS, *TESTS]
 
 
 class Place(NamedTuple):
-    """A certificate of a path: where the octets of its extensions begin, how many they are, and two numbers."""
+    """A certificate of a path.
+
+    It has the start and the length of each extension in the octets, the number of the extensions that are present, and
+    the mode.
+    """
 
     as_start: int
     as_len: int
@@ -64,7 +85,7 @@ class Place(NamedTuple):
 
 
 class Question(NamedTuple):
-    """A call, its numbers, and what goes in."""
+    """A call, its numbers and its input."""
 
     call: str
     numbers: tuple[int, ...]
@@ -74,7 +95,7 @@ class Question(NamedTuple):
 
 
 class Answer(NamedTuple):
-    """The status, the words that are told, and how many certificates of a path are verified, or which route is none."""
+    """A status, the output, and the last word of the row: a count, an index or a number of a line, or no number."""
 
     status: int
     written: Octets
@@ -82,7 +103,7 @@ class Answer(NamedTuple):
 
 
 class Status(Exception):
-    """A refusal, and the excess that is told with it."""
+    """A refusal, with its number and the overclaimed resources."""
 
     def __init__(self, number: int, excess: Triple = ([], [], [])) -> None:
         super().__init__(number)
@@ -91,7 +112,7 @@ class Status(Exception):
 
 
 class StatusAt(Exception):
-    """A refusal, and the place of what is none."""
+    """A refusal, with its number and the index of the invalid VRP."""
 
     def __init__(self, number: int, place: int) -> None:
         super().__init__(number, place)
@@ -100,7 +121,7 @@ class StatusAt(Exception):
 
 
 def read_numbers(octets: bytes | None, strict: bool, base: int) -> Claim:
-    """The claim on AS numbers, missing where the extension is absent."""
+    """Reads the claim on AS numbers. Returns None if the extension is absent."""
     if octets is None:
         return None
     try:
@@ -110,7 +131,7 @@ def read_numbers(octets: bytes | None, strict: bool, base: int) -> Claim:
 
 
 def read_addresses(octets: bytes | None, strict: bool, base: int) -> Families:
-    """The claims on addresses, missing where the extension is absent."""
+    """Reads the claims on addresses. Returns no claims if the extension is absent."""
     if octets is None:
         return Families(None, None)
     try:
@@ -120,7 +141,7 @@ def read_addresses(octets: bytes | None, strict: bool, base: int) -> Families:
 
 
 def read_set(octets: Octets, strict: bool, base: int = 0) -> Triple:
-    """The set that octets of both extensions list, each None where there are none."""
+    """Reads a set from the octets of both extensions. Empty octets mean that an extension is absent."""
     claims = read_numbers(octets[0] or None, strict, base), *read_addresses(octets[1] or None, strict, base)
     if INHERIT in claims:
         raise Status(base + INHERITED)
@@ -128,7 +149,7 @@ def read_set(octets: Octets, strict: bool, base: int = 0) -> Triple:
 
 
 def left(kind: int, root: Set, claim: Claim, mode: int) -> Set:
-    """What a claim leaves of a set of a kind."""
+    """Returns the resources of one kind that a certificate has: its claim on the issuer's set `root`."""
     try:
         return paths.left(root, [Step(claim, mode == TRIM)])
     except Refused as refused:
@@ -138,14 +159,14 @@ def left(kind: int, root: Set, claim: Claim, mode: int) -> Set:
 
 
 def is_strict(encoding: int) -> bool:
-    """Whether an encoding takes canonical octets alone."""
+    """Returns whether an encoding takes only canonical DER."""
     if encoding not in (LENIENT, STRICT):
         raise Status(BAD_ENCODING)
     return encoding == STRICT
 
 
 def expect_numbers(present: int, mode: int) -> None:
-    """Refuses the number of extensions that are there, and else of a mode, where it is none."""
+    """Refuses a wrong value of `present`, or else a wrong mode."""
     if present not in range(BOTH + 1):
         raise Status(BAD_PRESENT)
     if mode not in (REFUSE, TRIM):
@@ -153,7 +174,7 @@ def expect_numbers(present: int, mode: int) -> None:
 
 
 def issued(issuer: Triple, present: int, octets: Octets, strict: bool, mode: int) -> Triple:
-    """What an issuer's set leaves of a certificate's claims."""
+    """Returns the verified resources of a certificate under an issuer's set."""
     if not present:
         raise Status(ABSENT)
     asn_claim = read_numbers(octets[0] if present & NUMBERS else None, strict, SECOND)
@@ -164,7 +185,7 @@ def issued(issuer: Triple, present: int, octets: Octets, strict: bool, mode: int
 
 
 def verified(question: Question) -> Triple:
-    """What the issuer's set leaves of the certificate's claims."""
+    """Returns the result of the call `verify`."""
     encoding, present, mode = question.numbers
     strict = is_strict(encoding)
     expect_numbers(present, mode)
@@ -172,7 +193,7 @@ def verified(question: Question) -> Triple:
 
 
 def issued_at(issuer: Triple, place: Place, run: bytes, strict: bool) -> Triple:
-    """The same of a certificate whose octets stand in a run."""
+    """Returns the verified resources of a certificate whose extensions are parts of `run`."""
     ends = place.as_start + place.as_len, place.ip_start + place.ip_len
     if max(ends) > len(run):
         raise Status(OUTSIDE)
@@ -182,7 +203,7 @@ def issued_at(issuer: Triple, place: Place, run: bytes, strict: bool) -> Triple:
 
 
 def path_answer(question: Question) -> Answer:
-    """What the certificates on a path leave of the anchor's set."""
+    """Returns the answer of the call `path`: the verified resources of the last certificate."""
     count = 0
     try:
         strict = is_strict(question.numbers[0])
@@ -196,7 +217,7 @@ def path_answer(question: Question) -> Answer:
 
 
 def cover_octets(question: Question) -> bytes:
-    """The shortest cover of the addresses of a family: the octets of each prefix's address, and its length."""
+    """Returns the shortest cover of the addresses of a family: the octets of each prefix's address, and its length."""
     encoding, number = question.numbers
     strict = is_strict(encoding)
     if number not in FAMILIES:
@@ -208,12 +229,12 @@ def cover_octets(question: Question) -> bytes:
     return b"".join(first.to_bytes(family.bits // 8, "big") + bytes([length]) for first, length in cover)
 
 
-# The text of the fault of an element of a list, and its number. A wrong address has any other text.
+# The text of the fault of an element of a list, and its number. Any other text is that of a wrong address.
 TEXT_FAULTS = {BAD_AS_NUMBER: 2, BAD_AS_RANGE: 3, FAMILY_MISMATCH: 6, BAD_RANGE: 7}
 
 
 def text_set(question: Question) -> Triple:
-    """The set that a list of a kind is."""
+    """Returns the set of one kind that a list as text describes."""
     (kind,), octets = question.numbers, question.first[0]
     if kind not in (0, *FAMILIES):
         raise Status(BAD_KIND)
@@ -230,7 +251,7 @@ def text_set(question: Question) -> Triple:
 
 
 def range_octets(question: Question) -> bytes:
-    """The ranges of the AS numbers, or of the addresses of a family: the two numbers of each."""
+    """Returns the ranges of the AS numbers, or of the addresses of a family, as two numbers each."""
     encoding, *family = question.numbers
     strict = is_strict(encoding)
     if not family:
@@ -245,7 +266,7 @@ def range_octets(question: Question) -> bytes:
 
 
 def prefix_of(octets: bytes, base: int) -> prefixes.Prefix:
-    """The prefix of a VRP or of a route."""
+    """Reads the prefix of a VRP or of a route."""
     number, length = octets[20:22]
     if number not in FAMILIES:
         raise Status(base + BAD_FAMILY)
@@ -257,7 +278,7 @@ def prefix_of(octets: bytes, base: int) -> prefixes.Prefix:
 
 
 def vrp_of(octets: bytes) -> prefixes.Vrp:
-    """The VRP that octets are."""
+    """Reads a VRP."""
     prefix = prefix_of(octets, 0)
     if not prefix.length <= octets[22] <= prefix.family.bits:
         raise Status(BAD_MAX_LEN)
@@ -265,7 +286,7 @@ def vrp_of(octets: bytes) -> prefixes.Vrp:
 
 
 def origins_answer(question: Question) -> Answer:
-    """The validity of each route by the VRPs."""
+    """Returns the validity of each route under the VRPs."""
     found = bytearray()
     vrps: list[prefixes.Vrp] = []
     place = 0
@@ -281,21 +302,23 @@ def origins_answer(question: Question) -> Answer:
 
 
 def vrp_octets(vrp: prefixes.Vrp) -> bytes:
-    """The octets that tell a VRP."""
+    """Returns the octets of a VRP."""
     family, address, length = vrp.prefix.prefix
     octets = address.to_bytes(family.bits // 8, "big").ljust(16, b"\0") + vrp.asn.to_bytes(4, "big")
     return octets + bytes([1 if family is Family.V4 else 2, length, vrp.prefix.resolved()])
 
 
 def table_place(vrp: prefixes.Vrp) -> tuple[int, ...]:
-    """Where a VRP stands in a table: by family, address and length, the greatest AS number first, and then by the
-    maximum length."""
+    """Returns the sort key of a VRP in a table.
+
+    The order is by family, address and length, then by AS number from the largest, then by maximum length.
+    """
     family, address, length = vrp.prefix.prefix
     return family.bits, address, length, -vrp.asn, vrp.prefix.resolved()
 
 
 def vrps_in(octets: bytes, base: int = 0) -> list[prefixes.Vrp]:
-    """The VRPs of an array; a status, and the place, where one is none."""
+    """Reads the VRPs of an array. Raises the status and the index of the first VRP that is invalid."""
     found = []
     for place, each in enumerate(cut(octets, 23)):
         try:
@@ -306,7 +329,7 @@ def vrps_in(octets: bytes, base: int = 0) -> list[prefixes.Vrp]:
 
 
 def covering_octets(route: bytes, vrps: list[prefixes.Vrp]) -> bytes:
-    """The VRPs that cover a route, the longest prefix first, and why each doesn't match it (RFC 6811, 2)."""
+    """Returns the VRPs that cover a route, the longest prefix first, each with why it does not match (RFC 6811, 2)."""
     prefix, number = prefix_of(route, SECOND), int.from_bytes(route[16:20], "big")
     found = sorted((one for one in vrps if one.prefix.prefix.covers(prefix)), key=table_place, reverse=True)
     octets = b""
@@ -319,7 +342,7 @@ def covering_octets(route: bytes, vrps: list[prefixes.Vrp]) -> bytes:
 def changed_vrps(
     vrps: list[prefixes.Vrp], announced: list[prefixes.Vrp], withdrawn: list[prefixes.Vrp]
 ) -> list[prefixes.Vrp]:
-    """The VRPs that a router has after changes (RFC 8210, 5.3 and 12): withdrawals are looked at first."""
+    """Returns the VRPs that a router has after changes (RFC 8210, 5.3 and 12). Checks withdrawals first."""
     left = set(vrps)
     for place, vrp in enumerate(withdrawn):
         if vrp not in left:
@@ -333,7 +356,7 @@ def changed_vrps(
 
 
 def differ_answer(question: Question) -> Answer:
-    """Which routes have another validity by a second list of VRPs."""
+    """Returns for each route whether its validity differs between two lists of VRPs."""
     old, new = (vrps_in(octets) for octets in question.first)
     found = bytearray()
     for place, octets in enumerate(cut(question.second[0], 22)):
@@ -346,7 +369,7 @@ def differ_answer(question: Question) -> Answer:
 
 
 def table_answer(question: Question) -> Answer:
-    """What is told of a table: what covers a route, its VRPs, or those of the next one."""
+    """Returns the answer of a call on a table: the VRPs that cover a route, its VRPs, or the VRPs of the next table."""
     try:
         vrps = vrps_in(question.first[0])
         match question.call:
@@ -377,7 +400,7 @@ FILE_FAULTS = {"a JSON array, where an object with the member roas is expected":
 
 
 def fault_number(text: str) -> int:
-    """The number of the fault of a line, of an item, or of the member `roas`."""
+    """Returns the number of the fault of a line, of an item, or of the member `roas`."""
     name, _, rest = text.partition(": ")
     if name in FIRST_OF_MEMBER:
         return FIRST_OF_MEMBER[name] + MEMBER_FAULTS.index(rest)
@@ -385,7 +408,7 @@ def fault_number(text: str) -> int:
 
 
 def file_answer(question: Question) -> Answer:
-    """The VRPs of a file, or its first fault."""
+    """Returns the VRPs of a file, or its first fault."""
     try:
         vrps = vrp_files.read(question.first[0])
     except Fault as fault:
@@ -398,12 +421,15 @@ def file_answer(question: Question) -> Answer:
 
 
 def cut(octets: bytes, length: int) -> list[bytes]:
-    """Octets in parts of a length."""
+    """Splits octets into parts of a length."""
     return [octets[at : at + length] for at in range(0, len(octets), length)]
 
 
 def asked_of_sets(question: Question) -> Triple:
-    """The set that is made of two; no set where a test of both says yes."""
+    """Returns the result of an operation on two sets.
+
+    A test of two sets that holds returns no resources. A test that does not hold raises the status NO.
+    """
     strict = is_strict(question.numbers[0])
     first, second = read_set(question.first, strict), read_set(question.second, strict, SECOND)
     if operation := OPERATIONS.get(question.call):
@@ -415,13 +441,13 @@ def asked_of_sets(question: Question) -> Triple:
 
 
 def written(found: Triple) -> Octets:
-    """A set as the values of both extensions."""
+    """Returns the values of both extensions of a set."""
     families = Families(paths.claim_of(found[1]), paths.claim_of(found[2]))
     return resources.written_as_claim(paths.claim_of(found[0])), resources.written_families(families)
 
 
 def written_by(question: Question) -> Octets:
-    """What is told where there is no reason why not."""
+    """Returns the output of a call that succeeds."""
     match question.call:
         case "verify":
             return written(verified(question))
@@ -437,7 +463,7 @@ def written_by(question: Question) -> Octets:
 
 
 def answer(question: Question) -> Answer:
-    """What a call answers."""
+    """Returns the answer of a call."""
     if question.call == "path":
         return path_answer(question)
     if question.call == "origins":
@@ -458,7 +484,7 @@ def answer(question: Question) -> Answer:
 
 
 def listed(numbers: str, v4: str, v6: str) -> Octets:
-    """The octets of three lists."""
+    """Returns the octets of the set that three lists describe."""
     return written((asn.read_set(numbers), ip.read_set(v4, Family.V4), ip.read_set(v6, Family.V6)))
 
 
@@ -491,7 +517,10 @@ CERTIFICATES: list[Octets] = [
 
 
 def altered(certificate: Octets, source: Random) -> Iterator[Octets]:
-    """Its octets cut at each place, one too many, and with an octet changed at each."""
+    """Yields altered copies of a certificate.
+
+    Each extension is cut at each index, gets one more octet, and gets another octet at each index.
+    """
     for at in range(2):
         octets = certificate[at]
         others = [octets[:end] for end in range(1, len(octets))] + [octets + b"\0"] * bool(octets)
@@ -502,7 +531,7 @@ def altered(certificate: Octets, source: Random) -> Iterator[Octets]:
 
 
 def random_set(source: Random) -> Octets:
-    """A set of a few runs of each kind."""
+    """Returns a random set with a few ranges of each kind."""
     found = []
     for width, whole in ((32, 1), (32, 2**96), (128, 1)):
         starts = [source.randrange(2**width) >> source.randrange(width) for _ in range(source.randrange(4))]
@@ -513,12 +542,12 @@ def random_set(source: Random) -> Octets:
 
 
 def present_in(certificate: Octets) -> int:
-    """The number of the extensions of which there are octets."""
+    """Returns the value of `present` for the extensions that have octets."""
     return NUMBERS * bool(certificate[0]) | ADDRESSES * bool(certificate[1])
 
 
 def of_certificates() -> Iterator[Question]:
-    """Each certificate under each issuer, in each encoding and mode; numbers that are none; altered and random ones."""
+    """Yields `verify` for each certificate, issuer, encoding and mode, wrong numbers, and altered and random sets."""
     source = Random(3779)
 
     def asked(encoding: int, mode: int, issuer: Octets, certificate: Octets) -> Question:
@@ -542,7 +571,7 @@ def of_certificates() -> Iterator[Question]:
 
 
 def of_absence() -> Iterator[Question]:
-    """Each number of the extensions that are there, with octets and without them."""
+    """Yields `verify` for each value of `present`, with and without octets."""
     bad = b"\0"
     for present in (0, 1, 2, 3, 4, 2**32 - 1):
         for numbers in (ISSUER[0], b"", bad):
@@ -553,7 +582,7 @@ def of_absence() -> Iterator[Question]:
 
 
 def packed(certificates: list[tuple[Octets, int, int]], source: Random) -> tuple[bytes, tuple[Place, ...]]:
-    """Certificates as a run of octets, with others between, and their places."""
+    """Returns the octets of certificates, with other octets between their extensions, and their places."""
     run, places = b"", []
     for octets, present, mode in certificates:
         found = []
@@ -566,7 +595,7 @@ def packed(certificates: list[tuple[Octets, int, int]], source: Random) -> tuple
 
 
 def of_paths() -> Iterator[Question]:
-    """Paths of no certificate, of one and of more; places outside of the run, and numbers that are none."""
+    """Yields paths of no, one and several certificates, places outside of the octets, and wrong numbers."""
     source = Random(8360)
 
     def asked(encoding: int, anchor: Octets, run: bytes, places: tuple[Place, ...]) -> Question:
@@ -607,7 +636,7 @@ def of_paths() -> Iterator[Question]:
 
 
 def of_covers() -> Iterator[Question]:
-    """Covers of both families, of sets and of octets that are none, and numbers that are none."""
+    """Yields covers of both families for sets and for invalid octets, and wrong numbers."""
     source = Random(4632)
 
     def asked(encoding: int, family: int, octets: bytes) -> Question:
@@ -624,14 +653,14 @@ def of_covers() -> Iterator[Question]:
 
 
 def routed(family: int, address: int, length: int, number: int, max_len: int | None = None) -> bytes:
-    """A VRP, or a route, which has no maximum length."""
+    """Returns the octets of a VRP, or those of a route if there is no `max_len`."""
     width = 4 if family == 1 else 16
     octets = address.to_bytes(width, "big").ljust(16, b"\xff") + number.to_bytes(4, "big") + bytes([family, length])
     return octets if max_len is None else octets + bytes([max_len])
 
 
 def random_routed(source: Random, is_vrp: bool) -> bytes:
-    """A VRP or a route of a few addresses and AS numbers, so that many meet."""
+    """Returns a random VRP or route. Few addresses and AS numbers occur, so that many VRPs cover a route."""
     family = source.choice((1, 2))
     bits = 32 if family == 1 else 128
     length = source.choice((0, 8, 9, 16, 24, bits - 1, bits))
@@ -641,7 +670,7 @@ def random_routed(source: Random, is_vrp: bool) -> bytes:
 
 
 def of_origins() -> Iterator[Question]:
-    """VRPs and routes; VRPs and routes that are none, at each place; numbers at their ends."""
+    """Yields VRPs and routes, an invalid VRP or route at each index, and extreme numbers."""
     source = Random(6811)
 
     def asked(vrps: list[bytes], routes: list[bytes]) -> Question:
@@ -676,7 +705,7 @@ def of_origins() -> Iterator[Question]:
 
 
 def of_tables() -> Iterator[Question]:
-    """What covers routes; VRPs in a table's order; changes, and what is none of them, at each place."""
+    """Yields calls on tables: covered routes, lists of VRPs, and valid and invalid changes."""
     source = Random(8210)
 
     def asked(call: str, vrps: list[bytes], *others: list[bytes]) -> Question:
@@ -684,7 +713,7 @@ def of_tables() -> Iterator[Question]:
         return Question(call, (), (b"".join(vrps), b""), (second, fourth))
 
     def distinct(count: int) -> list[bytes]:
-        """VRPs of which no two are the same."""
+        """Returns VRPs that all differ from each other."""
         found: dict[prefixes.Vrp, bytes] = {}
         while len(found) < count:
             octets = random_routed(source, True)
@@ -730,7 +759,7 @@ LINES = [
     b"AS4294967295,ffff:ffff::/32,128,,\n",
     b"AS1,255.255.255.255/32,32\n",
 ]
-# Lines that are none, each after another fault.
+# Invalid lines, each with another fault.
 WRONG_LINES = [
     b"\xff\n",
     b"AS1,10.0.0.0/8,8,ripe,0,more\n",
@@ -785,7 +814,7 @@ WRONG_FILES = [
 
 
 def of_texts() -> Iterator[Question]:
-    """Lists of each kind, well-formed and damaged; octets that are no text; kinds that are none."""
+    """Yields valid and damaged lists of each kind, octets that are not UTF-8, and unknown kinds."""
 
     def asked(kind: int, text: bytes) -> Question:
         return Question("text", (kind,), (text, b""))
@@ -801,7 +830,7 @@ def of_texts() -> Iterator[Question]:
 
 
 def of_ranges() -> Iterator[Question]:
-    """Ranges of AS numbers and of addresses, of sets and of octets that are none, and numbers that are none."""
+    """Yields ranges of AS numbers and addresses for sets and for invalid octets, and wrong numbers."""
     source = Random(3779_2)
     for octets in (*CERTIFICATES, *(random_set(source) for _ in range(40))):
         yield Question("as_ranges", (source.randrange(2),), (octets[0], b""))
@@ -818,7 +847,7 @@ def of_ranges() -> Iterator[Question]:
 
 
 def of_files() -> Iterator[Question]:
-    """Files in either form, with a line or an item that is none at each place, and files that are wrong as a whole."""
+    """Yields valid files, files with an invalid line or item at each index, and files that are invalid as a whole."""
     source = Random(9582)
 
     def asked(file: bytes) -> Question:
@@ -857,7 +886,7 @@ def of_files() -> Iterator[Question]:
 
 
 def of_differences() -> Iterator[Question]:
-    """Routes by two tables: of few VRPs, of many, of the same ones, of none; routes that are none, at each place."""
+    """Yields routes under two tables with few, many, the same or no VRPs, and an invalid route at several indexes."""
     source = Random(6811_4)
 
     def asked(old: list[bytes], new: list[bytes], routes: list[bytes]) -> Question:
@@ -878,7 +907,7 @@ def of_differences() -> Iterator[Question]:
 
 
 def of_lines() -> Iterator[Question]:
-    """Lines of each command, well-formed and damaged, and lines of none."""
+    """Yields valid and damaged lines of each command, and lines without a known command."""
     for line in (b"", b" ", b"\xff", b"norm", b"norm v5 0.0.0.0", b"cover as AS1", b"NORM as AS1", b"der as inherit\0"):
         yield Question("answer", (), (line, b""))
     for command in ("norm", "cover", "der", "read", "path"):
@@ -888,7 +917,7 @@ def of_lines() -> Iterator[Question]:
 
 
 def of_sets() -> Iterator[Question]:
-    """Each set beside each, and beside itself; encodings that are none; altered and random ones."""
+    """Yields each pair of sets, each set with itself, unknown encodings, and altered and random sets."""
     source = Random(6487)
 
     def asked(call: str, encoding: int, first: Octets, second: Octets) -> Question:
@@ -907,23 +936,23 @@ def of_sets() -> Iterator[Question]:
         yield asked(source.choice(ON_SETS), source.randrange(2), other, ISSUER)
     for at in range(200):
         first, second = random_set(source), random_set(source)
-        if at % 2:  # one that has all of the other
+        if at % 2:  # the first set contains the second
             first = answer(asked("union", LENIENT, first, second)).written
         yield asked(ON_SETS[at % len(ON_SETS)], source.randrange(2), first, second)
 
 
 def hexadecimal(octets: bytes) -> str:
-    """Octets as a word of a row."""
+    """Returns octets as a word of a row."""
     return octets.hex() or "-"
 
 
 def joined(parts: Iterable[object], by: str) -> str:
-    """Parts as one word of a row."""
+    """Returns parts as one word of a row."""
     return by.join(map(str, parts)) or "-"
 
 
 def rows() -> Iterator[str]:
-    """The rows of the file."""
+    """Yields the rows of the file."""
     parts = of_certificates, of_absence, of_paths, of_sets, of_covers, of_origins, of_tables, of_differences, of_lines
     parts = *parts, of_files, of_texts, of_ranges
     for question in (question for part in parts for question in part()):

@@ -2,16 +2,21 @@
 """Tests foreign/rtr/router.c against caches of the RPKI to Router protocol: foreign_rtr.py LIBRARY.
 
 First a cache in this file plays scripts (SCRIPTS), many at the same time. Each script names what the router has to
-send, by RFC 8210 and RFC 6810, which tables it has to print, and how many tables of the library it may hold at once.
-All tables are freed at the end. The cache waits for what the router sends and prints. A script states times only as
-lower bounds: the router does not send too early. In these scripts the router sends at most 3 octets and receives at
-most 5 at once.
+send, by RFC 8210 and RFC 6810. It also names the tables that the router has to print, and how many tables of the
+library the router may hold at once. All tables are freed at the end. The cache waits for what the router sends and
+prints. A script states times only as lower bounds: the router does not send too early. In these scripts the router
+sends at most 3 octets and receives at most 5 at once.
 
-Then StayRTR serves a file of VRPs on a free port of 127.0.0.1: all of them, then changes, which it notifies; then more
-changes than it keeps while the router is stopped, so that it sends a Cache Reset; then a file of its next session.
-After each step the router has to print what the file lists, and rtrlib has to have the same VRPs of the same cache.
+Then StayRTR serves a file of VRPs on a free port of 127.0.0.1, in these steps:
 
-It also passes wrong words to the router, which have to end it with status 2.
+* It serves all VRPs.
+* The file changes, and StayRTR notifies the changes.
+* While the router is stopped, the file changes more often than StayRTR keeps. Then StayRTR sends a Cache Reset.
+* StayRTR serves the file of its next session.
+
+After each step the router has to print what the file lists. rtrlib has to get the same VRPs from the same cache.
+
+It also passes wrong words to the router. The router has to end with status 2.
 
 LIBRARY is the static library, or any object with the same calls. Each wait ends after LIMIT seconds at the latest. The
 test says what is left out because gcc, stayrtr or rtrlib is missing. The status is 1 if something differs.
@@ -36,9 +41,9 @@ from typing import IO, NamedTuple
 TOP = Path(__file__).resolve().parent.parent
 SOURCES = TOP / "foreign" / "rtr"
 LIMIT = 300
-AT_ONCE = 32  # so many scripts are played at the same time
+AT_ONCE = 32  # the number of scripts that are played at the same time
 COUNT = 400
-KEPT = 3  # of how many serial numbers StayRTR keeps what has changed since
+KEPT = 3  # the number of serial numbers for which StayRTR keeps the changes
 
 Vrp = tuple[str, int, int]
 
@@ -95,7 +100,7 @@ ssize_t __wrap_recv(int from, void *octets, size_t count, int flags) {
 
 
 def missing() -> str | None:
-    """Returns what the test with StayRTR lacks."""
+    """Returns what the test with StayRTR lacks, or None."""
     if not shutil.which("stayrtr"):
         return "stayrtr"
     found = subprocess.run(["gcc", "-E", "-include", "rtrlib/rtrlib.h", "-x", "c", "/dev/null"], capture_output=True)
@@ -122,8 +127,10 @@ def build_peer(folder: Path) -> None:
 
 
 def free_port() -> int:
-    """A port of 127.0.0.1 on which nothing listens. Systems take the ports of connections from above 32767, so none of
-    them gets this port later."""
+    """Returns a port of 127.0.0.1 on which nothing listens.
+
+    Systems take the ports of connections from above 32767, so no connection gets this port later.
+    """
     while True:
         port = SystemRandom().randrange(16384, 32768)
         with socket.socket() as one:
@@ -132,7 +139,7 @@ def free_port() -> int:
 
 
 def made(source: Random) -> Vrp:
-    """A VRP of either family."""
+    """Returns a random VRP of either family."""
     if source.random() < 0.7:
         length = source.randrange(8, 25)
         address = source.randrange(1 << length) << 32 - length
@@ -145,7 +152,7 @@ def made(source: Random) -> Vrp:
 
 
 def line_of(vrp: Vrp) -> str:
-    """A VRP as both programs print it."""
+    """Returns a VRP as both programs print it."""
     prefix, max_len, asn = vrp
     address, length = prefix.split("/")
     family = socket.AF_INET6 if ":" in address else socket.AF_INET
@@ -153,7 +160,7 @@ def line_of(vrp: Vrp) -> str:
 
 
 def order_of(vrp: Vrp) -> tuple[int, bytes, int, int, int]:
-    """The order in which pigy_table_vrps lists VRPs."""
+    """Returns the sort key by which pigy_table_vrps lists VRPs."""
     prefix_text, max_len, asn = vrp
     address, length = prefix_text.split("/")
     family = socket.AF_INET6 if ":" in address else socket.AF_INET
@@ -162,7 +169,7 @@ def order_of(vrp: Vrp) -> tuple[int, bytes, int, int, int]:
 
 
 def write(path: Path, vrps: list[Vrp]) -> None:
-    """The file of a cache, put in place at once."""
+    """Writes the file of a cache. The new file replaces the old one in one step."""
     roas = [{"prefix": net, "maxLength": max_len, "asn": f"AS{asn}", "ta": "test"} for net, max_len, asn in vrps]
     other = path.with_suffix(".new")
     other.write_text(json.dumps({"metadata": {"buildtime": "2026-01-01T00:00:00Z"}, "roas": roas}))
@@ -170,7 +177,7 @@ def write(path: Path, vrps: list[Vrp]) -> None:
 
 
 class Cache:
-    """StayRTR on a port, over a file. It reads the file each second, and asks routers to retry after a second."""
+    """StayRTR on a port, with a file. It reads the file each second, and asks routers to retry after a second."""
 
     def __init__(self, port: int, path: Path) -> None:
         words = ["-bind", f"127.0.0.1:{port}", "-cache", str(path), "-checktime=false", "-refresh", "1"]
@@ -207,13 +214,13 @@ class Cache:
         return None
 
     def stop(self) -> None:
-        """Ends it."""
+        """Ends StayRTR."""
         self.process.terminate()
         self.process.wait(timeout=LIMIT)
 
 
 def table_of(router: "subprocess.Popen[str]") -> list[str]:
-    """The next table that the router prints, sorted."""
+    """Returns the next table that the router prints, sorted."""
     assert router.stdout
     lines = []
     for line in router.stdout:
@@ -233,7 +240,7 @@ WITHDRAW, ANNOUNCE = 0, 1
 SESSION, OTHER_SESSION = 0x1234, 0x1235
 VRPS: list[Vrp] = [("10.0.0.0/8", 16, 64496), ("2001:db8::/32", 48, 64497), ("10.0.0.0/8", 16, 64498)]
 A, B, C = VRPS
-UNIT = 10  # the milliseconds of a second of an interval, if the script has no other number
+UNIT = 10  # the milliseconds for a second of an interval, if the script has no other number
 DEFAULT_RETRY = 600 * UNIT / 1000  # the default Retry Interval, in seconds of the test
 Intervals = tuple[int, int, int]
 # Refresh, Retry and Expire Interval. With these no script takes so long that the router polls or its table expires.
@@ -257,12 +264,12 @@ def prefix(flags: int, vrp: Vrp, version: int = 1, more: bytes = b"") -> bytes:
 
 
 def router_key(version: int = 1, length: int = 115) -> bytes:
-    """Returns a Router Key PDU (RFC 8210, 5.10): a key identifier, an AS and a key, all 0, in so many octets."""
+    """Returns a Router Key PDU (RFC 8210, 5.10): a key identifier, an AS and a key, all 0, in `length` octets."""
     return pdu(KEY, ANNOUNCE << 8, bytes(length), version)
 
 
 def end_of_data(serial: int, session: int = SESSION, intervals: Intervals = LONG, version: int = 1) -> bytes:
-    """Returns an End of Data PDU. That of version 0 has no intervals (RFC 8210, 5.8, and RFC 6810, 5.8)."""
+    """Returns an End of Data PDU. A PDU of version 0 has no intervals (RFC 8210, 5.8, and RFC 6810, 5.8)."""
     times = struct.pack(">III", *intervals) if version else b""
     return pdu(END_OF_DATA, session, struct.pack(">I", serial) + times, version)
 
@@ -286,8 +293,11 @@ def report(code: int, about: bytes, version: int = 1) -> bytes:
 
 
 class Wants(NamedTuple):
-    """What the router has to send next; no octets if it has to close the connection. It does so at least some seconds
-    after the last step in which the cache sent something or closed a connection."""
+    """The octets that the router has to send next, or no octets if it has to close the connection.
+
+    The router does so at least `after` seconds after the last step in which the cache sent something or closed a
+    connection.
+    """
 
     octets: bytes
     after: float = 0.0
@@ -323,8 +333,11 @@ def changes(serial: int, session: int = SESSION, version: int = 1, after: float 
 
 
 class Script(NamedTuple):
-    """What the cache sends and wants, a list for each connection; the tables that the router prints; how many tables of
-    the library it holds at most at once; the milliseconds of a second of an interval."""
+    """A script of the cache, with a list of steps for each connection.
+
+    `tables` are the tables that the router prints. `most` is how many tables of the library it holds at most at once.
+    `unit` is the time that the test takes for a second of an interval, in milliseconds.
+    """
 
     name: str
     connections: list[list[Step]]
@@ -353,14 +366,18 @@ THIRD_BY_0 = response(*announced(C, version=0), serial=9, version=0)
 
 
 def refused(name: str, sent: bytes, code: int, about: bytes, most: int = 3) -> Script:
-    """Returns a script in which the router has a table of A and B, and answers what the cache sends by an Error Report.
-    Then the router drops the session and asks for all VRPs."""
+    """Returns a script in which the router has a table of A and B, and refuses what the cache sends by an Error Report.
+
+    Then the router drops the session and asks for all VRPs.
+    """
     return Script(name, [[*ASKED, sent, Wants(report(code, about)), CLOSED], LAST], [[A, B], [C]], most)
 
 
 def refused_at_once(name: str, sent: bytes, code: int, about: bytes) -> Script:
-    """Returns a script in which the router refuses the first response. It asks again after the default Retry Interval
-    (RFC 8210, 6)."""
+    """Returns a script in which the router refuses the first response.
+
+    The router asks again after the default Retry Interval (RFC 8210, 6).
+    """
     return Script(name, [[ALL, sent, Wants(report(code, about)), CLOSED], [LATER, THIRD]], [[C]], 2)
 
 
@@ -907,7 +924,7 @@ class ScriptedCache(threading.Thread):
 
     @staticmethod
     def read(connection: socket.socket, count: int) -> bytes:
-        """Returns so many octets, or fewer if the router closes the connection."""
+        """Returns `count` octets, or fewer if the router closes the connection."""
         got = b""
         try:
             while len(got) < count and (more := connection.recv(count - len(got))):
@@ -949,7 +966,7 @@ def faults_of(script: Script, program: Path) -> list[str]:
 
 
 def of_scripts(program: Path) -> list[str]:
-    """Plays all scripts. Begins with the last ones, which take longest. Returns what differs."""
+    """Plays all scripts. It begins with the last ones, which take longest. Returns what differs."""
     with ThreadPoolExecutor(AT_ONCE) as pool:
         found = pool.map(lambda script: faults_of(script, program), reversed(SCRIPTS))
         return [fault for faults in found for fault in faults]
@@ -968,7 +985,7 @@ def of_words(program: Path) -> list[str]:
 
 
 def of_stayrtr(folder: Path) -> list[str]:
-    """Goes through the steps with StayRTR. Returns what differs."""
+    """Runs the steps with StayRTR. Returns what differs."""
     source, faults, port = Random(8210), list[str](), free_port()
     vrps = [made(source) for _ in range(COUNT)]
     changed = [*vrps[COUNT // 4 :], *(made(source) for _ in range(COUNT // 3))]
@@ -985,7 +1002,7 @@ def of_stayrtr(folder: Path) -> list[str]:
                 for more in range(KEPT + 2, -1, -1):
                     cache.serve(step[more:])
                 router.send_signal(signal.SIGCONT)
-            elif at == len(steps) - 1:  # another session, of which the router knows nothing
+            elif at == len(steps) - 1:  # another session, which is new to the router
                 cache.stop()
                 write(folder / "cache.json", step)
                 cache = Cache(port, folder / "cache.json")

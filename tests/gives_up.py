@@ -1,19 +1,20 @@
 #!/usr/bin/env python3
-"""gives_up.py [--all] [CRATE..]: lists the wrong bodies that the contracts of public calls let through.
+"""gives_up.py [--all] [CRATE..]: lists the wrong bodies that the contracts of public calls accept.
 
-Such a body gives up: it returns None, an Err, false, true, 0, an empty text or list, or what it was given, or it does
-nothing. Each body stands in turn under the signature and the clauses of each public function and of each method of a
-public trait, in a copy of the crate. rt's planter has it proved over the crate's kept proof. With no CRATE the script
-tries each library of crates.txt.
+Such a body gives up. It returns None, an Err, false, true, 0, an empty text or list, or an argument, or it does
+nothing. The script puts each body into each public function, and into each method of a public trait. The signature and
+the contract stay. rt's planter has each body proved in a copy of the crate, with the crate's kept proof. With no CRATE
+the script tries each library of crates.txt.
 
-One kind of body calls the real function: it returns out of memory in the place of one refusal. It is planted if the
-error has both, as OrMemory<..> does, and it is proved if no clause tells the two apart. The planter's other bodies that
-call the real function are left out.
+A further kind of body calls the real function, and returns out of memory in the place of one refusal. The script plants
+it if the error has both, as OrMemory<..> does. It is proved if no clause distinguishes the two. The script leaves out
+the planter's other bodies that call the real function.
 
-For each crate it prints what is still proved, and what has no clause or could not be judged; with --all also what is
-refused and what does not compile. What is still proved should stand in docs/TESTS.md. A body that is an Err of
-memory alone is never planted, since each clause allows it. A crate has to be proved first (rt check); then it takes a
-minute or a few."""
+For each crate it prints what is still proved, and what has no clause or could not be judged. With --all it also prints
+what is refused and what does not compile. docs/TESTS.md should have each body that is still proved. A body that only
+returns an out-of-memory error is never planted, since each clause allows it. A crate has to be proved first (rt check).
+Then the script takes a minute or a few for each crate.
+"""
 import collections
 import importlib.machinery
 import re
@@ -25,12 +26,12 @@ from pathlib import Path
 
 TOP = Path(__file__).resolve().parent.parent
 ROW = re.compile(r"^(proves|same|refused|elsewhere|not-judged|not-source|not-run|untested|no-ensures) +(\S.*)$")
-MOST_FAULTS = 3  # of an error, each of which is planted alone
+MOST_FAULTS = 3  # the most variants of a fault that are planted one by one
 REPORTED = ("proves", "same", "no-ensures", "untested", "elsewhere", "not-judged", "not-run")
 
 
 def parts_handed_back(bodies, of):
-    """A pair whose last part is what the function was given, as where a reader leaves the place that it began at."""
+    """Returns a body that is a tuple whose last part is an argument, as of a reader that does not advance."""
     parts = bodies.split(of.resolved(of.f.ret)[1:-1]) if of.f.ret[:1] == ["("] else []
     given = [name for name, ty in of.f.params if parts and of.resolved(ty) == parts[-1]]
     others = [of.values(part)[:1] for part in parts[:-1]]
@@ -40,7 +41,7 @@ def parts_handed_back(bodies, of):
 
 
 def faults_beside_memory(bodies, of):
-    """The first fault that the error names beside want of memory."""
+    """Returns a body with the first fault that the error has besides out of memory."""
     name, _, held = bodies.named(of.resolved(of.f.ret))
     error, path, faults = bodies.named(of.resolved(held[1])) if name == "Result" and len(held) == 2 else ("", "", [])
     found = of.values(of.resolved(faults[0]))[:1] if error == "OrMemory" and faults else []
@@ -48,7 +49,7 @@ def faults_beside_memory(bodies, of):
 
 
 def variants(bodies, of, ty, is_far):
-    """The variants of an enum, each as its path and the types that it holds; none of another type."""
+    """Yields the variants of an enum, each as its path and the types that it holds. Yields nothing for another type."""
     name, path, _ = bodies.named(of.resolved(ty))
     for module, word, _, body in of.declared(name):
         if is_far and module != of.f.module:
@@ -58,8 +59,10 @@ def variants(bodies, of, ty, is_far):
 
 
 def as_memory(bodies, of, ty, is_far=False):
-    """The refusals of an error type as patterns, each with the value that means out of memory in its place; none where
-    the type has no such value."""
+    """Returns the refusals of an error type as patterns, each with the out-of-memory value in its place.
+
+    Returns none if the type has no such value.
+    """
     found = [*variants(bodies, of, ty, is_far)]
     own = [f"{path}(std::alloc::AllocError)" if held else path for path, held in found if path.endswith("::Memory")]
     refusals = []
@@ -72,7 +75,7 @@ def as_memory(bodies, of, ty, is_far=False):
 
 
 def each_fault(bodies, of, ty, refusals):
-    """The refusals of OrMemory by the variants of its fault, if these are few."""
+    """Splits the refusals of OrMemory by the variants of its fault, if these are few."""
     name, _, held = bodies.named(ty)
     faults = [*variants(bodies, of, held[0], True)] if name == "OrMemory" and held else []
     if not 1 < len(faults) <= MOST_FAULTS:
@@ -82,7 +85,7 @@ def each_fault(bodies, of, ty, refusals):
 
 
 def refusals_as_memory(bodies, of):
-    """The real call, with one of its refusals as out of memory."""
+    """Returns bodies that make the real call, and return one of its refusals as out of memory."""
     name, _, held = bodies.named(of.resolved(of.f.ret))
     is_plain = all(re.fullmatch(r"[a-z]\w*|_\w+", it) for it, _ in of.f.params)
     if name != "Result" or len(held) != 2 or of.f.in_trait or not is_plain:
@@ -94,7 +97,7 @@ def refusals_as_memory(bodies, of):
 
 
 def adds_modules(bodies):
-    """What takes the types of a library below, with the public modules that they stand in."""
+    """Returns a function that adds the types of a library below, with the public modules that declare them."""
 
     def add_library(source, name, folder):
         below = bodies.Source(folder)
@@ -112,17 +115,17 @@ def adds_modules(bodies):
 
 
 def without_laws(functions, bare):
-    """The functions but for laws, which do nothing: what they ensure is a theorem."""
+    """Returns the functions without the laws. A law does nothing: its `ensures` is a theorem."""
     return [it for it in functions if it.ret or it.body], bare
 
 
 def without_docs(reader):
-    """The reader of words, which passes over documentation."""
+    """Returns a reader of words that skips documentation."""
     return lambda words: reader([it for it in words if not it.startswith("///")])
 
 
 def firsts(found):
-    """One failure, one value and one argument: of a bool both values."""
+    """Returns the first body of each kind: a failure, a value and an argument. It keeps both values of a bool."""
     kept = {}
     for it in found:
         kept.setdefault(it.text if it.text in ("false", "true") else it.kind, it)
@@ -130,7 +133,7 @@ def firsts(found):
 
 
 def checks_once(copy_class):
-    """The check that shows whether plants compile judges them too, and what it said is kept."""
+    """Makes the check for compile errors judge the planted bodies too, and keeps its output."""
     write, check, said = copy_class.write, copy_class.check, {}
 
     def writes(copy, plants):
@@ -151,21 +154,21 @@ def checks_once(copy_class):
 
 
 def planted():
-    """What rt plant prints of the crate in the working folder, at bodies that give up alone."""
+    """Runs rt plant on the crate in the working folder, only with bodies that give up. It prints the report."""
     sys.dont_write_bytecode = True
     kit = Path(shutil.which("rt")).resolve().parent
     planter = types.ModuleType("rt-plant")
     planter.__file__ = str(kit / "rt-plant")
     importlib.machinery.SourceFileLoader("rt-plant", planter.__file__).exec_module(planter)
-    # One check a crate, but for bodies of one method, of which each takes a check of its own.
+    # A crate takes one check. Bodies of one method are an exception: each takes a check of its own.
     planter.BATCH, planter.SECONDS = 400, 1200
     checks_once(planter.Copy)
     chosen, compiled, giving_up = planter.chosen, planter.Copy.compiled, planter.bodies.Bodies.giving_up
-    # A variant's or a field's documentation is no name of it.
+    # The documentation of a variant or of a field is not its name.
     planter.bodies.without_attributes = without_docs(planter.bodies.without_attributes)
     planter.bodies.Source.add_library = adds_modules(planter.bodies)
     planter.chosen = lambda *given: without_laws(*chosen(*given))
-    # Where the unchanged call isn't planted, the planter tries no body that calls the function.
+    # If the unchanged call is not planted, the planter tries no body that calls the function.
     planter.Copy.compiled = lambda copy, plants: compiled(copy, [it for it in plants if it.body != it.f.call()])
     planter.bodies.Bodies.giving_up = lambda of: [
         *firsts(faults_beside_memory(planter.bodies, of) + giving_up(of)),
@@ -176,7 +179,7 @@ def planted():
 
 
 def libraries():
-    """The repository's libraries, from the ground up."""
+    """Returns the repository's libraries, in the order of crates.txt."""
     lines = [line.partition(":")[0].split() for line in (TOP / "crates.txt").read_text().splitlines()]
     names = [words[0] for words in lines if words and not words[0].startswith("#")]
     return [name for name in names if (TOP / "crates" / name / "src/lib.rt").is_file()]

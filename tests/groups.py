@@ -1,7 +1,7 @@
 """The groups of the crates of `crates.txt`: a group is about one subject.
 
-docs/API.md and the picture of docs/LAYERS.md are made by this list. A pattern stands for all crates of such a name; a
-crate that is in no group stops both.
+docs/API.md and the picture of docs/LAYERS.md are made by this list. A pattern matches all crates of such a name. Both
+scripts stop if a crate is in no group.
 """
 
 import re
@@ -15,16 +15,16 @@ TOP = Path(__file__).resolve().parent.parent
 
 @dataclass(frozen=True)
 class Group:
-    """What crates are about, their names, and the column of the picture in which they stand, from the left."""
+    """A group: the subject of its crates, their names, and their column in the picture, counted from the left."""
 
     title: str
     names: tuple[str, ...]
     column: int | None = None
-    # Whether they are drawn as near as can be to those that stand on them, and not to the ground.
+    # Whether they are drawn next to the crates that depend on them, and not at the bottom.
     is_high: bool = False
 
 
-# From the ground up; a crate is in the first group that has its name.
+# The lowest layer is first. A crate is in the first group that has its name.
 GROUPS = (
     Group("texts", ("rpki_text",), 3),
     Group("DER", ("rpki_der",), 0),
@@ -45,7 +45,7 @@ GROUPS = (
 
 @cache
 def stands_on() -> dict[str, tuple[str, ...]]:
-    """The crates, each with those of the repository that it stands on."""
+    """Returns the crates, each with the crates of the repository that it depends on."""
     lines = [line for line in (TOP / "crates.txt").read_text().splitlines() if line and not line.startswith("#")]
     named = {line.split(":")[0].split()[0]: line.split(":")[1].split() for line in lines}
     return {name: tuple(it for it in below if it in named) for name, below in named.items()}
@@ -53,7 +53,7 @@ def stands_on() -> dict[str, tuple[str, ...]]:
 
 @cache
 def group_of(crate: str) -> Group:
-    """The group of a crate."""
+    """Returns the group of a crate."""
     for group in GROUPS:
         if any(fnmatchcase(crate, name) for name in group.names):
             return group
@@ -61,17 +61,17 @@ def group_of(crate: str) -> Group:
 
 
 def crates_of(group: Group) -> list[str]:
-    """The crates of a group, in the order of crates.txt."""
+    """Returns the crates of a group, in the order of crates.txt."""
     return [name for name in stands_on() if group_of(name) is group]
 
 
 def is_program(crate: str) -> bool:
-    """Whether a crate is a program."""
+    """Returns whether a crate is a program."""
     return (TOP / "crates" / crate / "src" / "main.rt").is_file()
 
 
 def about(crate: str) -> str:
-    """The first sentence of what a crate says of itself."""
+    """Returns the first sentence of a crate's own description."""
     source = TOP / "crates" / crate / "src" / ("main.rt" if is_program(crate) else "lib.rt")
     head = re.match(r"(?://! ?(?!\n)[^\n]*\n)*", source.read_text())[0]
     text = " ".join(line[3:].strip() for line in head.splitlines())

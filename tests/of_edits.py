@@ -1,8 +1,9 @@
 #!/usr/bin/env python3
-"""of_edits.py: tests tests/edits.py over a kit that says only what it is told.
+"""of_edits.py: tests tests/edits.py with a fake kit that returns given results.
 
-It tests that the script tells the kinds of refusals apart, and that an edit that is still proved, or that can't be
-applied, never counts as refused. It prints each result that is wrong. The status is 1 if there is one."""
+It tests that the script distinguishes the kinds of refusals. An edit that is still proved, or that cannot be applied,
+must never count as refused. It prints each result that is wrong. The status is 1 if there is one.
+"""
 
 import contextlib
 import io
@@ -46,7 +47,7 @@ REFUSALS = (
     ((LOST.format("returns-then-lt"), RETURNS, FUNCTION), edits.FOR_NAME),
     ((LOST.format("loop-at-preserved"), RETURNS + LIMIT, FUNCTION), edits.FOR_NAME),
     ((IMPORT, RETURNS, FUNCTION), edits.FOR_NAME),
-    # the name that was lost is that of another goal, of another function, or the goal is false
+    # the lost name belongs to another goal or to another function, or the goal is false
     ((LOST.format("of-requires"), RETURNS, FUNCTION), edits.AT_GOAL),
     ((LOST.format("returns"), RETURNS, OTHER), edits.AT_GOAL),
     ((LOST.format("returns"), RETURNS + FALSE, FUNCTION), edits.AT_GOAL),
@@ -54,8 +55,7 @@ REFUSALS = (
 PROVED = "must-fail small/turned.edit: NOT REFUSED: the crate is still proved with this edit"
 BAD = "must-fail small/turned.edit: BAD EDIT: an 'old:' text is in src/a.rt 0 times, and not once"
 REPORT = "must-fail small/turned.edit: refused, as it must be: src/a.rt:7:5: .."
-# what the kit's must_fail returns, by a kit that says only whether an edit was refused and by one that has constants;
-# and the last line
+# what must_fail returns in a kit without constants and in a kit with them, its text, and the last line
 RESULTS = (
     (True, "refused", REPORT, "1 refused (1 at a goal), 0 not"),
     (False, "proved", PROVED, "0 refused, 1 not"),
@@ -64,7 +64,7 @@ RESULTS = (
 
 
 def kit_that_says(found, text: str, has_constants: bool) -> SimpleNamespace:
-    """A kit that proves the crate as it stands, and returns this of each edit."""
+    """Returns a kit that proves the unchanged crate, and returns `found` and `text` for each edit."""
     kit = SimpleNamespace(rtlib=SimpleNamespace(KEPT=["--incremental", "out/incremental"]))
     if has_constants:
         kit.REFUSED, kit.AT_LIMIT = "refused", "limit"
@@ -82,7 +82,7 @@ def kit_that_says(found, text: str, has_constants: bool) -> SimpleNamespace:
 
 
 def refused_of(kit, crates: list, names: list[str]) -> Counter:
-    """What the tasks of the first crate's edits count, run one after the other."""
+    """Runs the tasks of the first crate's edits one after the other. Returns what they count."""
     given = {}
     for key, (_, _, _, call) in edits.tasks_of_edits(kit, crates[0], edits.named(crates[0], names), []).items():
         given[key] = call(given, 1)
@@ -90,7 +90,7 @@ def refused_of(kit, crates: list, names: list[str]) -> Counter:
 
 
 def answer(kit, folder: Path) -> tuple[str, int]:
-    """The last line and the status of tests/edits.py over a crate with one edit."""
+    """Returns the last line and the status of tests/edits.py for a crate with one edit."""
     crate = SimpleNamespace(name="small", folder=folder, count=lambda mark: 1)
     kit.rtlib.crates_below = lambda top: [crate]
     edits.the_kit = lambda: kit

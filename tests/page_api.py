@@ -2,10 +2,11 @@
 """Makes docs/API.md and docs/api from the sources, and `crates/test_paths` with a `use` line of each path on the pages.
 
 A page shows the public types of a library, their calls, and the signatures and contracts of these. Each call has a
-heading. The text of a doc comment is above the signature. The internal API and the lemmas have parts of their own. With
---write the files are written. Without it they are compared with what would be written, and the status is 1 if one
-differs. The sources are read as `rt fmt` leaves them: an item begins at its indent, and a body at a brace of the same
-indent.
+heading. The text of a doc comment is above the signature. The internal API and the lemmas have parts of their own.
+
+With --write the script writes the files. Without it the script compares them with what it would write, and the status
+is 1 if one differs. It reads the sources as `rt fmt` leaves them: an item begins at its indent, and a body at a brace
+of the same indent.
 """
 
 import re
@@ -107,7 +108,7 @@ Contents: {parts}
 [All libraries](../API.md) · [How to read a page](../API.md#how-to-read-a-page) ·
 [Words of the contracts](../DEFINITIONS.md) · [Signs of the contracts](../TRUSTED.md#signs-of-a-contract)
 """
-# What a page of a static library says of all its items.
+# The text about all items on the page of a static library.
 OF_C = """No item of this library has a path that a `use` line can name. C calls the functions by name.
 `foreign/pigyelund.h` declares them. The statuses that they return are in [pigyelund_routes](pigyelund_routes.md).
 """
@@ -116,8 +117,8 @@ PATHS_HEAD = """//! A `use` line of each public path that docs/api shows. `tests
 #![tactic(auto)]
 
 """
-# The internal API: what is public for the crates above alone. A user has a call that does the whole task.
-# A path covers all below it.
+# The internal API: items that are public only for the crates above. Users have a call that does the whole task.
+# A path includes all paths below it.
 INTERNAL = (
     "rpki_text::line",
     "rpki_text::list",
@@ -168,7 +169,7 @@ INTERNAL = (
     "roa_vrps::file::opens_object",
     "pigyelund_routes",
 )
-# Ghost lines that are left out, since they have no meaning for callers: imports, proofs, and how a value is stored.
+# Ghost lines without meaning for callers are left out: imports, proofs, and how a value is stored.
 PROOFS = "use laws total matches_partial_cmp matches_eq respects_eq one_item no_gaps in_order form_bounds has_family \
 has_width is_reading is_modal has_octets inverse"
 LEFT_OUT = re.compile(rf"    ghost (?:use |(?:{'|'.join(PROOFS.split())}) =)")
@@ -182,7 +183,7 @@ MEMBER = re.compile(r"    pub (?:(const (?=[A-Z])|type )|(?:const )?fn )(\w+)")
 
 @dataclass
 class Item:
-    """A public type or function with its doc comment; a call on a type also has the head of its impl."""
+    """A public type or function with its doc comment. A call on a type also has the head of its impl."""
 
     name: str
     path: str = ""
@@ -192,25 +193,28 @@ class Item:
     doc: list[str] = field(default_factory=list)
     code: list[str] = field(default_factory=list)
     calls: list["Item"] = field(default_factory=list)
-    # Whether it has only those calls of a type that another part of the page leaves out.
+    # Whether the item has only the calls of a type that another part of the page leaves out.
     is_part: bool = False
 
     def heading(self) -> str:
-        """The heading of the item on its page."""
+        """Returns the heading of the item on its page."""
         return f"{'Internal calls of ' if self.is_part else ''}{self.path or self.place()}"
 
     def place(self) -> str:
-        """The path of an item without a public one: that of its module. C knows an item by its name alone."""
+        """Returns the path of an item without a public path: the path in its module.
+
+        C knows an item only by its name.
+        """
         return self.name if is_from_c(self.home.path[0]) else "::".join([*self.home.path, self.name])
 
 
 def indent_of(line: str) -> int:
-    """The blanks before a line's text."""
+    """Returns the number of blanks before a line's text."""
     return len(line) - len(line.lstrip())
 
 
 def signature(lines: list[str], at: int) -> list[str]:
-    """The head of the function that begins at a line, with its clauses, and without its body."""
+    """Returns the head of the function that begins at a line, with its clauses and without its body."""
     indent, head, has_clause = indent_of(lines[at]), [], False
     for line in lines[at:]:
         if line.strip() in ("{", "{}") and indent_of(line) == indent:
@@ -225,14 +229,14 @@ def signature(lines: list[str], at: int) -> list[str]:
 
 
 def block_end(lines: list[str], at: int) -> int:
-    """The line behind the block, or the item of one line, that begins at a line of no indent."""
+    """Returns the index of the line after the block or the one-line item that begins at line `at` without indent."""
     if re.search(r"(?:;|\{\})$", lines[at]):
         return at + 1
     return next(k for k in range(at + 1, len(lines)) if re.match(r"[})].*$", lines[k]) and not lines[k].endswith("{")) + 1
 
 
 def doc_above(lines: list[str], at: int) -> list[str]:
-    """The doc comment above a line, past its attributes."""
+    """Returns the doc comment above a line and its attributes."""
     doc: list[str] = []
     for line in reversed(lines[:at]):
         text = line.strip()
@@ -244,7 +248,7 @@ def doc_above(lines: list[str], at: int) -> list[str]:
 
 
 def attributes_above(lines: list[str], at: int) -> list[str]:
-    """The attributes above a type that its user has to know: what it derives, its layout, its error text."""
+    """Returns the attributes above a type that its user has to know: what it derives, its layout, its error text."""
     shown: list[str] = []
     for line in reversed(lines[:at]):
         if re.match(r"#\[(?:derive|derive_where|repr|non_exhaustive|must_use|error)\b", line):
@@ -255,7 +259,7 @@ def attributes_above(lines: list[str], at: int) -> list[str]:
 
 
 def without_bodies(lines: list[str]) -> list[str]:
-    """The head of an impl of a trait, its associated types, its ghost members, and the heads of its functions."""
+    """Returns the head, the associated types, the ghost members and the function heads of an impl of a trait."""
     kept, at = [lines[0]], 1
     while at < len(lines) - 1:
         text = lines[at].strip()
@@ -275,12 +279,15 @@ def without_bodies(lines: list[str]) -> list[str]:
 
 
 def ghost_end(lines: list[str], at: int) -> int:
-    """The line after the ghost member that begins at a line."""
+    """Returns the index of the line after the ghost member that begins at a line."""
     return next(k for k in range(at, len(lines)) if lines[k].endswith("};")) + 1
 
 
 def declared(block: list[str]) -> list[str]:
-    """A type or a trait without the bodies of functions, and without the ghost lines that have no meaning for callers."""
+    """Returns a type or a trait without the bodies of functions.
+
+    It also leaves out the ghost lines that have no meaning for callers.
+    """
     kept, end = [], 0
     for at, line in enumerate(block):
         if at < end:
@@ -296,7 +303,7 @@ def declared(block: list[str]) -> list[str]:
 
 
 def type_code(block: list[str]) -> list[str]:
-    """A type as it is declared, without its private fields."""
+    """Returns the declaration of a type without its private fields."""
     if not block[0].startswith("pub struct"):
         return declared(block)
     if len(block) == 1:
@@ -308,7 +315,7 @@ def type_code(block: list[str]) -> list[str]:
 
 
 def owner_of(head: str) -> tuple[str, str]:
-    """The type that an impl is of, and its trait, or an empty text."""
+    """Returns the type of an impl, and its trait or an empty text."""
     text = re.sub(r"\bwhere\b.*", "", head).removesuffix("{").removesuffix("{}")
     while (shorter := re.sub(r"<[^<>]*>", "", text)) != text:
         text = shorter
@@ -319,7 +326,10 @@ def owner_of(head: str) -> tuple[str, str]:
 
 
 def owner_at(module: Module, head: str, items: dict[Key, Item]) -> Key | None:
-    """The item that shows an impl: its type, the type that it converts, or its trait if the type is a foreign one."""
+    """Returns the item that shows an impl.
+
+    This is its type, the type that it converts, or its trait if the type is a foreign one.
+    """
     name, trait = owner_of(head)
     made_of = re.search(r"\bFrom<(\w+)", head)
     is_from_below = isinstance(own := meant_by(module, (name,)), tuple) and own not in items
@@ -364,18 +374,18 @@ def read_impls(module: Module, items: dict[Key, Item]) -> None:
 
 
 def member_end(lines: list[str], at: int) -> int:
-    """The line after the constant or the type of an impl that begins at a line."""
+    """Returns the index of the line after the constant or the type of an impl that begins at a line."""
     return next(k for k in range(at, len(lines)) if re.match(r"    .*;$", lines[k]) and indent_of(lines[k]) == 4) + 1
 
 
 def is_from_c(crate: str) -> bool:
-    """Whether a library is a static one, called from C alone."""
+    """Returns whether a library is a static one, which only C calls."""
     return f"\n{crate} staticlib:" in (TOP / "crates.txt").read_text()
 
 
 @cache
 def shown_items(crate: str) -> dict[Key, Item]:
-    """The public items of a crate: what has a public path, and what a public alias means."""
+    """Returns the public items of a crate: those with a public path, and what a public alias means."""
     modules = list(root_of(crate).all())
     items: dict[Key, Item] = {}
     for module in modules:
@@ -395,22 +405,25 @@ def shown_items(crate: str) -> dict[Key, Item]:
 
 @cache
 def items_of(crate: str) -> list[Item]:
-    """The public items of a crate, by name."""
+    """Returns the public items of a crate, by name."""
     return sorted(shown_items(crate).values(), key=lambda it: (it.name.lower(), it.path))
 
 
 def libraries() -> list[str]:
-    """The libraries that others call, from the ground up."""
+    """Returns the libraries that others call, in the order of crates.txt."""
     return [it for it in stands_on() if not is_program(it) and group_of(it).title not in ("rows", "tests", "benchmarks")]
 
 
 def is_internal(path: str) -> bool:
-    """Whether a path is of the internal API, as is each call that serves a proof alone."""
+    """Returns whether a path belongs to the internal API. A call that serves only proofs belongs to it."""
     return path.endswith("::recall_invariant") or any(path == it or path.startswith(f"{it}::") for it in INTERNAL)
 
 
 def parts_of(items: list[Item]) -> tuple[list[Item], list[Item], list[Item]]:
-    """What users call, the internal API, and the laws. A type with calls in the first two is whole in the first one."""
+    """Returns the items for users, the internal API, and the lemmas.
+
+    A type with calls in the first two parts is shown whole in the first part.
+    """
     offered, internal, laws = [], [], []
     for item in items:
         inner = [it for it in item.calls if it.name and is_internal(f"{item.path}::{it.name}")]
@@ -426,12 +439,15 @@ def parts_of(items: list[Item]) -> tuple[list[Item], list[Item], list[Item]]:
 
 
 def count_of(items: list[Item]) -> int:
-    """How many types and calls items are."""
+    """Returns the number of types and calls in items."""
     return sum(bool(it.code) + sum(1 for call in it.calls if call.name) for it in items)
 
 
 def call_heading(item: Item, call: Item) -> str:
-    """The heading of a call: its type and its name. If several impls have a call of that name, the type is whole."""
+    """Returns the heading of a call: its type and its name.
+
+    If several impls have a call of that name, the heading has the whole type.
+    """
     if [it.name for it in item.calls].count(call.name) == 1:
         return f"{item.name}::{call.name}"
     kind = re.search(rf"{item.name}<.*>", call.of)[0]
@@ -439,7 +455,10 @@ def call_heading(item: Item, call: Item) -> str:
 
 
 def text_and_code(item: Item, note: str = "") -> Iterator[str]:
-    """The text of a doc comment with a note, and below it a block of the code. Headings of the text are bold words."""
+    """Yields the text of a doc comment with a note, and then a block of the code.
+
+    Headings of the text become bold words.
+    """
     said: list[str] = []
     in_code = False
     for line in paragraphs(item):
@@ -450,7 +469,7 @@ def text_and_code(item: Item, note: str = "") -> Iterator[str]:
 
 
 def paragraphs(item: Item) -> list[str]:
-    """The doc comment of an item with the targets of its links, and with the name that a constant has in the C header."""
+    """Returns the doc comment of an item with the targets of its links, and with the C name of a constant."""
     targets = {found[1]: found[2] for line in item.doc if (found := TARGET.fullmatch(line))}
     doc = [line for line in item.doc if not TARGET.fullmatch(line)]
     doc = [LINK.sub(lambda it: f"[`{it[1]}`]({targets.get(it[1], it[2] or it[1])})", line) for line in doc]
@@ -459,7 +478,7 @@ def paragraphs(item: Item) -> list[str]:
 
 
 def c_name(item: Item) -> str:
-    """The name of a constant of the libraries for C in the C header, if the header has one of the same value."""
+    """Returns the C name of a constant of the libraries for C, if the C header has one of the same value."""
     found = re.match(r"pub const (\w+): u32 = (\d+);", item.code[0]) if item.code else None
     if not found or not item.home.path[0].startswith("pigyelund_"):
         return ""
@@ -468,23 +487,23 @@ def c_name(item: Item) -> str:
 
 
 def label_of(item: Item, call: Item) -> str:
-    """The name of a call in the list of its type; its heading if several calls have that name."""
+    """Returns the name of a call in the list of its type, or its heading if several calls have that name."""
     heading = call_heading(item, call)
     return call.name if heading == f"{item.name}::{call.name}" else f"`{heading}`"
 
 
 def is_constant(call: Item) -> bool:
-    """Whether a call of a type is one of its constants."""
+    """Returns whether a call of a type is one of its constants."""
     return call.code[0].startswith("pub const ") and "fn " not in call.code[0]
 
 
 def kind_of(call: Item) -> int:
-    """The number by which the calls of a type are sorted: constants, constructors, and then the others."""
+    """Returns the number by which the calls of a type are sorted: constants, constructors, and then the others."""
     return 0 if is_constant(call) else 1 if CONSTRUCTOR.match(" ".join(call.code)) else 2
 
 
 def calls_of(item: Item) -> Iterator[str]:
-    """The calls on a type, each with a heading, and then its traits."""
+    """Yields the calls on a type, each with a heading, and then its traits."""
     named = sorted((it for it in item.calls if it.name), key=kind_of)
     for word in ("Constants", "Calls"):
         some = [it for it in named if is_constant(it) == (word == "Constants")]
@@ -498,7 +517,10 @@ def calls_of(item: Item) -> Iterator[str]:
 
 
 def traits_of(item: Item) -> Iterator[str]:
-    """The traits of a type, or the impls of a trait: each one with a text has a heading, and one block has the others."""
+    """Yields the traits of a type, or the impls of a trait.
+
+    Each one with a text has a heading. The others are in one block.
+    """
     traits = [it for it in item.calls if not it.name]
     is_trait = any(line.startswith("pub trait ") for line in item.code)
     yield from [f"#### {'Impls' if is_trait else 'Traits'} of `{item.name}`", ""] if traits else []
@@ -514,7 +536,7 @@ def traits_of(item: Item) -> Iterator[str]:
 
 
 def title_of(head: str) -> str:
-    """The trait and the type of an impl, without the parameters of the impl and its body."""
+    """Returns the trait and the type of an impl, without the parameters of the impl and its body."""
     text = re.sub(r"^(?:unsafe )?impl|\s*(?:\bwhere\b.*|\{\}?)$", "", head)
     depth = 0
     for at, letter in enumerate(text):
@@ -525,7 +547,7 @@ def title_of(head: str) -> str:
 
 
 def part(title: str, items: list[Item], no_path: str = NO_PATH) -> Iterator[str]:
-    """A part of a page, or nothing if it has no items."""
+    """Yields a part of a page, or nothing if the part has no items."""
     if not items:
         return
     yield from [f"## {title}", ""]
@@ -542,8 +564,10 @@ def part(title: str, items: list[Item], no_path: str = NO_PATH) -> Iterator[str]
 
 
 def linked(line: str, item: Item) -> str:
-    """A line of a doc comment: a link of rustdoc to what a page shows becomes a link to its heading, any other one its
-    own text."""
+    """Returns a line of a doc comment with links to the pages.
+
+    A rustdoc link to what a page shows becomes a link to its heading. Any other rustdoc link becomes its own text.
+    """
 
     def link(found: re.Match[str]) -> str:
         words = (found[2] or found[1]).removeprefix("fn@").removesuffix("()").split("::")
@@ -555,8 +579,10 @@ def linked(line: str, item: Item) -> str:
 
 
 def place_of(item: Item, words: list[str]) -> tuple[str, str]:
-    """The link to the heading of an item or of a call on it, by the words of its path in a doc comment, and its shortest
-    name; no link if no page shows it."""
+    """Returns the link to the heading of an item or of a call on it, and its shortest name.
+
+    `words` is the path of the item in a doc comment. The link is empty if no page shows the item.
+    """
     for count in range(len(words), 0, -1):
         key = meant_by(item.home, tuple(words[:count]))
         if not isinstance(key, tuple) and count == 1:
@@ -573,14 +599,14 @@ def place_of(item: Item, words: list[str]) -> tuple[str, str]:
 
 @cache
 def heading_of(key: Key) -> str | None:
-    """The link to an item, if the page of its library shows it."""
+    """Returns the link to an item, if the page of its library shows it."""
     crate = key[0][0]
     item = shown_items(crate).get(key) if crate in libraries() else None
     return f"{crate}.md{anchor(item.heading())}" if item else None
 
 
 def re_exports(crate: str) -> Iterator[str]:
-    """What the public modules of a crate re-export from other libraries, a line for each module."""
+    """Yields a line for each public module of a crate that re-exports names of other libraries."""
     lines = []
     for module in (it for it in root_of(crate).all() if it.is_public()):
         links = []
@@ -597,7 +623,7 @@ def re_exports(crate: str) -> Iterator[str]:
 
 
 def page(crate: str) -> str:
-    """The page of a library."""
+    """Returns the page of a library."""
     offered, internal, laws = parts_of(items_of(crate))
     text = (TOP / "crates" / crate / "src" / "lib.rt").read_text()
     first = re.match(r"(?://! ?(?!\n)[^\n]*\n)*", text)[0]
@@ -613,7 +639,7 @@ def page(crate: str) -> str:
 
 
 def index() -> str:
-    """The index: a row for each library, by groups."""
+    """Returns the index: a row for each library, by groups."""
     crate, owner, name = EXAMPLE
     shown = next(call for it in items_of(crate) if it.name == owner for call in it.calls if call.name == name)
     out = [HEAD.replace("{example}", "\n".join(shown.code))]
@@ -628,32 +654,32 @@ def index() -> str:
 
 
 def in_order(path: str) -> list[list[tuple[bool, int, str]]]:
-    """The key by which `rt fmt` sorts `use` lines: numbers in names count as numbers."""
+    """Returns the key by which `rt fmt` sorts `use` lines: numbers in names count as numbers."""
     parts = (re.findall(r"\d+|\D+", it) for it in path.split("::"))
     return [[(not it.isdigit(), int(it) if it.isdigit() else 0, it) for it in part] for part in parts]
 
 
 def use_lines() -> str:
-    """The source of `crates/test_paths`: a `use` line of each path."""
+    """Returns the source of `crates/test_paths`: a `use` line of each path."""
     paths = (item.path for crate in libraries() for item in items_of(crate) if item.path)
     return PATHS_HEAD + "".join(f"use {it} as _;\n" for it in sorted(paths, key=in_order))
 
 
 def files() -> dict[Path, str]:
-    """All that is made, by its place."""
+    """Returns the text of each file that this script makes, by its path."""
     pages = {DOCS / "api" / f"{it}.md": page(it) for it in libraries()}
     return {DOCS / "API.md": index(), PATHS: use_lines(), **pages}
 
 
 def stale_paths() -> Iterator[str]:
-    """The paths of the list of the internal API that no item has."""
+    """Yields the paths in INTERNAL that no item has."""
     items = [item for crate in libraries() for item in items_of(crate)]
     paths = [it.path for it in items] + [f"{it.path}::{call.name}" for it in items for call in it.calls]
     yield from (it for it in INTERNAL if not any(path == it or path.startswith(f"{it}::") for path in paths))
 
 
 def main() -> int:
-    """Writes the files, or compares them with what is there."""
+    """Writes the files, or compares them with the existing ones."""
     made, found = files(), 0
     there = set((DOCS / "api").glob("*.md"))
     if sys.argv[1:] == ["--write"]:

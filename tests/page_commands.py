@@ -1,9 +1,12 @@
 #!/usr/bin/env python3
-"""Runs the commands of README.md and docs/CALLING.md in a copy of the sources, and compares what each block prints on
-standard output with the page, if the page shows it. Left out, and named: ./check, and `rt check`, which proves the
-dependencies of a crate and which --prove runs. A block that needs rt is left out if there is no rt. The status is 1 if
-an output differs or if a command fails. tests/page_recipes.py runs docs/RECIPES.md, tests/page_errors.py the lines of
-docs/ERRORS.md, tests/program_streams.sh the options.
+"""Runs the commands of README.md and docs/CALLING.md in a copy of the sources, and compares what they print.
+
+It compares what each block prints on standard output, if the page shows the output. It leaves out ./check and
+`rt check`, and names them. `rt check` proves the dependencies of a crate. With --prove the script runs it too. A block
+that needs rt is left out if there is no rt. The status is 1 if an output differs or if a command fails.
+
+tests/page_recipes.py runs docs/RECIPES.md, tests/page_errors.py runs the lines of docs/ERRORS.md, and
+tests/program_streams.sh tests the options.
 """
 
 import os
@@ -21,7 +24,7 @@ RT_CHECK = 'echo "left out  rt check: it proves what the crate stands on" >&2'
 
 
 def main() -> int:
-    """Makes the copy, whose programs are those of the repository, and compares."""
+    """Makes a copy that uses the programs of the repository, runs the blocks, and compares."""
     rt, report = shutil.which("rt"), Report()
     with tempfile.TemporaryDirectory() as name:
         copy, bin_folder = copied(Path(name, "copy")), Path(name, "bin")

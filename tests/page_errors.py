@@ -1,9 +1,9 @@
 #!/usr/bin/env python3
 """Asks the built respath each line that docs/ERRORS.md and the README show, and compares its answer with the page's.
 
-On the first page an item shows a line and its answer as `LINE`: `ANSWER`, where a line begins with a command or is
-answered by an error; `with CR behind it` and `in front of` say what stands round the lines of an item. In the README
-each line is followed by its answer, four blanks further in. The status is 1 if an answer differs.
+An item of docs/ERRORS.md shows a line and its answer as `LINE`: `ANSWER`. The line begins with a command, or the answer
+is an error. The words `with CR behind it` and `in front of` in an item name octets that are added to its lines. In the
+README each line is followed by its answer, four blanks further in. The status is 1 if an answer differs.
 """
 
 import re
@@ -19,7 +19,7 @@ BYTE_ORDER_MARK = b"\xef\xbb\xbf"
 
 
 def of_errors() -> Iterator[tuple[str, bytes, str]]:
-    """The lines of docs/ERRORS.md with their answers, after where they stand."""
+    """Yields the lines of docs/ERRORS.md with their answers, each after its place on the page."""
     for number, line in enumerate((TOP / "docs" / "ERRORS.md").read_text().split("\n"), 1):
         before = BYTE_ORDER_MARK if "in front of `" in line else b""
         behind = b"\r" if "with CR behind it" in line else b""
@@ -29,7 +29,7 @@ def of_errors() -> Iterator[tuple[str, bytes, str]]:
 
 
 def of_readme() -> Iterator[tuple[str, bytes, str]]:
-    """The lines of the README's first block with their answers."""
+    """Yields the lines of the README's first block with their answers."""
     block = blocks_of("README.md")[0]
     lines = block.text.splitlines()
     for asked, answer in zip(lines[::2], lines[1::2], strict=True):

@@ -1,9 +1,9 @@
 #!/usr/bin/env python3
-"""Draws docs/layers.svg from crates.txt: each crate of the product above those that it stands on, by groups, and three
-roads through them.
+"""Draws docs/layers.svg from crates.txt: the crates of the product by groups, and three roads through them.
 
-A line leads to what a crate stands on, and to nothing that is reached through another. With --write the picture is
-written; without, it is compared with what would be drawn, and where it differs the status is 1.
+Each crate is above the crates that it depends on. A line leads from a crate to a dependency, unless another dependency
+reaches it. With --write the script writes the picture. Without it the script compares the picture with the stored one,
+and the status is 1 if they differ.
 """
 
 import sys
@@ -17,7 +17,7 @@ from groups import GROUPS, Group, crates_of, group_of, stands_on
 
 TOP = Path(__file__).resolve().parent.parent
 PICTURE = TOP / "docs" / "layers.svg"
-# A box, the way from one column or floor to the next, and what stands round the boxes of a group.
+# The size of a box, the distances of columns and floors, and the space around the boxes of a group.
 WIDE, HIGH, BESIDE, ABOVE, BELOW = 110, 24, 128, 34, 8
 LEFT, HEAD, TITLE, AROUND = 14, 74, 15, 6
 STYLE = (
@@ -29,14 +29,14 @@ STYLE = (
 
 @dataclass(frozen=True)
 class Road:
-    """What a road is, its colour, and the crates that it goes through; each way begins at one that is met already."""
+    """A road: its title, its colour, and the crates on its ways. A way begins at a crate of the ways before it."""
 
     title: str
     colour: str
     ways: tuple[tuple[str, ...], ...]
 
 
-# A road goes from a crate to one that it stands on, or else by the longest way down to it.
+# A road goes from a crate to a direct dependency, or by the longest way down to an indirect one.
 ROADS = (
     Road(
         "a text: norm v4 LIST",
@@ -60,31 +60,31 @@ ROADS = (
 
 
 def drawn() -> list[str]:
-    """The crates of the product."""
+    """Returns the crates of the product."""
     return [name for name in stands_on() if group_of(name).column is not None]
 
 
 @cache
 def below(name: str) -> frozenset[str]:
-    """All that a crate stands on."""
+    """Returns all crates that a crate depends on, also indirectly."""
     own = stands_on()[name]
     return frozenset(own).union(*(below(it) for it in own))
 
 
 def near(name: str) -> list[str]:
-    """What a crate stands on and reaches through no other."""
+    """Returns the dependencies of a crate that it reaches through no other dependency."""
     return [it for it in stands_on()[name] if not any(it in below(other) for other in stands_on()[name])]
 
 
 @cache
 def least_floor(name: str) -> int:
-    """The floor of a crate, from the ground."""
+    """Returns the lowest floor that a crate can have, counted from 1 at the bottom."""
     return 1 + max((least_floor(it) for it in stands_on()[name]), default=0)
 
 
 @cache
 def floor(name: str) -> int:
-    """The floor on which a crate is drawn."""
+    """Returns the floor on which a crate is drawn."""
     if not group_of(name).is_high:
         return least_floor(name)
     above = [floor(it) for it in drawn() if name in stands_on()[it]]
@@ -93,20 +93,20 @@ def floor(name: str) -> int:
 
 @cache
 def top_floor() -> int:
-    """The highest floor."""
+    """Returns the highest floor."""
     return max(map(least_floor, drawn()))
 
 
 @cache
 def cell(name: str) -> tuple[str, ...]:
-    """The crates that share a column and a floor, one below the other."""
+    """Returns the crates that share a column and a floor, from top to bottom."""
     place = (group_of(name).column, floor(name))
     return tuple(it for it in drawn() if (group_of(it).column, floor(it)) == place)
 
 
 @cache
 def floor_top(level: int) -> int:
-    """The upper end of a floor."""
+    """Returns the y coordinate of the upper end of a floor."""
     if level > top_floor():
         return HEAD - ABOVE - HIGH
     upper = max((len(cell(it)) for it in drawn() if floor(it) == level + 1), default=1)
@@ -114,20 +114,20 @@ def floor_top(level: int) -> int:
 
 
 def place(name: str) -> tuple[int, int]:
-    """The upper left corner of a crate's box."""
+    """Returns the upper left corner of a crate's box."""
     column = group_of(name).column or 0
     return LEFT + column * BESIDE, floor_top(floor(name)) + cell(name).index(name) * (HIGH + BELOW)
 
 
 def text(x: float, y: float, words: str, name: str = "", anchor: str = "start") -> str:
-    """Words at a place."""
+    """Returns the SVG element of words at a point."""
     kind = f' class="{name}"' if name else ""
     return f'<text x="{x:g}" y="{y:g}" text-anchor="{anchor}"{kind}>{words}</text>'
 
 
 @cache
 def fields() -> dict[Group, tuple[int, int]]:
-    """The upper and the lower end of each group's field, which is round its boxes; no two overlap."""
+    """Returns the upper and the lower end of each group's field, which surrounds its boxes. It stops if two overlap."""
     found: dict[Group, tuple[int, int]] = {}
     for group in GROUPS:
         if group.column is not None and (names := crates_of(group)):
@@ -141,14 +141,14 @@ def fields() -> dict[Group, tuple[int, int]]:
 
 
 def of_groups() -> Iterator[str]:
-    """The fields of the groups."""
+    """Yields the fields of the groups."""
     for group, (top, end) in fields().items():
         x = LEFT + (group.column or 0) * BESIDE - AROUND
         yield f'<rect x="{x}" y="{top}" width="{WIDE + 2 * AROUND}" height="{end - top}" rx="6" class="floor"/>'
 
 
 def of_titles() -> Iterator[str]:
-    """What the groups are, and above all the roads."""
+    """Yields the titles of the groups, and the names of the roads at the top."""
     for group, (top, _) in fields().items():
         yield text(LEFT + (group.column or 0) * BESIDE, top + TITLE, group.title, "group")
     for at, road in enumerate(ROADS):
@@ -158,7 +158,7 @@ def of_titles() -> Iterator[str]:
 
 
 def of_lines() -> Iterator[str]:
-    """A line for each pair of crates of which the one stands on the other."""
+    """Yields a line from each crate to each dependency that it reaches through no other."""
     for name in drawn():
         x, y = place(name)
         for it in near(name):
@@ -167,7 +167,10 @@ def of_lines() -> Iterator[str]:
 
 
 def steps(upper: str, lower: str) -> list[str]:
-    """The crates from one to another that it stands on, without the first: the other, or the longest way down."""
+    """Returns the crates from `upper` to its dependency `lower`, without `upper`.
+
+    The result is `lower` alone for a direct dependency, and the longest way down for any other.
+    """
     if lower in stands_on()[upper]:
         return [lower]
     between = [it for it in stands_on()[upper] if lower in below(it)]
@@ -178,7 +181,7 @@ def steps(upper: str, lower: str) -> list[str]:
 
 
 def pairs_of(road: Road) -> list[tuple[str, str]]:
-    """The pairs of crates that follow each other on a road."""
+    """Returns the pairs of crates that follow each other on a road."""
     for name in (it for way in road.ways for it in way):
         if name not in stands_on():
             raise SystemExit(f"tests/page_layers.py: there is no {name}")
@@ -187,7 +190,7 @@ def pairs_of(road: Road) -> list[tuple[str, str]]:
 
 
 def of_roads() -> Iterator[str]:
-    """The roads, beside each other where they share a way."""
+    """Yields the roads. They are drawn side by side if they share a way."""
     for at, road in enumerate(ROADS):
         aside = 6 * at - 6
         for upper, lower in pairs_of(road):
@@ -197,7 +200,7 @@ def of_roads() -> Iterator[str]:
 
 
 def of_boxes() -> Iterator[str]:
-    """A box for each crate, with its name."""
+    """Yields a box for each crate, with its name."""
     for name in drawn():
         x, y = place(name)
         yield f'<rect x="{x}" y="{y}" width="{WIDE}" height="{HIGH}" rx="4" class="box"/>'
@@ -205,7 +208,7 @@ def of_boxes() -> Iterator[str]:
 
 
 def of_others() -> Iterator[str]:
-    """The groups beside the product, a line for each."""
+    """Yields a line for each group that is not part of the product."""
     y = floor_top(1) + HIGH + 40
     for group in GROUPS:
         if group.column is None:
@@ -215,7 +218,7 @@ def of_others() -> Iterator[str]:
 
 
 def picture() -> str:
-    """The whole picture."""
+    """Returns the whole picture."""
     beside = [group for group in GROUPS if group.column is None]
     width = LEFT + (1 + max(group.column or 0 for group in GROUPS)) * BESIDE
     height = floor_top(1) + HIGH + 40 + 20 * len(beside)
@@ -225,7 +228,7 @@ def picture() -> str:
 
 
 def main() -> int:
-    """Writes the picture, or compares it with what is there."""
+    """Writes the picture, or compares it with the stored one."""
     made = picture()
     if sys.argv[1:] == ["--write"]:
         PICTURE.write_text(made)

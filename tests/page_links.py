@@ -2,8 +2,9 @@
 """page_links.py: finds relative links of the pages whose file or heading does not exist.
 
 The pages are README.md, CONTRIBUTING.md, CHANGELOG.md and the pages below docs/. A heading has the anchor that hosting
-sites give it: its text in lower case without marks, with '-' for each space, and a number if the page has it twice.
-Status 1 if a link leads nowhere."""
+sites give it. This is its text in lower case without marks, with '-' for each space. It also has a number if the page
+has the heading twice. The status is 1 if a link leads nowhere.
+"""
 
 import re
 import sys
@@ -17,13 +18,13 @@ INLINE_CODE = re.compile(r"`[^`]*`")
 
 
 def pages() -> list[Path]:
-    """The pages."""
+    """Returns the pages."""
     at_top = [TOP / name for name in ("README.md", "CONTRIBUTING.md", "CHANGELOG.md")]
     return [*at_top, *sorted((TOP / "docs").glob("**/*.md"))]
 
 
 def prose(page: Path) -> list[tuple[int, str]]:
-    """The lines of a page outside of blocks of code, each with its number."""
+    """Returns the lines of a page outside of blocks of code, each with its number."""
     lines, in_code = [], False
     for number, line in enumerate(page.read_text().splitlines(), 1):
         if line.lstrip().startswith("```"):
@@ -34,7 +35,7 @@ def prose(page: Path) -> list[tuple[int, str]]:
 
 
 def anchors(page: Path) -> set[str]:
-    """The anchors of the headings of a page."""
+    """Returns the anchors of the headings of a page."""
     found, counts = set(), Counter()
     for _, line in prose(page):
         if heading := HEADING.match(line):
@@ -46,7 +47,7 @@ def anchors(page: Path) -> set[str]:
 
 
 def fault(page: Path, target: str, anchors_of: dict[Path, set[str]]) -> str:
-    """What is wrong with a link of a page; empty if it leads somewhere."""
+    """Returns the fault of a link of a page, or an empty text if the link leads somewhere."""
     file, _, anchor = target.partition("#")
     linked = (page.parent / file).resolve() if file else page
     if not linked.exists():
@@ -57,7 +58,7 @@ def fault(page: Path, target: str, anchors_of: dict[Path, set[str]]) -> str:
 
 
 def main() -> int:
-    """Prints each link that leads nowhere, and how many there are."""
+    """Prints each link that leads nowhere, and the number of links."""
     anchors_of = {page: anchors(page) for page in pages()}
     links = faults = 0
     for page in anchors_of:

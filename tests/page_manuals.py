@@ -19,7 +19,7 @@ from subprocess import CompletedProcess
 from blocks import TOP, Report, examples_of, manual, program, run, write_script
 
 IF = "(?:(?:where|if|when|for|on|after) )?"
-# What a page says of a status, each with the number of the status.
+# Patterns for what a page says of a status. The group of each pattern is the number of the status.
 PATTERNS = {
     "answered": (rf"\b(\d) {IF}(?:each|every|all)\b[^.;:\d]*\banswered\b", r"\bstatus (?:stays|is still|remains) (\d)"),
     "failed": (rf"\b(\d) {IF}[^.;:\d]*?\b(?:memory|stream|reading|read|writing)\b",),
@@ -52,8 +52,11 @@ DASHES_OF_ORIGINS = (
 
 @dataclass(frozen=True)
 class Page:
-    """A page as one line of text, the program that it describes, the commands with each status, those with the name
-    `-`, and the statuses that the page has to name."""
+    """A page as one line of text, and the program that it describes.
+
+    `commands` has a command for each status. `dashes` has the commands with the name `-`. `kinds` has the statuses that
+    the page has to name.
+    """
 
     name: str
     text: str
@@ -73,8 +76,10 @@ def help_of(path: Path, folder: Path) -> str:
 
 
 def script_of(folder: Path) -> Path:
-    """Copies the script `respath` with its program and its texts into a folder without other sources, so that it builds
-    nothing."""
+    """Copies the script `respath` with its program and its texts into a folder without other sources.
+
+    The script builds nothing there.
+    """
     built, texts = program("respath_files").relative_to(TOP), Path("crates", "respath_files", "src", "help.rt")
     for name in (Path("respath"), Path("program.sh"), Path("crates.txt"), texts, built):
         (folder / name).parent.mkdir(parents=True, exist_ok=True)

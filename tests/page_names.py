@@ -1,14 +1,16 @@
 #!/usr/bin/env python3
-"""Finds names in README.md, CONTRIBUTING.md, docs/ and the heads of sources that aren't there: files, crates, calls, and
-code that its file doesn't have.
+"""Finds names of files, crates and calls on the pages that do not exist, and code that its file does not have.
 
-Of what stands between backticks it takes paths, names of files, names of crates, and words with an underscore or of
-the form Type::call, each of which must stand somewhere in the sources, definitions or scripts. docs/DIFFERENCES.md
-and docs/PATHS.md also name what the Rust crate alone has, so their words aren't looked for. A definition, as in
-crate.File.Name, must stand in that file of `specs/`. A block of Rust behind the name of a file must stand in that
-file, line by line. The tables of docs/CALLING.md, Preconditions, must have the public calls of the libraries with a
-`requires`, and no others. A block in the head of a source must stand, without its comments, in the file or the crate
-that is named before it. Ends with status 1 where something isn't there."""
+It reads README.md, CONTRIBUTING.md, docs/ and the heads of sources. Between backticks it finds paths, names of files,
+names of crates, and words with an underscore or of the form Type::call. Each of them must be in the sources,
+definitions or scripts. It does not look for the words of `docs/DIFFERENCES.md` and `docs/PATHS.md`. Some of these words
+are names that only the Rust crate has.
+
+A definition, as in crate.File.Name, must be in that file of `specs/`. A block of Rust after the name of a file must be
+in that file, line by line. The tables of docs/CALLING.md, Preconditions, must have the public calls of the libraries
+with a `requires`, and no others. A block in the head of a source must be in the file or the crate that is named before
+it. Its comments need not be there. The status is 1 if something is missing.
+"""
 
 import re
 import sys
@@ -30,7 +32,7 @@ ENDINGS = (".md", ".rt", ".antt", ".sh", ".py", ".edit", ".h", ".c")
 PATH = re.compile(r"[\w./*-]+")
 WORD = re.compile(r"(?:\w+::)*\w+")
 DEFINITION = re.compile(r"[a-z]\w*\.[A-Z]\w*\.(?:[\w']+|\{[\w',]+\})")
-# What a reader makes by a page, and what the kit and C libraries bring.
+# Files that a reader makes by a page, and names of the kit and of C libraries.
 MADE = {"crates/mine", "crates/mine/src/lib.rt", "start_lib", "try_reserve", "GLIBC_TUNABLES"}
 MADE |= {"LD_PRELOAD", "clock_gettime", "pfx_table", "pfx_table_validate"}
 MADE |= {"include/pigyelund.h", "foreign/c/out", "program.c", "program.py", "/usr/lib", "/usr/local/lib"}
@@ -39,7 +41,7 @@ MADE.add("/usr/lib/x86_64-linux-gnu")
 
 
 def sources() -> Iterator[Path]:
-    """The files of the repository that say what there is."""
+    """Yields the files of the repository in which a name may be."""
     for pattern in ("src/**/*.rt", "specs/**/*.antt", "src/**/*.rs", "src/**/*.c", "src/**/*.h"):
         yield from CRATES.glob(f"*/{pattern}")
     for folder in ("must-fail", "edits"):
@@ -50,14 +52,14 @@ def sources() -> Iterator[Path]:
 
 
 def quoted(line: str) -> Iterator[str]:
-    """What stands between backticks, and the pages that are named without them."""
+    """Yields the texts between backticks, and the pages that are named without backticks."""
     yield from re.findall(r"`([^`]+)`", line)
     yield from re.findall(r"\bdocs/\w+\.md", line)
     yield from re.findall(r"\]\(([\w./]+)\)", line)
 
 
 def is_path(name: str) -> bool:
-    """Whether a name is that of a file or a folder of the repository."""
+    """Returns whether a name has the form of a file or a folder of the repository."""
     if not PATH.fullmatch(name) or name in MADE or "NAME" in name:
         return False
     first, _, rest = name.partition("/")
@@ -66,7 +68,10 @@ def is_path(name: str) -> bool:
 
 @cache
 def has_path(name: str) -> bool:
-    """Whether the file is there: from the top, in the crates, in docs, or anywhere in a crate where it has no folder."""
+    """Returns whether a file exists: from the top, in the crates or in docs.
+
+    A path may also be relative to a crate. A name without a folder may be anywhere.
+    """
     places = [TOP, CRATES, TOP / "docs"]
     if any(any(place.glob(name)) for place in places if not name.startswith("/")):
         return True
@@ -76,7 +81,10 @@ def has_path(name: str) -> bool:
 
 
 def lines_of(page: Path) -> Iterator[tuple[int, str]]:
-    """The lines of a page with their numbers; of a source those of its head, without the marks of a comment."""
+    """Yields the lines of a page with their numbers.
+
+    A source has only the lines of its head, without the marks of a comment.
+    """
     for number, line in enumerate(page.read_text().split("\n"), 1):
         if page.suffix != ".rt":
             yield number, line
@@ -87,7 +95,7 @@ def lines_of(page: Path) -> Iterator[tuple[int, str]]:
 
 
 def faults_of_names(page: Path, words: set[str], crates: set[str]) -> Iterator[tuple[int, str]]:
-    """The names of a page that aren't there."""
+    """Yields the names of a page that do not exist."""
     in_code = False
     for number, line in lines_of(page):
         if line.startswith("```"):
@@ -110,7 +118,7 @@ def faults_of_names(page: Path, words: set[str], crates: set[str]) -> Iterator[t
 
 
 def faults_of_code(page: Path) -> Iterator[tuple[int, str]]:
-    """The blocks of Rust that the file named last before them doesn't have."""
+    """Yields the blocks of Rust that are not in the file that the page named last before them."""
     file, block, start = None, None, 0
     for number, line in enumerate(page.read_text().split("\n"), 1):
         if block is None:
@@ -127,7 +135,7 @@ def faults_of_code(page: Path) -> Iterator[tuple[int, str]]:
 
 
 def named_by(name: str) -> list[Path]:
-    """The sources that a path names, as `crate::module::call`: the module's file, or all of the crate's."""
+    """Returns the sources that a path names, as `crate::module::call`: the module's file, or all files of the crate."""
     crate, *inside = name.split("::")
     files = [CRATES / crate / "src" / "/".join(inside[:count]) for count in range(len(inside), 0, -1)]
     found = [it.with_suffix(".rt") for it in files if it.with_suffix(".rt").is_file()]
@@ -136,25 +144,28 @@ def named_by(name: str) -> list[Path]:
 
 @cache
 def every_source() -> list[Path]:
-    """The sources of all crates."""
+    """Returns the sources of all crates."""
     return [*CRATES.glob("*/src/**/*.rt")]
 
 
 @cache
 def stripped(file: Path) -> list[str]:
-    """The lines of a source without their indents."""
+    """Returns the lines of a source without their indents."""
     return [it.strip() for it in file.read_text().split("\n")]
 
 
 def has_block(file: Path, block: list[str]) -> bool:
-    """Whether the lines of a source have a block, whatever their indents."""
+    """Returns whether a source has the lines of a block. Their indents do not count."""
     lines = stripped(file)
     wanted = [it.strip() for it in block]
     return any(lines[at : at + len(wanted)] == wanted for at in range(len(lines)))
 
 
 def faults_of_head(file: Path, crates: set[str]) -> Iterator[tuple[int, str]]:
-    """The blocks in a source's head that don't stand in what the paragraph before them names, or in any source."""
+    """Yields the blocks in a source's head that are not in the source that the paragraph before them names.
+
+    If that paragraph names no source, a block must be in any source.
+    """
     anywhere = every_source()
     places, block, start = anywhere, None, 0
     for number, line in lines_of(file):
@@ -174,7 +185,10 @@ def faults_of_head(file: Path, crates: set[str]) -> Iterator[tuple[int, str]]:
 
 
 def conditions_of(crate: str, meant: dict[str, str]) -> Iterator[str]:
-    """The public calls of a library with a `requires`, methods as Type::name; aliases of its types are noted."""
+    """Yields the public calls of a library with a `requires`, methods as Type::name.
+
+    It adds the aliases of the library's types to `meant`.
+    """
     for item in items_of(crate):
         if alias := re.match(r"pub type (\w+).* = (\w+)", item.code[0]):
             meant[alias[1]] = alias[2]
@@ -188,7 +202,7 @@ def conditions_of(crate: str, meant: dict[str, str]) -> Iterator[str]:
 
 
 def faults_of_conditions() -> Iterator[tuple[int, str]]:
-    """The calls with a condition that docs/CALLING.md doesn't have in its tables, and those of its tables with none."""
+    """Yields the calls with a precondition that the tables of docs/CALLING.md lack, and the calls there without one."""
     meant: dict[str, str] = {}
     crates = [it for it in libraries() if group_of(it).title != "examples"]
     wanted = {call for crate in crates for call in conditions_of(crate, meant)}
@@ -198,7 +212,7 @@ def faults_of_conditions() -> Iterator[tuple[int, str]]:
         if line.startswith("## "):
             is_part = line == "## Preconditions"
         elif is_part and line.startswith("| `"):
-            # Of what stands in front of the condition a name in small letters with colons is a module.
+            # In the cell before the precondition, a name in small letters with colons is a module.
             for name in (it for token in re.findall(r"`([^`]+)`", line.split(" | ")[0]) for it in names_of(token)):
                 if name not in crates and not re.match(r"[a-z]\w*::", name):
                     owner, colons, call = name.partition("::")
@@ -208,7 +222,7 @@ def faults_of_conditions() -> Iterator[tuple[int, str]]:
 
 
 def main() -> int:
-    """Prints what isn't there."""
+    """Prints the names and blocks that do not exist."""
     words: set[str] = set()
     for path in sources():
         words.update(re.findall(r"\w+", path.read_text()))

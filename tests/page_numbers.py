@@ -18,22 +18,22 @@ NUMBER = r"(\d[\d,]*)"
 
 
 def text_of(name: str) -> str:
-    """A file of the repository."""
+    """Returns the text of a file of the repository."""
     return (TOP / name).read_text()
 
 
 def page(name: str) -> str:
-    """A page with single spaces in place of line ends and indents."""
+    """Returns a page with single spaces in place of line ends and indents."""
     return " ".join(text_of(name).split())
 
 
 def lines_of(name: str) -> list[str]:
-    """The lines of a file, which end at line feeds alone."""
+    """Returns the lines of a file. Only a line feed ends a line."""
     return text_of(name).removesuffix("\n").split("\n")
 
 
 def rows(*programs: str) -> Callable[[], int]:
-    """Counts the lines that programs of rows are asked."""
+    """Counts the lines that the programs `rows_*` are asked."""
     return lambda: sum(len(lines_of(f"crates/{name}/stdin")) for name in programs)
 
 
@@ -43,17 +43,17 @@ def file(name: str) -> Callable[[], int]:
 
 
 def random_lines(command: str) -> Callable[[], int]:
-    """How many random lines `check` asks for."""
+    """Returns how many random lines `check` asks for."""
     return lambda: int(re.findall(rf"^\s*{command} 1 (\d+)", text_of("check"), re.MULTILINE)[0])
 
 
 def vectors(name: str) -> Callable[[], int]:
-    """Counts the cases of files of vectors, whose name is a pattern."""
+    """Counts the cases of files of vectors. The name of the files is a pattern."""
     files = sorted((TOP / "vectors").glob(f"{name}.json"))
     return lambda: sum(len(re.findall(r'^  \{"comment": ', it.read_text(), re.MULTILINE)) for it in files)
 
 
-# A page, a pattern whose group is the number, and what counts it.
+# A page, a pattern whose group is the number, and a function that counts.
 COUNTED: tuple[tuple[str, str, Callable[[], int]], ...] = (
     *(("docs/TESTS.md", rf"`{name}`, {NUMBER} lines", rows(name)) for name in ROWS),
     ("docs/TESTS.md", rf"`foreign/rows.txt`[^`\d]*{NUMBER} rows", file("foreign/rows.txt")),
@@ -76,12 +76,12 @@ QUOTED_ROW = re.compile(r"`((?:long \w+|requests many) \d+)`")
 
 
 def numbers(name: str, pattern: str) -> list[int]:
-    """The numbers of a page that a pattern has."""
+    """Returns the numbers of a page that match a pattern."""
     return [int(it.replace(",", "")) for it in re.findall(pattern, page(name))]
 
 
 def faults_of_counts() -> Iterator[str]:
-    """The numbers of rows and of random lines that differ."""
+    """Yields the numbers of rows and of random lines that differ."""
     for name, pattern, count in COUNTED:
         found, there = numbers(name, pattern), count()
         if not found:
@@ -95,7 +95,7 @@ def faults_of_counts() -> Iterator[str]:
 
 
 def faults_of_quotes() -> Iterator[str]:
-    """The rows of many elements that docs/TESTS.md quotes and that are not there."""
+    """Yields the rows of many elements that docs/TESTS.md quotes and that do not exist."""
     there = {line for name in ROWS for line in lines_of(f"crates/{name}/stdin")}
     quoted = QUOTED_ROW.findall(page("docs/TESTS.md"))
     if not quoted:

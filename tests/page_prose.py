@@ -1,10 +1,16 @@
 #!/usr/bin/env python3
 """page_prose.py [--list] [PATH ..]: counts sentences of the pages and doc comments that a reader has to read twice.
 
-It reads the pages, the C header, the manual pages and the doc comments of the crates and wrappers; with PATH these files
-alone. Code, tables and headings are not read. Three counts have a limit for each file (doc comments: each crate):
-sentences above 30 words, sentences that do not begin with their subject, and words that this project has a plainer word
-for. --list prints each finding. Status 1 if a limit is exceeded."""
+It reads the pages, the C header, the manual pages and the doc comments of the crates and wrappers. With PATH it reads
+only these files. It does not read code, tables and headings. Three counts have a limit for each file, or for each crate
+in doc comments:
+
+* sentences above 30 words
+* sentences that do not begin with their subject
+* words that this project has a plainer word for
+
+--list prints each finding. The status is 1 if a limit is exceeded.
+"""
 
 import re
 import sys
@@ -13,7 +19,7 @@ from pathlib import Path
 
 TOP = Path(__file__).resolve().parent.parent
 LONGEST = 30
-# At most so many of 100 sentences, and so many of 1,000 words. These pages have no such word at all.
+# Limits per 100 sentences, and per 1,000 words. The pages in STRICT may have no such word.
 LIMITS = {"long": 3.0, "inverted": 2.0, "words": 2.0}
 STRICT = "README.md", "CONTRIBUTING.md"
 # A small file may have one finding of each kind.
@@ -48,7 +54,7 @@ WORDS = [(re.compile(word, re.IGNORECASE), better) for word, better in PLAINER.i
 
 
 def of_markdown(text: str) -> Iterator[tuple[int, str]]:
-    """The lines of prose of a page; an empty line ends a paragraph, and so does an item of a list."""
+    """Yields the lines of prose of a page. An empty line or an item of a list ends a paragraph."""
     is_code = False
     for number, line in enumerate(text.splitlines(), 1):
         is_code ^= line.lstrip().startswith("```")
@@ -62,21 +68,21 @@ def of_markdown(text: str) -> Iterator[tuple[int, str]]:
 
 
 def of_comments(text: str, mark: str) -> Iterator[tuple[int, str]]:
-    """The lines of prose of doc comments, which begin with a mark."""
+    """Yields the lines of prose of doc comments, which begin with a mark."""
     of_mark = re.compile(rf"\s*{mark} ?(.*)")
     lines = [(number, of_mark.match(line)) for number, line in enumerate(text.splitlines(), 1)]
     yield from of_markdown_lines((number, found[1] if found else "") for number, found in lines)
 
 
 def of_markdown_lines(lines: Iterator[tuple[int, str]]) -> Iterator[tuple[int, str]]:
-    """The same as of_markdown, of numbered lines."""
+    """Does the same as of_markdown for numbered lines."""
     numbers, texts = zip(*lines, strict=True) if (lines := list(lines)) else ((), ())
     for at, line in of_markdown("\n".join(texts)):
         yield numbers[at - 1], line
 
 
 def of_c(text: str) -> Iterator[tuple[int, str]]:
-    """The lines of the comments of a C file."""
+    """Yields the lines of the comments of a C file."""
     is_comment = False
     for number, line in enumerate(text.splitlines(), 1):
         is_comment |= "/*" in line
@@ -88,7 +94,7 @@ def of_c(text: str) -> Iterator[tuple[int, str]]:
 
 
 def of_roff(text: str) -> Iterator[tuple[int, str]]:
-    """The lines of prose of a manual page, without its examples."""
+    """Yields the lines of prose of a manual page, without its examples."""
     is_example = False
     for number, line in enumerate(text.splitlines(), 1):
         is_example = line == ".nf" or (is_example and line != ".fi")
@@ -96,7 +102,7 @@ def of_roff(text: str) -> Iterator[tuple[int, str]]:
 
 
 def of_docstrings(text: str) -> Iterator[tuple[int, str]]:
-    """The lines of the docstrings of a Python file, without the names of parameters."""
+    """Yields the lines of the docstrings of a Python file, without the names of parameters."""
     is_inside = False
     for number, line in enumerate(text.splitlines(), 1):
         marks = line.count('"""')
@@ -109,14 +115,14 @@ def of_docstrings(text: str) -> Iterator[tuple[int, str]]:
 
 
 def prose(path: Path) -> Iterator[tuple[int, str]]:
-    """The lines of prose of a file."""
+    """Yields the lines of prose of a file."""
     text = path.read_text(encoding="utf-8")
     readers = {".md": of_markdown, ".h": of_c, ".1": of_roff, ".py": of_docstrings}
     return readers[path.suffix](text) if path.suffix in readers else of_comments(text, "//[/!]")
 
 
 def sentences(path: Path) -> Iterator[tuple[int, str]]:
-    """The sentences of a file of four words and more, each with the number of its paragraph's first line."""
+    """Yields the sentences of a file with at least four words, each with the number of its paragraph's first line."""
     first, text = 0, ""
     for number, line in [*prose(path), (0, "")]:
         if line:
@@ -130,7 +136,7 @@ def sentences(path: Path) -> Iterator[tuple[int, str]]:
 
 
 def groups(paths: list[str]) -> Iterator[tuple[str, list[Path]]]:
-    """The files, by the name under which they are counted."""
+    """Yields the files of each group, with the name of the group."""
     pages = [TOP / it for it in ("README.md", "CHANGELOG.md", "CONTRIBUTING.md", "foreign/pigyelund.h")]
     pages += [*sorted((TOP / "docs").glob("*.md")), *sorted((TOP / "docs").glob("*.1"))]
     for path in [Path(it).resolve() for it in paths] or pages:
@@ -142,7 +148,7 @@ def groups(paths: list[str]) -> Iterator[tuple[str, list[Path]]]:
 
 
 def findings(sentence: str) -> Iterator[tuple[str, str]]:
-    """What a reader may stumble over in a sentence: the kind, and what to say of it."""
+    """Yields the findings in a sentence: the kind of each, and a description."""
     if (count := len(sentence.split())) > LONGEST:
         yield "long", f"{count} words"
     if INVERTED.match(sentence) and not QUESTION.match(sentence):

@@ -1,12 +1,16 @@
 #!/usr/bin/env python3
-"""Checks that docs/PROVED.md names what there is, and names all of what it says by it.
+"""Checks that the names in docs/PROVED.md exist, and that its claims name all that they are about.
 
-A claim is a line below the file that it stands in: `- CLAIM: CALLS CLAUSES DEFINITIONS (PREMISE)`. Calls have commas
-between them; braces hold several names, as in `Type::{one,other}`. Each call must stand in the file; each clause must
-be one of a call's, and each call must have one of them (where none is named, a clause without a name); each
-definition, `File.Name` or `crate.File.Name`, must stand in that file of `specs/`, and be used by one of these
-clauses, or in the file of one before it. It also looks for cells of README.md above 200 characters. Ends with status
-1 where something is wrong.
+A claim is a line below the name of its file: `- CLAIM: CALLS CLAUSES DEFINITIONS (PREMISE)`. Calls have commas between
+them. Braces hold several names, as in `Type::{one,other}`. These are the rules:
+
+* Each call must be in the file.
+* Each clause must be one of a call's, and each call must have one of the clauses. A clause without a name also counts
+  for a call.
+* Each definition, `File.Name` or `crate.File.Name`, must be in that file of `specs/`. A clause of the claim must use
+  it, or the file of a definition before it.
+
+The script also looks for cells of README.md above 200 characters. The status is 1 if something is wrong.
 """
 
 import re
@@ -22,12 +26,12 @@ Clauses = list[tuple[str, str]]
 
 
 def without_comments(text: str) -> str:
-    """The text with its comments blanked, so that places stay the same."""
+    """Returns the text with its comments blanked, so that indexes stay the same."""
     return re.sub(r"//[^\n]*", lambda it: " " * len(it[0]), text)
 
 
 def behind_braces(text: str, start: int) -> int:
-    """The place behind the brace that closes the first one from a place on."""
+    """Returns the index after the brace that closes the first open brace from `start` on."""
     at, depth = text.index("{", start), 0
     while True:
         depth += {"{": 1, "}": -1}.get(text[at], 0)
@@ -37,7 +41,7 @@ def behind_braces(text: str, start: int) -> int:
 
 
 def clauses_in(text: str, word: str) -> Clauses:
-    """The clauses or ghost members of a text, each with its name (empty where it has none) and what it says."""
+    """Returns the clauses or ghost members of a text, each with its name and its text. The name may be empty."""
     return [
         (it[1] or "", text[it.end() : behind_braces(text, it.start())])
         for it in re.finditer(rf"\b{word}\s+(?:(\w+)\s*=?\s*)?(?=\{{)", text)
@@ -45,7 +49,7 @@ def clauses_in(text: str, word: str) -> Clauses:
 
 
 def owner_of(head: str) -> str:
-    """The type of an impl, or the trait, by the head of its block."""
+    """Returns the type of an impl, or the trait, by the head of its block."""
     head = re.split(r"\bwhere\b", head)[0]
     if found := re.match(r"\s*(?:pub\s+)?(?:unsafe\s+)?trait\s+(\w+)", head):
         return found[1]
@@ -56,7 +60,10 @@ def owner_of(head: str) -> str:
 
 
 def calls_of(path: Path) -> dict[str, Clauses]:
-    """The functions of a source by their name, methods as Type::name, with its clauses and its impl's ghost members."""
+    """Returns the functions of a source by their name, methods as Type::name.
+
+    Each has its clauses and its impl's ghost members.
+    """
     text = without_comments(path.read_text())
     spans = [
         (it.start(), behind_braces(text, it.start()), owner_of(it[0]))
@@ -77,19 +84,22 @@ def calls_of(path: Path) -> dict[str, Clauses]:
 
 
 def names_of(token: str) -> list[str]:
-    """The names that a token stands for: of braces, each with what stands in front of them."""
+    """Returns the names that a token stands for. With braces, each name gets the text before the braces."""
     front, brace, inside = token.partition("{")
     return [front + it for it in inside.rstrip("}").split(",")] if brace else [token]
 
 
 def definition_at(name: str, crate: str) -> tuple[Path, str]:
-    """The file and the word of `File.Name` or `crate.File.Name`; where no crate is named, it is the section's."""
+    """Returns the file and the word of `File.Name` or `crate.File.Name`.
+
+    Without a crate the name is in the section's crate.
+    """
     *front, file, word = name.split(".")
     return TOP / "crates" / (front or [crate])[0] / "specs" / f"{file}.antt", word
 
 
 def defines(path: Path, name: str) -> bool:
-    """Whether a file of definitions has one of that name."""
+    """Returns whether a file of definitions has a definition of that name."""
     if not path.is_file():
         return False
     head = rf"^\s*(?:[a-z]+ )*{re.escape(name)}(?![\w'])[^\n=]*:"
@@ -97,12 +107,12 @@ def defines(path: Path, name: str) -> bool:
 
 
 def uses(text: str, name: str) -> bool:
-    """Whether a text has the name as a word."""
+    """Returns whether a text has the name as a word."""
     return re.search(rf"(?<![\w']){re.escape(name)}(?![\w'])", text) is not None
 
 
 def parts_of(line: str) -> tuple[list[str], list[str], list[str]] | None:
-    """The calls, clauses and definitions of a claim, or None where it has no claim or no call."""
+    """Returns the calls, clauses and definitions of a claim, or None if the line has no claim or no call."""
     found = re.fullmatch(r"- \S.*?: ((?:`[^`]+`,? ?)+)(?:\([^()]+\))?", line)
     if not found:
         return None
@@ -113,7 +123,7 @@ def parts_of(line: str) -> tuple[list[str], list[str], list[str]] | None:
 
 
 def faults_of(crate: str, file: str, line: str) -> Iterator[str]:
-    """What is wrong with a claim."""
+    """Yields the faults of a claim."""
     parts = parts_of(line)
     if parts is None:
         yield "this is no claim with a call"
@@ -152,9 +162,9 @@ def faults_of(crate: str, file: str, line: str) -> Iterator[str]:
 
 
 def claims() -> Iterator[tuple[int, str, str, str]]:
-    """The claims of the page, each with its line, and the crate and the file that it stands below."""
+    """Yields the claims of the page, each with its line number, its crate and its file."""
     crate = file = ""
-    # A line that goes on below is one line; the blank lines keep the numbers of those behind it.
+    # Joins the lines of a claim into one line. Blank lines keep the numbers of the lines after it.
     text = re.sub(
         r"(?m)^- .*(?:\n  .*)+",
         lambda it: re.sub(r"\n +", " ", it[0]) + "\n" * it[0].count("\n"),
@@ -170,7 +180,7 @@ def claims() -> Iterator[tuple[int, str, str, str]]:
 
 
 def main() -> int:
-    """Checks each claim, and says how many there are."""
+    """Checks each claim, and prints how many there are."""
     count = found = 0
     for number, crate, file, line in claims():
         count += 1

@@ -1,6 +1,8 @@
 #!/usr/bin/env python3
-"""Runs each command of docs/RECIPES.md, in its order and in one empty folder, and compares what it prints with what the
-page shows below it. A command whose tool is not there is left out by name. The status is 1 if an output differs."""
+"""Runs each command of docs/RECIPES.md in order, in one empty folder, and compares the output with the page.
+
+A command whose tool is missing is left out by name. The status is 1 if an output differs.
+"""
 
 import re
 import shutil
@@ -15,13 +17,13 @@ TOOLS = "openssl", "parallel", "xargs", "split", "nproc", "paste", "awk", "cksum
 
 
 def has(tool: str) -> bool:
-    """Returns whether a tool is there. Another program than GNU's is called parallel too, and has no --pipe."""
+    """Returns whether a tool is there. A program other than GNU's is also called parallel, and has no --pipe."""
     is_there = shutil.which(tool) is not None
     return is_there and (tool != "parallel" or run("parallel --version", Path("/")).stdout.startswith("GNU parallel"))
 
 
 def main() -> int:
-    """Runs all commands in one shell, because the later ones use what the earlier ones set, and compares."""
+    """Runs all commands in one shell, because later ones use what earlier ones set. Compares the output."""
     report, recipes = Report(), []
     for block in (it for it in blocks_of("docs/RECIPES.md") if it.kind == "sh"):
         missing = next((it for it in TOOLS if re.search(rf"\b{it}\b", block.text) and not has(it)), None)

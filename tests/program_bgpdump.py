@@ -1,10 +1,11 @@
 #!/usr/bin/env python3
 """program_bgpdump.py [--print]: compares the stored lines of dumps with what `bgpdump -m` prints.
 
-It writes files in the MRT format (RFC 6396, RFC 8050), one record for each form of a line, and runs `bgpdump -m` on them.
-Each printed line has to be in crates/rows_claims/stdin, as the line of a `route` and of a `why`. So the stored lines have
-the form that bgpdump prints. With --print the script prints the lines instead. Without bgpdump it compares nothing, and
-says so. Status 1 if a line is not stored."""
+It writes files in the MRT format (RFC 6396, RFC 8050), one record for each form of a line. It runs `bgpdump -m` on
+them. Each printed line has to be in crates/rows_claims/stdin, as the line of a `route` and of a `why`. This shows that
+the stored lines have the form that bgpdump prints. With --print the script prints the lines instead. Without bgpdump it
+compares nothing, and says so. The status is 1 if a line is not stored.
+"""
 
 import shutil
 import subprocess
@@ -39,42 +40,42 @@ FIRST_WITH_IDENTIFIER = 8
 
 
 def number(value: int, size: int) -> bytes:
-    """A number in network byte order."""
+    """Returns a number in network byte order."""
     return value.to_bytes(size, "big")
 
 
 def record(kind: int, subtype: int, body: bytes) -> bytes:
-    """A record of an MRT file."""
+    """Returns a record of an MRT file."""
     if kind == BGP4MP_ET:
         body = number(MICROSECONDS, 4) + body
     return number(TIME, 4) + number(kind, 2) + number(subtype, 2) + number(len(body), 4) + body
 
 
 def prefix(text: str) -> bytes:
-    """A prefix as BGP has it."""
+    """Returns a prefix in the encoding of BGP."""
     network = ip_network(text)
     return number(network.prefixlen, 1) + network.network_address.packed[: (network.prefixlen + 7) // 8]
 
 
 def attribute(flags: int, code: int, value: bytes) -> bytes:
-    """A path attribute with a length of one octet."""
+    """Returns a path attribute with a length of one octet."""
     return bytes((flags, code, len(value))) + value
 
 
 def attributes(path: tuple, size: int, has_next_hop: bool = True) -> bytes:
-    """The origin IGP, a path with AS numbers of so many octets, and the next hop."""
+    """Returns the origin IGP, a path whose AS numbers have `size` octets, and the next hop."""
     segments = (bytes((kind, len(asns))) + b"".join(number(asn, size) for asn in asns) for kind, asns in path)
     found = attribute(0x40, 1, b"\0") + attribute(0x40, 2, b"".join(segments))
     return found + (attribute(0x40, 3, NEXT_HOP) if has_next_hop else b"")
 
 
 def head(size: int, family: int = 1) -> bytes:
-    """The AS numbers and addresses of two speakers."""
+    """Returns the AS numbers and addresses of two speakers."""
     return number(64500, size) + number(64499, size) + number(0, 2) + number(family, 2) + PEERS[family] * 2
 
 
 def update(withdrawn: str, found: bytes, announced: str, has_identifier: bool = False) -> bytes:
-    """A BGP message that withdraws and announces a prefix, if these are not empty."""
+    """Returns a BGP message that withdraws and announces a prefix, if these are not empty."""
     front = number(IDENTIFIER, 4) if has_identifier else b""
     old, new = (front + prefix(text) if text else b"" for text in (withdrawn, announced))
     body = number(len(old), 2) + old + number(len(found), 2) + found + new
@@ -82,7 +83,7 @@ def update(withdrawn: str, found: bytes, announced: str, has_identifier: bool = 
 
 
 def updates() -> Iterator[bytes]:
-    """Records of messages, and of sessions whose state changed."""
+    """Yields records of messages, and of sessions whose state changed."""
     for path in PATHS:
         yield record(BGP4MP, 4, head(4) + update("", attributes(path, 4), "192.0.2.0/24"))
     for kind in (BGP4MP, BGP4MP_ET):
@@ -99,14 +100,14 @@ def updates() -> Iterator[bytes]:
 
 
 def table(family: int, text: str, found: bytes) -> bytes:
-    """A record of the older form of tables: one route."""
+    """Returns a record of the older form of tables: one route."""
     network = ip_network(text)
     where = number(0, 4) + network.network_address.packed + bytes((network.prefixlen, 1)) + number(TIME, 4)
     return record(TABLE_DUMP, family, where + PEERS[family] + number(64500, 2) + number(len(found), 2) + found)
 
 
 def tables() -> Iterator[bytes]:
-    """Records of the older form of tables."""
+    """Yields records of the older form of tables."""
     for path in PATHS:
         yield table(1, "192.0.2.0/24", attributes(path, 2))
     reach = attribute(0x80, 14, number(2, 2) + b"\1\x10" + PEERS[2] + b"\0")
@@ -114,14 +115,14 @@ def tables() -> Iterator[bytes]:
 
 
 def entries(text: str, peer: int, found: list[bytes], has_identifier: bool) -> bytes:
-    """The routes of a prefix, from one peer."""
+    """Returns the routes of a prefix, from one peer."""
     front = number(peer, 2) + number(TIME, 4) + (number(IDENTIFIER, 4) if has_identifier else b"")
     listed = b"".join(front + number(len(one), 2) + one for one in found)
     return number(1, 4) + prefix(text) + number(len(found), 2) + listed
 
 
 def newer_tables() -> Iterator[bytes]:
-    """Records of the newer form of tables: the peers, and the routes of each prefix."""
+    """Yields records of the newer form of tables: the peers, and the routes of each prefix."""
     peers = b"".join(bytes((2 | family - 1,)) + PEERS[1] + PEERS[family] + number(64500, 4) for family in (1, 2))
     yield record(TABLE_DUMP_V2, 1, NEXT_HOP + number(0, 2) + number(2, 2) + peers)
     reach = attribute(0x80, 14, b"\x10" + PEERS[2])
@@ -133,7 +134,7 @@ def newer_tables() -> Iterator[bytes]:
 
 
 def printed(folder: Path, records: Iterator[bytes]) -> list[str]:
-    """The lines that bgpdump prints for records."""
+    """Returns the lines that bgpdump prints for records."""
     file = folder / "mrt"
     file.write_bytes(b"".join(records))
     done = subprocess.run(["bgpdump", "-q", "-m", file], capture_output=True, text=True, check=True)
@@ -141,7 +142,7 @@ def printed(folder: Path, records: Iterator[bytes]) -> list[str]:
 
 
 def main(words: list[str]) -> int:
-    """Makes the files, and compares or prints the lines."""
+    """Writes the files, and compares or prints the lines."""
     if not shutil.which("bgpdump"):
         print("left out  the lines of bgpdump: it is not installed")
         return 0

@@ -1,9 +1,12 @@
 #!/usr/bin/env python3
-"""program_help.py: shows that the help of a script, the help of its program and its manual page say the same, and that
-help, version and wrong usage of `./respath` and `./origins` are answered at once, without a build.
+"""program_help.py: compares the help of a script with the help of its program and with its manual page.
 
-An entry of a help is a line with two spaces, a term, two or more spaces and its description, which may go on below. The
-description of each entry stands word for word in the manual page. Status 1, with a line for each fault."""
+It also shows that `./respath` and `./origins` answer help, version and wrong usage at once, without a build.
+
+An entry of a help is a line with two spaces, a term, two or more spaces and its description. The description may
+continue on the next lines. The manual page has to contain the description of each entry word for word. The script
+prints a line for each fault. The status is 1 if there is a fault.
+"""
 
 import os
 import re
@@ -39,7 +42,7 @@ WRONG = {
 
 
 def entries(text: str) -> dict[str, str]:
-    """The terms of a help, each with its description."""
+    """Returns the terms of a help, each with its description."""
     found: dict[str, str] = {}
     term = column = None
     for line in text.splitlines():
@@ -56,7 +59,7 @@ def entries(text: str) -> dict[str, str]:
 
 
 def asked(name: str, *words: str) -> tuple[int, str, float]:
-    """The status of a script, what it prints, and the processor seconds that it takes, with no rt on the PATH."""
+    """Runs a script with no rt on the PATH. Returns its status, its output and its processor seconds."""
     before = resource.getrusage(resource.RUSAGE_CHILDREN)
     with tempfile.TemporaryDirectory() as tools:
         for tool in TOOLS:
@@ -72,7 +75,7 @@ def asked(name: str, *words: str) -> tuple[int, str, float]:
 
 
 def faults_of(name: str) -> Iterator[str]:
-    """What is wrong with the texts of a script."""
+    """Yields the faults in the texts of a script."""
     page, said = manual(f"docs/{name}.1"), entries(asked(name, "--help")[1].partition("\nOptions of the script")[0])
     if len(said) < 8:
         yield f"{name} --help has {len(said)} entries: {', '.join(said)}"
@@ -91,7 +94,7 @@ def faults_of(name: str) -> Iterator[str]:
 
 
 def faults_of_program(name: str) -> Iterator[str]:
-    """What differs between the texts of a script and of its program."""
+    """Yields the differences between the texts of a script and those of its program."""
     built, helped = program(PROGRAMS[name]), asked(name, "--help")[1]
     usage, _, own = subprocess.run([built, "--help"], capture_output=True, text=True).stdout.partition("\n\n")
     if own.rstrip("\n") not in helped or (name == "origins" and not helped.startswith(usage)):

@@ -31,7 +31,7 @@ CONTROL = re.compile("[\x00-\x1f\x7f-\x9f]")
 
 
 def long_lines(made: random.Random) -> Iterator[bytes]:
-    """Long lists with one wrong element somewhere, and long claims with one block too many."""
+    """Yields long lists with one wrong element at a random index, and long claims with one block too many."""
     for count in COUNTS:
         for kind, good in GOOD.items():
             for bad in BAD[kind]:
@@ -46,7 +46,7 @@ def long_lines(made: random.Random) -> Iterator[bytes]:
 
 
 def asked_lines() -> Iterator[bytes]:
-    """The lines that are asked, right ones among them."""
+    """Yields the lines that the test asks. Some of them are correct."""
     yield from (it.encode() for it in lines_of(CRATES / "rows_sets" / "stdin"))
     yield from (line for _, line, _ in page_errors.of_errors())
     for command in LISTED:
@@ -59,13 +59,13 @@ def asked_lines() -> Iterator[bytes]:
 
 
 def elements(text: str, place: str = "") -> list[tuple[str, str]]:
-    """The elements of a list and their places, as they are shown."""
+    """Returns the elements of a list, each after its place as the program shows it."""
     parts = enumerate(map(texts.trim, text.split(",")), 1)
     return [(f"{place}element {at}: {CONTROL.sub('?', it)}", it) for at, it in parts]
 
 
 def elements_of_path(text: str) -> list[tuple[str, str | None]]:
-    """The same of a path, in the order of reading; a step that is none has no text."""
+    """Returns the elements of a path in the order of reading, each after its place. An invalid step has no text."""
     root, *steps = text.split("|")
     found: list[tuple[str, str | None]] = [*elements(root, "root, ")]
     for at, step in enumerate(map(texts.trim, steps)):
@@ -78,7 +78,10 @@ def elements_of_path(text: str) -> list[tuple[str, str | None]]:
 
 
 class Place:
-    """The place that is wanted of a wrong line: what is to be asked first and then, and what was found."""
+    """Finds the expected place of a wrong line, from questions about its elements.
+
+    `before` has the question to ask first. `found` has the elements with their places.
+    """
 
     def __init__(self, line: bytes, answer: str) -> None:
         self.answer = answer
@@ -97,12 +100,12 @@ class Place:
             self.found = elements_of_path(text) if command == "path" else [*elements(text)]
 
     def questions(self, left: list[str]) -> list[bytes]:
-        """Each element alone: read, or claimed of what is left."""
+        """Returns a question for each element alone: a list, or a claim on the resources that are left."""
         line = f"path {self.kind} {left[0]} | refuse " if left else f"norm {getattr(self, 'kind', '')} "
         return [(line + (text or "")).encode() for _, text in self.found]
 
     def wanted(self, answers: list[str]) -> str:
-        """The answer of the line with the place of what is wrong."""
+        """Returns the answer of the line with the place of the wrong element."""
         for (place, text), answer in zip(self.found, answers, strict=True):
             if text is None:
                 return f"error: unknown step\t{place}"

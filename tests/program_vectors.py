@@ -1,9 +1,10 @@
 #!/usr/bin/env python3
-"""program_vectors.py [FILE]: validates vectors/, runs the examples of docs/CONFORMANCE.md, and asks respath and origins all
-cases, or those of one file.
+"""program_vectors.py [FILE]: validates vectors/, runs the examples of docs/CONFORMANCE.md, and asks the programs.
 
-Each case has to agree. If UNPROVED is set, the programs have run-time checks and are slow: one of ten files of VRPs is
-asked then. The status is 1 if a file is invalid, an example fails, or a case differs."""
+The programs are respath and origins. They are asked all cases, or with FILE only the cases of that file. Each case has
+to agree. If UNPROVED is set, the programs have run-time checks and are slow. Then they are asked one of ten files of
+VRPs. The status is 1 if a file is invalid, an example fails, or a case differs.
+"""
 
 import os
 import re
@@ -19,7 +20,7 @@ RUN = TOP / "vectors" / "run"
 OF_DEBIAN = "/usr/bin/python3"
 SKIPPED = 77
 SHARE = "10"
-# What a reader of the page has: a reader of DER in Python, and one in C that refuses everything.
+# Stand-ins for a user's own readers of DER: one in Python, and one in C that refuses everything.
 MINE = """from vector_sources import by_reference
 
 
@@ -37,7 +38,7 @@ MINE_IN_C = """static int read_ip_blocks(const char *octets, char *canonical) {
 
 
 def python_with_jsonschema() -> str:
-    """A Python that has jsonschema, or this one."""
+    """Returns a Python that has jsonschema, or this one."""
     for python in (sys.executable, OF_DEBIAN):
         if (
             Path(python).exists()
@@ -48,12 +49,12 @@ def python_with_jsonschema() -> str:
 
 
 def example(kind: str) -> str:
-    """The example of a language on the page."""
+    """Returns the example of a language on the page."""
     return next((it.text for it in blocks_of("docs/CONFORMANCE.md") if it.kind == kind), "")
 
 
 def faults_of_examples(folder: Path) -> list[str]:
-    """What is wrong with the examples of the page."""
+    """Returns the faults of the examples on the page."""
     (folder / "vectors").symlink_to(TOP / "vectors")
     (folder / "mine.py").write_text(MINE)
     (folder / "mine.h").write_text(MINE_IN_C)
@@ -75,7 +76,7 @@ def faults_of_examples(folder: Path) -> list[str]:
 
 
 def main(words: list[str]) -> int:
-    """Validates and asks."""
+    """Validates the files, and asks the programs."""
     validated = subprocess.run([python_with_jsonschema(), RUN / "validate.py"], check=False).returncode
     with tempfile.TemporaryDirectory() as folder:
         faults = faults_of_examples(Path(folder))

@@ -1,10 +1,10 @@
 #!/usr/bin/env python3
-"""Runs the built `example_verified_set` on certificates that its stored run hasn't, in each mode, against the reference.
+"""Runs the built `example_verified_set` on more certificates than its stored run, in each mode, against the reference.
 
-Octets that are canonical, and such that only a lenient reader takes; claims inside the issuer's resources, and beyond
-them by a little and by so much that the reason is longer than what an `anyhow::Error` keeps. What is verified is the
-line on standard output; else the status is 1 and the reason stands whole on standard error. Ends with status 1 where a
-case is otherwise.
+Some octets are canonical, and only a lenient reader takes the others. Some claims are inside the issuer's resources,
+and others exceed them. The reason of some refusals is longer than what an `anyhow::Error` keeps. The program prints a
+verified set to standard output. Otherwise its status is 1, and the whole reason is on standard error. The status of
+this script is 1 if a case differs.
 """
 
 import subprocess
@@ -18,7 +18,7 @@ from reference import calls_of_callers, lines
 CRATE = Path(__file__).resolve().parent.parent / "crates" / "example_verified_set"
 PROGRAM = CRATE / "out" / "example_verified_set"
 ISSUER = ("AS64496-AS64511", "192.0.2.0/24", "2001:db8::/32")
-# The modes, and whether each reads octets that aren't canonical and takes of an excess what the issuer has.
+# The modes: whether each reads octets that are not canonical, and whether it trims overclaimed resources.
 MODES = {
     "refuse": (True, False),
     "trim": (True, True),
@@ -29,12 +29,15 @@ NUMBERS, ADDRESSES = "der as AS64500", "der v4 192.0.2.0/25"
 
 
 def octets(line: str) -> str:
-    """The octets that a line of `der` is answered."""
+    """Returns the answer to a line of `der`: octets in hexadecimal."""
     return lines.answer(line.encode())
 
 
 def cases() -> Iterator[tuple[str, str, str, bool, bool]]:
-    """A name, the octets of both extensions, whether they are canonical, and whether the claims lie in the issuer's."""
+    """Yields the cases.
+
+    A case is a name, the octets of both extensions, whether they are canonical, and whether the issuer has the claims.
+    """
     yield "claims that the issuer has", octets(NUMBERS), octets(ADDRESSES), True, True
     yield "AS numbers in another order", "300ea00c300a020300fbf6020300fbf5", octets(ADDRESSES), False, True
     halves = "3016301404020001300e030507c0000200030507c0000280"
@@ -49,7 +52,7 @@ def cases() -> Iterator[tuple[str, str, str, bool, bool]]:
 
 
 def run(arguments: list[str], numbers: str, addresses: str) -> tuple[int, str, str]:
-    """The status of the program and what it writes, run on two files."""
+    """Runs the program on two files. Returns its status, its standard output and its standard error."""
     with tempfile.TemporaryDirectory() as folder:
         for name, text in (("numbers", numbers), ("addresses", addresses)):
             Path(folder, name).write_bytes(bytes.fromhex(text))

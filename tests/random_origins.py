@@ -1,9 +1,9 @@
 #!/usr/bin/env python3
 """Compares what the program `origins` prints with what the reference beside this file says.
 
-From a seed it makes files of VRPs in each form that validators write, wrong ones too, files with expiries, SLURM
-files, and lines of routes. It asks the built program for answers, in words and in JSON, for what explains them, for
-tables and for what changes between two files. Status 1 where something differs.
+From a seed it makes files of VRPs in each form that validators write, also wrong ones. It also makes files with
+expiries, SLURM files, and lines of routes. It asks the built program for answers in words and in JSON, and for
+explanations. It also asks for tables, and for what changes between two files. The status is 1 if something differs.
 """
 
 import argparse
@@ -23,7 +23,7 @@ TOP = Path(__file__).resolve().parent.parent
 PROGRAM = TOP / "crates" / "origins" / "out" / "origins"
 FILES = 20
 SHOWN = 10
-# Paths whose last segment is a set of AS numbers or one of a confederation, or that have none, and malformed ones.
+# Paths that end with a set of AS numbers or with a confederation's segment, empty paths, and malformed ones.
 PATHS = (
     *("", "64500 {7,8}", "{64496}", "7 {}", "64500 (64512)", "64500 (64512 64513)", "(64496 64497)", "64500 [64496]"),
     *("64500 [64496,64497]", "[64512, 64513]", "64500 ( 64512 )", "(64512) 64496", "[64512] {7}", "(64512 [64496])"),
@@ -39,11 +39,11 @@ class Maker:
         self.random = Random(seed)
 
     def one_in(self, count: int) -> bool:
-        """True once in so many times."""
+        """Returns true in one of `count` cases, at random."""
         return self.random.randrange(count) == 0
 
     def prefix(self) -> Prefix:
-        """A prefix of a few addresses, of any length."""
+        """Returns a prefix of any length among few addresses."""
         family = self.random.choice((Family.V4, Family.V4, Family.V6))
         low = 4 if self.one_in(8) else 16
         length = self.random.randint(0 if self.one_in(30) else low, 32 if self.one_in(4) else 26)
@@ -53,17 +53,17 @@ class Maker:
         return Prefix(family, (base ^ bits) >> behind << behind, length)
 
     def asn(self) -> int:
-        """One of few AS numbers, and sometimes AS0 or the last one."""
+        """Returns an AS number out of a few, and sometimes AS0 or the last one."""
         return self.random.choice((64496, 64497, 64498, 64499, 0 if self.one_in(4) else 7, 2**32 - 1))
 
     def vrp(self) -> Vrp:
-        """A VRP."""
+        """Returns a VRP."""
         prefix = self.prefix()
         longest = min(prefix.family.bits, prefix.length + self.random.choice((0, 0, 1, 2, 8)))
         return Vrp(MaxLenPrefix(prefix, longest), self.asn())
 
     def damaged(self, text: str) -> str:
-        """A text with characters inserted, dropped or replaced."""
+        """Returns a text with characters inserted, dropped or replaced."""
         for _ in range(self.random.randint(1, 2)):
             at = self.random.randrange(len(text) + 1)
             inserted = self.random.choice(DAMAGE) if self.one_in(2) else ""
@@ -71,13 +71,13 @@ class Maker:
         return text
 
     def resized(self, row: str) -> str:
-        """A row with fields more or less."""
+        """Returns a row with more or fewer fields."""
         fields = row.split(",")
         more = self.random.choice(("", "x", '"a,b"', ",,"))
         return self.random.choice((",".join((row, more)), ",".join(fields[:-1]), fields[0], f"x,{row}"))
 
     def file(self, vrps: list[Vrp]) -> bytes:
-        """A file of VRPs in one of the forms that validators write."""
+        """Returns a file of VRPs in one of the forms that validators write."""
         return self.random.choice((self._plain, self._quoted, self._later, self._json, self._json))(vrps)
 
     def _plain(self, vrps: list[Vrp]) -> bytes:
@@ -112,7 +112,7 @@ class Maker:
         return json.dumps(value, indent=self.random.choice((None, 1))).encode()
 
     def wrong(self, vrps: list[Vrp]) -> bytes:
-        """The same, damaged or cut, with a row of another length, or as an array."""
+        """Returns such a file, but damaged or cut, with a row of another length, or as an array."""
         octets = self.file(vrps)
         if self.one_in(8):
             return self.random.choice((b"", b" \n\t", b"\xc2\xa0", b"x")) + b"[" + octets + b"]"
@@ -124,7 +124,7 @@ class Maker:
         return "\n".join(lines).encode()
 
     def dated(self, vrps: list[Vrp]) -> bytes:
-        """A file of VRPs, of which some have an expiry of a few seconds around 1000, or a wrong one."""
+        """Returns a file of VRPs. Some have an expiry of a few seconds around 1000, or a wrong one."""
         times = [self.random.choice(("", *map(str, range(997, 1004)), "x" if self.one_in(30) else "")) for _ in vrps]
         if self.one_in(2):
             lines = [
@@ -141,7 +141,7 @@ class Maker:
         return json.dumps({"roas": items}).encode()
 
     def slurm(self) -> bytes:
-        """A SLURM file, which may be wrong."""
+        """Returns a SLURM file, which may be wrong."""
         filters: list[dict] = []
         for _ in range(self.random.randrange(4)):
             one = {"prefix": self.prefix().text(), "asn": self.asn(), "comment": "x"}
@@ -164,7 +164,7 @@ class Maker:
         return (self.damaged(text) if self.one_in(4) else text).encode()
 
     def dumped(self, prefix: str, path: str) -> str:
-        """A line as `bgpdump -m` prints it."""
+        """Returns a line as `bgpdump -m` prints it."""
         name = self.random.choice(("TABLE_DUMP", "TABLE_DUMP2", "BGP4MP", "BGP4MP_ET", "BGP4MP_LOCAL", "BGP4MP_ET_LOCAL"))
         kind = self.random.choice(("A", "A", "A", "W", "STATE", "B")) if name.startswith("BGP4MP") else "B"
         has_identifier = self.one_in(3)
@@ -176,7 +176,7 @@ class Maker:
         return f"{head}|{prefix}|{'7|' if has_identifier else ''}{path}|IGP|203.0.113.1|0|0||NAG||"
 
     def line(self) -> bytes:
-        """A line of a route."""
+        """Returns a line of a route."""
         prefix, origin = self.prefix(), self.asn()
         path = self.random.choice(PATHS) if self.one_in(4) else f"64500 {origin}"
         text = self.random.choice(
@@ -195,19 +195,19 @@ class Maker:
 
 
 def run(program: Path, words: list[str | Path], lines: bytes = b"") -> tuple[int, list[str], str]:
-    """The status, the lines and what stands on standard error."""
+    """Runs the program. Returns its status, its lines and its standard error."""
     done = subprocess.run([program, *words], input=lines, capture_output=True, check=False)
     printed = done.stdout.decode("utf-8").split("\n")
     return done.returncode, printed[:-1] if printed[-1] == "" else printed, done.stderr.decode("utf-8")
 
 
 def table(vrps: list[Vrp]) -> list[Vrp]:
-    """The VRPs in order, each once."""
+    """Returns the VRPs in order, each once."""
     return sorted(set(vrps), key=lambda one: (*one.prefix.key(), one.asn))
 
 
 def answer(line: bytes, vrps: list[Vrp], why: bool) -> str:
-    """What is answered to a line."""
+    """Returns the reference's answer to a line."""
     try:
         return route_lines.answer(vrps, line.decode("utf-8"), why)
     except UnicodeDecodeError:
@@ -215,17 +215,17 @@ def answer(line: bytes, vrps: list[Vrp], why: bool) -> str:
 
 
 def counted(vrps: list[Vrp]) -> str:
-    """How many VRPs there are, in words."""
+    """Returns the number of VRPs in words."""
     return "1 VRP" if len(vrps) == 1 else f"{len(vrps)} VRPs"
 
 
 def text(vrp: Vrp) -> str:
-    """A VRP as it is told."""
+    """Returns a VRP as the program prints it."""
     return f"{vrp.prefix.text()} AS{vrp.asn}"
 
 
 class Comparison:
-    """How many answers were compared, and how many differ."""
+    """Counts the answers that were compared, and those that differ."""
 
     def __init__(self, program: Path, folder: Path, maker: Maker) -> None:
         self.program, self.folder, self.maker = program, folder, maker
@@ -240,13 +240,13 @@ class Comparison:
                 print(f"{what}\n  the reference: {expected}\n  the program:   {found}")
 
     def kept(self, name: str, octets: bytes) -> Path:
-        """A file of these octets."""
+        """Writes a file of these octets. Returns its path."""
         path = self.folder / name
         path.write_bytes(octets)
         return path
 
     def routes(self, count: int) -> None:
-        """Asks lines of routes by a file, in a word and why."""
+        """Asks lines of routes by a file, with and without an explanation."""
         vrps = [self.maker.vrp() for _ in range(self.maker.random.choice((1, 5, 40, 200)))]
         file = self.kept("vrps", self.maker.file(vrps))
         listed = vrp_files.read(file.read_bytes())
@@ -269,7 +269,7 @@ class Comparison:
         self.checks(file, listed, lines)
 
     def checks(self, file: Path, listed: list[Vrp], lines: list[bytes]) -> None:
-        """Asks for a check of one line alone, since most runs of many lines find something."""
+        """Asks for a check of one line alone, because most runs of many lines find something."""
         for line in lines[:20]:
             wanted = 3 if answer(line, listed, False).startswith(("invalid", "error")) else 0
             for form in ([], ["--json"]):
@@ -338,7 +338,7 @@ class Comparison:
         self.same("a change", changes, found)
 
     def wrong(self) -> None:
-        """Asks by a file that may be wrong."""
+        """Asks for the table of a file that may be wrong."""
         vrps = [self.maker.vrp() for _ in range(5)]
         file = self.kept("wrong", self.maker.wrong(vrps))
         try:

@@ -2,10 +2,13 @@
 """Compares stored answers, or the answers of a built program, with those of the reference beside this file.
 
 Without options it compares the stored answers of the programs `rows_*`, `example_holdings`, `example_verified_set`,
-`respath_files`, and those of `bench_growth` about origins. With --write it also writes each stored answer that differs
-anew, as the reference answers, and prints all of them: use it after you have changed a text in the reference. It does not
-write the answers of `bench_growth`, and none that the reference does not say. With --random SEED COUNT it makes so many
-lines of each command of `respath`, and asks the built program.
+`respath_files`, and those of `bench_growth` about origins.
+
+With --write it also replaces each stored answer that differs by the reference's answer, and prints all of them. Use it
+after you have changed a text in the reference. It does not write the answers of `bench_growth`, and no answer that the
+reference does not know.
+
+With --random SEED COUNT it makes COUNT lines of each command of `respath`, and asks the built program.
 
 Lines that the reference does not answer are counted and named. The status is 1 if an answer differs.
 """
@@ -38,14 +41,17 @@ SHOWN = 20
 
 
 def answer_of_claims(line: str) -> str:
-    """The answer of `rows_claims` to a line."""
+    """Returns the answer of `rows_claims` to a line."""
     if calls_of_callers.is_origin(line):
         return calls_of_callers.origin_answer(line)
     return calls_of_sets.answer(line)
 
 
 def with_requests(count: Callable[[str], str], answer: Callable[[str], str]) -> Callable[[str], str]:
-    """Answers the lines that count requests for memory by rules on lists, and the others by the calls."""
+    """Returns a function that answers lines of a program.
+
+    Lines that count requests for memory are answered by rules on lists, and the others by the calls.
+    """
 
     def answer_of(line: str) -> str:
         command, _, operands = line.partition(" ")
@@ -63,8 +69,10 @@ PROGRAMS: dict[str, Callable[[str], str]] = {
 
 
 class Comparison:
-    """How many answers were compared, how many differ, and how many the reference does not say, by reason. `stored` is
-    the file of stored answers, if they are to be written anew."""
+    """Counts the answers that were compared, those that differ, and those that the reference does not know, by reason.
+
+    `stored` is the file of stored answers, if they are to be written.
+    """
 
     def __init__(self, stored: Path | None = None) -> None:
         self.compared = 0
@@ -74,7 +82,7 @@ class Comparison:
         self.answers: list[str] = []
 
     def add(self, place: str, line: str, expected: str, found: str) -> None:
-        """Compares an answer with the reference's, and prints the first ones that differ, or all that are written."""
+        """Compares an answer with the reference's. It prints the first ones that differ, or all that are written."""
         self.compared += 1
         self.answers.append(expected)
         if expected == found:
@@ -84,18 +92,18 @@ class Comparison:
             print(f"{place}: {line}\n  the reference: {expected}\n  the program:   {found}")
 
     def pass_over(self, reason: str, found: str) -> None:
-        """Counts an answer that the reference does not say."""
+        """Counts an answer that the reference does not know."""
         self.not_said[reason] += 1
         self.answers.append(found)
 
     def write(self) -> None:
-        """Writes the stored answers anew if one differs."""
+        """Writes the stored answers if one differs."""
         if self.stored and self.differing:
             self.stored.write_bytes("".join(f"{it}\n" for it in self.answers).encode())
             print(f"{self.stored.relative_to(TOP)}: {self.differing} answers written anew")
 
     def report(self, name: str) -> bool:
-        """Prints the counts, writes what is to be written, and returns whether nothing differs."""
+        """Prints the counts, and writes the answers if this was asked. Returns whether nothing differs."""
         self.write()
         print(f"{name}: {self.compared} answers compared, {self.differing} differ")
         for reason, count in sorted(self.not_said.items()):
@@ -104,17 +112,17 @@ class Comparison:
 
 
 def lines_of(path: Path) -> list[str]:
-    """The lines of a file, which end at line feeds alone."""
+    """Returns the lines of a file. Only a line feed ends a line."""
     return path.read_bytes().decode("utf-8").removesuffix("\n").split("\n")
 
 
 def of_stored(name: str, writes: bool) -> Comparison:
-    """A comparison of the stored answers of a program."""
+    """Returns a comparison of the stored answers of a program."""
     return Comparison(CRATES / name / "stdout" if writes else None)
 
 
 def compare_program(name: str, answer: Callable[[str], str], writes: bool) -> bool:
-    """Compares the stored answers of a program that answers a line with a line."""
+    """Compares the stored answers of a program that answers each line with a line."""
     comparison = of_stored(name, writes)
     asked, answered = (lines_of(CRATES / name / file) for file in ("stdin", "stdout"))
     if len(asked) != len(answered):
@@ -129,7 +137,7 @@ def compare_program(name: str, answer: Callable[[str], str], writes: bool) -> bo
 
 
 def compare_holdings(writes: bool) -> bool:
-    """Compares what `example_holdings` answers to its two lines together."""
+    """Compares the answers of `example_holdings` to its two lines together."""
     comparison = of_stored("example_holdings", writes)
     asked, answered = (lines_of(CRATES / "example_holdings" / file) for file in ("stdin", "stdout"))
     expected = calls_of_callers.holdings(*asked)
@@ -142,7 +150,7 @@ def compare_holdings(writes: bool) -> bool:
 
 
 def compare_verified_set(writes: bool) -> bool:
-    """Compares what `example_verified_set` prints of the issuer and the files that it is run with."""
+    """Compares the output of `example_verified_set` for the issuer and the files of its stored run."""
     comparison = of_stored("example_verified_set", writes)
     folder = CRATES / "example_verified_set"
     *lists, numbers, addresses, mode = lines_of(folder / "args")
@@ -154,7 +162,7 @@ def compare_verified_set(writes: bool) -> bool:
 
 
 def asked_of_origins(given: list[str]) -> Iterator[tuple[str, list[str]]]:
-    """What `bench_growth` is asked of origins, and what it answers."""
+    """Yields the questions to `bench_growth` about origins, each with its answers."""
     word, before = "", None
     for argument in given:
         if not argument.isdigit():
@@ -169,7 +177,7 @@ def asked_of_origins(given: list[str]) -> Iterator[tuple[str, list[str]]]:
 
 
 def compare_growth() -> bool:
-    """Compares what `bench_growth` prints of origins, for the numbers behind the words of its arguments about them."""
+    """Compares what `bench_growth` prints about origins. Its arguments have the numbers."""
     comparison = Comparison()
     given, printed = (lines_of(CRATES / "bench_growth" / file) for file in ("args", "stdout"))
     printed = [line for line in printed if " routes: " in line]
@@ -180,7 +188,7 @@ def compare_growth() -> bool:
 
 
 def compare_files(writes: bool) -> bool:
-    """Compares what `respath_files` prints of the file and the standard input that it is run with, and with --where."""
+    """Compares the output of `respath_files` for the file and the standard input of its stored run, with --where."""
     comparison = of_stored("respath_files", writes)
     folder = CRATES / "respath_files"
     asked = lines_of(folder / "data" / "lines") + lines_of(folder / "stdin")
@@ -190,7 +198,7 @@ def compare_files(writes: bool) -> bool:
 
 
 def compare_stored(writes: bool) -> bool:
-    """Compares all stored answers of the programs that there are."""
+    """Compares the stored answers of all programs that exist."""
     there = [name for name in PROGRAMS if (CRATES / name / "stdin").exists()]
     results = [compare_program(name, PROGRAMS[name], writes) for name in there]
     results += [compare(writes) for compare in (compare_holdings, compare_verified_set, compare_files)]
@@ -198,7 +206,7 @@ def compare_stored(writes: bool) -> bool:
 
 
 def ask(program: Path, asked: list[bytes]) -> list[str]:
-    """What a program answers to lines."""
+    """Returns the answers of a program to lines."""
     run = subprocess.run(
         [program], input=b"\n".join(asked) + b"\n", stdout=subprocess.PIPE, check=True
     )
@@ -209,13 +217,13 @@ def ask(program: Path, asked: list[bytes]) -> list[str]:
 
 
 def in_parts(asked: Iterator[bytes]) -> Iterator[list[bytes]]:
-    """Lines, as many as are asked at once."""
+    """Yields lines in parts of as many as are asked at once."""
     while part := list(islice(asked, AT_ONCE)):
         yield part
 
 
 def compare_random(program: Path, seed: int, count: int, commands: list[str]) -> bool:
-    """Compares so many lines of each command, made from a seed."""
+    """Compares `count` lines of each command, made from a seed."""
     results = []
     for command in commands:
         comparison = Comparison()

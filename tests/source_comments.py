@@ -1,8 +1,8 @@
 #!/usr/bin/env python3
 """Finds lines of comments above 120 columns in the sources, definitions and proofs, and with --write wraps them.
 
-A comment is wrapped from its first such line to the end of its paragraph; blocks of code and tables in it stay as they
-are. What docs/CALLING.md shows of a source is wrapped with it. Ends with status 1 where a line is wider.
+A comment is wrapped from its first such line to the end of its paragraph. Blocks of code and tables in it stay as they
+are. The parts of sources in docs/CALLING.md are wrapped too. The status is 1 if a line is wider.
 """
 
 import re
@@ -17,21 +17,21 @@ COMMENT = re.compile(r"(\s*(?:///|//!|//|--))(?: |$)")
 
 
 def files() -> Iterator[Path]:
-    """The files of the crates, and the page that shows pieces of them."""
+    """Yields the files of the crates, and the page that shows parts of them."""
     for folder, ending in (("src", "rt"), ("specs", "antt"), ("proofs", "antt")):
         yield from sorted((TOP / "crates").glob(f"*/{folder}/**/*.{ending}"))
     yield TOP / "docs" / "CALLING.md"
 
 
 def wrapped(mark: str, words: list[str]) -> list[str]:
-    """A paragraph in lines of the width, each behind its mark; no line ends inside of backticks."""
+    """Returns a paragraph in lines of the width, each after its mark. No line ends inside of backticks."""
     text = re.sub(r"`[^`]*`", lambda it: it[0].replace(" ", "\0"), " ".join(words))
     lines = textwrap.wrap(text, WIDTH - len(mark) - 1, break_long_words=False, break_on_hyphens=False)
     return [f"{mark} {it}".replace("\0", " ") for it in lines]
 
 
 def with_narrow_comments(lines: list[str]) -> list[str]:
-    """The lines of a file, with its wide comments wrapped."""
+    """Returns the lines of a file, with its wide comments wrapped."""
     out: list[str] = []
     is_code = False
     at = 0
@@ -56,7 +56,7 @@ def with_narrow_comments(lines: list[str]) -> list[str]:
 
 
 def main() -> int:
-    """Names the wide comments, or wraps them."""
+    """Prints the wide comments, or wraps them."""
     found = 0
     for path in files():
         lines = path.read_text().split("\n")

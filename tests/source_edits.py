@@ -1,8 +1,10 @@
 #!/usr/bin/env python3
-"""source_edits.py: edits that can't be applied to the code as it stands, in the folders `must-fail/` and `edits/` of
-the crates: by the kit's own reading, so each `old:` stands in its file exactly once. And whether `must-fail/` is as
-small as it has to be: at most ninety edits, in at most twenty libraries, none of them a program or a static library. It
-asks no prover; tests/edits.py does. Ends with status 1 where there is something to mend."""
+"""source_edits.py: finds edits in the folders `must-fail/` and `edits/` of the crates that cannot be applied.
+
+It reads them with the kit's own reader, so each `old:` has to be in its file exactly once. It also checks that
+`must-fail/` is small: at most ninety edits, in at most twenty libraries. Programs and static libraries may have no
+edits there. It asks no prover; tests/edits.py does. The status is 1 if there is a fault.
+"""
 
 import importlib.machinery
 import importlib.util
@@ -20,7 +22,7 @@ MOST_EDITS, MOST_CRATES = 90, 20
 
 
 def the_kit():
-    """The kit's own `rt`, which reads and judges edits."""
+    """Returns the kit's own `rt`, which reads and judges edits."""
     page = subprocess.run(["rt", "doc"], capture_output=True, text=True, check=True).stdout.strip()
     loader = importlib.machinery.SourceFileLoader("rt", str(Path(page).parent / "bin" / "rt"))
     module = importlib.util.module_from_spec(importlib.util.spec_from_loader("rt", loader))
@@ -29,12 +31,12 @@ def the_kit():
 
 
 def edits_of(crate) -> list[Path]:
-    """What stands in the two folders of a crate."""
+    """Returns the files in the two folders of a crate."""
     return [it for folder in FOLDERS for it in sorted(Path(crate.folder, folder).rglob("*"))]
 
 
 def faults_of(kit, crate) -> Iterator[str]:
-    """What is wrong with the edits of a crate."""
+    """Yields the faults of the edits of a crate."""
     seen = set()
     for edit in edits_of(crate):
         name = edit.relative_to(TOP)
@@ -48,7 +50,7 @@ def faults_of(kit, crate) -> Iterator[str]:
 
 
 def faults_of_the_kits(crates) -> Iterator[str]:
-    """What is wrong with where the edits stand that the kit tries."""
+    """Yields the faults in the number and the folders of the edits that the kit tries."""
     tried = [crate for crate in crates for edit in edits_of(crate) if edit.parent.name == TRIED_BY_THE_KIT]
     for crate in dict.fromkeys(tried):
         if crate.is_program or crate.is_static:

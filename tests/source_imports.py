@@ -1,9 +1,11 @@
 #!/usr/bin/env python3
-"""source_imports.py [--wide] [CRATE..]: names of `ghost use` lines that no clause uses, in the sources of the crates (of all,
-where none is named). `rt tidy` sees to the files of proofs alone.
+"""source_imports.py [--wide] [CRATE..]: finds names of `ghost use` lines that no clause uses.
 
-A name at the head of a file serves all clauses of that file, one in a block those of the block. Ends with status 1 where there
-is something to mend. With --wide it lists the lines of clauses over 100 columns instead, which rt fmt leaves as they are."""
+It reads the sources of the crates, or of all crates if none is named. `rt tidy` checks only the files of proofs. A name
+at the head of a file serves all clauses of that file. A name in a block serves the clauses of the block. The status is
+1 if there is a finding. With --wide the script lists the lines of clauses over 100 columns instead. rt fmt leaves such
+lines as they are.
+"""
 import re
 import sys
 
@@ -14,7 +16,7 @@ WIDTH = 100
 
 
 def clauses(text):
-    """The places (from, to) of what stands between the braces of contracts, ghost members and ghost fields."""
+    """Yields the start and the end of the text between the braces of each contract, ghost member and ghost field."""
     for word in re.finditer(r"\b(requires|ensures|ghost(?! use)|by)\b[^{};()]*\{", text):
         at, depth = word.end(), 1
         while depth and at < len(text):
@@ -24,7 +26,7 @@ def clauses(text):
 
 
 def imports(text):
-    """Each name that a `ghost use` line brings, with the place of the line."""
+    """Yields each name that a `ghost use` line imports, with the index of the line."""
     for line in re.finditer(r"ghost use ([^;]*);", text):
         path = line[1].strip()
         names = path[path.index("{") + 1 : path.rindex("}")] if "{" in path else path.split(".")[-1]
@@ -33,7 +35,7 @@ def imports(text):
 
 
 def stands_in(name, text):
-    """Whether a clause uses the name: an operator by the first of its signs, a word as a whole."""
+    """Returns whether a clause uses the name: an operator by the first of its signs, a word as a whole."""
     signs = [sign for sign in name.split("◌") if sign]
     if "◌" in name:
         return signs[0] in text
@@ -41,14 +43,17 @@ def stands_in(name, text):
 
 
 def blocks(text):
-    """The places of the items that are blocks: from a head at the start of a line to the brace that closes it."""
+    """Yields the start and the end of each item that is a block.
+
+    A block is from a head at the start of a line to the brace that closes it.
+    """
     for head in re.finditer(r"^(?:pub(?:\([a-z]+\))? )?(?:unsafe )?(?:impl|trait)\b", text, re.M):
         end = re.compile(r"^\}", re.M).search(text, head.start())
         yield head.start(), end.end() if end else len(text)
 
 
 def unused(text):
-    """The place of each name that no clause uses, and the name."""
+    """Yields the line number of each name that no clause uses, and the name."""
     said = list(clauses(text))
     own = [(start, end) for start, end in blocks(text) if "ghost use" in text[start:end]]
     for name, at in imports(text):
@@ -59,7 +64,7 @@ def unused(text):
 
 
 def wide(text):
-    """The lines of clauses that are too wide, and how wide they are."""
+    """Yields the lines of clauses that are too wide, and their width."""
     lines = text.split("\n")
     for number in sorted({text.count("\n", 0, at) for start, end in clauses(text) for at in range(start, end)}):
         if len(lines[number].rstrip()) > WIDTH:

@@ -1,8 +1,9 @@
 #!/usr/bin/env python3
 """source_vectors.py [--write]: compares vectors/ with what the stored rows and tests/reference make, or writes it.
 
-Each flag and each fault has at least ten cases. The status is 1 if a file differs, if a flag or a fault has too few
-cases, or if a stored answer and the reference differ."""
+Each flag and each fault has at least ten cases. The status is 1 if a file differs, or if a flag or a fault has too few
+cases. It is also 1 if a stored answer and the reference differ.
+"""
 
 import difflib
 import sys
@@ -18,18 +19,18 @@ MAKERS = (der_cases, text_cases, set_cases, origin_cases, file_cases)
 
 
 def made() -> list[VectorFile]:
-    """All files."""
+    """Returns all files."""
     return [file for maker in MAKERS for file in maker.files()]
 
 
 def texts_of(files: list[VectorFile]) -> dict[Path, str]:
-    """What is to be in each file of vectors/ that is made."""
+    """Returns the text of each file of vectors/ that this script makes."""
     texts = {VECTORS / f"{it.name}.json": it.text() for it in files}
     return texts | {VECTORS / "schemas" / f"{it.name}.json": schemas.text_of(it) for it in files}
 
 
 def differences(path: Path, text: str) -> list[str]:
-    """The first lines of a file that differ."""
+    """Returns the first lines of a file that differ."""
     before = path.read_text(encoding="utf-8") if path.is_file() else ""
     if before == text:
         return []
@@ -38,7 +39,7 @@ def differences(path: Path, text: str) -> list[str]:
 
 
 def main(words: list[str]) -> int:
-    """Writes or compares."""
+    """Writes the files, or compares them."""
     try:
         files = made()
         lacking = [it for file in files for it in file.lacking()]

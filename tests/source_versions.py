@@ -1,12 +1,14 @@
 #!/usr/bin/env python3
-"""source_versions.py [VERSION]: compares each place that has the version with the file VERSION, and each copy of the license
-with the file LICENSE. A package cannot have a file outside its folder, and `rt ci` accepts no links.
+"""source_versions.py [VERSION]: compares each place that has the version with the file VERSION.
+
+It also compares each copy of the license with the file LICENSE. A package cannot have a file outside its folder, and
+`rt ci` accepts no links.
 
 Each place in PLACES has the version itself. Each place in MADE has `@VERSION@`, which the build replaces. The files in
 vectors/ get the version from `tests/source_vectors.py --write`. The version of the calls, PIGY_VERSION, is another
 number. It is compared too: each place in CALLS has the number of foreign/numbers.txt.
 
-With an argument the file VERSION has to contain this version; ./release passes its own argument. The status is 1 if a
+With an argument the file VERSION has to contain this version. ./release passes its own argument. The status is 1 if a
 place has another version or none.
 """
 
@@ -49,13 +51,13 @@ LICENSES = "foreign/python/LICENSE", "foreign/rust/LICENSE"
 
 
 def found(name: str, pattern: str) -> list[str]:
-    """Returns what a pattern finds in a file; nothing if there is no such file."""
+    """Returns what a pattern finds in a file, or nothing if there is no such file."""
     file = TOP / name
     return re.findall(pattern, file.read_text(), re.MULTILINE) if file.is_file() else []
 
 
 def differing(name: str, pattern: str, wanted: str, what: str) -> Iterator[str]:
-    """Says what a file has in place of what it should have."""
+    """Yields what a file has in place of the wanted text."""
     there = found(name, pattern)
     if not there:
         yield f"{name}: no {what} at {pattern}"
@@ -63,7 +65,7 @@ def differing(name: str, pattern: str, wanted: str, what: str) -> Iterator[str]:
 
 
 def faults(asked: list[str]) -> Iterator[str]:
-    """Says what differs in all places."""
+    """Yields what differs in all places."""
     text = (TOP / "VERSION").read_text()
     version = text.removesuffix("\n")
     if not re.fullmatch(r"\d+\.\d+\.\d+\n", text):

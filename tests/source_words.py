@@ -1,9 +1,11 @@
 #!/usr/bin/env python3
-"""source_words.py: words of definitions that specs/ declares twice. A word means one thing, wherever a clause cites it.
+"""source_words.py: finds words of definitions that specs/ declares twice.
 
-A word is what a line `pub NAME :`, `abbrev pub NAME :`, `record pub NAME` and so on declares, at any depth of modules. The
-fields of a record are no such words: a reader sees them behind the record. Ends with status 1 where a word stands in two
-files, which it names."""
+A word has to have one meaning in each clause that cites it. A word is what a line `pub NAME :`, `abbrev pub NAME :`,
+`record pub NAME` and so on declares, at any depth of modules. The fields of a record do not count, because a reader
+sees them after the record. The script prints each word that two files declare, and these files. The status is 1 if
+there is one.
+"""
 import re
 import sys
 from collections import defaultdict
@@ -15,8 +17,11 @@ RECORD = re.compile(r"^(?P<indent> *)(?:[a-z]+ )*record\b")
 
 
 def declared_in(text):
-    """The words that a file of definitions declares, without the fields of records and the constructors of data types."""
-    inside = None  # the indent of the record or data type that the line stands in
+    """Yields the words that a file of definitions declares.
+
+    The fields of records and the constructors of data types are not among them.
+    """
+    inside = None  # the indent of the record or data type that contains the line
     for line in text.splitlines():
         if not line.strip() or line.lstrip().startswith("--"):
             continue

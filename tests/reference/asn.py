@@ -18,21 +18,21 @@ class AsBlock(NamedTuple):
     is_range: bool
 
     def bounds(self) -> tuple[int, int]:
-        """The first number and the last."""
+        """Returns the first and the last number."""
         return self.first, self.last
 
     def text(self) -> str:
-        """The block in its own form."""
+        """Returns the block in its own form."""
         return f"AS{self.first}-AS{self.last}" if self.is_range else f"AS{self.first}"
 
 
 def new_block(first: int, last: int) -> AsBlock:
-    """The block that a set has between two bounds."""
+    """Returns the block that a set has between two bounds."""
     return AsBlock(first, last, first != last)
 
 
 def read_asn(text: str) -> int:
-    """An AS number."""
+    """Reads an AS number."""
     digits = text[2:] if text[:2] in ("AS", "As", "aS", "as") else text
     try:
         return texts.number(digits, LAST)
@@ -41,7 +41,7 @@ def read_asn(text: str) -> int:
 
 
 def read_block(text: str) -> AsBlock:
-    """An AS number, or two with a dash between them."""
+    """Reads an AS number, or two with a dash between them."""
     if "-" in text:
         return _read_range(*texts.cut(text, "-"))
     try:
@@ -62,10 +62,10 @@ def _read_range(first: str, last: str) -> AsBlock:
 
 
 def read_set(text: str) -> Set:
-    """The set that a list writes."""
+    """Reads the set that a list describes."""
     return merged([read_block(element).bounds() for element in texts.elements(text)])
 
 
 def print_set(numbers: Set) -> str:
-    """A set as a list."""
+    """Returns a set as a list."""
     return ", ".join(new_block(*run).text() for run in numbers)

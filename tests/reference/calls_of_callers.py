@@ -15,11 +15,14 @@ Triple = tuple[Set, Set, Set]
 
 
 class NotSaid(Exception):
-    """The reference doesn't say what is answered, and why."""
+    """The reference does not know the answer. The text says why."""
 
 
 def _cut(text: str, mark: str) -> tuple[str, str]:
-    """What stands before the first such mark and what behind it, trimmed where there is one."""
+    """Returns the text before the first such mark and the text after it.
+
+    Both are trimmed if the mark is there.
+    """
     if mark not in text:
         return text, ""
     left, right = texts.cut(text, mark)
@@ -55,11 +58,11 @@ def _families_text(found: Families) -> str:
 
 
 class VerifyError(Exception):
-    """Why a certificate isn't verified."""
+    """The reason why a certificate is not verified."""
 
 
 class Certificate:
-    """What a certificate has: how it is read, what is trimmed, and its octets, None where absent."""
+    """A certificate: the encoding that it may have, whether it is trimmed, and its octets, None if absent."""
 
     def __init__(self, text: str) -> None:
         word, extensions = _cut(text, " ")
@@ -70,7 +73,7 @@ class Certificate:
         self.addresses = None if addresses == "-" else _octets(addresses)
 
     def claims(self) -> tuple[Claim, Claim, Claim]:
-        """What it claims of each kind."""
+        """Returns the claims of each kind."""
         if self.numbers is None and self.addresses is None:
             raise VerifyError("neither AS identifiers nor IP address blocks")
         numbers, found = None, Families(None, None)
@@ -289,7 +292,7 @@ def _explanation(text: str) -> str:
 
 
 def _sent(text: str) -> set[Vrp]:
-    """The VRPs as routers get them: each has its maximum length."""
+    """Returns the VRPs as routers get them: each has its maximum length."""
     return {
         Vrp(prefixes.MaxLenPrefix(element.prefix.prefix, element.prefix.resolved()), element.asn)
         for element in _vrps(text)
@@ -363,7 +366,7 @@ CALLERS: dict[str, Callable[[str], str]] = {
 
 
 def answer(line: str) -> str:
-    """The answer of `rows_calls` to a line."""
+    """Returns the answer of `rows_calls` to a line."""
     name, operands = _cut(line, " ")
     if name not in CALLERS:
         return "no such function"
@@ -374,7 +377,7 @@ def answer(line: str) -> str:
 
 
 def holdings(before: str, now: str) -> list[str]:
-    """The answers of `example_holdings` to its two lines."""
+    """Returns the answers of `example_holdings` to its two lines."""
     had, gets = read_triple(before), read_triple(now)
     claims = [paths.claim_of(numbers) for numbers in gets]
     numbers = resources.written_as_claim(claims[0]).hex() or "missing"
@@ -412,24 +415,31 @@ def _outside(text: str) -> str:
 
 
 class _Faulty(Exception):
-    """Why changes are none of a table."""
+    """The reason why changes do not fit a table."""
 
 
 def _as_sent(vrp: Vrp) -> Vrp:
-    """The VRP as routers get it: with a maximum length."""
+    """Returns the VRP as routers get it: with a maximum length."""
     return Vrp(prefixes.MaxLenPrefix(vrp.prefix.prefix, vrp.prefix.resolved()), vrp.asn)
 
 
 def _table_key(vrp: Vrp) -> tuple[int, ...]:
-    """A table's order: IPv4 first, the first address, the shorter prefix; the greatest AS, the shortest maximum
-    length, the one without a maximum length."""
+    """Returns the sort key of a VRP in a table.
+
+    The order is IPv4 first, then by the first address, and then the shorter prefix first. The larger AS number is
+    first, then the smaller maximum length. A VRP that does not state its maximum length comes before one that states
+    the same length.
+    """
     prefix = vrp.prefix.prefix
     has_max_length = vrp.prefix.max_length is not None
     return prefix.family.bits, prefix.address, prefix.length, -vrp.asn, vrp.prefix.resolved(), has_max_length
 
 
 def _after(vrps: list[Vrp], announced: list[Vrp], withdrawn: list[Vrp]) -> list[Vrp]:
-    """What a client has that takes the withdrawals one by one and then the announcements (RFC 8210, 5.3, 5.11)."""
+    """Returns the VRPs of a client after changes (RFC 8210, 5.3, 5.11).
+
+    It takes the withdrawals one by one, and then the announcements.
+    """
     has = {_as_sent(vrp) for vrp in vrps}
     gone: set[Vrp] = set()
     for place, vrp in enumerate(map(_as_sent, withdrawn)):
@@ -487,12 +497,12 @@ def _answered(text: str, is_explained: bool) -> str:
 
 
 def is_origin(line: str) -> bool:
-    """Whether a line of `rows_claims` is answered by `origin_answer`."""
+    """Returns whether `origin_answer` answers a line of `rows_claims`."""
     return texts.cut(line, " ")[0] in _ORIGIN_COMMANDS
 
 
 def origin_answer(line: str) -> str:
-    """The answer of `rows_claims` to a line about a route's origin."""
+    """Returns the answer of `rows_claims` to a line about a route's origin."""
     command, operands = texts.cut(line, " ")
     try:
         return _ORIGIN_COMMANDS[command](operands)

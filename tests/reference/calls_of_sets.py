@@ -1,4 +1,4 @@
-"""The answers of the programs `rows_sets` and `rows_claims`: chains, sets and claims, and what they are asked."""
+"""The answers of the programs `rows_sets` and `rows_claims` about chains, sets and claims."""
 
 from collections.abc import Callable
 from typing import Any
@@ -12,12 +12,12 @@ LAST_OF_PAIRS = 2**64 - 1
 
 
 def truth(answer: bool) -> str:
-    """The word for an answer of yes or no."""
+    """Returns the word for an answer of yes or no."""
     return "true" if answer else "false"
 
 
 def _read_pair(text: str) -> tuple[int, int]:
-    """Two numbers of 64 bits in order with a dash between them, or one."""
+    """Reads two numbers of 64 bits in order with a dash between them, or one number."""
     first, last = texts.cut(text, "-") if "-" in text else (text, text)
     try:
         pair = texts.number(first, LAST_OF_PAIRS), texts.number(last, LAST_OF_PAIRS)
@@ -102,7 +102,7 @@ def _long(question: str, text: str) -> str:
     answers: dict[str, Callable[[], str]] = {
         "as": lambda: f"{len(sets.union(fourths, others))} numbers",
         "build": lambda: f"{len(sets.union(fourths, others))} numbers",
-        "changed": lambda: f"{len(set(fourths) - set(others))} changed",  # valid by the one, by the other not found
+        "changed": lambda: f"{len(set(fourths) - set(others))} changed",  # valid in one table, not found in the other
         "changes": lambda: f"{len(set(fourths) - set(others))} announced, {len(set(others) - set(fourths))} withdrawn",
         "cover": cover,
         "v6": lambda: shown(sets.union(fourths, others)),
@@ -144,7 +144,7 @@ def _small(question: str, text: str) -> str:
 
 
 def read_triple(text: str) -> tuple[Set, Set, Set]:
-    """The set of each kind, of three lists with semicolons between them."""
+    """Reads the set of each kind, from three lists with semicolons between them."""
     one, others = texts.cut(text, ";")
     found = []
     for kind, name, listed in zip(
@@ -158,7 +158,7 @@ def read_triple(text: str) -> tuple[Set, Set, Set]:
 
 
 def print_triple(triple: tuple[Set, Set, Set]) -> str:
-    """The lists of the three kinds."""
+    """Returns the lists of the three kinds."""
     listed = map(lines.print_set, lines.KINDS, triple)
     return ", ".join(
         f"{name}: '{text}'" for name, text in zip(("asn", "ipv4", "ipv6"), listed, strict=True)
@@ -166,7 +166,7 @@ def print_triple(triple: tuple[Set, Set, Set]) -> str:
 
 
 def print_changes(before: tuple[Set, Set, Set], now: tuple[Set, Set, Set]) -> str:
-    """What the second has alone, and the first alone."""
+    """Returns the resources that only the second has, and those that only the first has."""
     words = []
     for word, one, other in (("Added:", now, before), ("Removed:", before, now)):
         changed = map(sets.difference, one, other)
@@ -334,7 +334,7 @@ def _answer(line: str) -> str:
 
 
 def answer(line: str) -> str:
-    """The answer to a line."""
+    """Returns the answer to a line."""
     try:
         return _answer(line)
     except Fault as fault:

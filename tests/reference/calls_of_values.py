@@ -13,12 +13,12 @@ from .resources import INHERIT, Claim, Families
 NO_HEXADECIMAL = "no hexadecimal"
 MISSING = None
 
-# What reads octets, the canonical ones alone where it is asked to.
+# A reader of octets. It accepts only canonical ones if its second argument is true.
 ModalReader = Callable[[bytes, bool], tuple[Any, bytes]]
 
 
 class Octets(NamedTuple):
-    """A reader of octets, with what prints and what writes the values that it answers."""
+    """A reader of octets, and the functions that print and write the values that it returns."""
 
     read: ModalReader
     print: Callable[[Any], str]
@@ -26,7 +26,7 @@ class Octets(NamedTuple):
 
 
 def _optional(tag: int, read: Callable[[bytes], tuple[Any, bytes]]) -> ModalReader:
-    """A reader that answers MISSING at another tag and at the end."""
+    """Returns a reader that returns MISSING at another tag and at the end."""
 
     def read_optional(octets: bytes, _strict: bool) -> tuple[Any, bytes]:
         return read(octets) if octets[:1] == bytes([tag]) else (MISSING, octets)
@@ -35,7 +35,7 @@ def _optional(tag: int, read: Callable[[bytes], tuple[Any, bytes]]) -> ModalRead
 
 
 def _block_or_end(read: Callable[..., tuple[Any, bytes]], *given: Any) -> ModalReader:
-    """A reader of a block that answers MISSING at the end alone."""
+    """Returns a reader of a block that returns MISSING only at the end."""
 
     def read_optional(octets: bytes, strict: bool) -> tuple[Any, bytes]:
         return read(octets, *given, strict) if octets else (MISSING, octets)
@@ -110,7 +110,7 @@ def _print_as_claim(claim: Claim) -> str:
 
 
 def _skipped(read: ModalReader) -> Octets:
-    """A call that answers only whether something was skipped."""
+    """Returns a call that answers only whether it skipped something."""
 
     def skip(octets: bytes, strict: bool) -> tuple[Any, bytes]:
         found, rest = read(octets, strict)
@@ -185,7 +185,7 @@ _TLV = Octets(
 
 
 def take(kind: str, text: str, strict: bool) -> str:
-    """What is printed of the value at the front of octets, and the octets behind it."""
+    """Returns the text of the value at the front of octets, and the octets after it."""
     octets = octets_of(text)
     if octets is None:
         return NO_HEXADECIMAL
@@ -197,7 +197,7 @@ def take(kind: str, text: str, strict: bool) -> str:
 
 
 def written(kind: str, text: str) -> str:
-    """The octets that are written of the value at the front of octets."""
+    """Returns the octets that are written for the value at the front of octets."""
     octets = octets_of(text)
     if octets is None:
         return NO_HEXADECIMAL
@@ -210,10 +210,10 @@ def written(kind: str, text: str) -> str:
 
 
 def altered(kind: str, text: str, strict: bool) -> str:
-    """How often which fault is met in beginnings of octets, and with each value at each place.
+    """Returns the count of each fault in the beginnings of octets, and with each value at each index.
 
-    A value must be read back from what is written of it, and of canonical octets that must be what
-    was taken.
+    A value must be the same after it is written and read again. For canonical octets, the written octets must be those
+    that were read.
     """
     reader, octets = OCTETS.get(kind), octets_of(text)
     if reader is None:
@@ -238,7 +238,7 @@ def _counts_text(counts: Counter[int | None]) -> str:
 
 
 def _number(reader: Octets, octets: bytes, strict: bool) -> int | None:
-    """The number of a fault, 0 for a value that is read back, None for one that isn't."""
+    """Returns the number of a fault, 0 for a value that is read back, or None for one that is not."""
     try:
         found, rest = reader.read(octets, strict)
     except DerFault as fault:
@@ -324,7 +324,7 @@ PAIRS: dict[str, Callable[[str], str]] = {"order": _order, "covers": _covers}
 
 
 def answer(line: str) -> str:
-    """The answer to a line."""
+    """Returns the answer to a line."""
     command, rest = texts.cut(line, " ")
     try:
         if command in PAIRS:

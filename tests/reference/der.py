@@ -1,4 +1,4 @@
-"""Values of DER: what they are (X.690, 8 and 10) and how they are written."""
+"""Reads and writes values of DER (X.690, 8 and 10)."""
 
 from typing import NamedTuple
 
@@ -10,7 +10,7 @@ AS_LIMIT = 2**32 - 1
 
 
 class Value(NamedTuple):
-    """A value at the front of octets, and what follows it."""
+    """A value at the front of octets, and the octets after it."""
 
     tag: int
     content: bytes
@@ -18,19 +18,19 @@ class Value(NamedTuple):
 
 
 class Bits(NamedTuple):
-    """A BIT STRING: its octets, how many of the last bits are unused, and whether some are set."""
+    """A BIT STRING: its octets, the number of unused bits at its end, and whether some of these are set."""
 
     octets: bytes
     unused: int
     is_dirty: bool
 
     def length(self) -> int:
-        """How many bits there are."""
+        """Returns how many bits there are."""
         return 8 * len(self.octets) - self.unused
 
 
 def value(octets: bytes) -> Value:
-    """The value of any tag at the front (X.690, 8.1)."""
+    """Reads the value of any tag at the front (X.690, 8.1)."""
     if not octets:
         raise DerFault(Der.Truncated)
     if octets[0] & 0x1F == 0x1F:
@@ -42,7 +42,7 @@ def value(octets: bytes) -> Value:
 
 
 def _content(octets: bytes) -> tuple[int, int]:
-    """Where the content behind a tag begins and ends.
+    """Returns the start and the end of the content after a tag.
 
     A length is definite and has the fewest octets (X.690, 8.1.3 and 10.1), eight of them at most.
     """
@@ -63,7 +63,7 @@ def _content(octets: bytes) -> tuple[int, int]:
 
 
 def wanted(octets: bytes, tag: int) -> Value:
-    """The value of a tag at the front."""
+    """Reads the value of a given tag at the front."""
     found = value(octets)
     if found.tag != tag:
         raise DerFault(Der.BadTag)
@@ -71,13 +71,13 @@ def wanted(octets: bytes, tag: int) -> Value:
 
 
 def at_end(octets: bytes) -> None:
-    """Nothing may follow."""
+    """Raises a fault if octets follow."""
     if octets:
         raise DerFault(Der.TrailingData)
 
 
 def as_number(content: bytes) -> int:
-    """An INTEGER from 0 to 4294967295 (X.690, 8.3; RFC 3779, 3.2.3.10)."""
+    """Reads the content of an INTEGER from 0 to 4294967295 (X.690, 8.3; RFC 3779, 3.2.3.10)."""
     number = int.from_bytes(content, "big", signed=True)
     if integer_content(number) != content or not 0 <= number <= AS_LIMIT:
         raise DerFault(Der.BadInteger)
@@ -85,7 +85,7 @@ def as_number(content: bytes) -> int:
 
 
 def bits(content: bytes) -> Bits:
-    """A BIT STRING (X.690, 8.6.2)."""
+    """Reads the content of a BIT STRING (X.690, 8.6.2)."""
     if not content or content[0] > 7 or (content[0] and len(content) == 1):
         raise DerFault(Der.BadBitString)
     unused = content[0]
@@ -94,19 +94,19 @@ def bits(content: bytes) -> Bits:
 
 
 def null(content: bytes) -> None:
-    """A NULL (X.690, 8.8.2)."""
+    """Reads the content of a NULL (X.690, 8.8.2)."""
     if content:
         raise DerFault(Der.BadNull)
 
 
 def integer_content(number: int) -> bytes:
-    """Two's complement in the fewest octets (X.690, 8.3.2)."""
+    """Returns a number as two's complement in the fewest octets (X.690, 8.3.2)."""
     magnitude = number if number >= 0 else ~number
     return number.to_bytes(magnitude.bit_length() // 8 + 1, "big", signed=True)
 
 
 def written(tag: int, content: bytes) -> bytes:
-    """A value of a tag."""
+    """Returns a value of a tag."""
     size = len(content)
     if size < 0x80:
         return bytes([tag, size]) + content
@@ -115,12 +115,12 @@ def written(tag: int, content: bytes) -> bytes:
 
 
 def written_integer(number: int) -> bytes:
-    """An INTEGER."""
+    """Returns an INTEGER."""
     return written(INTEGER, integer_content(number))
 
 
 def written_prefix(number: int, length: int) -> bytes:
-    """The BIT STRING of the first bits of a number of 128 bits."""
+    """Returns the BIT STRING of the first bits of a number of 128 bits."""
     count = (length + 7) // 8
     octets = (number >> 128 - length << 8 * count - length).to_bytes(count, "big")
     return written(BIT_STRING, bytes([8 * count - length]) + octets)

@@ -1,4 +1,4 @@
-"""Files of VRPs without the VRPs that have expired."""
+"""Removes the VRPs that have expired from files of VRPs."""
 
 from collections.abc import Iterator
 
@@ -49,7 +49,7 @@ def _of_lines(octets: bytes) -> Iterator[int | None]:
 
 
 def read(file: bytes) -> list[tuple[Vrp, int | None]]:
-    """The VRPs of a file, each with its expiry. A fault of the file as a file of VRPs comes first."""
+    """Returns the VRPs of a file, each with its expiry. A fault of the file as a file of VRPs comes first."""
     vrps = vrp_files.read(file)
     octets = file.removeprefix(MARK)
     of_form = _of_items if octets.lstrip(b"\t\n\f\r ").startswith(b"{") else _of_lines
@@ -57,7 +57,10 @@ def read(file: bytes) -> list[tuple[Vrp, int | None]]:
 
 
 def unexpired(file: bytes, now: int) -> tuple[list[Vrp], int]:
-    """The VRPs that are valid at a time, and how many have expired: RFC 5280, 4.1.2.5, includes the last second."""
+    """Returns the VRPs that are valid at a time, and how many have expired.
+
+    A VRP is valid through the last second (RFC 5280, 4.1.2.5).
+    """
     dated = read(file)
     kept = [vrp for vrp, expiry in dated if expiry is None or now <= expiry]
     return kept, len(dated) - len(kept)

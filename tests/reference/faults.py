@@ -1,10 +1,10 @@
-"""Why a text or octets are refused. The texts are those of docs/ERRORS.md."""
+"""The reasons for which a text or octets are refused. The texts are those of docs/ERRORS.md."""
 
 from enum import IntEnum
 
 
 class Fault(Exception):
-    """What is printed where something is refused."""
+    """The text that is printed if something is refused."""
 
 
 class Der(IntEnum):
@@ -27,7 +27,7 @@ class Der(IntEnum):
 
 
 class DerFault(Fault):
-    """Octets that aren't what is read."""
+    """A fault in octets that are read as DER."""
 
     def __init__(self, kind: Der) -> None:
         super().__init__(f"der error {kind.value} ({kind.name})")

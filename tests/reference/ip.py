@@ -27,11 +27,11 @@ class IpBlock(NamedTuple):
     length: int | None
 
     def bounds(self) -> tuple[int, int]:
-        """The first number and the last."""
+        """Returns the first and the last number."""
         return self.first, self.last
 
     def text(self, family: Family) -> str:
-        """The block in its own form, its addresses printed in a family."""
+        """Returns the block in its own form, its addresses printed in a family."""
         behind = 128 - family.bits
         first = print_address(family, self.first >> behind)
         if self.length is not None:
@@ -41,14 +41,14 @@ class IpBlock(NamedTuple):
 
 
 def prefix(number: int, length: int) -> IpBlock:
-    """The numbers that begin with the first bits of a number."""
+    """Returns the block of the numbers that begin with the first bits of a number."""
     behind = 128 - length
     first = number >> behind << behind
     return IpBlock(first, first + (1 << behind) - 1, length)
 
 
 def new_block(first: int, last: int) -> IpBlock:
-    """The block that a set has between two bounds: a prefix where one has exactly these numbers."""
+    """Returns the block that a set has between two bounds: a prefix if one has exactly these numbers."""
     size = last - first + 1
     if size & (size - 1) == 0 and first % size == 0:
         return IpBlock(first, last, 128 - (size.bit_length() - 1))
@@ -64,12 +64,12 @@ def _v6(text: str) -> tuple[Family, int]:
 
 
 def address_reader(family: Family | None) -> AddressReader:
-    """What reads the addresses of a family, or of either."""
+    """Returns the function that reads the addresses of a family, or of either family."""
     return {Family.V4: _v4, Family.V6: _v6, None: read_any}[family]
 
 
 def read_prefix(text: str, family: Family | None) -> IpBlock:
-    """An address and a length with a slash between them."""
+    """Reads an address and a length with a slash between them."""
     if "/" not in text:
         raise Fault(faults.MISSING_SEPARATOR)
     left, right = texts.cut(text, "/")
@@ -84,7 +84,7 @@ def read_prefix(text: str, family: Family | None) -> IpBlock:
 
 
 def read_range(text: str, family: Family | None) -> IpBlock:
-    """Two addresses with a dash between them."""
+    """Reads two addresses with a dash between them."""
     if "-" not in text:
         raise Fault(faults.MISSING_SEPARATOR)
     left, right = texts.cut(text, "-")
@@ -99,7 +99,7 @@ def read_range(text: str, family: Family | None) -> IpBlock:
 
 
 def read_block(text: str, family: Family | None) -> IpBlock:
-    """A prefix, a range or one address, of a family or of either."""
+    """Reads a prefix, a range or one address, of one family or of either."""
     if "/" in text:
         return read_prefix(text, family)
     if "-" in text:
@@ -110,7 +110,7 @@ def read_block(text: str, family: Family | None) -> IpBlock:
 
 
 def read_set(text: str, family: Family) -> Set:
-    """The set that a list of a family writes."""
+    """Reads the set that a list of a family describes."""
     blocks = []
     for element in texts.elements(text):
         if family is (Family.V4 if ":" in element else Family.V6 if "." in element else None):
@@ -120,12 +120,12 @@ def read_set(text: str, family: Family) -> Set:
 
 
 def family_of(text: str) -> Family:
-    """The family of a list that names none: IPv6 has colons."""
+    """Returns the family of a list that names none. A list with a colon is IPv6."""
     return Family.V6 if ":" in text else Family.V4
 
 
 def read_either(text: str) -> Set:
-    """The set that a list writes whose family its text tells."""
+    """Reads the set that a list of either family describes."""
     family = family_of(text)
     try:
         return merged([read_block(part, family).bounds() for part in texts.elements(text)])
@@ -134,11 +134,11 @@ def read_either(text: str) -> Set:
 
 
 def print_set(numbers: Set, family: Family) -> str:
-    """A set as a list of a family."""
+    """Returns a set as a list of a family."""
     return ", ".join(new_block(*run).text(family) for run in numbers)
 
 
 def is_whole(numbers: Set) -> bool:
-    """Whether a set has all or none of the numbers of each IPv4 address."""
+    """Returns whether a set has all or none of the numbers of each IPv4 address."""
     unit = 1 << BEHIND_V4
     return all(low % unit == 0 and (high + 1) % unit == 0 for low, high in numbers)

@@ -14,36 +14,36 @@ KINDS = ("as", *FAMILIES)
 
 
 def octets_of(text: str) -> bytes | None:
-    """The octets that hexadecimal writes, two digits each and nothing between them."""
+    """Returns the octets of a text in hexadecimal, two digits each with nothing between them, or None."""
     if len(text) % 2 or not set(text) <= set("0123456789abcdefABCDEF"):
         return None
     return bytes.fromhex(text)
 
 
 def read_set(kind: str, text: str) -> Set:
-    """The set that a list of a kind writes."""
+    """Reads the set that a list of a kind describes."""
     return asn.read_set(text) if kind == "as" else ip.read_set(text, FAMILIES[kind])
 
 
 def print_set(kind: str, numbers: Set) -> str:
-    """A set as a list of its kind."""
+    """Returns a set as a list of its kind."""
     return asn.print_set(numbers) if kind == "as" else ip.print_set(numbers, FAMILIES[kind])
 
 
 def print_claim(kind: str, claim: Claim) -> str:
-    """What a claim says."""
+    """Returns a claim as text."""
     if claim is None:
         return "missing"
     return claim if claim == INHERIT else print_set(kind, claim)
 
 
 def read_claim(kind: str, text: str) -> Claim:
-    """The claim that `inherit` or a list writes."""
+    """Reads the claim of `inherit` or of a list."""
     return INHERIT if text == INHERIT else paths.claim_of(read_set(kind, text))
 
 
 def written_claim(kind: str, claim: Claim) -> bytes:
-    """The octets of a claim, those of addresses in a list of families."""
+    """Returns the octets of a claim. A claim on addresses is in a list of families."""
     if kind == "as":
         return resources.written_as_claim(claim)
     found = Families(claim, None) if kind == "v4" else Families(None, claim)
@@ -51,7 +51,7 @@ def written_claim(kind: str, claim: Claim) -> bytes:
 
 
 def overclaimed(kind: str, excess: Set) -> str:
-    """What is printed of an excess."""
+    """Returns the text about overclaimed resources."""
     name = {"as": "AS", "v4": "IPv4", "v6": "IPv6"}[kind]
     return f"overclaimed {name} resources: {print_set(kind, excess)}"
 
@@ -109,7 +109,7 @@ COMMANDS: dict[str, tuple[Callable[[str, str], str], tuple[str, ...]]] = {
 
 
 def answer(line: bytes) -> str:
-    """The answer to a line."""
+    """Returns the answer to a line."""
     try:
         text = line.decode("utf-8")
     except UnicodeDecodeError:

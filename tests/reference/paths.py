@@ -1,4 +1,4 @@
-"""What a path of claims leaves of resources (RFC 3779, 2.3 and 3.3; RFC 6487, 7.2; RFC 8360)."""
+"""Computes the resources that a path of claims leaves (RFC 3779, 2.3 and 3.3; RFC 6487, 7.2; RFC 8360)."""
 
 from collections.abc import Iterable
 from typing import NamedTuple
@@ -9,14 +9,14 @@ from .sets import Set
 
 
 class Step(NamedTuple):
-    """A claim, and whether what it lists too much is left out instead of refused."""
+    """A claim, and whether its overclaimed resources are trimmed instead of refused."""
 
     claim: Claim
     is_trimmed: bool
 
 
 class Refused(Exception):
-    """A step lists more than is left for it."""
+    """A step claims more than is left for it."""
 
     def __init__(self, step: int, excess: Set) -> None:
         super().__init__(step, excess)
@@ -25,7 +25,7 @@ class Refused(Exception):
 
 
 def left(root: Set, steps: Iterable[Step]) -> Set:
-    """The numbers of the root that each step leaves."""
+    """Returns the numbers of the root that the steps leave."""
     for place, step in enumerate(steps):
         if step.claim is None:
             root = []
@@ -38,5 +38,5 @@ def left(root: Set, steps: Iterable[Step]) -> Set:
 
 
 def claim_of(numbers: Set) -> Claim:
-    """The claim that lists a set."""
+    """Returns the claim that lists a set."""
     return numbers or None

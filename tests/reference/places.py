@@ -1,8 +1,9 @@
-"""The answers of `respath --where`: after an error or a refusal a tab and the position of the first wrong or overclaimed
-element.
+"""The answers of `respath --where`.
 
-It is computed from the elements one by one, and not from beginnings of the line: each element is read alone, and each
-element of a refused step is claimed alone."""
+After an error or a refusal they have a tab and the position of the first wrong or overclaimed element. The reference
+does not compute it from beginnings of the line. It reads each element alone, and it claims each element of a refused
+step alone.
+"""
 
 import re
 from collections.abc import Iterator
@@ -18,18 +19,18 @@ _CONTROL = re.compile("[\x00-\x1f\x7f-\x9f]")
 
 
 def shown(text: str) -> str:
-    """A text without white space at its ends, and with a question mark in place of each control character."""
+    """Returns a text without white space at its ends, and with a question mark in place of each control character."""
     return _CONTROL.sub("?", texts.trim(text))
 
 
 def elements(text: str, place: str = "") -> Iterator[tuple[str, str]]:
-    """The elements of a list, empty ones included, each with its position."""
+    """Yields the elements of a list, also empty ones, each after its position."""
     for number, element in enumerate(text.split(","), 1):
         yield f"{place}element {number}: {shown(element)}", texts.trim(element)
 
 
 def is_wrong(kind: str, element: str) -> bool:
-    """Whether an element alone is no list."""
+    """Returns whether an element alone is not a list."""
     try:
         lines.read_set(kind, element)
     except Fault:
@@ -38,12 +39,12 @@ def is_wrong(kind: str, element: str) -> bool:
 
 
 def first_wrong(kind: str, text: str, place: str = "") -> str | None:
-    """The position of the first wrong element of a list."""
+    """Returns the position of the first wrong element of a list."""
     return next((at for at, element in elements(text, place) if is_wrong(kind, element)), None)
 
 
 def first_wrong_of_path(kind: str, text: str) -> str | None:
-    """The position of the first wrong element of a path, or of the first part that is no step."""
+    """Returns the position of the first wrong element of a path, or of the first invalid step."""
     root, *steps = text.split("|")
     if found := first_wrong(kind, root, "root, "):
         return found
@@ -58,7 +59,7 @@ def first_wrong_of_path(kind: str, text: str) -> str | None:
 
 
 def first_overclaimed(kind: str, text: str, step: int) -> str | None:
-    """The position of the first element of a refused step that is refused alone after the steps before."""
+    """Returns the position of the first element of a refused step that is refused alone after the steps before."""
     *before, refused = text.split("|")[: step + 2]
     left = lines.answer(f"path {kind} {'|'.join(before)}".encode())
     _, listed = texts.cut(texts.trim(refused), " ")
@@ -69,7 +70,7 @@ def first_overclaimed(kind: str, text: str, step: int) -> str | None:
 
 
 def place_of(line: bytes, answer: str) -> str | None:
-    """The position in a line of what its answer reports."""
+    """Returns the position in a line that its answer is about."""
     if not answer.startswith(("error: ", "refused ")) or answer in OF_LINE:
         return None
     command, rest = texts.cut(line.decode(), " ")
@@ -84,7 +85,7 @@ def place_of(line: bytes, answer: str) -> str | None:
 
 
 def answer(line: bytes) -> str:
-    """The answer to a line, with its position."""
+    """Returns the answer to a line, with its position."""
     text = lines.answer(line)
     place = place_of(line, text)
     return text if place is None else f"{text}\t{place}"

@@ -1,4 +1,4 @@
-"""Prefixes of routes (RFC 4632, 3.1; RFC 9582, 4.3.2), covers, validity of routes (RFC 6811)."""
+"""Prefixes of routes (RFC 4632, 3.1; RFC 9582, 4.3.2), covers, and the validity of routes (RFC 6811)."""
 
 from collections.abc import Iterator
 from typing import NamedTuple
@@ -14,49 +14,49 @@ HOST_BITS = "non-zero host portion"
 
 
 class Prefix(NamedTuple):
-    """The first address of a family and a length."""
+    """A family, a first address and a length."""
 
     family: Family
     address: int
     length: int
 
     def last(self) -> int:
-        """The last address."""
+        """Returns the last address."""
         return self.address + (1 << self.family.bits - self.length) - 1
 
     def text(self) -> str:
-        """The address and the length."""
+        """Returns the address and the length as text."""
         return f"{print_address(self.family, self.address)}/{self.length}"
 
     def covers(self, other: "Prefix") -> bool:
-        """Whether each address of the other is one of this prefix's."""
+        """Returns whether this prefix has each address of the other."""
         is_first_in = self.address <= other.address
         return self.family is other.family and is_first_in and other.last() <= self.last()
 
     def key(self) -> tuple[int, ...]:
-        """IPv4 first, then by the last address, then the longer first."""
+        """Returns the sort key: IPv4 first, then by the last address, then the longer prefix first."""
         return self.family.bits, self.last(), -self.length
 
 
 class MaxLenPrefix(NamedTuple):
-    """A prefix, and the maximum length where there is one."""
+    """A prefix, and its maximum length if it has one."""
 
     prefix: Prefix
     max_length: int | None
 
     def key(self) -> tuple[int, ...]:
-        """By the prefix; a maximum length before none; the larger first."""
+        """Returns the sort key: by the prefix, then from the largest maximum length to none."""
         if self.max_length is None:
             return *self.prefix.key(), 1
         return *self.prefix.key(), 0, -self.max_length
 
     def text(self) -> str:
-        """The prefix, and the maximum length behind a dash."""
+        """Returns the prefix, with a dash and the maximum length if it has one."""
         behind = "" if self.max_length is None else f"-{self.max_length}"
         return self.prefix.text() + behind
 
     def resolved(self) -> int:
-        """The maximum length, that of the prefix where there is none."""
+        """Returns the maximum length, or the length of the prefix if there is no maximum length."""
         return self.prefix.length if self.max_length is None else self.max_length
 
 
@@ -68,7 +68,7 @@ class Vrp(NamedTuple):
 
 
 def read_prefix(text: str, is_relaxed: bool = False) -> Prefix:
-    """A prefix. A relaxed reader clears what stands behind the length."""
+    """Reads a prefix. A relaxed reader clears the bits after the length."""
     if not text:
         raise Fault("empty string")
     if "/" not in text:
@@ -92,7 +92,7 @@ def read_prefix(text: str, is_relaxed: bool = False) -> Prefix:
 
 
 def with_max_len(found: Prefix, text: str) -> MaxLenPrefix:
-    """A prefix with the maximum length that the text writes."""
+    """Returns a prefix with the maximum length of a text."""
     try:
         length = texts.number(text, 255)
     except Fault as fault:
@@ -105,7 +105,7 @@ def with_max_len(found: Prefix, text: str) -> MaxLenPrefix:
 
 
 def read_max_len(text: str) -> MaxLenPrefix:
-    """A prefix, and behind a dash the maximum length."""
+    """Reads a prefix, which may have a dash and a maximum length after it."""
     if "-" not in text:
         return MaxLenPrefix(read_prefix(text), None)
     left, right = texts.cut(text, "-")
@@ -113,7 +113,7 @@ def read_max_len(text: str) -> MaxLenPrefix:
 
 
 def validity(route: Prefix, asn: int, vrps: list[Vrp]) -> str:
-    """What VRPs say of a route's origin (RFC 6811, 2)."""
+    """Returns the validity of a route's origin by VRPs (RFC 6811, 2)."""
     covering = [vrp for vrp in vrps if vrp.prefix.prefix.covers(route)]
     for vrp in covering:
         if route.length <= vrp.prefix.resolved() and vrp.asn == asn != 0:
@@ -122,7 +122,7 @@ def validity(route: Prefix, asn: int, vrps: list[Vrp]) -> str:
 
 
 def first_outside(v4: Set, v6: Set, prefixes: list[MaxLenPrefix]) -> int | None:
-    """The place of the first prefix of which the set of its family hasn't all."""
+    """Returns the index of the first prefix that is not whole in the set of its family."""
     for place, one in enumerate(prefixes):
         family, number, length = one.prefix
         wanted = prefix(number << 128 - family.bits, length)
@@ -133,9 +133,9 @@ def first_outside(v4: Set, v6: Set, prefixes: list[MaxLenPrefix]) -> int | None:
 
 
 def cover(numbers: Set, width: int) -> Iterator[tuple[int, int]]:
-    """The greatest prefixes inside a set of numbers of a width: their first numbers and lengths.
+    """Yields the largest prefixes inside a set of numbers of a width: their first numbers and lengths.
 
-    It goes down the tree of all prefixes, and down no further where the set has all or nothing.
+    It searches the tree of all prefixes from the root. It stops at a prefix if the set has all or none of its numbers.
     """
     below = [(0, 0, numbers)]
     while below:
@@ -151,9 +151,9 @@ def cover(numbers: Set, width: int) -> Iterator[tuple[int, int]]:
 
 
 def print_cover(numbers: Set, family: Family) -> str:
-    """The cover of a set of numbers of 128 bits, by prefixes of a family that have their lengths.
+    """Returns the cover of a set of numbers of 128 bits, by prefixes of a family.
 
-    IPv4 has the first 32 bits of the bounds.
+    For IPv4 it uses the first 32 bits of the bounds.
     """
     behind = 128 - family.bits
     bounds = [(low >> behind, high >> behind) for low, high in numbers]

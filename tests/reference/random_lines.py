@@ -27,11 +27,11 @@ class Maker:
         self.random = Random(f"{seed} {command}")
 
     def one_in(self, count: int) -> bool:
-        """True once in so many times."""
+        """Returns true in one of `count` cases, at random."""
         return self.random.randrange(count) == 0
 
     def line(self) -> bytes:
-        """A line, as octets."""
+        """Returns a line as octets."""
         kinds = tuple(FAMILIES) if self.command == "cover" else ("as", *FAMILIES)
         kind = self.random.choice(kinds)
         argument = self._damaged(ARGUMENTS[self.command](self, kind))
@@ -45,7 +45,7 @@ class Maker:
         return octets
 
     def _damaged(self, text: str) -> str:
-        """Mostly the text as it is; else with characters inserted, dropped or replaced."""
+        """Returns the text, in some cases with characters inserted, dropped or replaced."""
         if not self.one_in(6):
             return text
         for _ in range(self.random.randint(1, 3)):
@@ -56,7 +56,7 @@ class Maker:
         return text
 
     def _near(self, last: int, middles: tuple[int, ...]) -> int:
-        """A number of a few, at an end of the type, near a round one, or anywhere."""
+        """Returns a number at an end of the type, near a power of two, near one of a few numbers, or anywhere."""
         random = self.random
         way = random.randrange(8)
         if way == 0:
@@ -69,18 +69,18 @@ class Maker:
         return min(last, random.choice(middles) + random.randrange(1 << random.randrange(1, 9)))
 
     def asn(self) -> int:
-        """An AS number."""
+        """Returns an AS number."""
         return self._near(LAST, (0, 64496, LAST - 300))
 
     def address(self, family: Family) -> int:
-        """The number of an address."""
+        """Returns the number of an address."""
         last = (1 << family.bits) - 1
         middle = 10 << 24 if family is Family.V4 else 0x20010DB8 << 96
         mapped = 0xFFFF << 32 if family is Family.V6 else 192 << 24
         return self._near(last, (0, middle, mapped, last - 300))
 
     def bounds(self, make: Callable[[], int], last: int) -> tuple[int, int]:
-        """Two numbers in order, mostly close together."""
+        """Returns two numbers in order, mostly close together."""
         first = make()
         if self.one_in(3):
             other = make()
@@ -88,14 +88,14 @@ class Maker:
         return first, min(last, first + self.random.randrange(1 << self.random.randrange(1, 10)))
 
     def as_block(self) -> AsBlock:
-        """An AS block in either form."""
+        """Returns an AS block in either form."""
         first, last = self.bounds(self.asn, LAST)
         if self.one_in(2):
             return AsBlock(first, first, False)
         return AsBlock(first, last, True)
 
     def ip_block(self, family: Family) -> ip.IpBlock:
-        """A block of addresses in either form."""
+        """Returns a block of addresses in either form."""
         behind = 128 - family.bits
         if self.one_in(2):
             length = self.random.randint(0, family.bits)
@@ -109,17 +109,17 @@ class Maker:
     # Texts
 
     def number_text(self, number: int) -> str:
-        """A decimal, at times with a plus or zeros."""
+        """Returns a decimal, sometimes with a plus or zeros."""
         if not self.one_in(12):
             return str(number)
         return self.random.choice(("+", "0", "000", "+00")) + str(number)
 
     def asn_text(self, number: int) -> str:
-        """An AS number in some case of letters, or without them."""
+        """Returns an AS number with letters in some case, or without letters."""
         return self.random.choice(("AS", "AS", "as", "aS", "")) + self.number_text(number)
 
     def as_text(self) -> str:
-        """An AS block."""
+        """Returns an AS block as text."""
         block = self.as_block()
         if not block.is_range:
             return self.asn_text(block.first)
@@ -129,7 +129,7 @@ class Maker:
         return f"{self.asn_text(first)}-{self.asn_text(last)}"
 
     def address_text(self, family: Family, number: int) -> str:
-        """An address; of IPv6 in one of many forms."""
+        """Returns an address as text. An IPv6 address has one of many forms."""
         shown = print_address(family, number)
         if family is Family.V4 or self.one_in(2):
             return shown
@@ -144,14 +144,14 @@ class Maker:
 
     @staticmethod
     def _compressed(groups: list[str], at: int) -> str:
-        """The groups with `::` in the place of the zeros from one of them on."""
+        """Returns the groups with `::` in place of the zeros from an index on."""
         end = at
         while end < len(groups) and not groups[end].strip("0"):
             end += 1
         return ":".join(groups[:at]) + "::" + ":".join(groups[end:])
 
     def ip_text(self, family: Family) -> str:
-        """A block of addresses; once in a while of the other family."""
+        """Returns a block of addresses as text, sometimes of the other family."""
         if self.one_in(80):
             family = Family.V4 if family is Family.V6 else Family.V6
         way = self.random.randrange(3)
@@ -167,7 +167,7 @@ class Maker:
         return f"{self.address_text(family, low)}-{self.address_text(family, high)}"
 
     def list_text(self, kind: str) -> str:
-        """A list of blocks with white space round some."""
+        """Returns a list of blocks with white space around some."""
         count = self.random.choice((0, 1, 1, 2, 2, 3, 4, 6, 12))
         parts = [self._block_text(kind) for _ in range(count)]
         if self.one_in(8):
@@ -183,11 +183,11 @@ class Maker:
         return self.random.choice(SPACES) + text + self.random.choice(SPACES)
 
     def claim_text(self, kind: str) -> str:
-        """A list, or `inherit`."""
+        """Returns a list, or `inherit`."""
         return "inherit" if self.one_in(20) else self.list_text(kind)
 
     def path_text(self, kind: str) -> str:
-        """A root and steps."""
+        """Returns a root and steps."""
         steps = (self._step_text(kind) for _ in range(self.random.choice((0, 1, 1, 2, 3, 5))))
         return " |".join((self.list_text(kind), *steps))
 
@@ -205,13 +205,13 @@ class Maker:
     # Octets
 
     def hexadecimal(self, kind: str) -> str:
-        """Octets of resources, in some case of letters."""
+        """Returns octets of resources in hexadecimal, with letters in some case."""
         octets = self._damaged_octets(self.octets(kind))
         shown = octets.hex()
         return shown.upper() if self.one_in(8) else shown
 
     def octets(self, kind: str) -> bytes:
-        """Resources: as a canonical writer has them, or in any order and form."""
+        """Returns octets of resources, canonical ones or ones in any order and form."""
         if kind == "as":
             return self._as_octets()
         if self.one_in(3):
@@ -241,7 +241,7 @@ class Maker:
         return self._sequence(der.written(der.CONTEXT_0, choice))
 
     def _null(self) -> bytes:
-        """A NULL, once in a while with content."""
+        """Returns a NULL, sometimes with content."""
         return der.written(der.NULL, b"\0" if self.one_in(20) else b"")
 
     def _member(self, family: Family) -> bytes:
@@ -253,7 +253,7 @@ class Maker:
         return self._sequence(number + self._sequence(b"".join(blocks)))
 
     def _ip_octets(self, family: Family) -> bytes:
-        """A block: in its own form, or a range of any two prefixes that aren't shortened."""
+        """Returns a block in its own form, or a range of any two prefixes that are not shortened."""
         block = self.ip_block(family)
         if not self.one_in(4):
             return resources.written_ip_block(block)
@@ -261,9 +261,9 @@ class Maker:
         return self._sequence(b"".join(bounds))
 
     def _bits(self, number: int, family: Family) -> bytes:
-        """A BIT STRING of the first bits of an address, at times with unused bits that are set.
+        """Returns a BIT STRING of the first bits of an address, sometimes with unused bits that are set.
 
-        Once in a while it has more bits than the addresses of the family.
+        In a few cases it has more bits than the addresses of the family.
         """
         length = self.random.randint(0, family.bits) if self.one_in(3) else family.bits
         if self.one_in(40):
@@ -279,7 +279,7 @@ class Maker:
         return der.written(der.SEQUENCE, content)
 
     def _damaged_octets(self, octets: bytes) -> bytes:
-        """Mostly as they are; else cut, with more behind, or with octets replaced."""
+        """Returns the octets, in some cases cut, with more octets at the end, or with octets replaced."""
         way = self.random.randrange(12)
         if way == 0:
             return octets[: self.random.randrange(len(octets) + 1)]
@@ -307,7 +307,7 @@ ARGUMENTS: dict[str, Callable[[Maker, str], str]] = {
 
 
 def lines(command: str, seed: int) -> Iterator[bytes]:
-    """Lines of a command without end, the same ones for a seed."""
+    """Yields lines of a command without end. A seed always gives the same lines."""
     maker = Maker(command, seed)
     while True:
         yield maker.line()

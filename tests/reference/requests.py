@@ -1,9 +1,9 @@
-"""How much memory calls ask for, by rules: how many requests, and how many octets together.
+"""How much memory calls ask for, by rules: the number of requests, and the number of octets together.
 
-The rules name lengths of lists and nothing of how they are made. An element takes what its parts take in their order,
-each at a multiple of its size. A list whose length is known is asked for at once; one that isn't grows to twice its
-room, of four elements at first. A set's list has owners, whose counts are one request more; whoever shares a set asks
-for nothing.
+The rules depend on lengths of lists, and not on how the lists are made. An element takes what its parts take in their
+order, each at a multiple of its size. A list whose length is known takes one request. A list whose length is not known
+first has a capacity of four elements, and doubles its capacity when it is full. A set's list has a reference count,
+which is one more request. A call that shares a set asks for nothing.
 """
 
 import re
@@ -23,22 +23,22 @@ AS_BLOCK = 3 * 4  # which kind, and two numbers of 32 bits
 IP_BLOCK = 3 * 16  # which kind, and two numbers of 128 bits
 ASN = 4
 VRP = 80  # family and address 32, length and maximum length up to 64, AS number up to 80
-PACKED_VRP = 32  # of a table: an address, an AS number, two lengths, the family
+PACKED_VRP = 32  # a VRP in a table: an address, an AS number, two lengths, the family
 LINK = 2 * 4  # two numbers of 32 bits
 START = 4  # a number of 32 bits
-# Two counts and the allocator; of the list whether it is there, its place, length, room and allocator.
+# Two counts and the allocator. The list has a flag, a pointer, a length, a capacity and an allocator.
 OWNERS = 8 * WORD
 
 Rooms = list[int]  # the octets of each request
 
 
 def at_once(count: int, size: int) -> Rooms:
-    """The room of a list whose length is known."""
+    """Returns the request of a list whose length is known."""
     return [count * size] if count else []
 
 
 def grown(count: int, size: int, room: int = 0, least: int = 4) -> Rooms:
-    """The rooms of a list that grows to a length, from one that it has."""
+    """Returns the requests of a list that grows to a length, from a given capacity."""
     rooms = []
     while room < count:
         room = max(2 * room, least, room + 1)
@@ -47,17 +47,17 @@ def grown(count: int, size: int, room: int = 0, least: int = 4) -> Rooms:
 
 
 def reserved(count: int, room: int, size: int) -> Rooms:
-    """The room of a list that has some, of which more is asked for at once."""
+    """Returns the request of a list that has a capacity and asks at once for more."""
     return [max(2 * room, count, 4) * size] if count > room else []
 
 
 def shared(rooms: Rooms) -> Rooms:
-    """The rooms of a list, and of what its owners share: nothing for an empty one."""
+    """Returns the requests of a list and of its reference count, or none for an empty list."""
     return [*rooms, OWNERS] if rooms else []
 
 
 def octets(length: int) -> Rooms:
-    """The room of octets that are written at once: eight of them at least, as std has it."""
+    """Returns the request of octets that are written at once: at least eight of them, as in std."""
     return [max(8, length)] if length else []
 
 
@@ -69,12 +69,18 @@ def _text(rooms: Rooms) -> str:
 
 
 def union(left: Set, right: Set, size: int) -> Rooms:
-    """Where one is empty the other is shared; else there is room for both."""
+    """Returns the requests of a union.
+
+    If one set is empty, the other is shared. Otherwise the list has the capacity for both.
+    """
     return shared(at_once(len(left) + len(right), size)) if left and right else []
 
 
 def intersection(left: Set, right: Set, size: int) -> Rooms:
-    """What lies in the other is shared. Else the runs before the first that doesn't are known."""
+    """Returns the requests of an intersection. A set inside the other is shared.
+
+    Otherwise the number of runs before the first one that is not inside the other is known.
+    """
     if sets.has_all(right, left):
         return []
     first = next(at for at, run in enumerate(left) if not sets.has_all(right, [run]))
@@ -83,7 +89,7 @@ def intersection(left: Set, right: Set, size: int) -> Rooms:
 
 
 def difference(left: Set, right: Set, size: int) -> Rooms:
-    """Nobody knows how many runs will be left."""
+    """Returns the requests of a difference. The number of runs that are left is not known."""
     return shared(grown(len(sets.difference(left, right)), size))
 
 
@@ -91,7 +97,7 @@ OF_TWO = {"union": union, "intersection": intersection, "assign": intersection, 
 
 
 def _built(left: int, right: int, size: int) -> Rooms:
-    """Blocks one by one, and then more that are counted first."""
+    """Returns the requests of blocks that are added one by one, and then of more blocks that are counted first."""
     pushed = grown(left, size)
     return shared(pushed + reserved(left + right, pushed[-1] // size if pushed else 0, size))
 
@@ -101,8 +107,11 @@ USUAL_IP = re.compile(r" ?[0-9A-Fa-f:.]+([-/][0-9A-Fa-f:.]+)?")
 
 
 def _list_text(text: str, form: re.Pattern[str], size: int) -> Rooms:
-    """Elements of the usual form are read as they come, and a space behind the last; at the first other one, or behind
-    the last, all is read anew, when the list so far was given back."""
+    """Returns the requests of reading a list.
+
+    Elements of the usual form are read one after the other, and so is one space at the end. At the first other element,
+    or at the first other text after the last element, the list is freed and all is read again.
+    """
     count = len(list(texts.elements(text)))
     usual, at = 0, 0
     while found := form.match(text, at):
@@ -118,7 +127,7 @@ def _as_text(text: str) -> Rooms:
 
 
 def _ip_text(text: str) -> Rooms:
-    """A list of addresses of one family."""
+    """Returns the requests of reading a list of addresses of one family."""
     return _list_text(text, USUAL_IP, IP_BLOCK)
 
 
@@ -133,7 +142,7 @@ def _of_blocks(call: str, left: int, right: int, size: int) -> Rooms | None:
 
 
 def _path(call: str, anchor: Set, claim: Set, size: int) -> Rooms:
-    """Two steps: one that claims all of the anchor, and another claim."""
+    """Returns the requests of a path of two steps: one that claims all of the anchor, and another claim."""
     return difference(claim, anchor, size) if call == "refuse" else intersection(claim, anchor, size)
 
 
@@ -165,7 +174,7 @@ def _of_small(call: str, text: str) -> str:
 
 
 def of_sets(operands: str) -> str:
-    """The answer of `rows_sets` to `requests KIND CALL A|B`."""
+    """Returns the answer of `rows_sets` to `requests KIND CALL A|B`."""
     kind, rest = texts.cut(operands, " ")
     call, text = texts.cut(rest, " ")
     return _of_small(call, text) if kind == "small" else _of_kind(kind, call, text)
@@ -175,7 +184,7 @@ def of_sets(operands: str) -> str:
 
 
 def _listed(found: Any) -> Iterator[int]:
-    """How many runs each set has of what was read."""
+    """Yields how many runs each set has in what was read."""
     if isinstance(found, list):
         yield len(found)
     elif isinstance(found, tuple):
@@ -184,7 +193,7 @@ def _listed(found: Any) -> Iterator[int]:
 
 
 def of_octets(operands: str) -> str:
-    """The answer of `rows_values` to `requests take READER HEX` and `requests written READER HEX`."""
+    """Returns the answer of `rows_values` to `requests take READER HEX` and `requests written READER HEX`."""
     call, rest = texts.cut(operands, " ")
     kind, text = texts.cut(rest, " ")
     reader = OCTETS[kind]
@@ -205,16 +214,17 @@ def _vrps(text: str) -> list[Vrp]:
 
 
 def _sent(vrps: list[Vrp]) -> set[Vrp]:
-    """The VRPs as routers get them, each with its maximum length."""
+    """Returns the VRPs as routers get them, each with its maximum length."""
     return {
         Vrp(prefixes.MaxLenPrefix(it.prefix.prefix, it.prefix.resolved()), it.asn) for it in vrps
     }
 
 
 def _table(count: int) -> Rooms:
-    """A packed VRP and a link for each, and the starts of what has the same first bits: two families' and the end.
+    """Returns the requests of a table: a packed VRP and a link for each VRP, and the starts.
 
-    There are as many bits as leave two or three VRPs to a start, one at least and twenty at most.
+    There is a start for the VRPs of each family with the same first bits, and one for the end. The number of these bits
+    leaves two or three VRPs to a start. It is at least one and at most twenty.
     """
     bits = max(1, min(20, (count // 4).bit_length()))
     return at_once(count, PACKED_VRP) + at_once(count, LINK) + at_once(2 * 2**bits + 1, START)
@@ -239,7 +249,7 @@ def _triple(call: str, text: str) -> Rooms:
 
 
 def of_claims(operands: str) -> str:
-    """The answer of `rows_claims` to `requests CALL ..`."""
+    """Returns the answer of `rows_claims` to `requests CALL ..`."""
     call, text = texts.cut(operands, " ")
     given: dict[str, Callable[[str], Rooms]] = {
         "table": lambda text: _table(len(_vrps(text))),

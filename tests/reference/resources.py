@@ -1,7 +1,7 @@
 """Blocks, sets and claims in DER (RFC 3779, 2.2.3 and 3.2.3; RFC 6487, 4.8.10 and 4.8.11).
 
-Each reader takes octets, and whether the canonical ones alone are read, and answers what stands at
-the front and what follows it. A claim is a set that isn't empty, or INHERIT, or None if missing.
+Each reader takes octets, and whether it accepts only canonical ones. It returns the value at the front, and the octets
+after it. A claim is a set that isn't empty, or INHERIT, or None if missing.
 """
 
 from collections.abc import Callable
@@ -23,20 +23,20 @@ BlockReader = Callable[[bytes, bool], tuple[Block, bytes]]
 
 
 class Families(NamedTuple):
-    """What is claimed of each family, None where it isn't there."""
+    """The claim on each family, None if it is missing."""
 
     v4: Claim
     v6: Claim
 
 
 def read_asn(octets: bytes) -> tuple[int, bytes]:
-    """An AS number."""
+    """Reads an AS number."""
     found = der.wanted(octets, der.INTEGER)
     return der.as_number(found.content), found.rest
 
 
 def read_family(octets: bytes) -> tuple[Family, bytes]:
-    """An address family: two octets, without a subsequent one."""
+    """Reads an address family: two octets, without a subsequent address family identifier (SAFI)."""
     found = der.wanted(octets, der.OCTET_STRING)
     for family in Family:
         if found.content == family.number.to_bytes(2, "big"):
@@ -45,7 +45,7 @@ def read_family(octets: bytes) -> tuple[Family, bytes]:
 
 
 def read_prefix(octets: bytes, family: Family | None, strict: bool) -> tuple[IpBlock, bytes]:
-    """A prefix, of a family where one is given."""
+    """Reads a prefix, of a family if one is given."""
     found = der.wanted(octets, der.BIT_STRING)
     return _prefix(found.content, family, strict), found.rest
 
@@ -62,7 +62,10 @@ def _prefix(content: bytes, family: Family | None, strict: bool) -> IpBlock:
 
 
 def read_as_block(octets: bytes, strict: bool, in_any_order: bool = False) -> tuple[AsBlock, bytes]:
-    """An AS number or a range of them, which need not be in order where it is only skipped."""
+    """Reads an AS number or a range of them.
+
+    With `in_any_order` the range may be reversed, for a block that is only skipped.
+    """
     found = der.value(octets)
     return _as_block(found.tag, found.content, strict, in_any_order), found.rest
 
@@ -85,7 +88,7 @@ def _as_block(tag: int, content: bytes, strict: bool, in_any_order: bool) -> AsB
 
 
 def read_ip_block(octets: bytes, family: Family | None, strict: bool) -> tuple[IpBlock, bytes]:
-    """A prefix or a range, of a family where one is given."""
+    """Reads a prefix or a range, of a family if one is given."""
     found = der.value(octets)
     return _ip_block(found.tag, found.content, family, strict), found.rest
 
@@ -109,7 +112,7 @@ def _ip_block(tag: int, content: bytes, family: Family | None, strict: bool) -> 
 
 
 def _blocks(content: bytes, read: BlockReader[Block], strict: bool) -> Set:
-    """The set of blocks that follow one another to the end."""
+    """Reads the set of blocks that follow one another to the end."""
     bounds: list[tuple[int, int]] = []
     while content:
         block, content = read(content, strict)
@@ -124,19 +127,19 @@ def _ip_reader(family: Family | None) -> BlockReader[IpBlock]:
 
 
 def read_as_set(octets: bytes, strict: bool) -> tuple[Set, bytes]:
-    """A SEQUENCE of AS blocks."""
+    """Reads a SEQUENCE of AS blocks."""
     found = der.wanted(octets, der.SEQUENCE)
     return _blocks(found.content, read_as_block, strict), found.rest
 
 
 def read_ip_set(octets: bytes, family: Family | None, strict: bool) -> tuple[Set, bytes]:
-    """A SEQUENCE of blocks of addresses."""
+    """Reads a SEQUENCE of blocks of addresses."""
     found = der.wanted(octets, der.SEQUENCE)
     return _blocks(found.content, _ip_reader(family), strict), found.rest
 
 
 def _choice(octets: bytes, read: BlockReader[Block], strict: bool) -> tuple[Claim, bytes]:
-    """A NULL for what is inherited, or a SEQUENCE of blocks, one at least."""
+    """Reads a NULL, which means INHERIT, or a SEQUENCE of at least one block."""
     found = der.value(octets)
     if found.tag == der.NULL:
         der.null(found.content)
@@ -150,7 +153,7 @@ def _choice(octets: bytes, read: BlockReader[Block], strict: bool) -> tuple[Clai
 
 
 def read_as_claim(octets: bytes, strict: bool) -> tuple[Claim, bytes]:
-    """A SEQUENCE of a value of context tag 0, which has the choice."""
+    """Reads a SEQUENCE of a value of context tag 0, which has the choice."""
     outer = der.wanted(octets, der.SEQUENCE)
     tagged = der.wanted(outer.content, der.CONTEXT_0)
     claim, behind = _choice(tagged.content, read_as_block, strict)
@@ -160,12 +163,12 @@ def read_as_claim(octets: bytes, strict: bool) -> tuple[Claim, bytes]:
 
 
 def read_ip_claim(octets: bytes, family: Family, strict: bool) -> tuple[Claim, bytes]:
-    """The choice of a family's resources."""
+    """Reads the choice of a family's resources."""
     return _choice(octets, _ip_reader(family), strict)
 
 
 def read_families(octets: bytes, strict: bool) -> tuple[Families, bytes]:
-    """A SEQUENCE of families with their claims, each family once, one at least."""
+    """Reads a SEQUENCE of at least one family with its claim. A family may occur once."""
     outer = der.wanted(octets, der.SEQUENCE)
     claims: dict[Family, Claim] = {}
     content = outer.content
@@ -185,14 +188,14 @@ def read_families(octets: bytes, strict: bool) -> tuple[Families, bytes]:
 
 
 def all_of(found: tuple[Claim | Families, bytes]) -> Claim | Families:
-    """What was read, where nothing follows it."""
+    """Returns the value that was read. Raises a fault if octets follow it."""
     der.at_end(found[1])
     return found[0]
 
 
 @lru_cache(maxsize=4096)
 def written_as_block(block: AsBlock) -> bytes:
-    """An AS block in its own form."""
+    """Returns an AS block in its own form."""
     if not block.is_range:
         return der.written_integer(block.first)
     bounds = der.written_integer(block.first) + der.written_integer(block.last)
@@ -201,10 +204,10 @@ def written_as_block(block: AsBlock) -> bytes:
 
 @lru_cache(maxsize=4096)
 def written_ip_block(block: IpBlock) -> bytes:
-    """A block of addresses in its own form.
+    """Returns a block of addresses in its own form.
 
-    A range is written without the zeros that end its least address and the ones that end its
-    greatest (RFC 3779, 2.2.3.9).
+    A range is written without the zeros that end its first address, and without the ones that end its last address (RFC
+    3779, 2.2.3.9).
     """
     if block.length is not None:
         return der.written_prefix(block.first, block.length)
@@ -215,18 +218,18 @@ def written_ip_block(block: IpBlock) -> bytes:
 
 
 def written_as_blocks(numbers: Set) -> bytes:
-    """The blocks of a set of AS numbers, one after another."""
+    """Returns the blocks of a set of AS numbers, one after another."""
     return b"".join(written_as_block(asn.new_block(*run)) for run in numbers)
 
 
 def written_ip_set(numbers: Set) -> bytes:
-    """A set of addresses as a SEQUENCE."""
+    """Returns a set of addresses as a SEQUENCE."""
     blocks = (written_ip_block(ip.new_block(*run)) for run in numbers)
     return der.written(der.SEQUENCE, b"".join(blocks))
 
 
 def written_as_claim(claim: Claim) -> bytes:
-    """AS resources; nothing where they are missing."""
+    """Returns AS resources, or no octets if they are missing."""
     if claim is None:
         return b""
     choice = der.written(der.SEQUENCE, written_as_blocks(claim)) if claim != INHERIT else b"\x05\0"
@@ -234,14 +237,14 @@ def written_as_claim(claim: Claim) -> bytes:
 
 
 def written_ip_claim(claim: Claim) -> bytes:
-    """The resources of a family; nothing where they are missing."""
+    """Returns the resources of a family, or no octets if they are missing."""
     if claim is None:
         return b""
     return b"\x05\0" if claim == INHERIT else written_ip_set(claim)
 
 
 def written_families(claims: Families) -> bytes:
-    """The resources of both families, IPv4 first; nothing where both are missing."""
+    """Returns the resources of both families, IPv4 first, or no octets if both are missing."""
     members = b""
     for family, claim in ((Family.V4, claims.v4), (Family.V6, claims.v6)):
         if claim is not None:

@@ -1,4 +1,4 @@
-"""Lines of routes, and what VRPs answer to them (RFC 6811, 2)."""
+"""Lines of routes, and the answers to them by VRPs (RFC 6811, 2)."""
 
 import json
 from typing import NamedTuple
@@ -7,7 +7,7 @@ from . import asn, prefixes, texts
 from .faults import Fault
 from .prefixes import Prefix, Vrp
 
-# Behind how many fields of a dump's line its path stands, by its first field: of a table, and of a message or a state.
+# The index of the field with the path in a dump's line, by its first field: in a table, and in a message or a state.
 PATHS = {"TABLE_DUMP": 6, "TABLE_DUMP2": 6, "TABLE_DUMP2_AP": 7}
 PATHS_OF_UPDATES = {
     f"BGP4MP{time}{sender}{identifier}": place
@@ -17,20 +17,20 @@ PATHS_OF_UPDATES = {
 }
 PREFIX_PLACE = 5
 KIND_PLACE = 2
-# What the third field of an update is that announces no route.
+# The third field of an update that announces no route.
 KINDS_WITHOUT_ROUTE = ("W", "STATE")
 WORDS = {"Valid": "valid", "NotFound": "not-found"}
 
 
 class Route(NamedTuple):
-    """What is announced, and the AS that originates it, None where no AS does alone."""
+    """The prefix of a route and its origin AS. There is no origin if no single AS originates the route."""
 
     prefix: Prefix
     origin: int | None
 
 
 def read_prefix(text: str) -> Prefix:
-    """The prefix of a text; its fault names the prefix as what is invalid."""
+    """Reads a prefix. A fault says that the prefix is invalid."""
     try:
         return prefixes.read_prefix(text)
     except Fault as fault:
@@ -52,7 +52,7 @@ def _words(line: str, mark: str) -> Route:
 
 
 def _is_route_with_comma(line: str) -> bool:
-    """Whether a line has no space, and is a route with one in place of its first comma."""
+    """Returns whether a line has no space, and is a route with a space in place of its first comma."""
     try:
         _words(line, ",")
     except Fault:
@@ -61,14 +61,14 @@ def _is_route_with_comma(line: str) -> bool:
 
 
 def _path_place(fields: list[str]) -> int | None:
-    """Behind how many fields the path of a route stands, if they are those of a dump's route."""
+    """Returns the index of the field with the path, or None if the fields are not those of a dump's route."""
     if fields[KIND_PLACE : KIND_PLACE + 1] == ["A"] and fields[0] in PATHS_OF_UPDATES:
         return PATHS_OF_UPDATES[fields[0]]
     return PATHS.get(fields[0])
 
 
 def read_route(line: str) -> Route | None:
-    """The route that a line writes, if it is no line of a dump that has none."""
+    """Reads the route of a line. Returns None for a line of a dump without a route."""
     line = texts.trim(line)
     fields = line.split("|")
     if fields[0] in PATHS_OF_UPDATES and len(fields) > KIND_PLACE and fields[KIND_PLACE] in KINDS_WITHOUT_ROUTE:
@@ -99,19 +99,19 @@ def _order(vrp: Vrp) -> tuple[int, int, int]:
 
 
 def _explaining(route: Route, vrps: list[Vrp]) -> list[Vrp]:
-    """The VRPs that cover a route, in the order in which they explain it. One may be repeated."""
+    """Returns the VRPs that cover a route, in the order in which they explain it. A VRP may be repeated."""
     return sorted((vrp for vrp in vrps if vrp.prefix.prefix.covers(route.prefix)), key=_order)
 
 
 def _word(route: Route, vrps: list[Vrp]) -> str:
-    """The outcome for a route."""
+    """Returns the outcome for a route."""
     found = prefixes.validity(route.prefix, route.origin or 0, vrps)
     reasons = {_reason(route, vrp) for vrp in _explaining(route, vrps)}
     return WORDS.get(found, "invalid-length" if "length" in reasons else "invalid-as")
 
 
 def answer(vrps: list[Vrp], line: str, is_explained: bool) -> str:
-    """What VRPs answer to a line, with what explains it or without."""
+    """Returns the answer to a line, with or without an explanation."""
     try:
         route = read_route(line)
     except Fault as fault:
@@ -157,5 +157,8 @@ def _object(vrps: list[Vrp], line: bytes, is_explained: bool) -> dict:
 
 
 def json_answer(vrps: list[Vrp], line: bytes, is_explained: bool) -> str:
-    """The same as an object of JSON (RFC 8259), with no white space and with the shortest escapes of its strings."""
+    """Returns the answer as an object of JSON (RFC 8259).
+
+    It has no white space, and its strings have the shortest escapes.
+    """
     return json.dumps(_object(vrps, line, is_explained), ensure_ascii=False, separators=(",", ":"))

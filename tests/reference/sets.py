@@ -7,7 +7,7 @@ Set = list[Interval]
 
 
 def merged(intervals: Iterable[Interval]) -> Set:
-    """The set of the numbers in some interval, by a sweep over the intervals in order."""
+    """Returns the set of the numbers in some interval, by a sweep over the intervals in order."""
     runs: Set = []
     for low, high in sorted(intervals):
         if runs and low <= runs[-1][1] + 1:
@@ -21,7 +21,7 @@ LEFT, RIGHT = 1, 2
 
 
 def _swept(left: Set, right: Set, kept: tuple[int, ...]) -> Set:
-    """The numbers of which the sets that have them are one of the kinds kept.
+    """Returns the numbers whose membership in the two sets is one of the kinds `kept`.
 
     At each point where a set begins or ends, the sweep enters or leaves it.
     """
@@ -42,30 +42,30 @@ def _swept(left: Set, right: Set, kept: tuple[int, ...]) -> Set:
 
 
 def union(left: Set, right: Set) -> Set:
-    """The numbers of one or the other."""
+    """Returns the numbers in either set."""
     return _swept(left, right, (LEFT, RIGHT, LEFT | RIGHT))
 
 
 def intersection(left: Set, right: Set) -> Set:
-    """The numbers of both."""
+    """Returns the numbers in both sets."""
     return _swept(left, right, (LEFT | RIGHT,))
 
 
 def difference(left: Set, right: Set) -> Set:
-    """The numbers of the first alone."""
+    """Returns the numbers that only the first set has."""
     return _swept(left, right, (LEFT,))
 
 
 def has_all(outer: Set, inner: Set) -> bool:
-    """Whether the first has each number of the second."""
+    """Returns whether the first set has each number of the second."""
     return not difference(inner, outer)
 
 
 def meets(left: Set, right: Set) -> bool:
-    """Whether some number is in both."""
+    """Returns whether some number is in both sets."""
     return bool(intersection(left, right))
 
 
 def size(numbers: Set) -> int:
-    """How many numbers there are."""
+    """Returns how many numbers there are."""
     return sum(high - low + 1 for low, high in numbers)

@@ -19,24 +19,24 @@ class Filter(NamedTuple):
     origin: int | None
 
     def matches(self, vrp: Vrp) -> bool:
-        """Whether the filter removes a VRP (RFC 8416, 3.3.1)."""
+        """Returns whether the filter removes a VRP (RFC 8416, 3.3.1)."""
         has_prefix = self.prefix is None or self.prefix.covers(vrp.prefix.prefix)
         return has_prefix and self.origin in (None, vrp.asn)
 
 
 class Slurm(NamedTuple):
-    """What a file says of VRPs."""
+    """The filters and the assertions of a file."""
 
     filters: list[Filter]
     assertions: list[Vrp]
 
     def applied(self, vrps: list[Vrp]) -> list[Vrp]:
-        """The VRPs that no filter removes, and then the assertions."""
+        """Returns the VRPs that no filter removes, and then the assertions."""
         return [vrp for vrp in vrps if not any(one.matches(vrp) for one in self.filters)] + self.assertions
 
 
 def _check_names(members: Object, names: tuple[str, ...], where: str = "") -> None:
-    """RFC 8416, 3.1: a member that isn't defined is an error."""
+    """Raises a fault at a member that is not defined (RFC 8416, 3.1)."""
     for number, (name, _) in enumerate(members, 1):
         if name not in names:
             raise Fault(where + _UNKNOWN.format(number))
@@ -47,7 +47,7 @@ def _optional(members: Object, name: str, kind: type) -> object | None:
 
 
 def _filter(members: Object) -> Filter:
-    """RFC 8416, 3.3.1."""
+    """Reads a prefix filter (RFC 8416, 3.3.1)."""
     _check_names(members, ("prefix", "asn", "comment"))
     text = _optional(members, "prefix", str)
     prefix = None if text is None else route_lines.read_prefix(text)
@@ -60,7 +60,7 @@ def _filter(members: Object) -> Filter:
 
 
 def _key_filter(members: Object) -> None:
-    """RFC 8416, 3.3.2."""
+    """Reads a BGPsec filter (RFC 8416, 3.3.2)."""
     _check_names(members, ("asn", "SKI", "comment"))
     number = _optional(members, "asn", Number)
     if number is not None:
@@ -72,7 +72,7 @@ def _key_filter(members: Object) -> None:
 
 
 def _assertion(members: Object) -> Vrp:
-    """RFC 8416, 3.4.1."""
+    """Reads a prefix assertion (RFC 8416, 3.4.1)."""
     _check_names(members, ("prefix", "asn", "maxPrefixLength", "comment"))
     prefix = route_lines.read_prefix(vrp_files.only(members, "prefix", (str,)))
     origin = asn.read_asn(vrp_files.only(members, "asn", (Number,)))
@@ -83,7 +83,7 @@ def _assertion(members: Object) -> Vrp:
 
 
 def _key(members: Object) -> None:
-    """RFC 8416, 3.4.2."""
+    """Reads a BGPsec assertion (RFC 8416, 3.4.2)."""
     _check_names(members, ("asn", "SKI", "routerPublicKey", "comment"))
     asn.read_asn(vrp_files.only(members, "asn", (Number,)))
     vrp_files.only(members, "SKI", (str,))
@@ -110,7 +110,7 @@ def _part(members: Object, name: str, names: tuple[str, ...]) -> Object:
 
 
 def read(file: bytes) -> Slurm:
-    """What a file says (RFC 8416, 3.2)."""
+    """Reads a file (RFC 8416, 3.2)."""
     members = vrp_files.object_of(file.removeprefix(vrp_files.MARK))
     _check_names(members, ("slurmVersion", "validationOutputFilters", "locallyAddedAssertions"))
     if vrp_files.only(members, "slurmVersion", (Number,)) != "1":

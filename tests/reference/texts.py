@@ -1,4 +1,4 @@
-"""What all readers of texts share: white space, cuts, decimals and lists."""
+"""Functions for all readers of texts: white space, cuts, decimals and lists."""
 
 import re
 from collections.abc import Iterator
@@ -19,18 +19,18 @@ _DIGITS = re.compile("[0-9]+")
 
 
 def trim(text: str) -> str:
-    """The text without white space on both sides."""
+    """Returns the text without white space on both sides."""
     return text.strip(WHITE_SPACE)
 
 
 def cut(text: str, mark: str) -> tuple[str, str]:
-    """What stands before the first such mark and what behind it, which is empty without one."""
+    """Returns the text before the first such mark, and the text after it. The second is empty if there is no mark."""
     left, _, right = text.partition(mark)
     return left, right
 
 
 def number(text: str, limit: int) -> int:
-    """A decimal, with a plus or without, of at most the limit."""
+    """Reads a decimal of at most the limit, with a plus or without."""
     if not text:
         raise Fault(EMPTY)
     unsigned = text[1:] if text[0] == "+" else text
@@ -46,5 +46,5 @@ def number(text: str, limit: int) -> int:
 
 
 def elements(text: str) -> Iterator[str]:
-    """What stands between commas, trimmed, without what is empty."""
+    """Returns the trimmed texts between commas, without empty ones."""
     return filter(None, map(trim, text.split(",")))

@@ -28,7 +28,7 @@ class Object(list):
     """The members of an object, in their order."""
 
     def values(self, name: str) -> list:
-        """The values of the members of this name."""
+        """Returns the values of the members of this name."""
         return [value for key, value in self if key == name]
 
 
@@ -50,7 +50,7 @@ def _depth(value: object) -> int:
 
 
 def _is_text(value: object) -> bool:
-    """Whether no text in a value has half of a surrogate pair."""
+    """Returns whether no text in a value has half of a surrogate pair."""
     left = [value]
     while left:
         inner = left.pop()
@@ -65,7 +65,7 @@ def _is_text(value: object) -> bool:
 
 
 def object_of(octets: bytes) -> Object:
-    """The members of the object that a text of JSON is."""
+    """Reads a JSON text. Returns the members of its object."""
     try:
         value = json.loads(
             octets.decode("utf-8"),
@@ -82,7 +82,7 @@ def object_of(octets: bytes) -> Object:
 
 
 def only(item: object, name: str, kinds: tuple[type, ...]) -> object:
-    """The value of the only member of this name, which has to be of one of the kinds."""
+    """Returns the value of the only member of this name. The value has to be of one of the kinds."""
     found = item.values(name) if isinstance(item, Object) else []
     if not found:
         raise Fault(f"{name}: missing")
@@ -119,20 +119,20 @@ def _field(field: str) -> str:
 
 
 def _columns(fields: list[str]) -> list[int] | None:
-    """The places of the three names, where a line has each."""
+    """Returns the indexes of the columns with the three names, or None if a name is missing."""
     found = [next((at for at, field in enumerate(fields) if field in names), None) for names in _NAMES.values()]
     return None if None in found else found
 
 
 class _Header(NamedTuple):
-    """The places of the three columns, how many columns there are, and whether a line has named them."""
+    """The indexes of the three columns, the number of columns, and whether a line has named them."""
 
     columns: list[int]
     count: int
     is_named: bool
 
     def wanted(self, fields: list[str]) -> list[str]:
-        """The fields of a row in the three columns."""
+        """Returns the fields of a row in the three columns."""
         if self.is_named and len(fields) > self.count:
             raise Fault(f"too many fields: {len(fields)}, but the header names {self.count}")
         if any(column >= len(fields) for column in self.columns):
@@ -162,7 +162,7 @@ def _of_lines(octets: bytes) -> Iterator[Vrp]:
 
 
 def read(file: bytes) -> list[Vrp]:
-    """The VRPs of a file, after the byte order mark with which it may begin (RFC 3629, 6)."""
+    """Returns the VRPs of a file. A byte order mark may be at its front (RFC 3629, 6)."""
     octets = file.removeprefix(MARK)
     if _OPENS_ARRAY.match(octets):
         raise Fault("a JSON array, where an object with the member roas is expected")
@@ -173,5 +173,5 @@ def read(file: bytes) -> list[Vrp]:
 
 
 def answer(file: bytes) -> str:
-    """The VRPs of a file as a list."""
+    """Returns the VRPs of a file as a list."""
     return ", ".join(f"{vrp.prefix.text()} AS{vrp.asn}" for vrp in read(file))

@@ -1,4 +1,4 @@
-"""What tests/reference answers. No other module of this folder imports it."""
+"""The answers of tests/reference. No other module of this folder imports it."""
 
 from typing import Any, NamedTuple
 
@@ -42,34 +42,34 @@ FAMILIES = {"v4": Family.V4, "v6": Family.V6}
 
 
 class Vrps(NamedTuple):
-    """The VRPs of a file, or why it is refused."""
+    """The VRPs of a file, or the reason why it is refused."""
 
     vrps: list[Vrp]
     fault: str | None
 
 
 def all_of(found: tuple[Any, bytes]) -> Any:
-    """What was read, where nothing follows it."""
+    """Returns the value that was read. Raises a fault if octets follow it."""
     return resources.all_of(found)
 
 
 def as_claim(octets: bytes, strict: bool = False) -> Claim:
-    """The claim that a value of AS identifiers makes."""
+    """Returns the claim of a value of AS identifiers."""
     return all_of(resources.read_as_claim(octets, strict))
 
 
 def families(octets: bytes, strict: bool = False) -> Families:
-    """The claims that a value of IP address blocks makes."""
+    """Returns the claims of a value of IP address blocks."""
     return all_of(resources.read_families(octets, strict))
 
 
 def name_of(fault: DerFault) -> str:
-    """The name of a fault of DER."""
+    """Returns the name of a fault of DER."""
     return Der(fault.number).name
 
 
 def written(kind: str, claim: Claim) -> bytes:
-    """The canonical value of the extension that makes a claim of one kind alone."""
+    """Returns the canonical value of the extension for a claim of one kind alone."""
     return lines.written_claim(kind, claim)
 
 
@@ -91,28 +91,28 @@ origin_answer = calls_of_callers.origin_answer
 
 
 def block_text(kind: str, text: str) -> str:
-    """The text of one block of a list, in its own form."""
+    """Returns the text of one block of a list, in its own form."""
     return asn.read_block(text).text() if kind == "as" else ip.read_block(text, FAMILIES[kind]).text(FAMILIES[kind])
 
 
 def bounds(kind: str, text: str) -> tuple[int, int]:
-    """The first and the last number of one block of a list; those of addresses have 128 bits."""
+    """Returns the first and the last number of one block of a list. Addresses have 128 bits."""
     return asn.read_block(text).bounds() if kind == "as" else ip.read_block(text, FAMILIES[kind]).bounds()
 
 
 def cover(kind: str, numbers: Set) -> list[str]:
-    """The shortest list of prefixes with these addresses."""
+    """Returns the shortest list of prefixes with these addresses."""
     return list(texts.elements(prefixes.print_cover(numbers, FAMILIES[kind])))
 
 
 def vrp_of(text: str) -> Vrp:
-    """The VRP that a row writes, as `10.0.0.0/8-16 AS5`."""
+    """Reads the VRP of a row, for example `10.0.0.0/8-16 AS5`."""
     prefix, _, number = text.strip().partition(" ")
     return Vrp(prefixes.read_max_len(prefix), asn.read_asn(number))
 
 
 def vrps_of_file(octets: bytes) -> Vrps:
-    """The VRPs of a file."""
+    """Returns the VRPs of a file."""
     try:
         return Vrps(vrp_files.read(octets), None)
     except Fault as fault:

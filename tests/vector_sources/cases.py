@@ -1,4 +1,4 @@
-"""A file of vectors: its flags, its cases, and how it is written."""
+"""A file of vectors: its flags, its cases, and its text."""
 
 import hashlib
 import json
@@ -19,7 +19,7 @@ class Difference(Exception):
 
 @dataclass(frozen=True)
 class Flag:
-    """What a flag says, the section that it comes from, and whether a case with it breaks a rule."""
+    """A flag: its description, the section that it comes from, and whether a case with it breaks a rule."""
 
     description: str
     section: str
@@ -27,14 +27,14 @@ class Flag:
     link: str | None = None
 
     def note(self) -> dict[str, Any]:
-        """The flag as an entry of `notes`."""
+        """Returns the flag as an entry of `notes`."""
         note: dict[str, Any] = {"breaksRule": self.breaks, "description": self.description, "section": self.section}
         return note | ({"link": self.link} if self.link else {})
 
 
 @dataclass(frozen=True)
 class Case:
-    """What is asked, what is expected, and what the case is about."""
+    """A case: its flags, its input and its expected answer."""
 
     flags: tuple[str, ...]
     input: dict[str, Any]
@@ -43,7 +43,7 @@ class Case:
 
 @dataclass
 class VectorFile:
-    """A file of cases, with the flags that they may have and the faults of which each needs cases."""
+    """A file of cases, with the flags that they may have, and the faults that need cases."""
 
     name: str
     subject: str
@@ -53,7 +53,7 @@ class VectorFile:
     cases: dict[str, Case] = field(default_factory=dict)
 
     def add(self, case: Case) -> None:
-        """Adds a case. One with the same input has to expect the same."""
+        """Adds a case. A case with the same input has to expect the same answer."""
         key = identifier(self.name, case.input)
         before = self.cases.setdefault(key, case)
         if before.input != case.input:
@@ -66,7 +66,7 @@ class VectorFile:
             raise Difference(f"{self.name}: {case.input}: no flag")
 
     def lacking(self) -> Iterator[str]:
-        """The flags and faults with too few cases."""
+        """Yields the flags and faults with too few cases."""
         flags = Counter(flag for case in self.cases.values() for flag in case.flags)
         faults = Counter(case.expected.get("fault", "") for case in self.cases.values())
         of_both = ("flag", [*self.flags], flags), ("fault", self.faults, faults)
@@ -75,12 +75,12 @@ class VectorFile:
         yield from (f"{self.name}: fault {it} has no name" for it in faults.keys() - {"", *self.faults})
 
     def comment(self, case: Case) -> str:
-        """What a case is about, by its flags."""
+        """Returns the comment of a case, made of its flags."""
         said = "; ".join(self.flags[it].description for it in case.flags if it != "Decision")
         return said[:1].upper() + said[1:]
 
     def text(self) -> str:
-        """The file: a line for each case, ordered by what is asked, so that like cases are beside each other."""
+        """Returns the text of the file, with a line for each case. Cases with the same flags are next to each other."""
         ordered = sorted(self.cases.items(), key=lambda it: order(it[1]))
         lines = [
             written(
@@ -107,28 +107,28 @@ class VectorFile:
 
 
 def written(value: Any) -> str:
-    """A value of JSON on a line."""
+    """Returns a value of JSON on a line."""
     return json.dumps(value, sort_keys=True, ensure_ascii=False, separators=(", ", ": "))
 
 
 def order(case: Case) -> tuple[Any, ...]:
-    """The place of a case: by flags, the shorter input first."""
+    """Returns the sort key of a case: by flags, then the shorter input first."""
     asked = written(case.input)
     return tuple(it for it in case.flags if it != "Decision"), len(asked), asked
 
 
 def identifier(name: str, asked: dict[str, Any]) -> str:
-    """The identifier of a case, which depends on its file and input alone."""
+    """Returns the identifier of a case, which depends only on its file and its input."""
     return hashlib.sha256(f"{name} {written(asked)}".encode()).hexdigest()[:12]
 
 
 def is_chosen(text: str, share: int) -> bool:
-    """Whether a row is one of so many of a hundred that are taken."""
+    """Returns whether a row is among the `share` percent of rows that are taken."""
     return hashlib.sha256(text.encode()).digest()[0] * 100 < share * 256
 
 
 def ordered(flags: Iterable[str], known: dict[str, Flag]) -> tuple[str, ...]:
-    """Flags in the order of their notes."""
+    """Returns flags in the order of their notes."""
     found = set(flags)
     return tuple(it for it in known if it in found) + tuple(sorted(found - known.keys()))
 
@@ -147,7 +147,7 @@ class Rows:
         self.rows = list(zip(asked, answered, strict=True))
 
     def of(self, *commands: str) -> Iterator[tuple[str, str]]:
-        """What follows one of these words in a row, and the row's answer."""
+        """Yields the text after one of these words in a row, and the row's answer."""
         for asked, answer in self.rows:
             for command in commands:
                 if asked.startswith(command + " "):
@@ -155,6 +155,6 @@ class Rows:
 
 
 def agree(name: str, asked: str, stored: str, found: str) -> None:
-    """Stops if a stored answer isn't the reference's."""
+    """Raises an error if a stored answer is not the reference's."""
     if stored != found:
         raise Difference(f"{name}: {asked}\n  stored:        {stored}\n  the reference: {found}")

@@ -41,7 +41,7 @@ HEADER = [
 
 
 def tlv(tag: int, *contents: bytes) -> bytes:
-    """A value of DER."""
+    """Returns a value of DER."""
     content = b"".join(contents)
     size = len(content)
     if size < 0x80:
@@ -51,35 +51,35 @@ def tlv(tag: int, *contents: bytes) -> bytes:
 
 
 def integer(number: int) -> bytes:
-    """An INTEGER in the fewest octets."""
+    """Returns an INTEGER in the fewest octets."""
     return tlv(2, number.to_bytes((number + (number < 0)).bit_length() // 8 + 1, "big", signed=True))
 
 
 def as_value(*blocks: bytes) -> bytes:
-    """AS identifiers that list blocks."""
+    """Returns AS identifiers that list blocks."""
     return tlv(0x30, tlv(0xA0, tlv(0x30, *blocks)))
 
 
 def as_range(first: int, last: int) -> bytes:
-    """A range of AS numbers."""
+    """Returns a range of AS numbers."""
     return tlv(0x30, integer(first), integer(last))
 
 
 def bits(text: str, unused: int = 0) -> bytes:
-    """A BIT STRING of bits; the unused ones are set to the last bits of a number."""
+    """Returns a BIT STRING of bits. The unused bits are the last bits of `unused`."""
     spare = -len(text) % 8
     number = (int(text or "0", 2) << spare) + (unused & (1 << spare) - 1)
     return tlv(3, bytes([spare]) + number.to_bytes((len(text) + spare) // 8, "big"))
 
 
 def prefix(address: str, length: int, unused: int = 0) -> bytes:
-    """A prefix of IPv4, or of IPv6 if the address has a colon."""
+    """Returns a prefix of IPv4, or of IPv6 if the address has a colon."""
     kind = "v6" if ":" in address else "v4"
     return bits(f"{reference.bounds(kind, address)[0]:0128b}"[:length], unused)
 
 
 def ip_range(first: str, last: str, is_long: bool = False) -> bytes:
-    """A range of addresses, with its bounds shortened or not."""
+    """Returns a range of addresses. Its bounds are not shortened if `is_long` is true."""
     kind = "v6" if ":" in first else "v4"
     size = 128 if kind == "v6" else 32
     low = f"{reference.bounds(kind, first)[0]:0128b}"[:size]
@@ -88,22 +88,22 @@ def ip_range(first: str, last: str, is_long: bool = False) -> bytes:
 
 
 def family(number: int, *choice: bytes) -> bytes:
-    """A family with what follows its number."""
+    """Returns a family: its number, and the values after it."""
     return tlv(0x30, tlv(4, number.to_bytes(2, "big")), *choice)
 
 
 def listed(number: int, *blocks: bytes) -> bytes:
-    """A family that lists blocks."""
+    """Returns a family that lists blocks."""
     return family(number, tlv(0x30, *blocks))
 
 
 def ip_value(*families: bytes) -> bytes:
-    """IP address blocks."""
+    """Returns IP address blocks."""
     return tlv(0x30, *families)
 
 
 def expected_as(octets: bytes) -> dict:
-    """What is expected of AS identifiers."""
+    """Returns the expected answer for AS identifiers."""
     claim = reference.as_claim(octets)
     canonical = reference.written_as_claim(claim)
     result = "canonical" if canonical == octets else "valid"
@@ -111,7 +111,7 @@ def expected_as(octets: bytes) -> dict:
 
 
 def expected_ip(octets: bytes) -> dict:
-    """What is expected of IP address blocks."""
+    """Returns the expected answer for IP address blocks."""
     claims = reference.families(octets)
     canonical = reference.written_families(claims)
     texts = {
@@ -122,7 +122,7 @@ def expected_ip(octets: bytes) -> dict:
 
 
 def is_strict(octets: bytes, is_as: bool) -> bool:
-    """Whether the strict reader of the reference takes a value."""
+    """Returns whether the strict reader of the reference accepts a value."""
     try:
         reference.as_claim(octets, True) if is_as else reference.families(octets, True)
     except DerFault:
@@ -131,7 +131,7 @@ def is_strict(octets: bytes, is_as: bool) -> bool:
 
 
 def case_of(octets: bytes, is_as: bool) -> Case:
-    """The case of a value. The reference, both its readers, and the flags have to agree."""
+    """Returns the case of a value. The reference, both its readers, and the flags have to agree."""
     flags, known = flags_of(octets, is_as), OF_AS if is_as else OF_IP
     try:
         expected = expected_as(octets) if is_as else expected_ip(octets)
@@ -148,7 +148,7 @@ def case_of(octets: bytes, is_as: bool) -> Case:
 
 
 def octets_of(text: str) -> bytes | None:
-    """The octets that a row writes, None if it writes none or so many that they would fill a page."""
+    """Returns the octets of a row, or None if it has no octets or more than 400."""
     try:
         octets = bytes.fromhex(text) if " " not in text else None
     except ValueError:
@@ -180,7 +180,7 @@ IP_PARTS: dict[str, Callable[[bytes], bytes]] = {
 
 
 def stored(rows: Rows, parts: dict[str, Callable[[bytes], bytes]]) -> Iterator[bytes]:
-    """The values of rows, whose stored answers have to be the reference's."""
+    """Yields the values of rows. Their stored answers have to be the reference's."""
     for command in ("take", "strict", "written"):
         for kind, make in parts.items():
             for text, answer in rows.of(f"{command} {kind}"):
@@ -191,7 +191,7 @@ def stored(rows: Rows, parts: dict[str, Callable[[bytes], bytes]]) -> Iterator[b
 
 
 def answered(rows: Rows) -> Iterator[tuple[str, bytes]]:
-    """The values that `respath` reads in rows, of which the stored answer has to be the reference's."""
+    """Yields the values that `respath` reads in rows. Their stored answers have to be the reference's."""
     for kind in reference.FAMILIES.keys() | {"as"}:
         for text, answer in rows.of(f"read {kind}"):
             agree(rows.name, f"read {kind} {text}", answer, reference.line_answer(f"read {kind} {text}".encode()))
@@ -203,7 +203,7 @@ NUMBERS = (0, 1, 7, 127, 128, 255, 256, 23456, 64496, 64511, 65535, 65536, 42000
 
 
 def made_as() -> Iterator[bytes]:
-    """Values of AS identifiers that break a rule each, with several values for each rule."""
+    """Yields values of AS identifiers that each break a rule, with several values for each rule."""
     yield tlv(0x30, tlv(0xA0, b"\5\0"))
     yield from (as_value(integer(number)) for number in NUMBERS)
     for low, high in zip(NUMBERS, NUMBERS[1:], strict=False):
@@ -248,19 +248,19 @@ def made_as() -> Iterator[bytes]:
 
 
 def long_form(tag: int, content: bytes, count: int) -> bytes:
-    """A value whose length has so many octets."""
+    """Returns a value whose length has `count` octets."""
     return bytes([tag, 0x80 + count]) + len(content).to_bytes(count, "big") + content
 
 
 def long_lengths(content: bytes) -> Iterator[bytes]:
-    """A SEQUENCE with lengths of other forms."""
+    """Yields a SEQUENCE with lengths of other forms."""
     yield from (long_form(0x30, content, count) for count in (1, 2, 4, 8, 9, 10, 126))
     yield b"\x30\x80" + content + b"\0\0"
     yield b"\x30\x80" + content
 
 
 def whole_as() -> Iterator[bytes]:
-    """Random lists of AS blocks, canonical ones and others."""
+    """Yields random lists of AS blocks, canonical ones and others."""
     chance = random.Random(3779)
     for at in range(160):
         points = sorted(chance.sample(range(2**32 if at % 2 else 60), 2 * chance.randint(1, 6)))
@@ -315,7 +315,7 @@ RANGES = (
 
 
 def made_ip() -> Iterator[bytes]:
-    """Values of IP address blocks that break a rule each, with several values for each rule."""
+    """Yields values of IP address blocks that each break a rule, with several values for each rule."""
     for four, six in zip(PREFIXES, PREFIXES6, strict=True):
         v4, v6 = listed(1, prefix(*four)), listed(2, prefix(*six))
         good = ip_value(v4, v6)
@@ -366,7 +366,7 @@ def made_ip() -> Iterator[bytes]:
 
 
 def of_families(v4: bytes, block: bytes) -> Iterator[bytes]:
-    """Families that are wrong, with a block that is right."""
+    """Yields wrong families with a correct block."""
     blocks = tlv(0x30, block)
     for octets in (
         b"\0\1\1",
@@ -396,7 +396,7 @@ def of_families(v4: bytes, block: bytes) -> Iterator[bytes]:
 
 
 def of_blocks(number: int, size: int, address: str, length: int) -> Iterator[bytes]:
-    """Lists of blocks round a prefix."""
+    """Yields lists of blocks around a prefix."""
     this = prefix(address, length)
     low, high = reference.bounds("v6" if number == 2 else "v4", f"{address}/{length}")
     wide = f"{low:0128b}"[:size], f"{high:0128b}"[:size]
@@ -423,7 +423,7 @@ def of_blocks(number: int, size: int, address: str, length: int) -> Iterator[byt
 
 
 def files() -> list[VectorFile]:
-    """Both files."""
+    """Returns both files."""
     values, lines = Rows("rows_values"), Rows("rows_sets")
     as_faults = [it for it in reference.ALL_DER_FAULTS if it not in OF_ADDRESSES]
     ip_faults = [it for it in reference.ALL_DER_FAULTS if it not in OF_NUMBERS]

@@ -1,4 +1,4 @@
-"""The rules that the value of an extension breaks, found by a reader that goes on where it can.
+"""Finds the rules that the value of an extension breaks, with a reader that continues after a fault if it can.
 
 It shares no code with tests/reference. It reads BER as far as it understands it, and notes each rule that is broken.
 """
@@ -79,11 +79,11 @@ READABLE = {*FORM, "RangeIsNumber", "RangeIsPrefix", "LongBounds", "UnusedBits",
 
 
 class Stop(Exception):
-    """What follows can't be understood."""
+    """The reader cannot understand the rest of the octets."""
 
 
 class Value(NamedTuple):
-    """A value, and what follows it."""
+    """A value, and the octets after it."""
 
     tag: int
     content: bytes
@@ -97,12 +97,12 @@ class Walk:
     flags: set[str] = field(default_factory=set)
 
     def stop(self, flag: str) -> Stop:
-        """Notes a flag and gives up."""
+        """Notes a flag and returns the exception that ends the reading."""
         self.flags.add(flag)
         return Stop()
 
     def value(self, octets: bytes) -> Value:
-        """A value of any tag."""
+        """Reads a value of any tag."""
         if not octets:
             raise self.stop("Truncated")
         if octets[0] & 0x1F == 0x1F:
@@ -128,25 +128,25 @@ class Walk:
         return Value(octets[0], octets[start : start + length], octets[start + length :])
 
     def of_tag(self, octets: bytes, *tags: int) -> Value:
-        """A value of one of these tags."""
+        """Reads a value of one of these tags."""
         found = self.value(octets)
         if found.tag in tags:
             return found
         raise self.stop("Constructed" if found.tag ^ 0x20 in tags and found.tag & 0x20 else "WrongTag")
 
     def end(self, octets: bytes) -> None:
-        """Notes if something follows."""
+        """Notes a flag if octets follow."""
         if octets:
             self.flags.add("TrailingData")
 
     def null(self, content: bytes) -> None:
-        """A NULL."""
+        """Reads a NULL."""
         self.flags.add("Inherit")
         if content:
             self.flags.add("NullContent")
 
     def order(self, bounds: list[tuple[int, int]]) -> None:
-        """The order of the blocks."""
+        """Notes flags about the order of the blocks."""
         if not bounds:
             self.flags.add("EmptyList")
         if bounds != sorted(bounds):
@@ -161,7 +161,7 @@ class Walk:
             last = high if last is None else max(last, high)
 
     def integer(self, content: bytes) -> int:
-        """An AS number."""
+        """Reads an AS number."""
         if not content:
             raise self.stop("EmptyInteger")
         if len(content) > 1 and (content[0], content[1] >> 7) in ((0, 0), (0xFF, 1)):
@@ -176,7 +176,7 @@ class Walk:
         return number
 
     def as_block(self, found: Value) -> tuple[int, int]:
-        """An AS number or a range."""
+        """Reads an AS number or a range."""
         if found.tag == INTEGER:
             self.flags.add("SingleNumber")
             number = self.integer(found.content)
@@ -194,7 +194,7 @@ class Walk:
         return first, last
 
     def as_value(self, octets: bytes) -> None:
-        """The value of AS identifiers."""
+        """Reads the value of AS identifiers."""
         outer = self.of_tag(octets, SEQUENCE)
         if outer.rest:
             self.flags.add("AfterValue")
@@ -220,7 +220,7 @@ class Walk:
         self.order(bounds)
 
     def bits(self, content: bytes, size: int) -> str:
-        """The bits of a BIT STRING, as a text."""
+        """Returns the bits of a BIT STRING as text."""
         if not content:
             raise self.stop("EmptyBitString")
         unused, octets = content[0], content[1:]
@@ -235,7 +235,7 @@ class Walk:
         return bits
 
     def ip_block(self, found: Value, size: int) -> tuple[int, int]:
-        """A prefix or a range."""
+        """Reads a prefix or a range."""
         if found.tag == BIT_STRING:
             self.flags.add("Prefix")
             bits = self.bits(found.content, size)
@@ -254,7 +254,7 @@ class Walk:
         return bounds
 
     def form_of_range(self, least: str, most: str, bounds: tuple[int, int], size: int) -> None:
-        """Whether a range should be a prefix, and whether its bounds are the shortest."""
+        """Notes whether a range should be a prefix, and whether its bounds are the shortest."""
         low, high = bounds
         if low > high:
             self.flags.add("ReversedRange")
@@ -266,7 +266,7 @@ class Walk:
             self.flags.add("LongBounds")
 
     def family(self, content: bytes) -> int:
-        """The number of an address family."""
+        """Reads the number of an address family."""
         if len(content) not in (2, 3):
             raise self.stop("FamilyLength")
         number = int.from_bytes(content[:2], "big")
@@ -277,7 +277,7 @@ class Walk:
         return number
 
     def ip_value(self, octets: bytes) -> None:
-        """The value of IP address blocks."""
+        """Reads the value of IP address blocks."""
         outer = self.of_tag(octets, SEQUENCE)
         if outer.rest:
             self.flags.add("AfterValue")
@@ -301,7 +301,7 @@ class Walk:
             self.flags.add("NoFamily")
 
     def choice(self, choice: Value, size: int) -> None:
-        """The addresses of a family."""
+        """Reads the addresses of a family."""
         if choice.tag == NULL:
             self.null(choice.content)
             return
@@ -314,7 +314,10 @@ class Walk:
 
 
 def flags_of(octets: bytes, is_as: bool) -> set[str]:
-    """The flags of the value of an extension. A value that can't be read has those of the rules for that alone."""
+    """Returns the flags of the value of an extension.
+
+    A value that cannot be read has only the flags of the rules that make it so.
+    """
     walk = Walk()
     try:
         walk.as_value(octets) if is_as else walk.ip_value(octets)

@@ -73,7 +73,7 @@ HEADS = (
 
 
 def fault_of(reason: str) -> str:
-    """The name of a reason."""
+    """Returns the name of a reason."""
     for pattern, (name, _) in FAULTS.items():
         if re.fullmatch(pattern, reason, re.DOTALL):
             return name
@@ -81,7 +81,7 @@ def fault_of(reason: str) -> str:
 
 
 def flags_of(octets: bytes, vrps: list[Any]) -> Iterator[str]:
-    """The flags of a file that is read."""
+    """Yields the flags of a file that is read."""
     text = octets.decode("utf-8", "replace")
     is_json = text.lstrip("\t\n\f\r ").startswith("{")
     yield from ("Json" if is_json else "Csv", "Read")
@@ -102,7 +102,7 @@ def flags_of(octets: bytes, vrps: list[Any]) -> Iterator[str]:
 
 
 def case_of(octets: bytes, stored: str | None = None) -> Case:
-    """The case of a file."""
+    """Returns the case of a file."""
     found = reference.vrps_of_file(octets)
     if stored is not None:
         said = (
@@ -126,7 +126,7 @@ def case_of(octets: bytes, stored: str | None = None) -> Case:
 
 
 def stored() -> Iterator[Case]:
-    """The files of rows."""
+    """Yields the cases of the files in rows."""
     rows = Rows("rows_claims")
     for text, answer in rows.of("vrps"):
         octets = text.replace("|", "\n").encode()
@@ -141,7 +141,7 @@ def stored() -> Iterator[Case]:
 
 
 def made_lines() -> Iterator[str]:
-    """Files of lines."""
+    """Yields files of lines."""
     for head in HEADS:
         names = head.split(",")
         row = {
@@ -214,7 +214,7 @@ def made_lines() -> Iterator[str]:
 
 
 def made_json() -> Iterator[str]:
-    """Files of JSON."""
+    """Yields files of JSON."""
     for value in ("{}", "null", "1", '"x"', "true", ITEM, "1.5", "-1", "false", '""', '{"roas":[]}'):
         yield from (
             f'{{"roas":{value}}}',
@@ -249,7 +249,7 @@ def made_json() -> Iterator[str]:
 
 
 def files() -> list[VectorFile]:
-    """The file."""
+    """Returns the file of vectors."""
     file = VectorFile(
         "vrp_files",
         "files of VRPs that validators write, as CSV and JSON",
@@ -272,7 +272,7 @@ def files() -> list[VectorFile]:
 
 
 def made_octets() -> Iterator[bytes]:
-    """Files that are not UTF-8."""
+    """Yields files that are not UTF-8."""
     for wrong in (b"\xff", b"\xc3", b"\xed\xa0\x80", b"\xf5\x80\x80\x80", b"\xc0\x80", b"\x80"):
         yield from (
             f"{VRP}\n{VRP},".encode() + wrong + b"\n",

@@ -50,17 +50,17 @@ ROUTE_MOST, LONGEST = 24, 600
 
 
 def vrp(it: Vrp) -> dict[str, Any]:
-    """A VRP as a member."""
+    """Returns a VRP as a member of JSON."""
     return {"asn": it.asn, "maxLength": it.prefix.resolved(), "prefix": it.prefix.prefix.text()}
 
 
 def text_of(it: Vrp) -> str:
-    """A VRP as a row writes it."""
+    """Returns a VRP as a row has it."""
     return f"{it.prefix.prefix.text()}-{it.prefix.resolved()} AS{it.asn}"
 
 
 def origin_flags(route: Prefix, asn: int, vrps: list[Vrp], word: str) -> Iterator[str]:
-    """The flags of a route."""
+    """Yields the flags of a route."""
     covering = [it for it in vrps if it.prefix.prefix.covers(route)]
     bits = route.family.bits
     yield from (word, "IPv4" if bits == 32 else "IPv6")
@@ -83,14 +83,14 @@ def origin_flags(route: Prefix, asn: int, vrps: list[Vrp], word: str) -> Iterato
 
 
 def origin_case(route: Prefix, asn: int, vrps: list[Vrp]) -> Case:
-    """The case of a route."""
+    """Returns the case of a route."""
     word = reference.validity(route, asn, vrps)
     asked = {"asn": asn, "prefix": route.text(), "vrps": [vrp(it) for it in vrps]}
     return Case(ordered(origin_flags(route, asn, vrps, word), ORIGIN_FLAGS), asked, {"validity": WORDS[word]})
 
 
 def stored_origins() -> Iterator[Case]:
-    """Routes of rows: those of few VRPs and some of the others."""
+    """Yields the cases of routes in rows: all with few VRPs, and some of the others."""
     for text, answer in Rows("rows_claims").of("origin"):
         first, *listed = (it.strip() for it in text.split("|"))
         try:
@@ -107,7 +107,7 @@ def stored_origins() -> Iterator[Case]:
 
 
 def made_origins() -> Iterator[Case]:
-    """Routes round a VRP: each length and each AS beside its own."""
+    """Yields routes around a VRP: each length, and each AS next to its own."""
     for prefix, length, bits in (
         ("192.0.2.0", 24, 32),
         ("2001:db8::", 32, 128),
@@ -124,7 +124,7 @@ def made_origins() -> Iterator[Case]:
 
 
 def update_case(table: list[Vrp], announced: list[Vrp], withdrawn: list[Vrp], stored: str | None = None) -> Case:
-    """The case of changes."""
+    """Returns the case of changes."""
     parts = (table, announced, withdrawn)
     answer = reference.origin_answer("changes " + " ; ".join(" | ".join(map(text_of, part)) for part in parts))
     if stored is not None:
@@ -146,7 +146,7 @@ def update_case(table: list[Vrp], announced: list[Vrp], withdrawn: list[Vrp], st
 
 
 def update_flags(table: list[Vrp], announced: list[Vrp], withdrawn: list[Vrp]) -> Iterator[str]:
-    """The flags of changes."""
+    """Yields the flags of changes."""
     there = [*table, *announced, *withdrawn]
     texts = {*map(text_of, there)}
     kept = [(it.partition(" ")[0].partition("-")[0], it.partition(" ")[2]) for it in texts]
@@ -166,7 +166,7 @@ def update_flags(table: list[Vrp], announced: list[Vrp], withdrawn: list[Vrp]) -
 
 
 def stored_updates() -> Iterator[Case]:
-    """The changes of rows."""
+    """Yields the cases of the changes in rows."""
     for text, answer in Rows("rows_claims").of("changes"):
         parts = text.split(";")
         try:
@@ -180,12 +180,12 @@ def stored_updates() -> Iterator[Case]:
 
 
 def is_repeated(vrps: list[Vrp]) -> bool:
-    """Whether a VRP is listed twice."""
+    """Returns whether a VRP is listed twice."""
     return len({*map(text_of, vrps)}) < len(vrps)
 
 
 def has_no_max(vrps: list[Vrp]) -> bool:
-    """Whether a VRP of a row has no maximum length, which a router's VRP always has."""
+    """Returns whether a VRP of a row has no maximum length, which a router's VRP always has."""
     return any(it.prefix.max_length is None for it in vrps)
 
 
@@ -204,7 +204,10 @@ BASE = (
 
 
 def made_updates() -> Iterator[Case]:
-    """Changes of small tables: nothing, one VRP, the same VRP in both lists, one twice, and one that is not there."""
+    """Yields changes of small tables.
+
+    They are nothing, one VRP, the same VRP in both lists, a VRP twice, and a VRP that is not there.
+    """
     all_of = [reference.vrp_of(it) for it in BASE]
     for at, one in enumerate(all_of):
         table, others = all_of[:at], all_of[at + 1 :]
@@ -228,7 +231,7 @@ def made_updates() -> Iterator[Case]:
 
 
 def files() -> list[VectorFile]:
-    """Both files."""
+    """Returns both files."""
     origins = VectorFile(
         "origin_validation",
         "route origin validation (RFC 6811)",

@@ -17,12 +17,12 @@ TEXTS: Schema = {"type": "array", "items": TEXT}
 
 
 def one_of(*values: str) -> Schema:
-    """One of some texts."""
+    """Returns the schema of one of some texts."""
     return {"enum": [*values]}
 
 
 def record(members: dict[str, Schema]) -> Schema:
-    """An object with these members and no others."""
+    """Returns the schema of an object with these members and no others."""
     return {"type": "object", "properties": members, "required": sorted(members), "additionalProperties": False}
 
 
@@ -37,11 +37,11 @@ CLAIM: dict[str, Schema] = {"claim": TEXT, "octets": HEX_OR_NULL}
 
 
 def of_results(*members: dict[str, Schema]) -> Schema:
-    """One of some forms of what is expected."""
+    """Returns the schema of an expected answer in one of some forms."""
     return {"oneOf": [record(it) for it in members]}
 
 
-# What each file asks, and what it expects.
+# The schemas of the input and of the expected answer of each file.
 INPUTS: dict[str, Schema] = {
     "der_as": record({"octets": HEX}),
     "der_ip": record({"octets": HEX}),
@@ -88,14 +88,14 @@ EXPECTED: dict[str, Schema] = {
 
 
 def note() -> Schema:
-    """The note of a flag."""
+    """Returns the schema of the note of a flag."""
     found = record({"breaksRule": {"type": "boolean"}, "description": TEXT, "section": TEXT})
     found["properties"] = found["properties"] | {"link": TEXT}
     return found
 
 
 def schema_of(file: VectorFile) -> Schema:
-    """The schema of a file."""
+    """Returns the schema of a file."""
     case = record(
         {
             "comment": {"type": "string", "minLength": 1},
@@ -120,5 +120,5 @@ def schema_of(file: VectorFile) -> Schema:
 
 
 def text_of(file: VectorFile) -> str:
-    """The schema as it is written."""
+    """Returns the schema as text."""
     return json.dumps(schema_of(file), indent=1, sort_keys=True, ensure_ascii=False) + "\n"

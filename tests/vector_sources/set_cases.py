@@ -65,7 +65,7 @@ LARGEST = 30
 
 
 def blocks_of(kind: str, text: str) -> list[str] | None:
-    """The blocks of a list in its order, None if it is no list or a long one."""
+    """Returns the blocks of a list in its order, or None if the text is not a list or the list is long."""
     try:
         blocks = [reference.block_text(kind, it) for it in reference.elements(text)]
     except Fault:
@@ -74,23 +74,23 @@ def blocks_of(kind: str, text: str) -> list[str] | None:
 
 
 def limits(kind: str) -> tuple[int, int]:
-    """The first number and the last of a kind."""
+    """Returns the first and the last number of a kind."""
     return 0, (2**32 if kind == "as" else 2**128) - 1
 
 
 def is_extreme(kind: str, numbers: Set) -> bool:
-    """Whether a set has the first number or the last."""
+    """Returns whether a set has the first or the last number."""
     first, last = limits(kind)
     return bool(numbers) and (numbers[0][0] == first or numbers[-1][1] == last)
 
 
 def is_merged(kind: str, blocks: list[str]) -> bool:
-    """Whether blocks ascend and neither overlap nor touch."""
+    """Returns whether blocks ascend and neither overlap nor touch."""
     return [reference.bounds(kind, it) for it in blocks] == reference.read_set(kind, ", ".join(blocks))
 
 
 def relation(left: Set, right: Set) -> Iterator[str]:
-    """How two sets lie."""
+    """Yields the flags of how two sets lie."""
     if not left or not right:
         yield "Empty"
     elif left == right:
@@ -107,7 +107,7 @@ def relation(left: Set, right: Set) -> Iterator[str]:
 
 
 def operation_case(operation: str, kind: str, left: list[str], right: list[str]) -> Case:
-    """The case of an operation on two lists of blocks."""
+    """Returns the case of an operation on two lists of blocks."""
     a, b = (reference.read_set(kind, ", ".join(it)) for it in (left, right))
     flags = {OF_KIND[kind], operation.capitalize(), *relation(a, b)}
     if not is_merged(kind, left) or not is_merged(kind, right):
@@ -123,7 +123,7 @@ def operation_case(operation: str, kind: str, left: list[str], right: list[str])
 
 
 def stored_operations() -> Iterator[Case]:
-    """The operations of rows on lists that can be read, whose stored answers have to be the reference's."""
+    """Yields the operations of rows on lists that can be read. Their stored answers have to be the reference's."""
     rows = Rows("rows_sets")
     for operation in OPERATIONS:
         for kind in KINDS:
@@ -162,7 +162,7 @@ PAIRS = (
 
 
 def made_operations() -> Iterator[Case]:
-    """Each operation on small sets that lie in each way, of each kind."""
+    """Yields each operation on small sets of each kind, which lie in each way."""
     for kind in KINDS:
         shown = {"as": "AS{}-AS{}", "v4": "10.0.0.{}-10.0.0.{}", "v6": "2001:db8::{:x}-2001:db8::{:x}"}[kind]
         for pair in PAIRS:
@@ -174,13 +174,13 @@ def made_operations() -> Iterator[Case]:
 
 
 def claim_input(kind: str, claim: Any) -> dict[str, Any]:
-    """A claim as a member: its text, and the canonical extension that makes it, if there is one."""
+    """Returns a claim as a member: its text, and its canonical extension if there is one."""
     octets = reference.written(kind, claim)
     return {"claim": reference.print_claim(kind, claim), "octets": octets.hex() or None}
 
 
 def path_case(kind: str, anchor: Set, steps: list[Step], stored: str | None = None) -> Case:
-    """The case of a path."""
+    """Returns the case of a path."""
     flags = {OF_KIND[kind], ("NoCertificate", "OneCertificate", "LongPath")[min(2, len(steps))]}
     policies = {"Trim" if it.is_trimmed else "Refuse" for it in steps if it.claim not in (None, INHERIT)}
     flags |= policies | ({"Mixed", "Decision"} if len(policies) > 1 else set())
@@ -212,7 +212,7 @@ def path_case(kind: str, anchor: Set, steps: list[Step], stored: str | None = No
 
 
 def overclaims(left: Set, steps: list[Step]) -> bool:
-    """Whether a step lists more than is left, where all is trimmed."""
+    """Returns whether a step lists more than is left, if each step is trimmed."""
     for step in steps:
         if isinstance(step.claim, list) and not reference.has_all(left, step.claim):
             return True
@@ -221,7 +221,7 @@ def overclaims(left: Set, steps: list[Step]) -> bool:
 
 
 def step_of(kind: str, text: str) -> Step | None:
-    """A step of a row, None if it is none."""
+    """Reads a step of a row. Returns None if it is invalid."""
     word, _, listed = text.strip().partition(" ")
     if word in ("inherit", "missing"):
         return None if listed else Step(INHERIT if word == "inherit" else None, False)
@@ -236,7 +236,7 @@ def step_of(kind: str, text: str) -> Step | None:
 
 
 def stored_paths() -> Iterator[Case]:
-    """The paths of rows that can be read."""
+    """Yields the cases of the paths in rows that can be read."""
     for kind in KINDS:
         for text, answer in Rows("rows_sets").of(f"path {kind}"):
             first, *parts = text.split("|")
@@ -250,7 +250,7 @@ def stored_paths() -> Iterator[Case]:
 
 
 def made_paths() -> Iterator[Case]:
-    """Paths of random claims, of one policy or of both."""
+    """Yields paths of random claims, of one policy or of both."""
     chance = random.Random(6487)
     for at in range(360):
         kind = KINDS[at % 3]
@@ -277,7 +277,7 @@ def made_paths() -> Iterator[Case]:
 
 
 def cover_case(kind: str, blocks: list[str], stored: str | None = None) -> Case:
-    """The case of a cover."""
+    """Returns the case of a cover."""
     blocks = [reference.block_text(kind, it) for it in blocks]
     numbers = reference.read_set(kind, ", ".join(blocks))
     prefixes = reference.cover(kind, numbers)
@@ -296,7 +296,7 @@ def cover_case(kind: str, blocks: list[str], stored: str | None = None) -> Case:
 
 
 def stored_covers() -> Iterator[Case]:
-    """The covers of rows."""
+    """Yields the cases of the covers in rows."""
     lines, values = Rows("rows_sets"), Rows("rows_values")
     for kind in KINDS[1:]:
         for text, answer in lines.of(f"cover {kind}"):
@@ -308,7 +308,7 @@ def stored_covers() -> Iterator[Case]:
 
 
 def made_covers() -> Iterator[Case]:
-    """Covers at the ends of the families, and the longest ones."""
+    """Yields covers at the ends of the families, and the longest ones."""
     whole = {"v4": ("0.0.0.0", "255.255.255.255"), "v6": ("::", "ffff:ffff:ffff:ffff:ffff:ffff:ffff:ffff")}
     for kind in KINDS[1:]:
         first, last = whole[kind]
@@ -334,7 +334,7 @@ def made_covers() -> Iterator[Case]:
 
 
 def files() -> list[VectorFile]:
-    """The three files."""
+    """Returns the three files."""
     sets = VectorFile(
         "set_operations",
         "operations on sets of resources",

@@ -107,12 +107,12 @@ WORDS = {
     "v4": ("addr4", "v4block", "rprefix4", "rrange4", *OF_EITHER),
     "v6": ("addr6", "v6block", "rprefix6", "rrange6", *OF_EITHER),
 }
-# So many of a hundred rows `text addr6` are taken.
+# The percentage of the rows `text addr6` that are taken.
 ADDRESSES_TAKEN = 12
 
 
 def flags_of_list(kind: str, text: str) -> set[str]:
-    """The flags that a list has of its own."""
+    """Returns the flags of a list as a whole."""
     parts, flags = text.split(","), set()
     elements = list(reference.elements(text))
     if len(parts) > 1:
@@ -144,7 +144,7 @@ def flags_of_list(kind: str, text: str) -> set[str]:
 
 
 def flags_of_asn(text: str) -> Iterator[str]:
-    """The flags of an AS number."""
+    """Yields the flags of an AS number."""
     letters = re.match(r"(?i)as", text)
     digits = text[2:] if letters else text
     yield "NoLetters" if not letters else "LetterCase" if letters[0] != "AS" else "Asn"
@@ -162,7 +162,7 @@ def flags_of_asn(text: str) -> Iterator[str]:
 
 
 def flags_of_as(text: str) -> Iterator[str]:
-    """The flags of an AS block."""
+    """Yields the flags of an AS block."""
     if "-" not in text:
         yield from ("Asn", *flags_of_asn(text))
         return
@@ -178,7 +178,7 @@ def flags_of_as(text: str) -> Iterator[str]:
 
 
 def flags_of_v4(text: str) -> Iterator[str]:
-    """The flags of an IPv4 address."""
+    """Yields the flags of an IPv4 address."""
     octets = text.split(".")
     if "%" in text:
         yield "Zone"
@@ -193,7 +193,7 @@ def flags_of_v4(text: str) -> Iterator[str]:
 
 
 def flags_of_v6(text: str) -> Iterator[str]:
-    """The flags of an IPv6 address."""
+    """Yields the flags of an IPv6 address."""
     if "%" in text:
         yield "Zone"
     if text.count("::") > 1:
@@ -213,7 +213,7 @@ def flags_of_v6(text: str) -> Iterator[str]:
 
 
 def flags_of_ip(kind: str, text: str) -> Iterator[str]:
-    """The flags of a block of addresses of a family."""
+    """Yields the flags of a block of addresses of a family."""
     size, flags_of_address = (32, flags_of_v4) if kind == "v4" else (128, flags_of_v6)
     if (":" in text) != (kind == "v6"):
         yield "OtherFamily" if (":" if kind == "v4" else ".") in text else "BadAddress"
@@ -242,7 +242,7 @@ def flags_of_ip(kind: str, text: str) -> Iterator[str]:
 
 
 def flags_of_length(text: str, size: int) -> Iterator[str]:
-    """The flags of the length of a prefix."""
+    """Yields the flags of the length of a prefix."""
     if not text:
         yield "NoLength"
     elif not re.fullmatch(r"\+?[0-9]+", text):
@@ -256,7 +256,10 @@ def flags_of_length(text: str, size: int) -> Iterator[str]:
 
 
 def case_of(kind: str, text: str) -> Case:
-    """The case of a list. What is flagged as a fault has to be one, and each fault has such a flag."""
+    """Returns the case of a list.
+
+    A list with a flag for a fault has to be refused. A list that is refused has to have such a flag.
+    """
     known, faults = (AS_FLAGS, AS_FAULTS) if kind == "as" else (IP_FLAGS, IP_FAULTS)
     flags = flags_of_list(kind, text)
     for element in reference.elements(text):
@@ -401,7 +404,7 @@ V6_TEXTS = (
 
 
 def stored(kind: str) -> Iterator[str]:
-    """The texts that rows read as a list, as a block or as an address of a kind."""
+    """Yields the texts that rows read as a list, as a block or as an address of a kind."""
     lines, values = Rows("rows_sets"), Rows("rows_values")
     for text, answer in lines.of(f"norm {kind}"):
         agree(lines.name, f"norm {kind} {text}", answer, reference.line_answer(f"norm {kind} {text}".encode()))
@@ -415,7 +418,7 @@ def stored(kind: str) -> Iterator[str]:
 
 
 def files() -> list[VectorFile]:
-    """Both files."""
+    """Returns both files."""
     numbers = VectorFile(
         "text_as", "lists of AS blocks as texts (RFC 5396; docs/DECISIONS.md)", HEADER, AS_FLAGS, [*AS_FAULTS.values()]
     )

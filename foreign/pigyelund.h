@@ -28,7 +28,7 @@
  * docs/FOREIGN.md in the repository, and in the Debian package /usr/share/doc/libpigyelund-dev/FOREIGN.md.
  *
  * SHORT FORMS. pigy_verify_set, pigy_combine and pigy_compare are at the end of this file. They take structs instead of
- * 9 to 17 parameters. Pointers in these structs may be NULL.
+ * 9 to 17 parameters. A NULL pointer in these structs means length 0 or capacity 0, or an absent extension.
  *
  * SETS. A resource set is a pair of octet strings: the values of the certificate extensions AS identifiers (RFC 3779,
  * 3.2.3) and IP address blocks (2.2.3). The value is the DER inside the extension's OCTET STRING. A value of length 0
@@ -48,7 +48,8 @@
  * - If an output does not fit, the call returns PIGY_TOO_SMALL. Then no buffer is changed, and the lengths are the
  *   required ones. Call again with the same inputs, and with buffers of these capacities. The second call does not
  *   return PIGY_TOO_SMALL.
- * - Pass capacity 0 to get the lengths alone. An output of length 0 fits a buffer of capacity 0.
+ * - Pass capacity 0 to get the lengths alone. The buffer may be NULL then. An output of length 0 fits a buffer of
+ *   capacity 0.
  *
  * MEMORY. Except for tables, the library keeps nothing between calls and hands out no memory. Each call frees all that
  * it takes from malloc before it returns. A table of 500,000 VRPs takes some 42 octets for each VRP. PIGY_MEMORY means
@@ -67,10 +68,12 @@
  *
  * OBLIGATIONS of the caller, which nothing checks:
  *
- * - No pointer is NULL, even at length 0. There are two exceptions: the handle of a table, and the members of pigy_set
- *   and pigy_buffers. In C++ data() of an empty std::vector may be a null pointer.
- * - Each pointer points to an array of the length that is passed with it, aligned as C requires for its type. This also
- *   holds for the size_t that receives a length, an index or a count, and for the pointer that receives a handle.
+ * - An array is NULL only if its length is 0, and an output buffer only if its capacity is 0. In C++ data() of an empty
+ *   std::vector may be NULL. The pointers in pigy_set and pigy_buffers may always be NULL, and so may the handle of a
+ *   table. No other pointer is NULL.
+ * - A pointer that is not NULL points to an array of the length that is passed with it, aligned as C requires for its
+ *   type. This also holds for the size_t that receives a length, an index or a count, and for the pointer that receives
+ *   a handle.
  * - A handle that is not NULL came from pigy_table_new or pigy_table_changed, and was not passed to pigy_table_free. It
  *   is passed to pigy_table_free only after all other calls with this handle have returned. The caller does not read or
  *   write the memory at the handle.
@@ -105,8 +108,9 @@ extern "C" {
  *
  * - PIGY_NODISCARD: A program that ignores the result gets a warning. pigy_table_len does not have this attribute,
  *   since its only error is a NULL handle.
- * - PIGY_NONNULL(...): The parameters with these numbers must not be NULL. The first parameter has number 1. Without
- *   numbers no pointer parameter may be NULL. With -Wall a program that passes the constant NULL gets a warning. */
+ * - PIGY_NONNULL(...): The parameters with these numbers must never be NULL. The first parameter has number 1. With
+ *   -Wall a program that passes the constant NULL for such a parameter gets a warning. No array is among them, since an
+ *   array of length 0 may be NULL. */
 #ifdef __GNUC__
 #define PIGY_NODISCARD __attribute__((__warn_unused_result__))
 #define PIGY_NONNULL(...) __attribute__((__nonnull__(__VA_ARGS__)))
@@ -267,20 +271,21 @@ uint32_t pigy_version(void);
  * - The claim is "inherit": all resources of the issuer.
  * - The claim is a list: the resources that both the list and the issuer have.
  *
- * @param issuer_as      Issuer's AS identifiers: DER. Not NULL.
+ * @param issuer_as      Issuer's AS identifiers: DER. May be NULL if the length is 0.
  * @param issuer_as_len  Length in octets; 0 if the issuer has no AS numbers.
- * @param issuer_ip      Issuer's IP address blocks: DER. Not NULL.
+ * @param issuer_ip      Issuer's IP address blocks: DER. May be NULL if the length is 0.
  * @param issuer_ip_len  Length in octets; 0 if the issuer has no addresses.
  * @param present        Extensions of the certificate: PIGY_HAS_AS, PIGY_HAS_IP, PIGY_HAS_BOTH or 0.
- * @param cert_as        Certificate's AS identifiers: DER. Not read if the extension is absent. Not NULL.
+ * @param cert_as        Certificate's AS identifiers: DER. Not read if absent. May be NULL if the length is 0.
  * @param cert_as_len    Length in octets; 0 is invalid if the extension is present.
- * @param cert_ip        Certificate's IP address blocks: DER. Not read if the extension is absent. Not NULL.
+ * @param cert_ip        Certificate's IP address blocks: DER. Not read if absent. May be NULL if the length is 0.
  * @param cert_ip_len    Length in octets; 0 is invalid if the extension is present.
  * @param encoding       PIGY_LENIENT or PIGY_STRICT, for the certificate and for the issuer.
  * @param mode           PIGY_REFUSE or PIGY_TRIM.
- * @param as_out         Buffer for the result's AS identifiers. Owned by the caller. Not NULL.
+ * @param as_out         Buffer for the result's AS identifiers. Owned by the caller. May be NULL if the capacity is 0.
  * @param as_capacity    Capacity of `as_out` in octets; may be 0.
- * @param ip_out         Buffer for the result's IP address blocks. Owned by the caller. Not NULL.
+ * @param ip_out         Buffer for the result's IP address blocks. Owned by the caller. May be NULL if the capacity is
+ *                       0.
  * @param ip_capacity    Capacity of `ip_out` in octets; may be 0.
  * @param as_len         Receives the length of the AS identifiers in octets, written or required. Not NULL.
  * @param ip_len         Receives the length of the IP address blocks in octets, written or required. Not NULL.
@@ -300,7 +305,7 @@ uint32_t pigy_verify(const uint8_t *issuer_as, size_t issuer_as_len, const uint8
                      uint32_t present, const uint8_t *cert_as, size_t cert_as_len, const uint8_t *cert_ip,
                      size_t cert_ip_len, uint32_t encoding, uint32_t mode,
                      uint8_t *as_out, size_t as_capacity, uint8_t *ip_out, size_t ip_capacity, size_t *as_len,
-                     size_t *ip_len) PIGY_NODISCARD PIGY_NONNULL();
+                     size_t *ip_len) PIGY_NODISCARD PIGY_NONNULL(16, 17);
 
 /* A certificate of a path, as pigy_verify_path takes it. Its extensions are ranges of `run`, a parameter of that call.
  *
@@ -322,18 +327,19 @@ typedef struct {
  * with the verified resources of the certificate before it. The outputs are the verified resources of the last
  * certificate, as a set. If there are no certificates, the outputs are the anchor's set.
  *
- * @param anchor_as      Trust anchor's AS identifiers: DER. Not NULL.
+ * @param anchor_as      Trust anchor's AS identifiers: DER. May be NULL if the length is 0.
  * @param anchor_as_len  Length in octets; 0 if the anchor has no AS numbers.
- * @param anchor_ip      Trust anchor's IP address blocks: DER. Not NULL.
+ * @param anchor_ip      Trust anchor's IP address blocks: DER. May be NULL if the length is 0.
  * @param anchor_ip_len  Length in octets; 0 if the anchor has no addresses.
- * @param run            Octets of the extensions of all certificates: DER. Not NULL.
+ * @param run            Octets of the extensions of all certificates: DER. May be NULL if the length is 0.
  * @param run_len        Length in octets.
- * @param certificates   The certificates, the anchor's child first. Not NULL.
+ * @param certificates   The certificates, the anchor's child first. May be NULL if the count is 0.
  * @param count          Number of certificates.
  * @param encoding       PIGY_LENIENT or PIGY_STRICT, for all certificates and for the anchor.
- * @param as_out         Buffer for the result's AS identifiers. Owned by the caller. Not NULL.
+ * @param as_out         Buffer for the result's AS identifiers. Owned by the caller. May be NULL if the capacity is 0.
  * @param as_capacity    Capacity of `as_out` in octets; may be 0.
- * @param ip_out         Buffer for the result's IP address blocks. Owned by the caller. Not NULL.
+ * @param ip_out         Buffer for the result's IP address blocks. Owned by the caller. May be NULL if the capacity is
+ *                       0.
  * @param ip_capacity    Capacity of `ip_out` in octets; may be 0.
  * @param as_len         Receives the length of the AS identifiers in octets, written or required. Not NULL.
  * @param ip_len         Receives the length of the IP address blocks in octets, written or required. Not NULL.
@@ -358,7 +364,7 @@ uint32_t pigy_verify_path(const uint8_t *anchor_as, size_t anchor_as_len, const 
                           size_t anchor_ip_len, const uint8_t *run, size_t run_len,
                           const pigy_certificate *certificates, size_t count, uint32_t encoding, uint8_t *as_out,
                           size_t as_capacity, uint8_t *ip_out, size_t ip_capacity, size_t *as_len, size_t *ip_len,
-                          size_t *verified) PIGY_NODISCARD PIGY_NONNULL();
+                          size_t *verified) PIGY_NODISCARD PIGY_NONNULL(14, 15, 16);
 
 /**
  * Lists the fewest prefixes that have exactly the addresses of one family in IP address blocks, in ascending order.
@@ -366,11 +372,11 @@ uint32_t pigy_verify_path(const uint8_t *anchor_as, size_t anchor_as_len, const 
  * A prefix in the output is its address in network byte order, and then one octet with its length in bits. It has 5
  * octets for PIGY_IPV4, and 17 for PIGY_IPV6.
  *
- * @param ip        IP address blocks: DER. Not NULL.
+ * @param ip        IP address blocks: DER. May be NULL if the length is 0.
  * @param ip_len    Length in octets; may be 0.
  * @param encoding  PIGY_LENIENT or PIGY_STRICT.
  * @param family    PIGY_IPV4 or PIGY_IPV6.
- * @param out       Buffer for the prefixes. Owned by the caller. Not NULL.
+ * @param out       Buffer for the prefixes. Owned by the caller. May be NULL if the capacity is 0.
  * @param capacity  Capacity of `out` in octets; may be 0.
  * @param len       Receives the length in octets, written or required. Not NULL.
  *
@@ -384,7 +390,7 @@ uint32_t pigy_verify_path(const uint8_t *anchor_as, size_t anchor_as_len, const 
  * With 1 to 4 and with PIGY_MEMORY *len is 0 and the buffer is unchanged.
  */
 uint32_t pigy_cover(const uint8_t *ip, size_t ip_len, uint32_t encoding, uint32_t family, uint8_t *out, size_t capacity,
-                    size_t *len) PIGY_NODISCARD PIGY_NONNULL();
+                    size_t *len) PIGY_NODISCARD PIGY_NONNULL(7);
 
 /**
  * Makes a set from its text: a list of AS numbers, of IPv4 addresses or of IPv6 addresses.
@@ -399,11 +405,11 @@ uint32_t pigy_cover(const uint8_t *ip, size_t ip_len, uint32_t encoding, uint32_
  * output is 0. pigy_union joins the sets of several texts.
  *
  * @param kind         PIGY_ASN, PIGY_IPV4 or PIGY_IPV6.
- * @param text         The list, in UTF-8. Not NULL.
+ * @param text         The list, in UTF-8. May be NULL if the length is 0.
  * @param text_len     Length in octets; may be 0.
- * @param as_out       Buffer for the set's AS identifiers. Owned by the caller. Not NULL.
+ * @param as_out       Buffer for the set's AS identifiers. Owned by the caller. May be NULL if the capacity is 0.
  * @param as_capacity  Capacity of `as_out` in octets; may be 0.
- * @param ip_out       Buffer for the set's IP address blocks. Owned by the caller. Not NULL.
+ * @param ip_out       Buffer for the set's IP address blocks. Owned by the caller. May be NULL if the capacity is 0.
  * @param ip_capacity  Capacity of `ip_out` in octets; may be 0.
  * @param as_len       Receives the length of the AS identifiers in octets, written or required. Not NULL.
  * @param ip_len       Receives the length of the IP address blocks in octets, written or required. Not NULL.
@@ -418,7 +424,7 @@ uint32_t pigy_cover(const uint8_t *ip, size_t ip_len, uint32_t encoding, uint32_
  */
 uint32_t pigy_set_from_text(uint32_t kind, const uint8_t *text, size_t text_len, uint8_t *as_out, size_t as_capacity,
                             uint8_t *ip_out, size_t ip_capacity, size_t *as_len, size_t *ip_len)
-    PIGY_NODISCARD PIGY_NONNULL();
+    PIGY_NODISCARD PIGY_NONNULL(8, 9);
 
 /* A range of AS numbers, in host byte order: its least and its greatest number. They may be equal. */
 typedef struct {
@@ -435,10 +441,10 @@ typedef struct {
  * Lists the ranges of the AS numbers in AS identifiers, in ascending order. Ranges neither overlap nor touch, so the
  * list has as few ranges as possible.
  *
- * @param as        AS identifiers: DER. Not NULL.
+ * @param as        AS identifiers: DER. May be NULL if the length is 0.
  * @param as_len    Length in octets; may be 0.
  * @param encoding  PIGY_LENIENT or PIGY_STRICT.
- * @param out       Buffer for the ranges. Owned by the caller. Not NULL.
+ * @param out       Buffer for the ranges. Owned by the caller. May be NULL if the capacity is 0.
  * @param capacity  Capacity of `out` in ranges, not in octets; may be 0.
  * @param len       Receives the number of ranges, written or required. Not NULL.
  *
@@ -451,17 +457,17 @@ typedef struct {
  * With 1 to 3 and with PIGY_MEMORY *len is 0 and the buffer is unchanged.
  */
 uint32_t pigy_as_ranges(const uint8_t *as, size_t as_len, uint32_t encoding, pigy_as_range *out, size_t capacity,
-                        size_t *len) PIGY_NODISCARD PIGY_NONNULL();
+                        size_t *len) PIGY_NODISCARD PIGY_NONNULL(6);
 
 /**
  * Lists the ranges of the addresses of one family in IP address blocks, in ascending order. Ranges neither overlap nor
  * touch, so the list has as few ranges as possible. pigy_cover lists the prefixes.
  *
- * @param ip        IP address blocks: DER. Not NULL.
+ * @param ip        IP address blocks: DER. May be NULL if the length is 0.
  * @param ip_len    Length in octets; may be 0.
  * @param encoding  PIGY_LENIENT or PIGY_STRICT.
  * @param family    PIGY_IPV4 or PIGY_IPV6.
- * @param out       Buffer for the ranges. Owned by the caller. Not NULL.
+ * @param out       Buffer for the ranges. Owned by the caller. May be NULL if the capacity is 0.
  * @param capacity  Capacity of `out` in ranges, not in octets; may be 0.
  * @param len       Receives the number of ranges, written or required. Not NULL.
  *
@@ -475,7 +481,7 @@ uint32_t pigy_as_ranges(const uint8_t *as, size_t as_len, uint32_t encoding, pig
  * With 1 to 4 and with PIGY_MEMORY *len is 0 and the buffer is unchanged.
  */
 uint32_t pigy_ip_ranges(const uint8_t *ip, size_t ip_len, uint32_t encoding, uint32_t family, pigy_ip_range *out,
-                        size_t capacity, size_t *len) PIGY_NODISCARD PIGY_NONNULL();
+                        size_t capacity, size_t *len) PIGY_NODISCARD PIGY_NONNULL(7);
 
 /* A VRP (validated ROA payload): a prefix, its maximum length, and the AS that may originate it.
  *
@@ -511,11 +517,12 @@ typedef struct {
  *
  * Each call makes a table of the VRPs once. Pass many routes to one call, or use pigy_table_new.
  *
- * @param vrps         VRPs, in any order. Not NULL.
+ * @param vrps         VRPs, in any order. May be NULL if the count is 0.
  * @param vrp_count    Number of VRPs.
- * @param routes       Routes. Not NULL.
+ * @param routes       Routes. May be NULL if the count is 0.
  * @param route_count  Number of routes.
- * @param out          Buffer for one octet a route, in the order of the routes. Owned by the caller. Not NULL.
+ * @param out          Buffer for one octet a route, in the order of the routes. Owned by the caller. May be NULL if the
+ *                     capacity is 0.
  * @param capacity     Capacity of `out` in octets; may be 0.
  * @param len          Receives the length in octets, written or required. Not NULL.
  * @param index        Receives the index of the first invalid VRP or route, from 0; else 0. Not NULL.
@@ -528,7 +535,7 @@ typedef struct {
  * With 1, 2 and PIGY_MEMORY *len is 0 and the buffer is unchanged.
  */
 uint32_t pigy_origins(const pigy_vrp *vrps, size_t vrp_count, const pigy_route *routes, size_t route_count,
-                      uint8_t *out, size_t capacity, size_t *len, size_t *index) PIGY_NODISCARD PIGY_NONNULL();
+                      uint8_t *out, size_t capacity, size_t *len, size_t *index) PIGY_NODISCARD PIGY_NONNULL(7, 8);
 
 /**
  * Reads the VRPs of a validator's file, as rpki-client, FORT and Routinator write it. They are in the order of the
@@ -547,9 +554,9 @@ uint32_t pigy_origins(const pigy_vrp *vrps, size_t vrp_count, const pigy_route *
  * A byte order mark at the beginning is ignored. No line and no item is skipped: one that is invalid makes the whole
  * file invalid. The last 12 octets of an IPv4 address are 0. A VRP that the file repeats is listed again.
  *
- * @param file      The octets of the whole file. Not NULL.
+ * @param file      The octets of the whole file. May be NULL if the length is 0.
  * @param file_len  Length in octets; may be 0.
- * @param vrps      Buffer for the VRPs. Owned by the caller. Not NULL.
+ * @param vrps      Buffer for the VRPs. Owned by the caller. May be NULL if the capacity is 0.
  * @param capacity  Capacity of `vrps` in VRPs, not in octets; may be 0.
  * @param count     Receives the number of VRPs, written or required. Not NULL.
  * @param line      Receives the number of the first invalid line of CSV or item of JSON, from 1; else 0. Not NULL.
@@ -563,7 +570,7 @@ uint32_t pigy_origins(const pigy_vrp *vrps, size_t vrp_count, const pigy_route *
  * With 1 to 3 and with PIGY_MEMORY *count is 0 and the buffer is unchanged.
  */
 uint32_t pigy_vrps_read(const uint8_t *file, size_t file_len, pigy_vrp *vrps, size_t capacity, size_t *count,
-                        size_t *line) PIGY_NODISCARD PIGY_NONNULL();
+                        size_t *line) PIGY_NODISCARD PIGY_NONNULL(5, 6);
 
 /* A table of VRPs. The caller owns it until pigy_table_free. */
 typedef struct pigy_table pigy_table;
@@ -583,7 +590,7 @@ typedef struct {
  *
  * Duplicates are kept: if a VRP comes twice, pigy_table_vrps and pigy_table_covering list it twice.
  *
- * @param vrps   VRPs, in any order. The table copies them. Not NULL.
+ * @param vrps   VRPs, in any order. The table copies them. May be NULL if the count is 0.
  * @param count  Number of VRPs.
  * @param table  Receives the handle. Its old value is not read. Not NULL.
  * @param index  Receives the index of the first invalid VRP, from 0; else 0. Not NULL.
@@ -595,7 +602,7 @@ typedef struct {
  * With 1 and with PIGY_MEMORY *table is NULL.
  */
 uint32_t pigy_table_new(const pigy_vrp *vrps, size_t count, pigy_table **table, size_t *index)
-    PIGY_NODISCARD PIGY_NONNULL();
+    PIGY_NODISCARD PIGY_NONNULL(3, 4);
 
 /**
  * Makes the next table: `table` without the withdrawn VRPs, and then with the announced ones.
@@ -610,12 +617,12 @@ uint32_t pigy_table_new(const pigy_vrp *vrps, size_t count, pigy_table **table, 
  * - A withdrawal removes all copies of a VRP.
  * - Each array may list a VRP only once, even if the table lists it more than once.
  * - A VRP in both arrays has to be in the table. The next table lists it once.
- * - If an array has no VRPs, pass a pointer to any VRP and count 0.
+ * - If an array has no VRPs, pass count 0. The array may be NULL then.
  *
  * @param table            The table, which is only read. The status is PIGY_NO_TABLE if it is NULL.
- * @param announced        Announced VRPs. The next table copies them. Not NULL.
+ * @param announced        Announced VRPs. The next table copies them. May be NULL if the count is 0.
  * @param announced_count  Number of announced VRPs.
- * @param withdrawn        Withdrawn VRPs. Not NULL.
+ * @param withdrawn        Withdrawn VRPs. May be NULL if the count is 0.
  * @param withdrawn_count  Number of withdrawn VRPs.
  * @param next             Receives the handle of the next table. Its old value is not read. Not NULL.
  * @param index            Receives the index of the VRP at fault, from 0; else 0. Not NULL.
@@ -635,15 +642,16 @@ uint32_t pigy_table_new(const pigy_vrp *vrps, size_t count, pigy_table **table, 
  */
 uint32_t pigy_table_changed(const pigy_table *table, const pigy_vrp *announced, size_t announced_count,
                             const pigy_vrp *withdrawn, size_t withdrawn_count, pigy_table **next, size_t *index)
-    PIGY_NODISCARD PIGY_NONNULL(2, 4, 6, 7);
+    PIGY_NODISCARD PIGY_NONNULL(6, 7);
 
 /**
  * Validates routes by a table, as pigy_origins does. It makes no table, so a call for one route is cheap.
  *
  * @param table     The table, which is only read. The status is PIGY_NO_TABLE if it is NULL.
- * @param routes    Routes. Not NULL.
+ * @param routes    Routes. May be NULL if the count is 0.
  * @param count     Number of routes.
- * @param out       Buffer for one octet a route, in the order of the routes. Owned by the caller. Not NULL.
+ * @param out       Buffer for one octet a route, in the order of the routes. Owned by the caller. May be NULL if the
+ *                  capacity is 0.
  * @param capacity  Capacity of `out` in octets; may be 0.
  * @param len       Receives the length in octets, written or required. Not NULL.
  * @param index     Receives the index of the first invalid route, from 0; else 0. Not NULL.
@@ -656,7 +664,7 @@ uint32_t pigy_table_changed(const pigy_table *table, const pigy_vrp *announced, 
  * With 1, 2 and PIGY_MEMORY *len is 0 and the buffer is unchanged.
  */
 uint32_t pigy_table_origins(const pigy_table *table, const pigy_route *routes, size_t count, uint8_t *out,
-                            size_t capacity, size_t *len, size_t *index) PIGY_NODISCARD PIGY_NONNULL(2, 4, 6, 7);
+                            size_t capacity, size_t *len, size_t *index) PIGY_NODISCARD PIGY_NONNULL(6, 7);
 
 /**
  * Compares the validity of each route by two tables (RFC 6811, 4). The octet of a route is 1 if its validity differs
@@ -665,9 +673,10 @@ uint32_t pigy_table_origins(const pigy_table *table, const pigy_route *routes, s
  *
  * @param old       The one table, which is only read. The status is PIGY_NO_TABLE if it is NULL.
  * @param next      The other table, which is only read. The status is PIGY_NO_TABLE if it is NULL. May be `old`.
- * @param routes    Routes. Not NULL.
+ * @param routes    Routes. May be NULL if the count is 0.
  * @param count     Number of routes.
- * @param out       Buffer for one octet a route, in the order of the routes. Owned by the caller. Not NULL.
+ * @param out       Buffer for one octet a route, in the order of the routes. Owned by the caller. May be NULL if the
+ *                  capacity is 0.
  * @param capacity  Capacity of `out` in octets; may be 0.
  * @param len       Receives the length in octets, written or required. Not NULL.
  * @param index     Receives the index of the first invalid route, from 0; else 0. Not NULL.
@@ -681,7 +690,7 @@ uint32_t pigy_table_origins(const pigy_table *table, const pigy_route *routes, s
  */
 uint32_t pigy_table_routes_changed(const pigy_table *old, const pigy_table *next, const pigy_route *routes,
                                    size_t count, uint8_t *out, size_t capacity, size_t *len, size_t *index)
-    PIGY_NODISCARD PIGY_NONNULL(3, 5, 7, 8);
+    PIGY_NODISCARD PIGY_NONNULL(7, 8);
 
 /**
  * Lists the VRPs of a table that cover a route, each with the reason why it does not match.
@@ -691,7 +700,7 @@ uint32_t pigy_table_routes_changed(const pigy_table *old, const pigy_table *next
  *
  * @param table     The table, which is only read. The status is PIGY_NO_TABLE if it is NULL.
  * @param route     One route. Not NULL.
- * @param out       Buffer for the VRPs. Owned by the caller. Not NULL.
+ * @param out       Buffer for the VRPs. Owned by the caller. May be NULL if the capacity is 0.
  * @param capacity  Capacity of `out` in VRPs, not in octets; may be 0.
  * @param len       Receives the number of VRPs, written or required. Not NULL.
  *
@@ -703,7 +712,7 @@ uint32_t pigy_table_routes_changed(const pigy_table *old, const pigy_table *next
  * With 1, 2 and PIGY_MEMORY *len is 0 and the buffer is unchanged.
  */
 uint32_t pigy_table_covering(const pigy_table *table, const pigy_route *route, pigy_covering *out, size_t capacity,
-                             size_t *len) PIGY_NODISCARD PIGY_NONNULL(2, 3, 5);
+                             size_t *len) PIGY_NODISCARD PIGY_NONNULL(2, 5);
 
 /**
  * Counts the VRPs of a table.
@@ -725,7 +734,7 @@ uint32_t pigy_table_len(const pigy_table *table, size_t *len) PIGY_NONNULL(2);
  * No call returns the changes between two tables. To compute them, go through the lists of both tables side by side.
  *
  * @param table     The table, which is only read. The status is PIGY_NO_TABLE if it is NULL.
- * @param out       Buffer for the VRPs. Owned by the caller. Not NULL.
+ * @param out       Buffer for the VRPs. Owned by the caller. May be NULL if the capacity is 0.
  * @param capacity  Capacity of `out` in VRPs, not in octets; may be 0.
  * @param len       Receives the number of VRPs, written or required. Not NULL.
  *
@@ -736,7 +745,7 @@ uint32_t pigy_table_len(const pigy_table *table, size_t *len) PIGY_NONNULL(2);
  * With 1 and with PIGY_MEMORY *len is 0 and the buffer is unchanged.
  */
 uint32_t pigy_table_vrps(const pigy_table *table, pigy_vrp *out, size_t capacity, size_t *len)
-    PIGY_NODISCARD PIGY_NONNULL(2, 4);
+    PIGY_NODISCARD PIGY_NONNULL(4);
 
 /**
  * Frees a table. The handle is invalid afterwards.
@@ -751,34 +760,34 @@ void pigy_table_free(pigy_table *table);
  * The line and the answer are UTF-8, without the end of a line. If the line is wrong, the status is still PIGY_OK, and
  * the answer begins with "error: ". A line that is not UTF-8 is wrong too.
  *
- * @param line      The line, for example "der v4 10.0.0.0/8". Not NULL.
+ * @param line      The line, for example "der v4 10.0.0.0/8". May be NULL if the length is 0.
  * @param line_len  Length in octets.
- * @param out       Buffer for the answer, which has no final NUL. Owned by the caller. Not NULL.
+ * @param out       Buffer for the answer, without a final NUL. Owned by the caller. May be NULL if the capacity is 0.
  * @param capacity  Capacity of `out` in octets; may be 0.
  * @param len       Receives the length in octets, written or required. Not NULL.
  *
  * @return PIGY_TOO_SMALL, PIGY_MEMORY or PIGY_OK. With PIGY_MEMORY *len is 0 and the buffer is unchanged.
  */
 uint32_t pigy_answer(const uint8_t *line, size_t line_len, uint8_t *out, size_t capacity, size_t *len)
-    PIGY_NODISCARD PIGY_NONNULL();
+    PIGY_NODISCARD PIGY_NONNULL(5);
 
 /**
  * Computes the union of two sets: the resources that the first or the second set has.
  *
  * pigy_combine is a shorter form.
  *
- * @param a_as         First set's AS identifiers: DER. Not NULL.
+ * @param a_as         First set's AS identifiers: DER. May be NULL if the length is 0.
  * @param a_as_len     Length in octets; 0 if the set has no AS numbers.
- * @param a_ip         First set's IP address blocks: DER. Not NULL.
+ * @param a_ip         First set's IP address blocks: DER. May be NULL if the length is 0.
  * @param a_ip_len     Length in octets; 0 if the set has no addresses.
- * @param b_as         Second set's AS identifiers: DER. Not NULL.
+ * @param b_as         Second set's AS identifiers: DER. May be NULL if the length is 0.
  * @param b_as_len     Length in octets; 0 if the set has no AS numbers.
- * @param b_ip         Second set's IP address blocks: DER. Not NULL.
+ * @param b_ip         Second set's IP address blocks: DER. May be NULL if the length is 0.
  * @param b_ip_len     Length in octets; 0 if the set has no addresses.
  * @param encoding     PIGY_LENIENT or PIGY_STRICT, for both sets.
- * @param as_out       Buffer for the result's AS identifiers. Owned by the caller. Not NULL.
+ * @param as_out       Buffer for the result's AS identifiers. Owned by the caller. May be NULL if the capacity is 0.
  * @param as_capacity  Capacity of `as_out` in octets; may be 0.
- * @param ip_out       Buffer for the result's IP address blocks. Owned by the caller. Not NULL.
+ * @param ip_out       Buffer for the result's IP address blocks. Owned by the caller. May be NULL if the capacity is 0.
  * @param ip_capacity  Capacity of `ip_out` in octets; may be 0.
  * @param as_len       Receives the length of the AS identifiers in octets, written or required. Not NULL.
  * @param ip_len       Receives the length of the IP address blocks in octets, written or required. Not NULL.
@@ -794,25 +803,25 @@ uint32_t pigy_answer(const uint8_t *line, size_t line_len, uint8_t *out, size_t 
 uint32_t pigy_union(const uint8_t *a_as, size_t a_as_len, const uint8_t *a_ip, size_t a_ip_len, const uint8_t *b_as,
                     size_t b_as_len, const uint8_t *b_ip, size_t b_ip_len, uint32_t encoding,
                     uint8_t *as_out, size_t as_capacity, uint8_t *ip_out, size_t ip_capacity, size_t *as_len,
-                    size_t *ip_len) PIGY_NODISCARD PIGY_NONNULL();
+                    size_t *ip_len) PIGY_NODISCARD PIGY_NONNULL(14, 15);
 
 /**
  * Computes the intersection of two sets: the resources that both sets have.
  *
  * pigy_combine is a shorter form.
  *
- * @param a_as         First set's AS identifiers: DER. Not NULL.
+ * @param a_as         First set's AS identifiers: DER. May be NULL if the length is 0.
  * @param a_as_len     Length in octets; 0 if the set has no AS numbers.
- * @param a_ip         First set's IP address blocks: DER. Not NULL.
+ * @param a_ip         First set's IP address blocks: DER. May be NULL if the length is 0.
  * @param a_ip_len     Length in octets; 0 if the set has no addresses.
- * @param b_as         Second set's AS identifiers: DER. Not NULL.
+ * @param b_as         Second set's AS identifiers: DER. May be NULL if the length is 0.
  * @param b_as_len     Length in octets; 0 if the set has no AS numbers.
- * @param b_ip         Second set's IP address blocks: DER. Not NULL.
+ * @param b_ip         Second set's IP address blocks: DER. May be NULL if the length is 0.
  * @param b_ip_len     Length in octets; 0 if the set has no addresses.
  * @param encoding     PIGY_LENIENT or PIGY_STRICT, for both sets.
- * @param as_out       Buffer for the result's AS identifiers. Owned by the caller. Not NULL.
+ * @param as_out       Buffer for the result's AS identifiers. Owned by the caller. May be NULL if the capacity is 0.
  * @param as_capacity  Capacity of `as_out` in octets; may be 0.
- * @param ip_out       Buffer for the result's IP address blocks. Owned by the caller. Not NULL.
+ * @param ip_out       Buffer for the result's IP address blocks. Owned by the caller. May be NULL if the capacity is 0.
  * @param ip_capacity  Capacity of `ip_out` in octets; may be 0.
  * @param as_len       Receives the length of the AS identifiers in octets, written or required. Not NULL.
  * @param ip_len       Receives the length of the IP address blocks in octets, written or required. Not NULL.
@@ -828,25 +837,25 @@ uint32_t pigy_union(const uint8_t *a_as, size_t a_as_len, const uint8_t *a_ip, s
 uint32_t pigy_intersection(const uint8_t *a_as, size_t a_as_len, const uint8_t *a_ip, size_t a_ip_len,
                            const uint8_t *b_as, size_t b_as_len, const uint8_t *b_ip, size_t b_ip_len,
                            uint32_t encoding, uint8_t *as_out, size_t as_capacity, uint8_t *ip_out, size_t ip_capacity,
-                           size_t *as_len, size_t *ip_len) PIGY_NODISCARD PIGY_NONNULL();
+                           size_t *as_len, size_t *ip_len) PIGY_NODISCARD PIGY_NONNULL(14, 15);
 
 /**
  * Computes the difference of two sets: the resources that the first set has and the second does not.
  *
  * pigy_combine is a shorter form.
  *
- * @param a_as         First set's AS identifiers: DER. Not NULL.
+ * @param a_as         First set's AS identifiers: DER. May be NULL if the length is 0.
  * @param a_as_len     Length in octets; 0 if the set has no AS numbers.
- * @param a_ip         First set's IP address blocks: DER. Not NULL.
+ * @param a_ip         First set's IP address blocks: DER. May be NULL if the length is 0.
  * @param a_ip_len     Length in octets; 0 if the set has no addresses.
- * @param b_as         Second set's AS identifiers: DER. Not NULL.
+ * @param b_as         Second set's AS identifiers: DER. May be NULL if the length is 0.
  * @param b_as_len     Length in octets; 0 if the set has no AS numbers.
- * @param b_ip         Second set's IP address blocks: DER. Not NULL.
+ * @param b_ip         Second set's IP address blocks: DER. May be NULL if the length is 0.
  * @param b_ip_len     Length in octets; 0 if the set has no addresses.
  * @param encoding     PIGY_LENIENT or PIGY_STRICT, for both sets.
- * @param as_out       Buffer for the result's AS identifiers. Owned by the caller. Not NULL.
+ * @param as_out       Buffer for the result's AS identifiers. Owned by the caller. May be NULL if the capacity is 0.
  * @param as_capacity  Capacity of `as_out` in octets; may be 0.
- * @param ip_out       Buffer for the result's IP address blocks. Owned by the caller. Not NULL.
+ * @param ip_out       Buffer for the result's IP address blocks. Owned by the caller. May be NULL if the capacity is 0.
  * @param ip_capacity  Capacity of `ip_out` in octets; may be 0.
  * @param as_len       Receives the length of the AS identifiers in octets, written or required. Not NULL.
  * @param ip_len       Receives the length of the IP address blocks in octets, written or required. Not NULL.
@@ -862,20 +871,20 @@ uint32_t pigy_intersection(const uint8_t *a_as, size_t a_as_len, const uint8_t *
 uint32_t pigy_difference(const uint8_t *a_as, size_t a_as_len, const uint8_t *a_ip, size_t a_ip_len,
                          const uint8_t *b_as, size_t b_as_len, const uint8_t *b_ip, size_t b_ip_len, uint32_t encoding,
                          uint8_t *as_out, size_t as_capacity, uint8_t *ip_out, size_t ip_capacity, size_t *as_len,
-                         size_t *ip_len) PIGY_NODISCARD PIGY_NONNULL();
+                         size_t *ip_len) PIGY_NODISCARD PIGY_NONNULL(14, 15);
 
 /**
  * Returns whether the first set has each AS number and each address of the second.
  *
  * pigy_compare is a shorter form.
  *
- * @param a_as      First set's AS identifiers: DER. Not NULL.
+ * @param a_as      First set's AS identifiers: DER. May be NULL if the length is 0.
  * @param a_as_len  Length in octets; 0 if the set has no AS numbers.
- * @param a_ip      First set's IP address blocks: DER. Not NULL.
+ * @param a_ip      First set's IP address blocks: DER. May be NULL if the length is 0.
  * @param a_ip_len  Length in octets; 0 if the set has no addresses.
- * @param b_as      Second set's AS identifiers: DER. Not NULL.
+ * @param b_as      Second set's AS identifiers: DER. May be NULL if the length is 0.
  * @param b_as_len  Length in octets; 0 if the set has no AS numbers.
- * @param b_ip      Second set's IP address blocks: DER. Not NULL.
+ * @param b_ip      Second set's IP address blocks: DER. May be NULL if the length is 0.
  * @param b_ip_len  Length in octets; 0 if the set has no addresses.
  * @param encoding  PIGY_LENIENT or PIGY_STRICT, for both sets.
  *
@@ -887,20 +896,20 @@ uint32_t pigy_difference(const uint8_t *a_as, size_t a_as_len, const uint8_t *a_
  */
 uint32_t pigy_contains(const uint8_t *a_as, size_t a_as_len, const uint8_t *a_ip, size_t a_ip_len, const uint8_t *b_as,
                        size_t b_as_len, const uint8_t *b_ip, size_t b_ip_len, uint32_t encoding)
-    PIGY_NODISCARD PIGY_NONNULL();
+    PIGY_NODISCARD;
 
 /**
  * Returns whether both sets have the same AS numbers and the same addresses.
  *
  * pigy_compare is a shorter form.
  *
- * @param a_as      First set's AS identifiers: DER. Not NULL.
+ * @param a_as      First set's AS identifiers: DER. May be NULL if the length is 0.
  * @param a_as_len  Length in octets; 0 if the set has no AS numbers.
- * @param a_ip      First set's IP address blocks: DER. Not NULL.
+ * @param a_ip      First set's IP address blocks: DER. May be NULL if the length is 0.
  * @param a_ip_len  Length in octets; 0 if the set has no addresses.
- * @param b_as      Second set's AS identifiers: DER. Not NULL.
+ * @param b_as      Second set's AS identifiers: DER. May be NULL if the length is 0.
  * @param b_as_len  Length in octets; 0 if the set has no AS numbers.
- * @param b_ip      Second set's IP address blocks: DER. Not NULL.
+ * @param b_ip      Second set's IP address blocks: DER. May be NULL if the length is 0.
  * @param b_ip_len  Length in octets; 0 if the set has no addresses.
  * @param encoding  PIGY_LENIENT or PIGY_STRICT, for both sets.
  *
@@ -912,7 +921,7 @@ uint32_t pigy_contains(const uint8_t *a_as, size_t a_as_len, const uint8_t *a_ip
  */
 uint32_t pigy_equal(const uint8_t *a_as, size_t a_as_len, const uint8_t *a_ip, size_t a_ip_len, const uint8_t *b_as,
                     size_t b_as_len, const uint8_t *b_ip, size_t b_ip_len, uint32_t encoding)
-    PIGY_NODISCARD PIGY_NONNULL();
+    PIGY_NODISCARD;
 
 /* ---- The rest of this file is C code that is not proved. ---- */
 
@@ -962,12 +971,6 @@ typedef struct {
   size_t ip_capacity, ip_len;
 } pigy_buffers;
 
-/* Returns the pointer, or a pointer to one octet if it is NULL. */
-static inline const uint8_t *pigy_non_null(const uint8_t *octets) {
-  static const uint8_t nothing = 0;
-  return octets ? octets : &nothing;
-}
-
 /* Returns the length, or 0 if the pointer is NULL. */
 static inline size_t pigy_len_or_zero(const uint8_t *octets, size_t len) { return octets ? len : 0; }
 
@@ -986,13 +989,11 @@ static inline size_t pigy_len_or_zero(const uint8_t *octets, size_t len) { retur
 PIGY_NODISCARD PIGY_NONNULL(5)
 static inline uint32_t pigy_verify_set(pigy_set issuer, pigy_set cert, uint32_t encoding, uint32_t mode,
                                        pigy_buffers *out) {
-  uint8_t spare[2];
-  return pigy_verify(pigy_non_null(issuer.as), pigy_len_or_zero(issuer.as, issuer.as_len),
-                     pigy_non_null(issuer.ip), pigy_len_or_zero(issuer.ip, issuer.ip_len),
-                     (cert.as ? PIGY_HAS_AS : 0u) | (cert.ip ? PIGY_HAS_IP : 0u),
-                     pigy_non_null(cert.as), pigy_len_or_zero(cert.as, cert.as_len), pigy_non_null(cert.ip),
-                     pigy_len_or_zero(cert.ip, cert.ip_len), encoding, mode, out->as ? out->as : spare,
-                     pigy_len_or_zero(out->as, out->as_capacity), out->ip ? out->ip : spare + 1,
+  return pigy_verify(issuer.as, pigy_len_or_zero(issuer.as, issuer.as_len), issuer.ip,
+                     pigy_len_or_zero(issuer.ip, issuer.ip_len),
+                     (cert.as ? PIGY_HAS_AS : 0u) | (cert.ip ? PIGY_HAS_IP : 0u), cert.as,
+                     pigy_len_or_zero(cert.as, cert.as_len), cert.ip, pigy_len_or_zero(cert.ip, cert.ip_len), encoding,
+                     mode, out->as, pigy_len_or_zero(out->as, out->as_capacity), out->ip,
                      pigy_len_or_zero(out->ip, out->ip_capacity), &out->as_len, &out->ip_len);
 }
 
@@ -1018,12 +1019,10 @@ typedef uint32_t pigy_comparison(const uint8_t *, size_t, const uint8_t *, size_
 PIGY_NODISCARD PIGY_NONNULL(1, 5)
 static inline uint32_t pigy_combine(pigy_operation *call, pigy_set a, pigy_set b, uint32_t encoding,
                                     pigy_buffers *out) {
-  uint8_t spare[2];
-  return call(pigy_non_null(a.as), pigy_len_or_zero(a.as, a.as_len), pigy_non_null(a.ip),
-              pigy_len_or_zero(a.ip, a.ip_len), pigy_non_null(b.as), pigy_len_or_zero(b.as, b.as_len),
-              pigy_non_null(b.ip), pigy_len_or_zero(b.ip, b.ip_len), encoding, out->as ? out->as : spare,
-              pigy_len_or_zero(out->as, out->as_capacity), out->ip ? out->ip : spare + 1,
-              pigy_len_or_zero(out->ip, out->ip_capacity), &out->as_len, &out->ip_len);
+  return call(a.as, pigy_len_or_zero(a.as, a.as_len), a.ip, pigy_len_or_zero(a.ip, a.ip_len), b.as,
+              pigy_len_or_zero(b.as, b.as_len), b.ip, pigy_len_or_zero(b.ip, b.ip_len), encoding, out->as,
+              pigy_len_or_zero(out->as, out->as_capacity), out->ip, pigy_len_or_zero(out->ip, out->ip_capacity),
+              &out->as_len, &out->ip_len);
 }
 
 /**
@@ -1038,9 +1037,8 @@ static inline uint32_t pigy_combine(pigy_operation *call, pigy_set a, pigy_set b
  */
 PIGY_NODISCARD PIGY_NONNULL(1)
 static inline uint32_t pigy_compare(pigy_comparison *call, pigy_set a, pigy_set b, uint32_t encoding) {
-  return call(pigy_non_null(a.as), pigy_len_or_zero(a.as, a.as_len), pigy_non_null(a.ip),
-              pigy_len_or_zero(a.ip, a.ip_len), pigy_non_null(b.as), pigy_len_or_zero(b.as, b.as_len),
-              pigy_non_null(b.ip), pigy_len_or_zero(b.ip, b.ip_len), encoding);
+  return call(a.as, pigy_len_or_zero(a.as, a.as_len), a.ip, pigy_len_or_zero(a.ip, a.ip_len), b.as,
+              pigy_len_or_zero(b.as, b.as_len), b.ip, pigy_len_or_zero(b.ip, b.ip_len), encoding);
 }
 
 #ifdef __cplusplus

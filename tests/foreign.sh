@@ -29,7 +29,7 @@ fi
 made() { make -s -C foreign/c CC=gcc CFLAGS="-O2 -Wall -Wextra -Werror" OUT="$spaced" "$@"; }
 
 # Each call of the header is in exports.map. The static library defines no other global symbols, and the shared library
-# exports no others.
+# exports no others. The static library has the proved function of each call in arrays.c under its local name.
 of_symbols() {
     sed -n 's/^ *\(pigy_[a-z_]*\);.*/\1/p' foreign/c/exports.map | sort >"$out/exports"
     grep -v '^static\|^typedef' foreign/pigyelund.h | sed -n 's/^[a-z].* \**\(pigy_[a-z_]*\)(.*/\1/p' |
@@ -39,6 +39,9 @@ of_symbols() {
         fail "the global symbols of the static library are its calls"
     nm -D --defined-only "$spaced/libpigyelund.so" | awk '$2 != "A" { print $3 }' | sed 's/@@PIGYELUND_1$//' | sort |
         diff "$out/exports" - || fail "the shared library exports its calls, with the version PIGYELUND_1"
+    sed -n 's/^PROVED(\([a-z_]*\));$/proved_\1/p' foreign/c/arrays.c | sort >"$out/proved"
+    nm --defined-only "$spaced/libpigyelund.a" | awk '$2 == "t" && $3 ~ /^proved_/ { print $3 }' | sort |
+        diff "$out/proved" - || fail "the static library has the proved functions under local names"
 }
 
 # warns TEXT WARNING: each compiler refuses this statement, by this warning
@@ -79,9 +82,10 @@ of_header() {
         fail "the header defines a macro without PIGY"
     gcc -E -P foreign/pigyelund.h | sed -n '/pigy_/,$p' | grep -E '^(typedef .*[;(]|\} .*;)' | grep -v '[ *]pigy_' &&
         fail "the header defines a type without pigy_"
-    warns "(void)table; pigy_answer((const uint8_t *)len, 1, 0, 0, len); return 0;" nonnull
+    warns "(void)table; (void)len; return pigy_answer(0, 0, 0, 0, 0);" nonnull
     warns "pigy_table_vrps(table, 0, 0, len); return 0;" unused-result
-    warns "pigy_table_vrps(table, 0, 0, len); return 0;" nonnull
+    warns "(void)len; return pigy_table_vrps(table, 0, 0, 0);" nonnull
+    warns "return pigy_table_covering(table, 0, 0, 0, len);" nonnull
     warns "(void)table; (void)len; pigy_verify_set(set, set, 0, 0, out); return 0;" unused-result
     warns "(void)table; (void)len; return pigy_verify_set(set, set, 0, 0, 0);" nonnull
     warns "(void)table; return pigy_table_len(0, 0) + *len;" nonnull
@@ -90,12 +94,68 @@ of_header() {
         gcc -x c -Wall -Wextra -Werror -I. -c - -o "$out/warns.o" || fail "a NULL handle without a warning"
 }
 
-# A program may define the symbols that the kit has. The static library does not use them.
+# arrays.c compiles without warnings, by each compiler. It passes each argument on.
+of_arrays() {
+    for language in c99 c11 c17; do
+        for compiler in gcc clang; do
+            has "arrays.c as $language" "$compiler" || continue
+            "$compiler" -std="$language" -O2 -pedantic -Wall -Wextra -Wshadow -Wconversion -Werror \
+                -c foreign/c/arrays.c -o "$out/arrays.o" || fail "arrays.c: $compiler, $language"
+        done
+    done
+    has_python && { tests/foreign_arrays.py || fail "arrays.c passes each argument on"; }
+    has "empty vectors in C++" g++ && of_vectors
+}
+
+# A program in C++ passes data() of empty vectors. With UndefinedBehaviorSanitizer, if it is installed, the program ends
+# if it passes a null pointer to a parameter that must not be NULL.
+of_vectors() {
+    cat >"$out/vectors.cpp" <<'END'
+#include <pigyelund.h>
+#include <vector>
+
+int main() {
+  std::vector<uint8_t> octets, line{'n', 'o', 'r', 'm', ' ', 'a', 's', ' ', '1'};
+  std::vector<pigy_vrp> vrps;
+  std::vector<pigy_route> routes;
+  std::vector<pigy_certificate> certificates;
+  std::vector<pigy_ip_range> ranges;
+  pigy_table *table;
+  size_t len, other, index;
+  uint32_t status = pigy_table_new(vrps.data(), vrps.size(), &table, &index);
+  if (status == PIGY_OK)
+    status = pigy_table_origins(table, routes.data(), routes.size(), octets.data(), octets.size(), &len, &index);
+  if (status == PIGY_OK) status = pigy_table_vrps(table, vrps.data(), vrps.size(), &len);
+  pigy_table_free(table);
+  if (status == PIGY_OK)
+    status = pigy_verify_path(octets.data(), 0, octets.data(), 0, octets.data(), 0, certificates.data(),
+                              certificates.size(), PIGY_STRICT, octets.data(), 0, octets.data(), 0, &len, &other,
+                              &index);
+  if (status == PIGY_OK)
+    status = pigy_ip_ranges(octets.data(), 0, PIGY_STRICT, PIGY_IPV4, ranges.data(), ranges.size(), &len);
+  if (status != PIGY_OK || len) return 1;
+  if (pigy_answer(line.data(), line.size(), octets.data(), octets.size(), &len) != PIGY_TOO_SMALL) return 2;
+  octets.resize(len);
+  return pigy_answer(line.data(), line.size(), octets.data(), octets.size(), &len) == PIGY_OK && len == 3 ? 0 : 3;
+}
+END
+    sanitize="-fsanitize=undefined -fno-sanitize-recover=all"
+    # shellcheck disable=SC2086 # two words
+    echo 'int main() {}' | g++ -x c++ $sanitize - -o "$out/vectors" 2>"$out/log" ||
+        { sanitize=; echo "left out: null pointers of vectors need the library of -fsanitize=undefined"; }
+    # shellcheck disable=SC2086 # two words
+    g++ -std=c++11 -Wall -Wextra -Werror $sanitize -Iforeign "$out/vectors.cpp" "$spaced/libpigyelund.a" \
+        -o "$out/vectors" && "$out/vectors" || fail "empty vectors in C++"
+}
+
+# A program may define the symbols that the kit has, and functions with the local names of the proved ones. The static
+# library does not use them.
 of_collisions() {
     {
         echo '#include <pigyelund.h>'
         nm -g --defined-only "$LIB" "$KIT/c/liblibc_c.a" 2>/dev/null |
             awk 'NF == 3 && $3 ~ /^[A-Za-z_][A-Za-z_0-9]*$/ && $3 !~ /^pigy_/ { print $3 }' | sort -u >"$out/of_kit"
+        [ -s "$out/of_kit" ] && cat "$out/proved" >>"$out/of_kit"
         sed 's/.*/int &_of_program(void) __asm__("&"); int &_of_program(void) { __builtin_trap(); }/' "$out/of_kit"
         echo 'int main(void) { uint8_t text[64]; size_t len;'
         echo 'return (int)pigy_answer((const uint8_t *)"norm as 1", 9, text, sizeof text, &len); }'
@@ -115,6 +175,7 @@ of_c() {
         gcc -x c -Iforeign - -x none "$spaced/libpigyelund.a" -o "$out/version" || fail "the version is compiled"
     [ "$("$out/version")" = "$(cat VERSION)" ] || fail "pigy_version_string returns the text of VERSION"
     of_symbols
+    of_arrays
     of_collisions
     if has "the example as C++" g++; then
         g++ -x c++ -std=c++11 -Wall -Wextra -Werror -Iforeign foreign/c/example.c -x none "$spaced/libpigyelund.a" \

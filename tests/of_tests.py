@@ -38,12 +38,14 @@ KEPT = {f"crates/{name}/{file}": 6 for name in PROGRAMS for file in ("stdin", "s
 KEPT |= {"foreign/rows.txt": 14}
 # The tests that need what is built, and how each is asked then.
 OF_C, OF_PYTHON, OF_RUST = "foreign/c/test.c", "foreign/python/test.py", "foreign/rust/tests/rows.rs"
-# The test in C is compiled anew only if its own text is made wrong.
+# The test in C is compiled anew, with the library, only if the text of C code is made wrong.
 OF_REFUSALS = "foreign/c/test.c, compiled anew"
+OF_ARRAYS = "tests/foreign_arrays.py"
+ARRAYS, HEADER = "foreign/c/arrays.c", "foreign/pigyelund.h"
 MANUAL = "tests/page_manuals.py"
 BUILT = {
     OF_C: ("built/test", "foreign"),
-    OF_REFUSALS: ("sh", "-c", "make -s -C foreign/c CC=gcc OUT=$PWD/built LIB=$LIB KIT=$KIT all && built/test foreign"),
+    OF_REFUSALS: ("sh", "-c", "make -s -C foreign/c CC=gcc OUT=$PWD/anew LIB=$LIB KIT=$KIT all && anew/test foreign"),
     OF_PYTHON: ("python3", OF_PYTHON, "built/libpigyelund.so", "foreign"),
 }
 
@@ -120,6 +122,18 @@ CASES = (
     Case(OF_C, "foreign/texts.txt", "out of memory", "out of mind", "another text of a status"),
     Case(OF_REFUSALS, OF_C, "found == PIGY_MEMORY, q->row", "found != PIGY_MEMORY, q->row",
          "row 1: another status where memory is refused"),
+    Case(OF_REFUSALS, ARRAYS, "ARRAY(issuer_as, issuer_as_len), ARRAY(issuer_ip, issuer_ip_len)",
+         "ARRAY(issuer_ip, issuer_ip_len), ARRAY(issuer_as, issuer_as_len)", "row 1: another status"),
+    Case(OF_ARRAYS, ARRAYS, "ARRAY(announced, announced_count), ARRAY(withdrawn, withdrawn_count)",
+         "ARRAY(withdrawn, withdrawn_count), ARRAY(announced, announced_count)", "libpigyelund.so: pigy_table_changed: "),
+    Case(OF_ARRAYS, ARRAYS, "encoding, family", "family, encoding", "libpigyelund.a: pigy_cover: passed ip 0x"),
+    Case(OF_ARRAYS, ARRAYS, "ARRAY(vrps, count)", "vrps, count", "libpigyelund.a: pigy_table_new: passed vrps 0x0, "),
+    Case(OF_ARRAYS, ARRAYS, "(array) || (length) ?", "(array) ?", "libpigyelund.a: pigy_verify: passed issuer_as 0x0, "),
+    Case(OF_ARRAYS, ARRAYS, "(array) || (length) ?", "(length) ?", "libpigyelund.a: pigy_verify: passed issuer_as 0x"),
+    Case(OF_ARRAYS, ARRAYS, "PROVED(cover);\n", "", "proved_cover"),
+    Case(OF_ARRAYS, ARRAYS, "uint32_t pigy_answer(", "uint32_t other(", "pigy_answer"),
+    Case(OF_ARRAYS, HEADER, "PIGY_NONNULL(16, 17)", "PIGY_NONNULL(1, 16, 17)", "pigy_verify: PIGY_NONNULL(1, 16, 17), "),
+    Case(OF_ARRAYS, HEADER, "May be NULL if the length is 0.", "Not NULL.", "pigy_verify: the comment of issuer_as "),
     Case(OF_PYTHON, "foreign/rows.txt", " 10 - - -\n", " 11 - - -\n", "another answer: verify 0,0,0"),
     Case(OF_PYTHON, "foreign/texts.txt", "out of memory", "out of mind", "status 2 is "),
     Case(API, "crates/test_paths/src/lib.rt", "use rpki_der::Cursor as _;\n", "", "test_paths/src/lib.rt is not"),
@@ -207,11 +221,11 @@ def left_out() -> Iterator[tuple[str, str]]:
     """The tests that can't be asked here, and what they need."""
     if not (TOP / RESPATH).is_file():
         yield "tests/page_errors.py", f"{RESPATH}, which ./respath builds"
-    for test in (OF_C, OF_REFUSALS, OF_PYTHON):
-        for tool in ("gcc", "make", "ar"):
+    for test in (OF_C, OF_REFUSALS, OF_PYTHON, OF_ARRAYS):
+        for tool in ("gcc", "make", "ar", "objcopy"):
             if not shutil.which(tool):
                 yield test, tool
-        if not (TOP / LIBRARY).is_file():
+        if test != OF_ARRAYS and not (TOP / LIBRARY).is_file():
             yield test, f"{LIBRARY}, which rt lib builds there"
 
 
@@ -258,7 +272,7 @@ def of_cases(folder: Path) -> Iterator[tuple[str, str | None]]:
         finally:
             copies.put(copy)
 
-    for test in (ROWS, *(it for it in (OF_C, OF_PYTHON) if it not in absent)):
+    for test in (ROWS, *(it for it in (OF_C, OF_PYTHON, OF_ARRAYS) if it not in absent)):
         status, said = said_by(BUILT.get(test, (test,)), folder / "0", **FOREIGN)
         yield f"{test} passes", None if status == 0 else said
     cases = [case for case in CASES if case.test not in absent]

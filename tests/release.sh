@@ -47,11 +47,11 @@ END
         printf '#!/bin/sh\necho %s\n' "$name" >"$kit/proved/$name"
         chmod +x "$kit/proved/$name"
     done
-    # The calls of the library, except those in C, which the Makefile adds.
+    # The calls of the library, except those of texts.c, which the Makefile adds.
     {
         echo 'unsigned pigy_version(void) { return 5; }'
         sed -n 's/^ \(pigy_[a-z_]*\)@.*/\1/p' packaging/libpigyelund1.symbols | while IFS= read -r name; do
-            [ "$name" = pigy_version ] || grep -q "^[a-z][a-z0-9_ *]*\b$name(" foreign/c/*.c ||
+            [ "$name" = pigy_version ] || grep -q "^[a-z][a-z0-9_ *]*\b$name(" foreign/c/texts.c ||
                 echo "void $name(void) {}"
         done
     } | gcc -fPIC -c -x c - -o "$out/one.o" &&

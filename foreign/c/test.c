@@ -5,7 +5,10 @@
  * - with buffers of each capacity from 0 to the required one, and of one more. Rows with long outputs have fewer
  *   capacities. It checks the status and the outputs, and that nothing else is written.
  * - with each allocation of the call refused in turn. The call has to return PIGY_MEMORY.
+ * - with NULL in place of each array of length 0 and of each buffer of capacity 0. The outputs have to be the same.
  * - on eight threads at the same time.
+ *
+ * It also makes each call with NULL in place of all its arrays.
  *
  * test FOLDER stack: makes the call of each row on a thread with a marked stack. It fails if the calls use more of the
  * stack than pigyelund.h states.
@@ -39,7 +42,8 @@ typedef enum {
 
 /* One row: the call, its numbers (encoding, extensions or family, mode), its inputs, and the expected outputs. The
  * member verified is the expected number of verified certificates, the expected index of an error, or the expected
- * number of a line. For DIFFER `announced` has the VRPs of the second table. */
+ * number of a line. For DIFFER `announced` has the VRPs of the second table. If has_null is 1, arrays of length 0 and
+ * buffers of capacity 0 are NULL. */
 typedef struct {
   unsigned row;
   kind call;
@@ -51,11 +55,12 @@ typedef struct {
   pigy_vrp *vrps, *announced, *withdrawn;
   pigy_route *routes;
   size_t count, route_count, announced_count, withdrawn_count, verified;
+  int has_null;
 } question;
 
 static atomic_uint calls, faults;
 
-/* Returns a marked block of this length, or of one octet if the length is 0, since no pointer may be NULL. */
+/* Returns a marked block of this length, or of one octet if the length is 0. */
 static uint8_t *block(size_t length) {
   uint8_t *made = malloc(length ? length : 1);
   if (!made) exit(2);
@@ -72,6 +77,14 @@ static int is_marked(const uint8_t *octets, size_t from, size_t to) {
   while (from < to)
     if (octets[from++] != MARK) return 0;
   return 1;
+}
+
+/* Returns a buffer for a call of the row. It is NULL if the capacity is 0 and has_null is 1. */
+static uint8_t *buffer(const question *q, size_t capacity) { return capacity || !q->has_null ? block(capacity) : 0; }
+
+/* Returns whether an output has the expected octets. */
+static int is_same(const uint8_t *found, const run *expected) {
+  return !expected->length || !memcmp(found, expected->octets, expected->length);
 }
 
 /* ---- rows */
@@ -176,6 +189,10 @@ static uint32_t call_of(const question *q, uint8_t *as, size_t as_capacity, uint
     case MAKE:
       return q->operation(in[0].octets, in[0].length, in[1].octets, in[1].length, in[2].octets, in[2].length,
                           in[3].octets, in[3].length, n[0], as, as_capacity, ip, ip_capacity, as_len, ip_len);
+    case TEST:
+      *as_len = *ip_len = 0;
+      return q->test(in[0].octets, in[0].length, in[1].octets, in[1].length, in[2].octets, in[2].length, in[3].octets,
+                     in[3].length, n[0]);
     case PATH:
       return pigy_verify_path(in[0].octets, in[0].length, in[1].octets, in[1].length, in[2].octets, in[2].length,
                               q->certificates, q->count, n[0], as, as_capacity, ip, ip_capacity, as_len, ip_len,
@@ -199,7 +216,7 @@ static uint32_t call_of(const question *q, uint8_t *as, size_t as_capacity, uint
 
 /* Makes the call of a row with buffers of these capacities, and checks everything that it returns. */
 static void ask(const question *q, size_t as_capacity, size_t ip_capacity) {
-  uint8_t *as = block(as_capacity), *ip = block(ip_capacity);
+  uint8_t *as = buffer(q, as_capacity), *ip = buffer(q, ip_capacity);
   size_t as_len = ANY, ip_len = ANY, verified = ANY;
   const run *expected = q->expected;
   int fits = expected[0].length <= as_capacity && expected[1].length <= ip_capacity;
@@ -209,8 +226,8 @@ static void ask(const question *q, size_t as_capacity, size_t ip_capacity) {
   expect(as_len == expected[0].length && ip_len == expected[1].length, q->row, "other lengths");
   expect(verified == (q->call == PATH || q->call == ORIGINS ? q->verified : ANY), q->row, "another index");
   if (fits) {
-    expect(!memcmp(as, expected[0].octets, expected[0].length), q->row, "other octets in the first buffer");
-    expect(!memcmp(ip, expected[1].octets, expected[1].length), q->row, "other octets in the second buffer");
+    expect(is_same(as, expected), q->row, "other octets in the first buffer");
+    expect(is_same(ip, expected + 1), q->row, "other octets in the second buffer");
   }
   expect(is_marked(as, fits ? expected[0].length : 0, as_capacity), q->row, "octets behind those in the first buffer");
   expect(is_marked(ip, fits ? expected[1].length : 0, ip_capacity), q->row, "octets behind those in the second buffer");
@@ -261,7 +278,7 @@ _Static_assert(sizeof(pigy_covering) == sizeof(pigy_vrp), "a VRP that covers is 
 static void ask_with_capacity(uint32_t (*call)(attempt *), const question *q, const pigy_table *table, size_t count,
                               size_t octets) {
   size_t wanted = q->expected[0].length / octets, length = count * sizeof(pigy_covering);
-  attempt a = {q, table, 0, length, ANY, 0, ANY, block(length), 0, 0};
+  attempt a = {q, table, 0, length, ANY, 0, ANY, buffer(q, length), 0, 0};
   const pigy_covering *out = (pigy_covering *)(void *)a.out;
   uint8_t *found = block(count * octets), *at = found;
   int fits = wanted <= count;
@@ -270,7 +287,7 @@ static void ask_with_capacity(uint32_t (*call)(attempt *), const question *q, co
   expect(a.index == (q->call == READ ? q->verified : ANY), q->row, "another line");
   for (size_t i = 0; fits && i < wanted; i++)
     at = put_vrp(at, out[i].address, out[i].asn, &out[i].family, octets - 20);
-  expect(!fits || !memcmp(found, q->expected[0].octets, q->expected[0].length), q->row, "other VRPs");
+  expect(!fits || is_same(found, q->expected), q->row, "other VRPs");
   expect(is_marked(a.out, fits ? wanted * sizeof *out : 0, length), q->row, "VRPs behind");
   free(a.out);
   free(found);
@@ -311,7 +328,7 @@ _Static_assert(sizeof(pigy_as_range) == 8 && sizeof(pigy_ip_range) == 32, "range
 /* Returns whether the ranges are those of a row, which has each number of an AS with its highest octet first. */
 static int are_ranges(const question *q, const uint8_t *out) {
   const run *expected = q->expected;
-  if (q->call == IP_RANGES) return !memcmp(out, expected->octets, expected->length);
+  if (q->call == IP_RANGES) return is_same(out, expected);
   for (size_t i = 0; i < expected->length / 4; i++)
     if (((const uint32_t *)(const void *)out)[i] != read_asn(expected->octets + 4 * i)) return 0;
   return 1;
@@ -322,7 +339,7 @@ static void ask_ranges(const question *q) {
   size_t size = q->call == AS_RANGES ? sizeof(pigy_as_range) : sizeof(pigy_ip_range);
   size_t wanted = q->expected[0].length / size;
   for (size_t n = 0; n <= wanted + 1; n++) {
-    attempt a = {q, 0, 0, n * size, ANY, 0, ANY, block(n * size), 0, 0};
+    attempt a = {q, 0, 0, n * size, ANY, 0, ANY, buffer(q, n * size), 0, 0};
     int fits = wanted <= n;
     uint32_t found = q->call == AS_RANGES ? of_as_ranges(&a) : of_ip_ranges(&a);
     expect(found == (fits ? q->status : PIGY_TOO_SMALL) && a.length == wanted, q->row, "another status of ranges");
@@ -344,13 +361,19 @@ static void ask_read(const question *q) {
 static void ask_origins(const question *q, const pigy_table *table) {
   size_t len = ANY, index = ANY, wanted = q->expected[0].length;
   uint8_t *out = block(wanted + 1);
-  uint32_t found = pigy_table_origins(table, q->routes, q->route_count, out, wanted + 1, &len, &index);
+  uint32_t found = pigy_table_origins(table, q->routes, q->route_count, q->has_null && !wanted ? 0 : out, wanted, &len,
+                                      &index);
+  expect(found == q->status && len == wanted && index == q->verified, q->row, "another status of a full buffer");
+  expect(is_same(out, q->expected), q->row, "other validities in a full buffer");
+  memset(out, MARK, wanted);
+  found = pigy_table_origins(table, q->routes, q->route_count, out, wanted + 1, &len, &index);
   expect(found == q->status && len == wanted && index == q->verified, q->row, "another status by a table");
-  expect(!memcmp(out, q->expected[0].octets, wanted), q->row, "other validities by a table");
+  expect(is_same(out, q->expected), q->row, "other validities by a table");
   expect(is_marked(out, wanted, wanted + 1), q->row, "octets behind validities by a table");
   if (wanted) {
     memset(out, MARK, wanted);
-    found = pigy_table_origins(table, q->routes, q->route_count, out, wanted - 1, &len, &index);
+    found = pigy_table_origins(table, q->routes, q->route_count, q->has_null && wanted == 1 ? 0 : out, wanted - 1, &len,
+                               &index);
     expect(found == PIGY_TOO_SMALL && len == wanted && index == 0, q->row, "another status of a small buffer");
     expect(is_marked(out, 0, wanted), q->row, "octets in a small buffer");
   }
@@ -367,13 +390,19 @@ static void ask_origins(const question *q, const pigy_table *table) {
 static void ask_differ(const question *q, const pigy_table *table, const pigy_table *next) {
   size_t len = ANY, index = ANY, wanted = q->expected[0].length;
   uint8_t *out = block(wanted + 1);
-  uint32_t found = pigy_table_routes_changed(table, next, q->routes, q->route_count, out, wanted + 1, &len, &index);
+  uint32_t found = pigy_table_routes_changed(table, next, q->routes, q->route_count, q->has_null && !wanted ? 0 : out,
+                                             wanted, &len, &index);
+  expect(found == q->status && len == wanted && index == q->verified, q->row, "another status of a full buffer");
+  expect(is_same(out, q->expected), q->row, "other changes in a full buffer");
+  memset(out, MARK, wanted);
+  found = pigy_table_routes_changed(table, next, q->routes, q->route_count, out, wanted + 1, &len, &index);
   expect(found == q->status && len == wanted && index == q->verified, q->row, "another status by two tables");
-  expect(!memcmp(out, q->expected[0].octets, wanted), q->row, "other changes by two tables");
+  expect(is_same(out, q->expected), q->row, "other changes by two tables");
   expect(is_marked(out, wanted, wanted + 1), q->row, "octets behind changes");
   if (wanted) {
     memset(out, MARK, wanted);
-    found = pigy_table_routes_changed(table, next, q->routes, q->route_count, out, wanted - 1, &len, &index);
+    found = pigy_table_routes_changed(table, next, q->routes, q->route_count, q->has_null && wanted == 1 ? 0 : out,
+                                      wanted - 1, &len, &index);
     expect(found == PIGY_TOO_SMALL && len == wanted && index == 0, q->row, "another status of a small buffer");
     expect(is_marked(out, 0, wanted), q->row, "octets in a small buffer");
   }
@@ -473,6 +502,92 @@ static void ask_capacities(const question *q) {
     for (size_t capacity = 0; capacity < expected[0].length; capacity++) ask(q, capacity, expected[1].length);
     for (size_t capacity = 0; capacity <= expected[1].length; capacity++) ask(q, expected[0].length, capacity);
   }
+}
+
+/* ---- NULL in place of arrays of length 0 and of buffers of capacity 0 */
+
+/* Makes the call of a row with NULL in place of each array of length 0, and with NULL buffers of capacity 0. */
+static void ask_with_null(const question *q) {
+  question bare = *q;
+  const run *expected = q->expected;
+  bare.has_null = 1;
+  for (int i = 0; i < 4; i++)
+    if (!bare.in[i].length) bare.in[i].octets = 0;
+  if (!bare.count) bare.certificates = 0, bare.vrps = 0;
+  if (!bare.route_count) bare.routes = 0;
+  if (!bare.announced_count) bare.announced = 0;
+  if (!bare.withdrawn_count) bare.withdrawn = 0;
+  if (is_of_table(q)) ask_table(&bare);
+  if (q->call == READ) ask_read(&bare);
+  if (q->call == AS_RANGES || q->call == IP_RANGES) ask_ranges(&bare);
+  if (q->call > ORIGINS) return;
+  ask(&bare, expected[0].length, expected[1].length);
+  ask(&bare, expected[0].length, 0);
+  ask(&bare, 0, expected[1].length);
+  ask(&bare, 0, 0);
+}
+
+/* Makes each call on a table with NULL in place of all its arrays. The table has no VRPs. */
+static void ask_empty_table(void) {
+  static const pigy_route route = {{10}, 1, PIGY_IPV4, 8};
+  pigy_table *table = 0, *next = 0;
+  size_t len = ANY, index = ANY;
+  expect(pigy_table_new(0, 0, &table, &index) == PIGY_OK && table && !index, 0, "an empty table");
+  index = ANY;
+  expect(pigy_table_changed(table, 0, 0, 0, 0, &next, &index) == PIGY_OK && next && !index, 0, "no changes");
+  index = ANY;
+  expect(pigy_table_origins(table, 0, 0, 0, 0, &len, &index) == PIGY_OK && !len && !index, 0, "no routes");
+  len = index = ANY;
+  expect(pigy_table_routes_changed(table, next, 0, 0, 0, 0, &len, &index) == PIGY_OK && !len && !index, 0,
+         "no changed routes");
+  len = ANY;
+  expect(pigy_table_covering(table, &route, 0, 0, &len) == PIGY_OK && !len, 0, "no VRPs that cover a route");
+  len = ANY;
+  expect(pigy_table_vrps(table, 0, 0, &len) == PIGY_OK && !len, 0, "no VRPs of a table");
+  pigy_table_free(next);
+  pigy_table_free(table);
+  calls += 6;
+}
+
+/* Makes each other call with NULL in place of all its arrays. The expected status of each call is that of a row whose
+ * arrays have length 0. */
+static void ask_empty(void) {
+  static pigy_operation *const operations[] = {pigy_union, pigy_intersection, pigy_difference};
+  static pigy_comparison *const comparisons[] = {pigy_contains, pigy_equal};
+  static const char answer[] = "error: unknown command";
+  size_t len = ANY, other = ANY, index = ANY;
+  for (uint32_t present = 0; present <= PIGY_HAS_BOTH; present++) {
+    uint32_t status = !present ? PIGY_ABSENT : PIGY_SECOND + (present == PIGY_HAS_IP ? PIGY_BAD_IP : PIGY_BAD_AS) + 1u;
+    len = other = ANY;
+    expect(pigy_verify(0, 0, 0, 0, present, 0, 0, 0, 0, PIGY_STRICT, PIGY_REFUSE, 0, 0, 0, 0, &len, &other) == status &&
+               !len && !other, 0, "an empty certificate");
+  }
+  len = other = ANY;
+  expect(pigy_verify_path(0, 0, 0, 0, 0, 0, 0, 0, PIGY_STRICT, 0, 0, 0, 0, &len, &other, &index) == PIGY_OK && !len &&
+             !other && !index, 0, "an empty path");
+  for (int i = 0; i < 3; i++) {
+    len = other = ANY;
+    expect(operations[i](0, 0, 0, 0, 0, 0, 0, 0, PIGY_STRICT, 0, 0, 0, 0, &len, &other) == PIGY_OK && !len && !other, 0,
+           "a set of empty sets");
+  }
+  for (int i = 0; i < 2; i++)
+    expect(comparisons[i](0, 0, 0, 0, 0, 0, 0, 0, PIGY_STRICT) == PIGY_OK, 0, "empty sets are compared");
+  len = other = ANY;
+  expect(pigy_set_from_text(PIGY_ASN, 0, 0, 0, 0, 0, 0, &len, &other) == PIGY_OK && !len && !other, 0, "an empty list");
+  len = ANY;
+  expect(pigy_cover(0, 0, PIGY_STRICT, PIGY_IPV4, 0, 0, &len) == PIGY_OK && !len, 0, "prefixes of no addresses");
+  len = ANY;
+  expect(pigy_as_ranges(0, 0, PIGY_STRICT, 0, 0, &len) == PIGY_OK && !len, 0, "ranges of no AS numbers");
+  len = ANY;
+  expect(pigy_ip_ranges(0, 0, PIGY_STRICT, PIGY_IPV4, 0, 0, &len) == PIGY_OK && !len, 0, "ranges of no addresses");
+  len = index = ANY;
+  expect(pigy_origins(0, 0, 0, 0, 0, 0, &len, &index) == PIGY_OK && !len && !index, 0, "no VRPs and no routes");
+  len = index = ANY;
+  expect(pigy_vrps_read(0, 0, 0, 0, &len, &index) == PIGY_BAD_FILE + 6u && !len && !index, 0, "an empty file");
+  len = ANY;
+  expect(pigy_answer(0, 0, 0, 0, &len) == PIGY_TOO_SMALL && len == sizeof answer - 1, 0, "the answer to an empty line");
+  calls += 17;
+  ask_empty_table();
 }
 
 /* ---- the inline functions of the header. If there are no octets, the pointer is NULL, and the length is ANY. */
@@ -752,6 +867,7 @@ static void *ask_on_stack(void *of) {
   one->frame = (uintptr_t)&here;
   if (!one->reads) {
     ask_null();
+    ask_empty();
     ask_many();
   }
   for (unsigned i = 0; i < one->rows.count; i++)
@@ -809,6 +925,7 @@ static void ask_all(questions rows) {
     if (rows.all[i].call == READ) ask_read(rows.all + i);
     if (rows.all[i].call == AS_RANGES || rows.all[i].call == IP_RANGES) ask_ranges(rows.all + i);
     if (rows.all[i].call != TEST && rows.all[i].call <= ORIGINS) ask_capacities(rows.all + i);
+    ask_with_null(rows.all + i);
     ask_in_short(rows.all + i);
     ask_row_refused(rows.all + i);
   }
@@ -826,6 +943,7 @@ int main(int count, char **words) {
     expect(pigy_version() == PIGY_VERSION, 0, "another version");
     ask_texts(words[1]);
     ask_null();
+    ask_empty();
     ask_many();
     ask_all(rows);
   }

@@ -29,7 +29,7 @@ impl<'a> Cursor<'a> {
     ghost use Rattle.std.specs.Prelude.{◌≡◌, ◌<◌, ◌^◌, ◌==◌, true, false, length, option_map, slice_get, IfOk, IfSome};
     ghost use Rattle.rpki_der.specs.Der.{IsBitString, IsNull, IsOctetString, IsPadded, IsSequence, IsTlv, IsU32, Where};
     ghost use Rattle.rpki_der.specs.Reading.{Gives, bit_string_at, bit_string_by, ended, null_at, optional, tagged_at, u32_at, value_at};
-    ghost use Rattle.rpki_der.specs.Views.{Lenient, NotCanonicalOr, ReadsValue, ReadsOptional, Strict, Takes, bit_string_of, is_strict, is_strict_in, left, tlv};
+    ghost use Rattle.rpki_der.specs.Views.{Lenient, NotCanonicalOr, ReadsValue, ReadsOptional, Strict, Takes, bit_string_of, content_octets, is_strict, is_strict_in, left, tlv};
 
     /// Returns a lenient cursor at the start of `octets`.
     pub fn new(octets: &'a [u8]) -> Cursor<'a>
@@ -128,6 +128,26 @@ impl<'a> Cursor<'a> {
             (λ o. IfSome o (λ value. is_strict_in value ≡ is_strict self.old)) }
     {
         self.take_opt_value_exact()
+    }
+
+    /// Takes a value with the tag octet `tag` (X.690, 8.1.2).
+    ///
+    /// # Errors
+    ///
+    /// The errors of `take_value`, and [`DerError::BadTag`] if the value has another tag. The cursor is unchanged after
+    /// an error.
+    #[tactic(auto, unfolding(crate::specs::Reading::tagged_at))]
+    pub fn take_tagged(&mut self, tag: u8) -> Result<Content<'a>, DerError>
+        ensures exact { Takes content_octets self.old self.new result (tagged_at tag) }
+        ensures mode { is_strict self.new ≡ is_strict self.old }
+        ensures hands_on_mode { IfOk result (λ value. is_strict_in value ≡ is_strict self.old) }
+    {
+        let (value, rest) = value_of(self.octets, self.strict)?;
+        if value.tag() != tag {
+            return Err(DerError::BadTag);
+        }
+        *self = Cursor::in_mode(rest, self.strict);
+        Ok(value)
     }
 
     /// Takes a SEQUENCE (X.690, 8.9) and returns a cursor over its content.
@@ -241,7 +261,7 @@ impl<'a> Cursor<'a> {
 impl<'a> Cursor<'a> {
     ghost use Rattle.std.specs.Prelude.{◌≡◌, option_map, IfOk, IfSome};
     ghost use Rattle.rpki_der.specs.Reading.{bit_string_by, null_at, optional, tagged_at, u32_at, value_at};
-    ghost use Rattle.rpki_der.specs.Views.{Takes, bit_string_of, content_octets, is_strict, is_strict_in, left, tlv};
+    ghost use Rattle.rpki_der.specs.Views.{Takes, bit_string_of, is_strict, is_strict_in, left, tlv};
 
     fn take_value_exact(&mut self) -> Result<Content<'a>, DerError>
         ensures exact { Takes tlv self.old self.new result value_at }
@@ -266,26 +286,12 @@ impl<'a> Cursor<'a> {
         Ok(Some(self.take_value_exact()?))
     }
 
-    #[tactic(auto, unfolding(crate::specs::Reading::tagged_at))]
-    fn next_tagged(&mut self, tag: u8) -> Result<Content<'a>, DerError>
-        ensures exact { Takes content_octets self.old self.new result (tagged_at tag) }
-        ensures mode { is_strict self.new ≡ is_strict self.old }
-        ensures hands_on_mode { IfOk result (λ value. is_strict_in value ≡ is_strict self.old) }
-    {
-        let (value, rest) = value_of(self.octets, self.strict)?;
-        if value.tag() != tag {
-            return Err(DerError::BadTag);
-        }
-        *self = Cursor::in_mode(rest, self.strict);
-        Ok(value)
-    }
-
     fn take_sequence_exact(&mut self) -> Result<Cursor<'a>, DerError>
         ensures exact { Takes left self.old self.new result (tagged_at 48) }
         ensures mode { is_strict self.new ≡ is_strict self.old }
         ensures hands_on_mode { IfOk result (λ content. is_strict content ≡ is_strict self.old) }
     {
-        Ok(self.next_tagged(tag::SEQUENCE)?.cursor())
+        Ok(self.take_tagged(tag::SEQUENCE)?.cursor())
     }
 
     #[tactic(auto, unfolding(crate::specs::Reading::refined))]
@@ -294,7 +300,7 @@ impl<'a> Cursor<'a> {
         ensures mode { is_strict self.new ≡ is_strict self.old }
     {
         let mut ahead = *self;
-        let number = ahead.next_tagged(tag::INTEGER)?.to_u32()?;
+        let number = ahead.take_tagged(tag::INTEGER)?.to_u32()?;
         *self = ahead;
         Ok(number)
     }
@@ -306,7 +312,7 @@ impl<'a> Cursor<'a> {
         ensures mode { is_strict self.new ≡ is_strict self.old }
     {
         let mut ahead = *self;
-        let bits = ahead.next_tagged(tag::BIT_STRING)?.to_bit_string()?;
+        let bits = ahead.take_tagged(tag::BIT_STRING)?.to_bit_string()?;
         *self = ahead;
         Ok(bits)
     }
@@ -315,7 +321,7 @@ impl<'a> Cursor<'a> {
         ensures exact { Takes (λ o. o.now) self.old self.new result (tagged_at 4) }
         ensures mode { is_strict self.new ≡ is_strict self.old }
     {
-        Ok(self.next_tagged(tag::OCTET_STRING)?.bytes())
+        Ok(self.take_tagged(tag::OCTET_STRING)?.bytes())
     }
 
     #[tactic(auto, unfolding(crate::specs::Reading::refined))]
@@ -324,7 +330,7 @@ impl<'a> Cursor<'a> {
         ensures mode { is_strict self.new ≡ is_strict self.old }
     {
         let mut ahead = *self;
-        ahead.next_tagged(tag::NULL)?.to_null()?;
+        ahead.take_tagged(tag::NULL)?.to_null()?;
         *self = ahead;
         Ok(())
     }

@@ -1,8 +1,5 @@
 //! AS resources in DER: a SEQUENCE with one tagged value, a NULL or a SEQUENCE of blocks (RFC 3779, 3.2.3.1 to 3.2.3.4;
 //! RFC 6487, 4.8.11).
-ghost use Rattle.rpki_der.specs.Reading.{tagged_at};
-ghost use Rattle.std.specs.Prelude.{◌≡◌, IfOk};
-ghost use Rattle.rpki_der.specs.Views.{Takes, is_strict, left};
 
 use crate::resources::AsResources;
 use rpki_as_block::der::AsBlockReader;
@@ -117,7 +114,8 @@ impl<A: Allocator> AsResources<A> {
     {
         let mut ahead = *cursor;
         let mut inside = ahead.take_sequence()?;
-        let mut tagged = take_tagged(&mut inside, tag::CONTEXT_0)?;
+        let value = inside.take_tagged(tag::CONTEXT_0)?;
+        let mut tagged = value.cursor();
         let listed = take_listed(alloc, &AsBlockReader, &mut tagged)?;
         let resources = AsResources::from_listed(alloc, listed, cursor.is_strict())?;
         tagged.finish()?;
@@ -125,20 +123,4 @@ impl<A: Allocator> AsResources<A> {
         *cursor = ahead;
         Ok(resources)
     }
-}
-
-/// Takes a value with the tag `tag`, and returns a cursor over its content. The cursor is unchanged after an error.
-#[tactic(auto, unfolding(rpki_der::specs::Reading::tagged_at))]
-fn take_tagged<'a>(cursor: &mut Cursor<'a>, tag: u8) -> Result<Cursor<'a>, DerError>
-    ensures exact { Takes left cursor.old cursor.new result (tagged_at tag) }
-    ensures mode { is_strict cursor.new ≡ is_strict cursor.old }
-    ensures hands_on_mode { IfOk result (λ content. is_strict content ≡ is_strict cursor.old) }
-{
-    let mut ahead = *cursor;
-    let value = ahead.take_value()?;
-    if value.tag() != tag {
-        return Err(DerError::BadTag);
-    }
-    *cursor = ahead;
-    Ok(value.cursor())
 }

@@ -250,7 +250,7 @@ impl Prefix {
         Ok(Prefix::new(beginning_with(bits.octets()), len))
     }
 
-    #[tactic(auto, unfolding(rpki_der::specs::Reading::refined, rpki_der::specs::Reading::tagged_at))]
+    #[tactic(auto, unfolding(rpki_der::specs::Reading::refined))]
     fn take_from_with_family_by_mode(
         cursor: &mut Cursor<'_>,
         family: AddressFamily,
@@ -260,10 +260,7 @@ impl Prefix {
         ensures mode { is_strict cursor.new ≡ is_strict cursor.old }
     {
         let mut ahead = *cursor;
-        let value = ahead.take_value()?;
-        if value.tag() != tag::BIT_STRING {
-            return Err(DerError::BadTag);
-        }
+        let value = ahead.take_tagged(tag::BIT_STRING)?;
         let prefix = Self::parse_content_with_family_by_mode(&value, family)?;
         *cursor = ahead;
         Ok(prefix)

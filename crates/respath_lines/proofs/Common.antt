@@ -8,7 +8,6 @@ pub use Rattle.std.specs.Iterator.{Drains, YieldsFirst}
 pub use Rattle.std.specs.List.{All, after_first, before_first, flat_map, position_or_len}
 pub use Rattle.std.specs.String.{string_bytes}
 pub use Rattle.hex.specs.Hex.{IsBytes}
-unfoldable pub use Rattle.rpki_addr.specs.ReaderResults.{hex_value}
 pub use Rattle.rpki_as.specs.AsDer.{IsAsResources}
 pub use Rattle.rpki_as.specs.AsDerReading.{as_choice_at}
 pub use Rattle.rpki_as.specs.ListText.{as_list_text}

@@ -2,33 +2,10 @@
 ghost use Rattle.std.specs.Prelude.{◌≡◌, ◌*◌, ◌<◌, ℕ, length, List, take, IfOk, IsTrue, IsFalse, MatchOption};
 ghost use Rattle.std.specs.Char.{digit_char};
 ghost use Rattle.std.specs.String.{string_bytes};
-ghost use Rattle.rpki_addr.specs.ReaderResults.{hex_value};
 ghost use Rattle.respath_lines.specs.Hexadecimal.{IsHexadecimal, IsPairOf, lower_hexadecimal};
 
+use rpki_text::hexadecimal::hex_value;
 use std::alloc::{AllocError, Allocator};
-
-/// The value of each byte as a digit, in either case, or 16 if the byte is not a digit.
-static DIGIT_VALUES: [u8; 256] = [
-    16, 16, 16, 16, 16, 16, 16, 16, 16, 16, 16, 16, 16, 16, 16, 16, 16, 16, 16, 16, 16, 16, 16, 16,
-    16, 16, 16, 16, 16, 16, 16, 16, 16, 16, 16, 16, 16, 16, 16, 16, 16, 16, 16, 16, 16, 16, 16, 16,
-    0, 1, 2, 3, 4, 5, 6, 7, 8, 9, 16, 16, 16, 16, 16, 16, 16, 10, 11, 12, 13, 14, 15, 16, 16, 16,
-    16, 16, 16, 16, 16, 16, 16, 16, 16, 16, 16, 16, 16, 16, 16, 16, 16, 16, 16, 16, 16, 16, 16, 10,
-    11, 12, 13, 14, 15, 16, 16, 16, 16, 16, 16, 16, 16, 16, 16, 16, 16, 16, 16, 16, 16, 16, 16, 16,
-    16, 16, 16, 16, 16, 16, 16, 16, 16, 16, 16, 16, 16, 16, 16, 16, 16, 16, 16, 16, 16, 16, 16, 16,
-    16, 16, 16, 16, 16, 16, 16, 16, 16, 16, 16, 16, 16, 16, 16, 16, 16, 16, 16, 16, 16, 16, 16, 16,
-    16, 16, 16, 16, 16, 16, 16, 16, 16, 16, 16, 16, 16, 16, 16, 16, 16, 16, 16, 16, 16, 16, 16, 16,
-    16, 16, 16, 16, 16, 16, 16, 16, 16, 16, 16, 16, 16, 16, 16, 16, 16, 16, 16, 16, 16, 16, 16, 16,
-    16, 16, 16, 16, 16, 16, 16, 16, 16, 16, 16, 16, 16, 16, 16, 16, 16, 16, 16, 16, 16, 16, 16, 16,
-    16, 16, 16, 16, 16, 16, 16, 16, 16, 16, 16, 16, 16, 16,
-];
-
-/// Returns the value of a digit in either case, or 16 for any other byte.
-#[inline(always)]
-fn value_of(byte: u8) -> u8
-    ensures { result ≡ hex_value byte }
-{
-    DIGIT_VALUES[usize::from(byte)]
-}
 
 /// Returns the octet that two digits write, or None if one of them is not a digit.
 #[inline(always)]
@@ -36,7 +13,7 @@ fn value_of(byte: u8) -> u8
 fn octet_of(high: u8, low: u8) -> Option<u8>
     ensures { MatchOption result ((octet : ℕ) → ¬ IsPairOf high low octet) (IsPairOf high low) }
 {
-    let (high, low) = (value_of(high), value_of(low));
+    let (high, low) = (hex_value(high), hex_value(low));
     if high > 15 || low > 15 {
         return None;
     }

@@ -28,7 +28,6 @@ pub use Rattle.std.specs.Str.Parse.{AllDigits, digits_value}
 pub use Rattle.rpki_text.proofs.DigitLemmas.{below_power, last_digit_below, last_digits_below, length-last_digits, next_below, number-last_digits}
 pub use Rattle.rpki_text.specs.Digits.{from_groups, from_octets, groups_of, octets_of}
 pub use Rattle.rpki_addr.specs.ReaderResults.{numbered, with_octets}
-unfoldable pub use Rattle.rpki_addr.specs.ReaderResults.{hex_value}
 pub use Rattle.rpki_addr.specs.AddressText.{AreGroups, AreGroupsAtEnd, IsGroupText, IsGroupsText, IsIpText, IsIpv4Text, IsIpv6Text, dotted}
 pub use Rattle.rpki_addr.specs.GroupProgress.{IsSoFar, parts}
 pub use Rattle.rpki_addr.specs.PrintedAddress.{HasZeroRun, IsFirstLongestRun, IsMapped, IsPrintedIpv6, IsShortened, IsUnshortened, hex_text, ip_text, ipv4_text}

@@ -6,7 +6,6 @@ pub mod AddressTextLemmas
 pub mod Common
 pub mod DigitGroupLemmas
 pub mod GroupLemmas
-pub mod LookupTables
 pub mod PrintedAddressLemmas
 pub mod UsualGroups
 pub mod WidthLemmas

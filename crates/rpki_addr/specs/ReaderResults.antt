@@ -1,6 +1,5 @@
 -- The results of the readers of addresses at the front of a text: std's readers on lists, with numbers for groups.
-use Rattle.std.specs.Prelude.{ℕ, List, Bool, length, nat_lt, if◌then◌else◌}
-use Rattle.std.specs.Char.{digit_value}
+use Rattle.std.specs.Prelude.{ℕ, List, Bool, length}
 use Rattle.std.specs.Net.Reader.{Segments}
 use Rattle.rpki_text.specs.Digits.{from_groups, from_octets}
 
@@ -16,7 +15,3 @@ with_number read = (from_groups read.0, read.1)
 -- four octets as one number, and the text after them
 abbrev pub with_octets : List ℕ × List ℕ → ℕ × List ℕ
 with_octets read = (from_octets read.0, read.1)
-
--- the value of a hexadecimal digit, or 16 for any other byte
-unfoldable pub hex_value : ℕ → ℕ
-hex_value byte = if nat_lt (digit_value byte) 16 then digit_value byte else 16

@@ -3,6 +3,7 @@ pub mod Common
 pub mod CutLemmas
 pub mod DigitLemmas
 pub mod LineLemmas
+pub mod LookupTables
 pub mod NumberLemmas
 pub mod NumberTexts
 pub mod PrintedListLemmas

@@ -1,5 +1,7 @@
--- Numbers as digits in a base, the highest first: octets in base 256, groups of an IPv6 address in base 65536.
-use Rattle.std.specs.Prelude.{ℕ, zero, suc, ◌/◌, ◌%◌, List, [], ◌∷◌, ◌++◌}
+-- Numbers as digits in a base, the highest first: octets in base 256, groups of an IPv6 address in base 65536. The
+-- value of a hexadecimal digit.
+use Rattle.std.specs.Prelude.{ℕ, zero, suc, ◌/◌, ◌%◌, List, [], ◌∷◌, ◌++◌, nat_lt, if◌then◌else◌}
+use Rattle.std.specs.Char.{digit_value}
 use Rattle.std.specs.Int.Digits.{number_from_digits}
 
 -- the last k digits of n in the base, the highest first
@@ -22,3 +24,7 @@ groups_of n = last_digits 0x10000 8 n
 -- the number that groups of 16 bits write, the highest first
 abbrev pub from_groups : List ℕ → ℕ
 from_groups groups = number_from_digits 0x10000 groups
+
+-- the value of a hexadecimal digit, or 16 for any other byte
+unfoldable pub hex_value : ℕ → ℕ
+hex_value byte = if nat_lt (digit_value byte) 16 then digit_value byte else 16

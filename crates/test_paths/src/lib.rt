@@ -448,6 +448,7 @@ use rpki_resources::ResourceSet as _;
 use rpki_resources::laws::laws_of_changes as _;
 use rpki_text::OrMemory as _;
 use rpki_text::ParseIntError as _;
+use rpki_text::hexadecimal::hex_value as _;
 use rpki_text::line::cut_at_line_end as _;
 use rpki_text::list::FmtElement as _;
 use rpki_text::list::ReadElement as _;

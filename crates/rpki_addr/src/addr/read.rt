@@ -5,10 +5,11 @@ ghost use Rattle.std.specs.Prelude.{◌≡◌, ◌==◌, true, ◌*◌, ◌^◌,
 ghost use Rattle.std.specs.Char.{digit_value};
 ghost use Rattle.std.specs.Net.Reader as Reader;
 ghost use Rattle.rpki_text.specs.Digits.{from_octets};
-ghost use Rattle.rpki_addr.specs.ReaderResults.{numbered, with_number, with_octets, hex_value};
+ghost use Rattle.rpki_addr.specs.ReaderResults.{numbered, with_number, with_octets};
 ghost use Rattle.rpki_addr.specs.GroupProgress.{IsSoFar, parts};
 
 use super::usual::take_usual_ipv6;
+use rpki_text::hexadecimal::hex_value;
 
 /// Returns the value of the decimal digit at an index, or 10 or more if there is no digit.
 #[inline(always)]
@@ -122,32 +123,9 @@ fn take_last_two<'a>(text: &'a [u8], behind_group: &[u8], both_fit: bool) -> Opt
     None
 }
 
-/// The value of each byte as a hexadecimal digit, or 16.
-static HEX_VALUES: [u8; 256] = [
-    16, 16, 16, 16, 16, 16, 16, 16, 16, 16, 16, 16, 16, 16, 16, 16, 16, 16, 16, 16, 16, 16, 16, 16,
-    16, 16, 16, 16, 16, 16, 16, 16, 16, 16, 16, 16, 16, 16, 16, 16, 16, 16, 16, 16, 16, 16, 16, 16,
-    0, 1, 2, 3, 4, 5, 6, 7, 8, 9, 16, 16, 16, 16, 16, 16, 16, 10, 11, 12, 13, 14, 15, 16, 16, 16,
-    16, 16, 16, 16, 16, 16, 16, 16, 16, 16, 16, 16, 16, 16, 16, 16, 16, 16, 16, 16, 16, 16, 16, 10,
-    11, 12, 13, 14, 15, 16, 16, 16, 16, 16, 16, 16, 16, 16, 16, 16, 16, 16, 16, 16, 16, 16, 16, 16,
-    16, 16, 16, 16, 16, 16, 16, 16, 16, 16, 16, 16, 16, 16, 16, 16, 16, 16, 16, 16, 16, 16, 16, 16,
-    16, 16, 16, 16, 16, 16, 16, 16, 16, 16, 16, 16, 16, 16, 16, 16, 16, 16, 16, 16, 16, 16, 16, 16,
-    16, 16, 16, 16, 16, 16, 16, 16, 16, 16, 16, 16, 16, 16, 16, 16, 16, 16, 16, 16, 16, 16, 16, 16,
-    16, 16, 16, 16, 16, 16, 16, 16, 16, 16, 16, 16, 16, 16, 16, 16, 16, 16, 16, 16, 16, 16, 16, 16,
-    16, 16, 16, 16, 16, 16, 16, 16, 16, 16, 16, 16, 16, 16, 16, 16, 16, 16, 16, 16, 16, 16, 16, 16,
-    16, 16, 16, 16, 16, 16, 16, 16, 16, 16, 16, 16, 16, 16,
-];
-
-/// Returns the value of a hexadecimal digit, or 16 for any other byte.
-#[inline(always)]
-pub(super) fn hex_value(byte: u8) -> u8
-    ensures { result ≡ hex_value byte }
-{
-    HEX_VALUES[usize::from(byte)]
-}
-
 /// Returns the value of the hexadecimal digit at an index, or 16 if there is no digit.
 #[inline(always)]
-#[tactic(auto, unfolding(crate::specs::ReaderResults::hex_value))]
+#[tactic(auto, unfolding(rpki_text::specs::Digits::hex_value))]
 fn hex_at(text: &[u8], at: usize) -> u8
     ensures digit { result < 16 → digit_value (get_or text.now at 0) ≡ result }
     ensures some { result < 16 → at < length text.now }

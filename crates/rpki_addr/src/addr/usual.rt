@@ -8,14 +8,15 @@ ghost use Rattle.std.specs.Net.Reader as Reader;
 ghost use Rattle.rpki_addr.specs.ReaderResults.{numbered, with_number};
 ghost use Rattle.rpki_addr.specs.GroupProgress.{EndsGroupAt, IsGroupAt};
 
-use super::read::{hex_value, with_zeros};
+use super::read::with_zeros;
+use rpki_text::hexadecimal::hex_value;
 
 /// The number of bytes of the longest text of eight groups, and one more.
 const ROOM: usize = 40;
 
 /// Returns the value of the hexadecimal digit at an index, or 16 if another byte is there.
 #[inline(always)]
-#[tactic(auto, unfolding(crate::specs::ReaderResults::hex_value))]
+#[tactic(auto, unfolding(rpki_text::specs::Digits::hex_value))]
 fn digit_at(text: &[u8], at: usize) -> u32
     requires { at < length text.now }
     ensures digit { result < 16 → digit_value (get_or text.now at 0) ≡ result }

@@ -1,5 +1,7 @@
 -- A table that has what is wanted at each place, by a test that computes.
-use Rattle.rpki_addr.proofs.Common.{Bool, List, arith, get_or, inl, inr, nat_eq, suc, true, zero, ℕ, ◌&&◌, ◌<◌, ◌≡◌, and_parts, cases_eq, eqb-true}
+use Rattle.rpki_text.proofs.Common.{Bool, List, arith, get_or, suc, true, zero, ℕ, ◌&&◌, ◌<◌, ◌≡◌}
+use Rattle.std.proofs.Common.{inl, inr, nat_eq}
+use Rattle.std.proofs.lemmas.Bool.{and_parts, cases_eq, eqb-true}
 
 -- the table has what f gives, below n
 unfoldable pub agrees_below : List ℕ → (ℕ → ℕ) → ℕ → Bool

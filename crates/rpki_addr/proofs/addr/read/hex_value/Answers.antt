@@ -1,9 +1,0 @@
--- The table is held against the definition at each of the 256 bytes, by computing.
-use Rattle.rpki_addr.proofs.Common.{arith, refl, hex_value}
-use Rattle.rpki_addr.specs.declared.addr.read.TheConstants.{HEX_VALUES}
-use Rattle.rpki_addr.proofs.LookupTables.{agrees_below, agrees_at}
-use Rattle.rpki_addr.proofs.addr.read.hex_value.Goals as goal
-
-pub returns : goal.returns
-unfolding agrees_below hex_value
-returns c = rw c.from.ensures (agrees_at HEX_VALUES hex_value 256 refl c.args.byte (omega arith))

@@ -120,6 +120,7 @@ PATHS_HEAD = """//! A `use` line of each public path that docs/api shows. `tests
 # The internal API: items that are public only for the crates above. Users have a call that does the whole task.
 # A path includes all paths below it.
 INTERNAL = (
+    "rpki_text::cut",
     "rpki_text::hexadecimal",
     "rpki_text::line",
     "rpki_text::list",

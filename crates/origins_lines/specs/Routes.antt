@@ -3,8 +3,7 @@
 use Rattle.std.specs.Prelude.{◌≡◌, ◌⊎◌, ◌==◌, ◌-◌, ◌++◌, ℕ, Bool, List, [], Option, Some, None, codes, length, slice_get, slice_index}
 use Rattle.std.specs.List.{after_first, after_last, before_first, position_or_len, slice_split}
 use Rattle.std.specs.Str.{IsUtf8, trim}
-use Rattle.rpki_text.specs.Cuts.{is_space}
-use Rattle.origins_lines.specs.Words.{is_comma_byte}
+use Rattle.rpki_text.specs.Cuts.{is_comma, is_space}
 use Rattle.rpki_base.specs.AsnText.{IsAsnText}
 use Rattle.rpki_prefix.specs.PrefixText.{IsPrefixText, HasPrefixTextFault, prefix_fault_text}
 use Rattle.rpki_prefix.specs.Values.{FamilyPrefix}
@@ -52,11 +51,11 @@ AreRouteWords line = IsRouteBy (IsAsnOrigin (origin_word line)) (prefix_word lin
 
 -- the text of a line up to its first comma, without white space at its ends
 abbrev pub prefix_part : List ℕ → List ℕ
-prefix_part line = trim (before_first is_comma_byte line)
+prefix_part line = trim (before_first is_comma line)
 
 -- the text of a line after its first comma, without white space at its ends
 abbrev pub origin_part : List ℕ → List ℕ
-origin_part line = trim (after_first is_comma_byte line)
+origin_part line = trim (after_first is_comma line)
 
 -- the line has no space, and would give a route if its first comma were a space
 pub record HasCommaForSpace (line : List ℕ) : Type 0 where

@@ -1,9 +1,5 @@
 -- The words of a route's line, and the lines for a line without a route.
-use Rattle.std.specs.Prelude.{ℕ, Bool, ◌==◌, List, ◌++◌, codes}
-
--- whether a byte is a comma, which some write in place of the space
-abbrev pub is_comma_byte : ℕ → Bool
-is_comma_byte byte = byte == 44
+use Rattle.std.specs.Prelude.{ℕ, List, ◌++◌, codes}
 
 -- the line that reports a fault: its text, after `error: `
 abbrev pub fault_line : List ℕ → List ℕ

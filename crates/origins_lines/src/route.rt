@@ -1,8 +1,7 @@
 //! The route that a line gives.
 ghost use Rattle.std.specs.Prelude.{◌≡◌, ◌↔◌, ◌∷◌, [], ◌<◌, ℕ, List, IsTrue, MatchBool, MatchOption, MatchResult, length};
-ghost use Rattle.std.specs.List.{after_first, after_last, before_first, position_or_len};
+ghost use Rattle.std.specs.List.{after_last, position_or_len};
 ghost use Rattle.rpki_text.specs.Cuts.{is_space};
-ghost use Rattle.origins_lines.specs.Words.{is_comma_byte};
 ghost use Rattle.rpki_text.specs.Reading.{Answers};
 ghost use Rattle.origins_lines.specs.Routes.{AreRouteWords, HasDumpFault, HasCommaForSpace, HasFaultBy, HasReadFault, HasRouteFault, HasWordFault, HaveWordsFault, IsAsnOrigin, IsConfedWord, IsDumpRoute, IsFieldAt, IsKindOf, IsNoAsnText, IsNoFieldAt, IsReadLine, IsReadOf, IsRouteBy, IsSetWord, IsTableName, IsUpdateName, IsWordOrigin, HasNoOrigin, fields_of, origin_part, origin_word, prefix_part, prefix_word};
 
@@ -10,6 +9,7 @@ use crate::fault::RouteFault;
 use rpki_base::Asn;
 use rpki_base::asn::ParseAsnError;
 use rpki_prefix::Prefix;
+use rpki_text::cut::cut_at;
 use std::str::FromStr;
 
 /// The index of the prefix among the fields of a dump's line.
@@ -211,19 +211,8 @@ fn parts_of(line: &str) -> (&str, &str)
     ensures prefix { result.0.now ≡ prefix_part line.now }
     ensures origin { result.1.now ≡ origin_part line.now }
 {
-    let (prefix, origin) = cut_at_comma(line);
+    let (prefix, origin) = cut_at(line, ',');
     (prefix.trim(), origin.trim())
-}
-
-/// Returns the text before the first comma and the text after it, which is empty if there is no comma.
-fn cut_at_comma(text: &str) -> (&str, &str)
-    ensures before { result.0.now ≡ before_first is_comma_byte text.now }
-    ensures behind { result.1.now ≡ after_first is_comma_byte text.now }
-{
-    match text.split_once(',') {
-        Some((before, behind)) => (before, behind),
-        None => (text, ""),
-    }
 }
 
 /// Returns the route of a prefix and an AS number.
@@ -245,19 +234,8 @@ fn words_of(line: &str) -> (&str, &str)
     ensures prefix { result.0.now ≡ prefix_word line.now }
     ensures origin { result.1.now ≡ origin_word line.now }
 {
-    let (prefix, origin) = cut_at_space(line);
+    let (prefix, origin) = cut_at(line, ' ');
     (prefix.trim(), origin.trim())
-}
-
-/// Returns the text before the first space and the text after it, which is empty if there is no space.
-fn cut_at_space(text: &str) -> (&str, &str)
-    ensures before { result.0.now ≡ before_first is_space text.now }
-    ensures behind { result.1.now ≡ after_first is_space text.now }
-{
-    match text.split_once(' ') {
-        Some((before, behind)) => (before, behind),
-        None => (text, ""),
-    }
 }
 
 /// Returns the route of a dump's line whose path has the index `path_place`.

@@ -1,7 +1,8 @@
 -- The fields of a header, one after another, until one is the name of the column `Expires`.
 use Rattle.roa_expiry.proofs.Common.{List, [], arith, suc, ℕ, ◌+◌, ◌-◌, ◌<◌, ◌≡◌, ◌≢◌}
 use Rattle.std.specs.List.{after_first}
-use Rattle.roa_vrps.specs.Fields.{field, is_comma}
+use Rattle.rpki_text.specs.Cuts.{is_comma}
+use Rattle.roa_vrps.specs.Fields.{field}
 use Rattle.roa_vrps.proofs.FieldLemmas.{field_empty}
 use Rattle.roa_expiry.specs.RowExpiries.{IsExpiresIndex, expires_column}
 

@@ -9,9 +9,10 @@ ghost use Rattle.roa_expiry.specs.declared.fault.ExpiryFault.TheVariants.{Line};
 use crate::expiry::time_of;
 use crate::fault::ExpiryFault;
 use roa_vrps::columns::Columns;
-use roa_vrps::field::{cut_at_comma, field_at, value_of};
+use roa_vrps::field::{field_at, value_of};
 use roa_vrps::row::{Row, read_row};
 use rpki_base::memory::OrMemory;
+use rpki_text::cut::cut_at;
 use rpki_text::line::cut_at_line_end;
 use std::alloc::Allocator;
 
@@ -83,7 +84,7 @@ fn expires_index(header: &str) -> Option<usize>
     let mut rest = header;
     let mut commas = 0;
     while !rest.is_empty() {
-        let (part, behind) = cut_at_comma(rest);
+        let (part, behind) = cut_at(rest, ',');
         if is_expires(value_of(part)) {
             return Some(commas);
         }

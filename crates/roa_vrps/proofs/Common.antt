@@ -15,10 +15,11 @@ pub use Rattle.json.specs.Reads.{token_of}
 pub use Rattle.json.specs.Token.{Token}
 pub use Rattle.json.specs.Value.{members_view, value_view}
 pub use Rattle.rpki_prefix.specs.MaxLen.{HasMaxLenError, IsMaxLenOf, MaxLenValue}
+pub use Rattle.rpki_text.specs.Cuts.{is_comma}
 pub use Rattle.rpki_text.specs.Lists.{comma}
 pub use Rattle.rpki_text.specs.Reading.{Answers, AnswersOrMemory}
 pub use Rattle.roa_vrps.specs.Columns.{IsColumn, IsHeader, Names, usual}
-pub use Rattle.roa_vrps.specs.Fields.{after_commas, field, is_comma, unquoted}
+pub use Rattle.roa_vrps.specs.Fields.{after_commas, field, unquoted}
 pub use Rattle.roa_vrps.specs.Items.{AreItems, HasItemFault, HasTexts, HaveWrongItem, IsItem}
 pub use Rattle.roa_vrps.specs.JsonFiles.{HasJsonFault, IsJsonFile, IsRoasResult, roas}
 pub use Rattle.roa_vrps.specs.Members.{AreWrong, HasMemberFault, HasText, IsFound, values_in}

@@ -2,10 +2,7 @@
 use Rattle.std.specs.Prelude.{ℕ, zero, suc, Bool, List, ◌==◌, ◌&&◌, ◌+◌, ◌-◌, length, nat_lt, slice_index, slice_range, if◌then◌else◌}
 use Rattle.std.specs.List.{before_first, after_first, count_by}
 use Rattle.std.specs.Str.{trim}
-
--- whether a byte is a comma, which ends a field
-abbrev pub is_comma : ℕ → Bool
-is_comma byte = byte == 44
+use Rattle.rpki_text.specs.Cuts.{is_comma}
 
 -- the text after this number of commas of a line; it is empty if the line has fewer
 abbrev pub after_commas : ℕ → List ℕ → List ℕ

@@ -7,9 +7,9 @@ use Rattle.std.specs.Str.Parse.{AllDigits}
 use Rattle.rpki_addr.specs.declared.addr.IpAddr.{IpAddr}
 use Rattle.rpki_prefix.specs.MaxLen.{IsMaxLenOf, MaxLenValue}
 use Rattle.rpki_prefix.specs.Values.{IsPrefixOf}
+use Rattle.rpki_text.specs.Cuts.{is_comma}
 use Rattle.rpki_text.specs.Lists.{comma}
 use Rattle.rpki_text.specs.Numbers.{IsNumberText}
-use Rattle.roa_vrps.specs.Fields.{is_comma}
 use Rattle.roa_vrps.specs.Rows.{AreVrpTexts}
 use Rattle.roa_vrps.specs.declared.columns.Columns.{Columns}
 

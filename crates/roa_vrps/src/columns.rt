@@ -3,7 +3,8 @@ ghost use Rattle.std.specs.Prelude.{◌↔◌, ℕ, IsTrue, MatchOption};
 ghost use Rattle.roa_vrps.specs.Columns.{IsColumn, IsHeader, Names};
 ghost use Rattle.roa_vrps.specs.Fields.{field};
 
-use crate::field::{cut_at_comma, field_count, value_of};
+use crate::field::{field_count, value_of};
+use rpki_text::cut::cut_at;
 
 /// A column that a line with a VRP must have.
 #[derive(Clone, Copy, Debug, PartialEq, Eq)]
@@ -37,7 +38,7 @@ impl Column {
         let mut rest = line;
         let mut commas = 0;
         while !rest.is_empty() {
-            let (part, behind) = cut_at_comma(rest);
+            let (part, behind) = cut_at(rest, ',');
             if self.is_named(value_of(part)) {
                 return Some(commas);
             }

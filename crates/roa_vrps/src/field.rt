@@ -1,20 +1,9 @@
 //! Cuts a line into fields.
-ghost use Rattle.std.specs.Prelude.{◌≡◌, ◌<◌, length};
-ghost use Rattle.std.specs.List.{before_first, after_first};
+ghost use Rattle.std.specs.Prelude.{◌≡◌};
 ghost use Rattle.std.specs.Str.{trim};
-ghost use Rattle.roa_vrps.specs.Fields.{field, field_count, is_comma, unquoted};
+ghost use Rattle.roa_vrps.specs.Fields.{field, field_count, unquoted};
 
-/// Returns the text before the first comma, and the text after it, which is empty if there is no comma.
-pub fn cut_at_comma(text: &str) -> (&str, &str)
-    ensures before { result.0.now ≡ before_first is_comma text.now }
-    ensures behind { result.1.now ≡ after_first is_comma text.now }
-    ensures shorter { 0 < length text.now → length result.1.now < length text.now }
-{
-    match text.split_once(',') {
-        Some((before, behind)) => (before, behind),
-        None => (text, ""),
-    }
-}
+use rpki_text::cut::cut_at;
 
 /// Returns `text` without the quotes at both its ends, if it has them.
 fn without_quotes(text: &str) -> &str
@@ -42,11 +31,11 @@ pub fn field_at(line: &str, commas: usize) -> &str
     let mut rest = line;
     let mut left = commas;
     while left > 0 {
-        let (_, behind) = cut_at_comma(rest);
+        let (_, behind) = cut_at(rest, ',');
         rest = behind;
         left -= 1;
     }
-    let (part, _) = cut_at_comma(rest);
+    let (part, _) = cut_at(rest, ',');
     value_of(part)
 }
 

@@ -1,12 +1,12 @@
 -- What the proofs of this crate use of std, of the crates below and of its own definitions, passed on by one name.
-pub use Rattle.std.proofs.Common.{Bool, Bor, Err, IsTrue, List, None, Ok, Result, Some, [], ap, append-nil, append_assoc, ap₂, arith, codes, decimal, drop, drop_at, false, flat_map, get_or, inl, inr, le-ltb, length, length-append, length-take-le, lit<, lit≤, lt-ltb, map, nat_eq, nat_lt, option_map, refl, replicate, rules, subst, suc, sym, take, true, zero, ℕ, ◌%◌, ◌&&◌, ◌*◌, ◌++◌, ◌+◌, ◌-◌, ◌/◌, ◌<◌, ◌==◌, ◌^◌, ◌∙◌, ◌∷◌, ◌≡◌, ◌≢◌, ◌≤◌, ◌⊎◌}
+pub use Rattle.std.proofs.Common.{Bool, Bor, Err, IsTrue, List, None, Ok, Result, Some, [], ap, append-nil, append_assoc, ap₂, arith, codes, decimal, drop, drop_at, false, flat_map, get_or, inl, inr, le-ltb, length, length-append, length-take-le, lit<, lit≤, lt-ltb, map, nat_lt, option_map, refl, replicate, rules, subst, suc, sym, take, true, zero, ℕ, ◌%◌, ◌*◌, ◌++◌, ◌+◌, ◌-◌, ◌/◌, ◌<◌, ◌==◌, ◌^◌, ◌∙◌, ◌∷◌, ◌≡◌, ◌≢◌, ◌≤◌, ◌⊎◌}
 pub use Rattle.std.proofs.Math.Nat.{div-div-eq-div-mul, mul-one, mul_assoc, pow-le-pow_right, pow-succ', pow-zero}
 pub use Rattle.std.proofs.NetLemmas.Alphabet.{All-ipv4_text, IsDigitOrDot}
 pub use Rattle.std.proofs.NetLemmas.Ipv4.{read_ipv4_complete, read_ipv4_sound}
 pub use Rattle.std.proofs.NetLemmas.Ipv6.{IsDotted-not_colon_hex, read_ipv6_complete, read_ipv6_sound}
 pub use Rattle.std.proofs.NetLemmas.Options.{same_parts}
 pub use Rattle.std.proofs.NetLemmas.Texts.{AllSegments, AllSegments-drop, IsColonHex-ipv6_text}
-pub use Rattle.std.proofs.lemmas.Bool.{and_parts, cases_eq, cases_lt, cond_both, eqb-true, lt-leb}
+pub use Rattle.std.proofs.lemmas.Bool.{cases_eq, cases_lt, cond_both, lt-leb}
 pub use Rattle.std.proofs.lemmas.Bool.Decides.{nat_tests}
 pub use Rattle.std.proofs.lemmas.Fmt.{decimal_is_IsNumeral}
 pub use Rattle.std.proofs.lemmas.Int.Digits.{digits_value-lt, number_after_append, number_push}

@@ -9,6 +9,10 @@ dash = 45
 abbrev pub slash : ℕ
 slash = 47
 
+-- the comma, which ends a field
+abbrev pub is_comma : ℕ → Bool
+is_comma byte = byte == 44
+
 -- the space, which ends a word
 abbrev pub is_space : ℕ → Bool
 is_space byte = byte == 32

@@ -12,6 +12,7 @@
 //! ```
 #![tactic(auto)]
 
+pub mod cut;
 pub mod hexadecimal;
 pub mod line;
 pub mod list;

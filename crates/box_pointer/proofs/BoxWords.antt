@@ -1,5 +1,9 @@
 -- The two words of a box that is taken apart: its pointer, and its allocator's handle.
-use Rattle.box_pointer.proofs.Common.{List, [], refl, subst, ℕ, ◌++◌, ◌∷◌, ◌≡◌, Al, handle_tells, Good, Fml, fst∗, never, RawPtr, layout, Laws, RattleType, Valss, Ptr, block_ptr, in_a_block, null_ptr, ptr_val, nothing, dnil, impl, tnil, Val, WT, has_ty, of_list, vcons, vnil, vptr, vstruct, Goal, Item, Seq, Step, drop, feq_i, feq_l, fjoin, fpack, fpick, fsplit, move, step, ‵, ◌$◌, Logic, sem}
+use Rattle.box_pointer.proofs.Common.{List, [], refl, subst, ℕ, ◌++◌, ◌∷◌, ◌≡◌, Al, handle_tells, Good, Fml, fst∗}
+use Rattle.box_pointer.proofs.Common.{never, RawPtr, layout, Laws, RattleType, Valss, Ptr, block_ptr, in_a_block}
+use Rattle.box_pointer.proofs.Common.{null_ptr, ptr_val, nothing, dnil, impl, tnil, Val, WT, has_ty, of_list, vcons}
+use Rattle.box_pointer.proofs.Common.{vnil, vptr, vstruct, Goal, Item, Seq, Step, drop, feq_i, feq_l, fjoin, fpack}
+use Rattle.box_pointer.proofs.Common.{fpick, fsplit, move, step, ‵, ◌$◌, Logic, sem}
 use mathlib.Core.Bool.{true, ◌&&◌}
 use lib.Dec.{T}
 use seplogic.Ra.Ura.{Ura}
@@ -40,7 +44,8 @@ module _ (R Z : RattleType) (L : Laws Z) (g : Ghosts Z.Denot) where
         let HasWords = λ (ps hs : List Val). vs ≡ vstruct (of_list (ps ++ (hs ++ []))) ∷ [] in
         fsplit t $ fpick t (λ each. fsplit t $ feq_l t (λ all. fsplit t $ feq_l t (λ pointer. fsplit t $
         handle_tells heap t d.alloc each.1.0 (λ h handle good. move t (1 ∷ []) $ drop t $ move t (1 ∷ []) $
-        in_a_block t d.at (Boxed d.alloc d.value) (fst∗ 𝓤 (never 𝓤) (sem 𝓛 (g.dealloc_token d.alloc (bare (lone R.mir)) null_ptr))) (λ b o at.
+        in_a_block t d.at (Boxed d.alloc d.value)
+        (fst∗ 𝓤 (never 𝓤) (sem 𝓛 (g.dealloc_token d.alloc (bare (lone R.mir)) null_ptr))) (λ b o at.
         let by_pointer = subst (λ (ps : List Val). HasWords ps each.1.0) pointer all in
         let by_handle = subst (λ (hs : List Val). HasWords (ptr_val d.at ∷ []) hs) handle by_pointer in
         next b o h at (subst (λ (p : Ptr). HasWords (ptr_val p ∷ []) (h ∷ [])) at by_handle) good)))))
@@ -50,6 +55,8 @@ module _ (R Z : RattleType) (L : Laws Z) (g : Ghosts Z.Denot) where
         → Step K 𝓛 (‵ (Parts.own_val (record { at = block_ptr b o; alloc = a; value = x }) (words b o h ∷ [])) ∷ Γ) G
         (‵ (Boxed a x (block_ptr b o)) ∷ ‵ (Z.own_val a (h ∷ [])) ∷ Γ) G
     together t b o h a x = step (λ rest. let w : Val = words b o h in let p : List Val = vptr b o ∷ [] in
-        nothing t $ move t (2 ∷ 0 ∷ []) $ fjoin t $ feq_i t (List Val) p p refl $ fjoin t $ feq_i t (List Val) (w ∷ []) (w ∷ []) refl $ fjoin t $
-        fpack t (Valss (RawPtr ∷ Z ∷ [])) (within (shape (parts.the_type R Z g)) (block_ptr b o, (a, tt)) (w ∷ [])) (p, (h ∷ [], tt)) $
+        nothing t $ move t (2 ∷ 0 ∷ []) $ fjoin t $ feq_i t (List Val) p p refl $ fjoin t $
+        feq_i t (List Val) (w ∷ []) (w ∷ []) refl $ fjoin t $
+        fpack t (Valss (RawPtr ∷ Z ∷ [])) (within (shape (parts.the_type R Z g)) (block_ptr b o, (a, tt)) (w ∷ []))
+        (p, (h ∷ [], tt)) $
         fjoin t $ rest)

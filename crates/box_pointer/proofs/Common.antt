@@ -25,7 +25,9 @@ pub use mir.Syntax.{Args, Dict, Fn, a_type, dcons, dnil, impl, tnil}
 pub use mir.Val.{Val, WT, has_ty, of_list, vcons, vnil, vptr, vstruct}
 pub use prog.Wp.{WpFn}
 pub use types.ByLocal.{alloc_all, env, free_all, get, get_in, lands_as, lands_last, look_at, pass_all, sets}
-pub use types.Kit.{Goal, !, Item, Seq, Step, at_ret, await, by, drop, feq_i, feq_l, fjoin, fpack, fpick, fsplit, join, keep, later, move, pick, qed, raw, rewrite, some, split, split3, step, suffices, use0, use1, ‵, ◌$◌, ◌∵◌, ◌⊛◌}
+pub use types.Kit.{Goal, !, Item, Seq, Step, at_ret, await, by, drop, feq_i, feq_l, fjoin, fpack, fpick, fsplit, join}
+pub use types.Kit.{keep, later, move, pick, qed, raw, rewrite, some, split, split3, step, suffices, use0, use1, ‵, ◌$◌}
+pub use types.Kit.{◌∵◌, ◌⊛◌}
 pub use types.Logic.{Logic, sem}
 pub use types.Part.{agg, sub, whole}
 pub use types.Run.{and_then, blocks, enter, exec, first, fld, no_more, of_opd, returns, stop}

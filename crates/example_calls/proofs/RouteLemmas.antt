@@ -1,5 +1,6 @@
 -- Routes that are counted one after another.
-use Rattle.example_calls.proofs.Common.{List, [], arith, get_or, length, refl, take, ℕ, ◌++◌, ◌+◌, ◌<◌, ◌∙◌, ◌∷◌, ◌≡◌, ◌≤◌, length_push, AreThose}
+use Rattle.example_calls.proofs.Common.{List, [], arith, get_or, length, refl, take, ℕ, ◌++◌, ◌+◌, ◌<◌, ◌∙◌, ◌∷◌, ◌≡◌}
+use Rattle.example_calls.proofs.Common.{◌≤◌, length_push, AreThose}
 use Rattle.roa_origin.proofs.SortedMerge.{stays_at}
 
 -- how many elements P holds of

@@ -25,4 +25,5 @@ IsFirstOverclaim root numbers v4 v6 (Asn refusal) = IsFirstRefusal (λ claim. cl
 IsFirstOverclaim root numbers v4 v6 (Ipv4 refusal) =
     ((set : Runs) × IsLeftOf root.asn numbers set) × IsFirstRefusal (λ claim. claim) (Holds root.ipv4) v4 refusal
 IsFirstOverclaim root numbers v4 v6 (Ipv6 refusal) =
-    ((set : Runs) × IsLeftOf root.asn numbers set) × ((set : Runs) × IsLeftOf root.ipv4 v4 set) × IsFirstRefusal (λ claim. claim) (Holds root.ipv6) v6 refusal
+    ((set : Runs) × IsLeftOf root.asn numbers set) × ((set : Runs) × IsLeftOf root.ipv4 v4 set)
+    × IsFirstRefusal (λ claim. claim) (Holds root.ipv6) v6 refusal

@@ -18,8 +18,10 @@ IsInvalid vrps route = IsRouteCovered route.0 vrps × ¬ IsMatched route.0 route
 
 -- count is the number of invalid routes; a repeated route counts each time
 abbrev pub IsCountOfInvalid : List Vrp → List Route → ℕ → Type 0
-IsCountOfInvalid vrps routes count = (invalid : List Route) × AreThose (IsInvalid vrps) routes invalid × (count ≡ length invalid)
+IsCountOfInvalid vrps routes count =
+    (invalid : List Route) × AreThose (IsInvalid vrps) routes invalid × (count ≡ length invalid)
 
 -- the prefix is the first one that isn't inside its family's set
 abbrev pub IsFirstExcess : Triple → List MaxLenValue → MaxLenValue → Type 0
-IsFirstExcess set prefixes prefix = (at : ℕ) × IsFirstOutside set prefixes (Some at) × HoldsAt (λ e. e ≡ prefix) prefixes at
+IsFirstExcess set prefixes prefix =
+    (at : ℕ) × IsFirstOutside set prefixes (Some at) × HoldsAt (λ e. e ≡ prefix) prefixes at

@@ -38,4 +38,5 @@ IsInput text input = OfTwoLines text (λ first second. AreLists first input.had 
 abbrev pub HasInputFault : List ℕ → InputError → Type 0
 HasInputFault text (Lines count) = (length (lines text) ≡ count) × (count ≢ 2)
 HasInputFault text (Had count) = OfTwoLines text (λ first second. HasOtherCount first count)
-HasInputFault text (Gets count) = OfTwoLines text (λ first second. (length (lists_of first) ≡ 3) × HasOtherCount second count)
+HasInputFault text (Gets count) =
+    OfTwoLines text (λ first second. (length (lists_of first) ≡ 3) × HasOtherCount second count)

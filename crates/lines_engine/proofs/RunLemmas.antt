@@ -1,5 +1,8 @@
 -- Steps of a run.
-use Rattle.lines_engine.proofs.Common.{List, None, Option, Some, [], append-nil, append_assoc, arith, drop, length, refl, take, ℕ, ◌++◌, ◌-◌, ◌∷◌, ◌≡◌, flat_map-append, Appends, Keeps, IfSome, lines_of, AnswersAll, AnswersFirst, BeginsAnswers, HasAnswered, HasAnsweredLine, HasWritten, as_line}
+use Rattle.lines_engine.proofs.Common.{List, None, Option, Some, [], append-nil, append_assoc, arith, drop, length}
+use Rattle.lines_engine.proofs.Common.{refl, take, ℕ, ◌++◌, ◌-◌, ◌∷◌, ◌≡◌, flat_map-append, Appends, Keeps, IfSome}
+use Rattle.lines_engine.proofs.Common.{lines_of, AnswersAll, AnswersFirst, BeginsAnswers, HasAnswered, HasAnsweredLine}
+use Rattle.lines_engine.proofs.Common.{HasWritten, as_line}
 use Rattle.std.specs.List.{AllZip}
 use Rattle.std.proofs.lemmas.List.{take-append-drop, length-drop}
 use Rattle.std.proofs.Math.Seq.{take-length}

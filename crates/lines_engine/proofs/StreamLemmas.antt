@@ -1,5 +1,8 @@
 -- Steps of a run that answers as it reads.
-use Rattle.lines_engine.proofs.Common.{List, Option, [], ap, append_assoc, arith, length, length-append, refl, suc, ℕ, ◌++◌, ◌<◌, ◌∷◌, ◌≡◌, ◌≢◌, Consumes, Keeps, IfErr, IfSome, IsErrOf, OnOk, Result, HasNo, IsCutAt, lines_of, AnswersAll, AnswersBut, AnswersFirst, AnswersSomeOf, BeginsAnswers, BeginsAnswersOf, HasAnswered, HasAnsweredLine}
+use Rattle.lines_engine.proofs.Common.{List, Option, [], ap, append_assoc, arith, length, length-append, refl, suc, ℕ}
+use Rattle.lines_engine.proofs.Common.{◌++◌, ◌<◌, ◌∷◌, ◌≡◌, ◌≢◌, Consumes, Keeps, IfErr, IfSome, IsErrOf, OnOk, Result}
+use Rattle.lines_engine.proofs.Common.{HasNo, IsCutAt, lines_of, AnswersAll, AnswersBut, AnswersFirst, AnswersSomeOf}
+use Rattle.lines_engine.proofs.Common.{BeginsAnswers, BeginsAnswersOf, HasAnswered, HasAnsweredLine}
 use Rattle.std.proofs.Math.ListN.{get_or-append}
 use Rattle.std.proofs.Math.Seq.{get_or-append_right}
 use Rattle.std.proofs.lemmas.Bool.{eqb-true}

@@ -17,14 +17,16 @@ pub record HasWritten (old new : Option (List ℕ)) (bytes unwritten : List ℕ)
   pub wrote : Appends old new written
 
 -- The line was answered. Its answer and an end of line were written, except `unwritten` at their end.
-pub record HasAnsweredLine (Is : List ℕ → List ℕ → Type 0) (old new : Option (List ℕ)) (line unwritten : List ℕ) : Type 0 where
+pub record HasAnsweredLine (Is : List ℕ → List ℕ → Type 0) (old new : Option (List ℕ)) (line unwritten : List ℕ)
+    : Type 0 where
   pub text : List ℕ
   pub is_answer : Is line text
   pub wrote : HasWritten old new (as_line text) unwritten
 
 -- These lines were answered in order, except `rest` at their end. The answers were written as lines, except `unwritten`
 -- at their end.
-pub record HasAnswered (Is : List ℕ → List ℕ → Type 0) (old new : Option (List ℕ)) (lines rest : List (List ℕ)) (unwritten : List ℕ) : Type 0 where
+pub record HasAnswered (Is : List ℕ → List ℕ → Type 0) (old new : Option (List ℕ)) (lines rest : List (List ℕ))
+    (unwritten : List ℕ) : Type 0 where
   pub answered : List (List ℕ)
   pub texts : List (List ℕ)
   pub lines_are : lines ≡ answered ++ rest
@@ -38,11 +40,13 @@ AnswersAll Is old new input = HasAnswered Is old new (lines_of input) [] []
 -- The answers to some first lines of the input were written whole. They are not the answers to all lines, unless the
 -- input has no line.
 abbrev pub AnswersFirst : (List ℕ → List ℕ → Type 0) → Option (List ℕ) → Option (List ℕ) → List ℕ → Type 0
-AnswersFirst Is old new input = (rest : List (List ℕ)) × HasAnswered Is old new (lines_of input) rest [] × (rest ≡ [] → lines_of input ≡ [])
+AnswersFirst Is old new input =
+    (rest : List (List ℕ)) × HasAnswered Is old new (lines_of input) rest [] × (rest ≡ [] → lines_of input ≡ [])
 
 -- a beginning of the answers to the lines of the input was written
 abbrev pub BeginsAnswers : (List ℕ → List ℕ → Type 0) → Option (List ℕ) → Option (List ℕ) → List ℕ → Type 0
-BeginsAnswers Is old new input = (rest : List (List ℕ)) × ((unwritten : List ℕ) × HasAnswered Is old new (lines_of input) rest unwritten)
+BeginsAnswers Is old new input =
+    (rest : List (List ℕ)) × ((unwritten : List ℕ) × HasAnswered Is old new (lines_of input) rest unwritten)
 
 -- the answers to some first ones of these lines, not to all, were written whole
 abbrev pub AnswersSomeOf : (List ℕ → List ℕ → Type 0) → Option (List ℕ) → Option (List ℕ) → List (List ℕ) → Type 0
@@ -50,7 +54,8 @@ AnswersSomeOf Is old new lines = (rest : List (List ℕ)) × (rest ≢ []) × Ha
 
 -- some first ones of these lines were answered, and a beginning of the answers was written
 abbrev pub BeginsAnswersOf : (List ℕ → List ℕ → Type 0) → Option (List ℕ) → Option (List ℕ) → List (List ℕ) → Type 0
-BeginsAnswersOf Is old new lines = (rest : List (List ℕ)) × ((unwritten : List ℕ) × HasAnswered Is old new lines rest unwritten)
+BeginsAnswersOf Is old new lines =
+    (rest : List (List ℕ)) × ((unwritten : List ℕ) × HasAnswered Is old new lines rest unwritten)
 
 -- The answers to some first lines of the input were written whole. The other lines are those of `part`, which was read,
 -- followed by `left`, which is left to read. `input` and `left` are the known bytes of the reader before and after the
@@ -59,7 +64,8 @@ abbrev pub AnswersBut : (List ℕ → List ℕ → Type 0) → Option (List ℕ)
     → Option (List ℕ) → List ℕ → Type 0
 AnswersBut Is old new None left part = ⊤
 AnswersBut Is old new (Some input) None part = ⊥
-AnswersBut Is old new (Some input) (Some left) part = HasAnswered Is old new (lines_of input) (lines_of (part ++ left)) []
+AnswersBut Is old new (Some input) (Some left) part =
+    HasAnswered Is old new (lines_of input) (lines_of (part ++ left)) []
 
 -- The answers to the lines whose ends were read, and to no other line, were written whole: `part`, which was read and
 -- not answered, has no end of line. `input` and `left` are as in `AnswersBut`.

@@ -1,5 +1,7 @@
 -- Answers by a table are answers by the list that it was made of.
-use Rattle.origins_lines.proofs.Common.{arith, Bool, List, Option, [], ℕ, ◌∷◌, ◌≡◌, IfSome, OnOk, Result, AnswersAll, AnswersEnded, AnswersFirst, BeginsAnswers, Err, HasAnswered, HasFileFault, IsJsonAnswer, IsOriginAnswer, IsVrpFile, Vrp, ByFile}
+use Rattle.origins_lines.proofs.Common.{arith, Bool, List, Option, [], ℕ, ◌∷◌, ◌≡◌, IfSome, OnOk, Result, AnswersAll}
+use Rattle.origins_lines.proofs.Common.{AnswersEnded, AnswersFirst, BeginsAnswers, Err, HasAnswered, HasFileFault}
+use Rattle.origins_lines.proofs.Common.{IsJsonAnswer, IsOriginAnswer, IsVrpFile, Vrp, ByFile}
 use Rattle.std.specs.List.{AllZip}
 use Rattle.std.specs.List.Sorted.{IsPermutation}
 use Rattle.std.proofs.lemmas.List.Sorted.{IsPermutation-sym}

@@ -1,7 +1,11 @@
 -- What the proofs of this crate use of std, of the crates below and of its own definitions, passed on by one name.
-pub use Rattle.std.proofs.Common.{◌&&◌, Bool, Err, List, MatchResult, None, Ok, Option, Result, Some, [], ap, append_assoc, arith, drop, eq-eqb, false, get_or, get_or-drop, inl, inr, length, length-drop, map, ne_eqb, not, refl, reverse, rules, subst, sym, take, true, ℕ, ◌++◌, ◌+◌, ◌-◌, ◌<◌, ◌↔◌, ◌∙◌, ◌∷◌, ◌≡◌, ◌≢◌, ◌≤◌, ◌⊎◌}
+pub use Rattle.std.proofs.Common.{◌&&◌, Bool, Err, List, MatchResult, None, Ok, Option, Result, Some, [], ap}
+pub use Rattle.std.proofs.Common.{append_assoc, arith, drop, eq-eqb, false, get_or, get_or-drop, inl, inr, length}
+pub use Rattle.std.proofs.Common.{length-drop, map, ne_eqb, not, refl, reverse, rules, subst, sym, take, true, ℕ, ◌++◌}
+pub use Rattle.std.proofs.Common.{◌+◌, ◌-◌, ◌<◌, ◌↔◌, ◌∙◌, ◌∷◌, ◌≡◌, ◌≢◌, ◌≤◌, ◌⊎◌}
 pub use Rattle.std.proofs.lemmas.List.{append-nil, length-append, map-append}
-pub use Rattle.std.proofs.lemmas.List.Sorted.{Contains-permutation, IsPermutation-map, IsPermutation-reverse, IsPermutation-sym}
+pub use Rattle.std.proofs.lemmas.List.Sorted.{Contains-permutation, IsPermutation-map, IsPermutation-reverse}
+pub use Rattle.std.proofs.lemmas.List.Sorted.{IsPermutation-sym}
 pub use Rattle.std.specs.List.{AllPairs, Contains, after_first, after_last, before_first, position_or_len, suffix_len}
 pub use Rattle.std.specs.List.Sorted.{IsNonDecreasingBy, IsPermutation}
 pub use Rattle.std.specs.Prelude.{IfSome, IsTrue, OnErr, OnOk, slice_get}
@@ -17,10 +21,16 @@ pub use Rattle.rpki_prefix.specs.Values.{FamilyPrefix, IsFamilyPrefix}
 pub use Rattle.rpki_text.specs.Cuts.{is_space}
 pub use Rattle.origins_lines.specs.Answers.{IsExplanationIf, IsOriginAnswer, IsRouteAnswer}
 pub use Rattle.origins_lines.specs.Checks.{HasFound, IsFaultInitial, IsSeen}
-pub use Rattle.origins_lines.specs.Explanations.{AreReasonTexts, IsExplainedBefore, IsExplanation, IsExplanationText, IsNextReasonText, IsReason, is_first, item_text}
-pub use Rattle.origins_lines.specs.JsonAnswers.{IsErrorObject, IsJsonAnswer, IsJsonRouteAnswer, IsLineValue, IsVrpsMember, object_head}
+pub use Rattle.origins_lines.specs.Explanations.{AreReasonTexts, IsExplainedBefore, IsExplanation, IsExplanationText}
+pub use Rattle.origins_lines.specs.Explanations.{IsNextReasonText, IsReason, is_first, item_text}
+pub use Rattle.origins_lines.specs.JsonAnswers.{IsErrorObject, IsJsonAnswer, IsJsonRouteAnswer, IsLineValue}
+pub use Rattle.origins_lines.specs.JsonAnswers.{IsVrpsMember, object_head}
 pub use Rattle.origins_lines.specs.Outcomes.{IsOutcomeOf, asked_asn, outcome_text}
-pub use Rattle.origins_lines.specs.Routes.{AreRouteWords, HasDumpFault, HasFaultBy, HasLineFault, HasReadFault, HasRouteFault, HasWordFault, HaveWordsFault, IsAsnOrigin, IsDumpRoute, IsFieldAt, IsLineOf, IsNoAsnText, IsNoFieldAt, IsPathPlace, IsReadLine, IsReadOf, IsRouteBy, IsRouteLine, IsSkippedLine, IsWordOrigin, fields_of, is_bar, last_word, origin_word, prefix_word, route_fault_text}
+pub use Rattle.origins_lines.specs.Routes.{AreRouteWords, HasDumpFault, HasFaultBy, HasLineFault, HasReadFault}
+pub use Rattle.origins_lines.specs.Routes.{HasRouteFault, HasWordFault, HaveWordsFault, IsAsnOrigin, IsDumpRoute}
+pub use Rattle.origins_lines.specs.Routes.{IsFieldAt, IsLineOf, IsNoAsnText, IsNoFieldAt, IsPathPlace, IsReadLine}
+pub use Rattle.origins_lines.specs.Routes.{IsReadOf, IsRouteBy, IsRouteLine, IsSkippedLine, IsWordOrigin, fields_of}
+pub use Rattle.origins_lines.specs.Routes.{is_bar, last_word, origin_word, prefix_word, route_fault_text}
 pub use Rattle.origins_lines.specs.Runs.{ByFile, WritesBetween, change_lines, vrp_line, vrp_lines}
 pub use Rattle.origins_lines.specs.Words.{fault_line, skipped_text}
 pub use Rattle.origins_lines.specs.declared.explanation.Form.{Form}

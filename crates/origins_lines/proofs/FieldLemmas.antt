@@ -1,5 +1,8 @@
 -- How a dump's line is cut: at each bar, and its path at the last space.
-use Rattle.origins_lines.proofs.Common.{List, None, Some, [], ap, arith, drop, eq-eqb, get_or, get_or-drop, length, length-drop, ne_eqb, not, ℕ, ◌-◌, ◌<◌, ◌∙◌, ◌∷◌, ◌≡◌, ◌≢◌, ◌≤◌, after_first, after_last, before_first, position_or_len, suffix_len, slice_get, fields_of, is_bar, is_space}
+use Rattle.origins_lines.proofs.Common.{List, None, Some, [], ap, arith, drop, eq-eqb, get_or, get_or-drop, length}
+use Rattle.origins_lines.proofs.Common.{length-drop, ne_eqb, not, ℕ, ◌-◌, ◌<◌, ◌∙◌, ◌∷◌, ◌≡◌, ◌≢◌, ◌≤◌, after_first}
+use Rattle.origins_lines.proofs.Common.{after_last, before_first, position_or_len, suffix_len, slice_get, fields_of}
+use Rattle.origins_lines.proofs.Common.{is_bar, is_space}
 use Rattle.std.specs.Str.Pattern.{RFindsChar, SplitsAroundMatch}
 use Rattle.std.proofs.lemmas.List.Sums.{fails_before_first, suffix_len_is}
 use Rattle.std.proofs.lemmas.List.Splits.{slice_split_first, slice_split_none}

@@ -1,5 +1,7 @@
 -- The text of a string of JSON, and the answer to what a line gives as an object of JSON.
-use Rattle.origins_lines.proofs.Common.{Bool, List, Option, Some, [], append-nil, inl, inr, ℕ, ◌∷◌, ◌≡◌, Vrp, HasRouteFault, IsErrorObject, IsJsonAnswer, IsJsonRouteAnswer, IsReadLine, Route}
+use Rattle.origins_lines.proofs.Common.{Bool, List, Option, Some, [], append-nil, inl, inr, ℕ, ◌∷◌, ◌≡◌, Vrp}
+use Rattle.origins_lines.proofs.Common.{HasRouteFault, IsErrorObject, IsJsonAnswer, IsJsonRouteAnswer, IsReadLine}
+use Rattle.origins_lines.proofs.Common.{Route}
 use Rattle.json.specs.Print.{print, print_from, quoted}
 use Rattle.json.specs.Token.{string}
 use Rattle.origins_lines.specs.declared.fault.RouteFault.{RouteFault}

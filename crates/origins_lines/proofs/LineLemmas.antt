@@ -1,5 +1,6 @@
 -- The changes that are written of two tables, and what holds if a call fails.
-use Rattle.origins_lines.proofs.Common.{List, Option, ℕ, Ok, OnErr, Result, HasWritten, Vrp, WritesBetween, change_lines}
+use Rattle.origins_lines.proofs.Common.{List, Option, ℕ, Ok, OnErr, Result, HasWritten, Vrp, WritesBetween}
+use Rattle.origins_lines.proofs.Common.{change_lines}
 use Rattle.std.specs.Prelude.{Err}
 use Rattle.roa_origin.specs.Tables.{IsWithout}
 

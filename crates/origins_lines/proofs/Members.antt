@@ -1,5 +1,6 @@
 -- Members of a list the other way round, and what an iterator has given of a list.
-use Rattle.origins_lines.proofs.Common.{List, [], Contains-permutation, IsPermutation-reverse, IsPermutation-sym, Contains, ap, reverse, ◌++◌, ◌∙◌, ◌∷◌, ◌≡◌}
+use Rattle.origins_lines.proofs.Common.{List, [], Contains-permutation, IsPermutation-reverse, IsPermutation-sym}
+use Rattle.origins_lines.proofs.Common.{Contains, ap, reverse, ◌++◌, ◌∙◌, ◌∷◌, ◌≡◌}
 use Rattle.std.specs.Iterator.{Yields, YieldsFirst}
 
 module _ {X : Type 0} where

@@ -1,5 +1,11 @@
 -- An answer is the only one, and the same in whatever order the VRPs stand.
-use Rattle.origins_lines.proofs.Common.{Bool, List, None, Some, [], ap, arith, false, inl, inr, sym, true, ℕ, ◌∙◌, ◌∷◌, ◌≡◌, Contains-permutation, IsPermutation-map, IsPermutation-sym, IsPermutation, Vrp, as_sent, FamilyPrefix, IsOriginAnswer, IsExplanationIf, IsRouteAnswer, IsExplanation, IsExplanationText, Form, IsErrorObject, IsJsonAnswer, IsJsonRouteAnswer, IsLineValue, IsVrpsMember, IsReason, IsExplainedBefore, AreReasonTexts, IsOutcomeOf, asked_asn, route_fault_text, fault_line, Option, Reason, Outcome}
+use Rattle.origins_lines.proofs.Common.{Bool, List, None, Some, [], ap, arith, false, inl, inr, sym, true, ℕ, ◌∙◌, ◌∷◌}
+use Rattle.origins_lines.proofs.Common.{◌≡◌, Contains-permutation, IsPermutation-map, IsPermutation-sym, IsPermutation}
+use Rattle.origins_lines.proofs.Common.{Vrp, as_sent, FamilyPrefix, IsOriginAnswer, IsExplanationIf, IsRouteAnswer}
+use Rattle.origins_lines.proofs.Common.{IsExplanation, IsExplanationText, Form, IsErrorObject, IsJsonAnswer}
+use Rattle.origins_lines.proofs.Common.{IsJsonRouteAnswer, IsLineValue, IsVrpsMember, IsReason, IsExplainedBefore}
+use Rattle.origins_lines.proofs.Common.{AreReasonTexts, IsOutcomeOf, asked_asn, route_fault_text, fault_line, Option}
+use Rattle.origins_lines.proofs.Common.{Reason, Outcome}
 use Rattle.roa_origin.specs.declared.validation.Validity.TheVariants as Validities
 use Rattle.roa_origin.proofs.SortedSearch.{any_moved}
 use Rattle.roa_origin.proofs.ListMembers.{same_list}
@@ -82,7 +88,8 @@ outcome_one route asn xs a b h k =
 explained_one : (route : FamilyPrefix) (vrps explained other : List Vrp) → IsExplanation route vrps explained
     → IsExplanation route vrps other → explained ≡ other
 explained_one route vrps explained other h k =
-    same_list IsExplainedBefore not_back explained other h.ordered k.ordered (λ p. grind (arith, h.members p, k.members p))
+    same_list IsExplainedBefore not_back explained other h.ordered k.ordered
+    (λ p. grind (arith, h.members p, k.members p))
 
 -- ---- so one text
 

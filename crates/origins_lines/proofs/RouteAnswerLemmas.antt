@@ -1,5 +1,7 @@
 -- The answer to what a line gives.
-use Rattle.origins_lines.proofs.Common.{Bool, List, Option, Some, inl, inr, ℕ, ◌≡◌, Vrp, FamilyPrefix, HasRouteFault, IsOriginAnswer, IsReadLine, IsRouteAnswer, asked_asn, fault_line, route_fault_text, Route}
+use Rattle.origins_lines.proofs.Common.{Bool, List, Option, Some, inl, inr, ℕ, ◌≡◌, Vrp, FamilyPrefix, HasRouteFault}
+use Rattle.origins_lines.proofs.Common.{IsOriginAnswer, IsReadLine, IsRouteAnswer, asked_asn, fault_line}
+use Rattle.origins_lines.proofs.Common.{route_fault_text, Route}
 use Rattle.origins_lines.specs.declared.fault.RouteFault.{RouteFault}
 
 -- the answer to the route that a line gives is an answer to the line

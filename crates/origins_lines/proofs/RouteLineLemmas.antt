@@ -1,5 +1,11 @@
 -- A line writes one route alone, or has one fault.
-use Rattle.origins_lines.proofs.Common.{Err, List, MatchResult, Ok, Option, Result, Some, [], ap, arith, inr, length, ℕ, ◌+◌, ◌<◌, ◌∙◌, ◌≡◌, ◌⊎◌, length-append, position_or_len, is_space, IsUtf8, trim, AreRouteWords, HasDumpFault, HasFaultBy, HasLineFault, HasRouteFault, HasWordFault, HaveWordsFault, IsAsnOrigin, IsDumpRoute, IsFieldAt, IsLineOf, IsNoAsnText, IsNoFieldAt, IsPathPlace, IsReadLine, IsReadOf, IsRouteBy, IsWordOrigin, last_word, origin_word, prefix_word, HasReadFault, Route, None, refl}
+use Rattle.origins_lines.proofs.Common.{Err, List, MatchResult, Ok, Option, Result, Some, [], ap, arith, inr, length, ℕ}
+use Rattle.origins_lines.proofs.Common.{◌+◌, ◌<◌, ◌∙◌, ◌≡◌, ◌⊎◌, length-append, position_or_len, is_space, IsUtf8, trim}
+use Rattle.origins_lines.proofs.Common.{AreRouteWords, HasDumpFault, HasFaultBy, HasLineFault, HasRouteFault}
+use Rattle.origins_lines.proofs.Common.{HasWordFault, HaveWordsFault, IsAsnOrigin, IsDumpRoute, IsFieldAt, IsLineOf}
+use Rattle.origins_lines.proofs.Common.{IsNoAsnText, IsNoFieldAt, IsPathPlace, IsReadLine, IsReadOf, IsRouteBy}
+use Rattle.origins_lines.proofs.Common.{IsWordOrigin, last_word, origin_word, prefix_word, HasReadFault, Route, None}
+use Rattle.origins_lines.proofs.Common.{refl}
 use Rattle.rpki_text.specs.Reading.{Answers}
 use Rattle.rpki_text.proofs.ReadingLemmas.{Answers-from_found}
 use Rattle.rpki_base.proofs.AsnLemmas.{IsAsnText-one}
@@ -124,7 +130,9 @@ module _ (line : List ℕ) where
       let words = words_decided (origin_word line) (prefix_word line) in
       record {
         one = words.one;
-        apart = λ a f h wrong. grind (arith, words.apart a f h, λ (comma : HasCommaForSpace line). no_words comma.no_space a h);
+        apart =
+            λ a f h wrong.
+            grind (arith, words.apart a f h, λ (comma : HasCommaForSpace line). no_words comma.no_space a h);
         same = λ d e h k. grind (arith, words.same d e);
       }
 

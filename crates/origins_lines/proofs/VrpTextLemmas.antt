@@ -1,5 +1,6 @@
 -- What is printed of a VRP is UTF-8, by its parts.
-use Rattle.origins_lines.proofs.Common.{List, None, Option, Some, [], arith, refl, true, ℕ, ◌≡◌, ◌++◌, ◌<◌, ◌∷◌, IsUtf8, Vrp, FamilyPrefix, IsFamilyPrefix, Reason}
+use Rattle.origins_lines.proofs.Common.{List, None, Option, Some, [], arith, refl, true, ℕ, ◌≡◌, ◌++◌, ◌<◌, ◌∷◌, IsUtf8}
+use Rattle.origins_lines.proofs.Common.{Vrp, FamilyPrefix, IsFamilyPrefix, Reason}
 use lib.Utf8.{encode}
 use Rattle.std.specs.Prelude.{◌^◌, codes, decimal}
 use Rattle.std.proofs.lemmas.Fmt.{IsAscii-decimal}
@@ -16,7 +17,8 @@ use Rattle.rpki_text.specs.Cuts.{dash, slash}
 use Rattle.lines_engine.specs.Run.{as_line}
 use Rattle.roa_origin.specs.Vrps.{longest}
 use Rattle.std.specs.Str.{chars, is_utf8}
-use Rattle.origins_lines.specs.Explanations.{asn_key, max_length_key, prefix_key, reason_and_vrp_text, reason_key, reason_text, vrp_back, vrp_front, vrp_object}
+use Rattle.origins_lines.specs.Explanations.{asn_key, max_length_key, prefix_key, reason_and_vrp_text, reason_key}
+use Rattle.origins_lines.specs.Explanations.{reason_text, vrp_back, vrp_front, vrp_object}
 use Rattle.origins_lines.specs.Runs.{vrp_text}
 use Rattle.origins_lines.specs.declared.explanation.Reason.TheVariants.{Match, Length, As}
 
@@ -26,7 +28,8 @@ behind constant text is h = IsUtf8-append constant text (IsUtf8-from_is_utf8 con
 
 -- an address
 address : (a : IpAddr) → IsUtf8 (ip_text a)
-address a = IsUtf8-from_ascii (ip_text a) (IsAscii-from_all (ip_text a) (λ k d small. grind (arith, ip_bytes a k d small)))
+address a =
+    IsUtf8-from_ascii (ip_text a) (IsAscii-from_all (ip_text a) (λ k d small. grind (arith, ip_bytes a k d small)))
 
 -- a number
 number : (n : ℕ) → n < 2 ^ 64 → IsUtf8 (decimal n)
@@ -69,7 +72,8 @@ module _ (p : Vrp) (lawful : IsMaxLenPrefix p.0) (small : p.1 < 2 ^ 32) where
   unfolding is_utf8 chars encode
   word_is_utf8 r =
       let start = IsUtf8-append _ _ (behind (codes " ") _ refl (reason r)) (IsUtf8-from_is_utf8 (codes ":") refl) in
-      let max = IsUtf8-append _ _ (IsUtf8-append _ _ start (prefix p.0.prefix lawful.0)) (behind (dash ∷ []) _ refl len) in
+      let max =
+      IsUtf8-append _ _ (IsUtf8-append _ _ start (prefix p.0.prefix lawful.0)) (behind (dash ∷ []) _ refl len) in
       IsUtf8-append _ _ (IsUtf8-append _ _ max (IsUtf8-from_is_utf8 (codes ":") refl)) (asn p.1 small)
 
   front : (r : Reason) → IsUtf8 (vrp_front r p)

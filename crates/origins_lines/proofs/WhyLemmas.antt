@@ -1,13 +1,20 @@
 -- The VRPs that cover a route, explained one after another.
-use Rattle.origins_lines.proofs.Common.{Bool, List, false, true, ◌&&◌, None, Option, Some, [], append_assoc, arith, get_or, inl, inr, length, map, refl, reverse, sym, ℕ, ◌++◌, ◌+◌, ◌↔◌, ◌∷◌, ◌≡◌, ◌≢◌, ◌≤◌, ◌⊎◌, append-nil, length-append, map-append, AllPairs, Contains, IsNonDecreasingBy, AreThose, CoversRoute, IsLawfulVrp, Vrp, prefix_len, as_sent, FamilyPrefix, IsFamilyPrefix, IsExplanation, IsReason, IsExplainedBefore, AreReasonTexts, IsNextReasonText, Form, Reason, is_first, item_text}
+use Rattle.origins_lines.proofs.Common.{Bool, List, false, true, ◌&&◌, None, Option, Some, [], append_assoc, arith}
+use Rattle.origins_lines.proofs.Common.{get_or, inl, inr, length, map, refl, reverse, sym, ℕ, ◌++◌, ◌+◌, ◌↔◌, ◌∷◌, ◌≡◌}
+use Rattle.origins_lines.proofs.Common.{◌≢◌, ◌≤◌, ◌⊎◌, append-nil, length-append, map-append, AllPairs, Contains}
+use Rattle.origins_lines.proofs.Common.{IsNonDecreasingBy, AreThose, CoversRoute, IsLawfulVrp, Vrp, prefix_len, as_sent}
+use Rattle.origins_lines.proofs.Common.{FamilyPrefix, IsFamilyPrefix, IsExplanation, IsReason, IsExplainedBefore}
+use Rattle.origins_lines.proofs.Common.{AreReasonTexts, IsNextReasonText, Form, Reason, is_first, item_text}
 use Rattle.std.proofs.lemmas.Bool.{cases_lt}
 use Rattle.std.proofs.lemmas.Grind.{reverse_onto}
 use Rattle.std.proofs.lemmas.List.{get_or-append-add, reverse-append}
-use Rattle.std.proofs.lemmas.List.Elements.{Contains-append_left, Contains-append_right, Contains-get_or, Contains-push, Contains-push_cases}
+use Rattle.std.proofs.lemmas.List.Elements.{Contains-append_left, Contains-append_right, Contains-get_or, Contains-push}
+use Rattle.std.proofs.lemmas.List.Elements.{Contains-push_cases}
 use Rattle.std.proofs.lemmas.List.Quantifiers.{all_pairs_push}
 use Rattle.roa_origin.specs.Places.{table_place}
 use Rattle.roa_origin.proofs.NestedRoutes.{covers_between}
-use Rattle.roa_origin.proofs.OrderNumbers.{by_ranks, covers_place, no_earlier, rank_asn, rank_longest, rank_small, same_prefix, upper}
+use Rattle.roa_origin.proofs.OrderNumbers.{by_ranks, covers_place, no_earlier, rank_asn, rank_longest, rank_small}
+use Rattle.roa_origin.proofs.OrderNumbers.{same_prefix, upper}
 use Rattle.roa_origin.proofs.ListMembers.{here, map_from, map_has, those_are, those_have}
 use Rattle.origins_lines.specs.declared.explanation.Form.TheVariants.{Json, Words}
 use Rattle.origins_lines.proofs.Members.{from_reverse, to_reverse}
@@ -167,7 +174,8 @@ module _ (form : Form) (route : FamilyPrefix) (asn : ℕ) (done : List Vrp) (x :
             (λ k d small. earlier (get_or had.explained k d) (Contains-get_or had.explained k d small));
         members = λ p. rw more_sent (same_pushed had.explained (map as_sent done) (as_sent x) p (had.members p));
         texts = rw (← had.first, ← item_sent form (is_empty had.explained) reason x)
-            (reason_texts_push form true route asn had.explained text (as_sent x) reason (reason_sent reason is) had.texts);
+            (reason_texts_push form true route asn had.explained text (as_sent x) reason (reason_sent reason is)
+            had.texts);
         first = empty_pushed had.explained (as_sent x);
         up_to = λ q h. elim (Contains-push_cases had.explained (as_sent x) q h) [
           | inl there ↦ inl (earlier q there)
@@ -204,7 +212,8 @@ all_explained form route asn table all last text those had = record {
 }
 
 -- the next VRP of those that cover a route
-module _ (form : Form) (route : FamilyPrefix) (is : IsFamilyPrefix route) (asn : ℕ) (table all done rest : List Vrp) (x : Vrp)
+module _ (form : Form) (route : FamilyPrefix) (is : IsFamilyPrefix route) (asn : ℕ) (table all done rest : List Vrp)
+    (x : Vrp)
     (lawful : IsLawfulVrp x) (those : AreThose (CoversRoute route) table (reverse all))
     (lens : IsNonDecreasingBy prefix_len (reverse all)) (places : IsNonDecreasingBy table_place (reverse all))
     (cut : all ≡ done ++ x ∷ rest) where

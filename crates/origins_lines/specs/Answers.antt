@@ -19,7 +19,8 @@ IsExplanationIf true vrps route asn text = IsExplanationText Words route asn vrp
 -- the text is the word for the outcome of the route that the AS originates, with its explanation if that is requested
 abbrev pub IsRouteAnswer : Bool → List Vrp → FamilyPrefix → ℕ → List ℕ → Type 0
 IsRouteAnswer why vrps route asn text =
-    (outcome : Outcome) × IsOutcomeOf route asn vrps outcome × (behind : List ℕ) × IsExplanationIf why vrps route asn behind × (text ≡ outcome_text outcome ++ behind)
+    (outcome : Outcome) × IsOutcomeOf route asn vrps outcome × (behind : List ℕ)
+    × IsExplanationIf why vrps route asn behind × (text ≡ outcome_text outcome ++ behind)
 
 -- the text is the answer to the route that the line gives, to a line that announces none, or to the fault of the line
 abbrev pub IsOriginAnswer : Bool → List Vrp → List ℕ → List ℕ → Type 0

@@ -1,5 +1,6 @@
 -- The lines that a check looks for: at a place they have 'i' or 'e', as the answers to invalid routes and errors do.
-use Rattle.std.specs.Prelude.{◌≡◌, ◌==◌, ◌&&◌, ◌||◌, ℕ, ◌+◌, ◌<◌, ◌⊎◌, ◌↔◌, Bool, true, false, IsTrue, List, [], ◌∷◌, Option, None, Some, length, min, nat_le, not, slice_index_or, take, if◌then◌else◌}
+use Rattle.std.specs.Prelude.{◌≡◌, ◌==◌, ◌&&◌, ◌||◌, ℕ, ◌+◌, ◌<◌, ◌⊎◌, ◌↔◌, Bool, true, false, IsTrue, List, [], ◌∷◌}
+use Rattle.std.specs.Prelude.{Option, None, Some, length, min, nat_le, not, slice_index_or, take, if◌then◌else◌}
 use Rattle.origins_lines.specs.declared.check.Seen.{Seen}
 
 -- the number of octets after the last 0a; the number before the first octet is `column`
@@ -17,7 +18,8 @@ IsFaultInitial octet = (octet ≡ 105) ⊎ (octet ≡ 101)
 
 -- a line of the octets has 'i' or 'e' after `place` other octets
 abbrev pub HasFound : ℕ → List ℕ → Type 0
-HasFound place octets = (at : ℕ) × (at < length octets) × (column_of octets at ≡ place) × IsFaultInitial (slice_index_or octets at 0)
+HasFound place octets =
+    (at : ℕ) × (at < length octets) × (column_of octets at ≡ place) × IsFaultInitial (slice_index_or octets at 0)
 
 -- the state of a check of octets: the octets of the last line, at most one more than `place`, and whether a line has
 -- 'i' or 'e' at the place
@@ -32,7 +34,8 @@ seen_nothing place = record { place = place; column = 0; has_found = false }
 
 -- the column after one more octet
 abbrev pub column_with : Seen → ℕ → ℕ
-column_with seen octet = if octet == 10 then 0 else (if nat_le seen.column seen.place then seen.column + 1 else seen.column)
+column_with seen octet =
+    if octet == 10 then 0 else (if nat_le seen.column seen.place then seen.column + 1 else seen.column)
 
 -- the state after one more octet
 abbrev pub seen_with : Seen → ℕ → Seen

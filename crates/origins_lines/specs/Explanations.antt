@@ -1,5 +1,6 @@
 -- The VRPs that cover a route, and the relation of each to the route (RFC 6811, 2).
-use Rattle.std.specs.Prelude.{◌≡◌, ◌⊎◌, ◌↔◌, ◌<◌, ◌≤◌, ℕ, Bool, true, false, List, [], ◌∷◌, ◌++◌, Option, Some, None, AllPairs, Contains, codes, decimal, map}
+use Rattle.std.specs.Prelude.{◌≡◌, ◌⊎◌, ◌↔◌, ◌<◌, ◌≤◌, ℕ, Bool, true, false, List, [], ◌∷◌, ◌++◌, Option, Some, None}
+use Rattle.std.specs.Prelude.{AllPairs, Contains, codes, decimal, map}
 use Rattle.rpki_text.specs.Cuts.{dash}
 use Rattle.rpki_base.specs.AsnText.{asn_text}
 use Rattle.rpki_prefix.specs.PrefixText.{prefix_text}
@@ -38,7 +39,8 @@ pub record IsExplanation (route : FamilyPrefix) (vrps explained : List Vrp) : Ty
 -- the text printed for a VRP: a space, its relation to the route, and the prefix with its length, the maximum length,
 -- and the AS
 abbrev pub reason_and_vrp_text : Reason → Vrp → List ℕ
-reason_and_vrp_text reason p = codes " " ++ reason_text reason ++ codes ":" ++ prefix_text p.0.prefix ++ dash ∷ decimal (longest p) ++ codes ":" ++ asn_text p.1
+reason_and_vrp_text reason p = codes " " ++ reason_text reason ++ codes ":" ++ prefix_text p.0.prefix ++ dash
+    ∷ decimal (longest p) ++ codes ":" ++ asn_text p.1
 
 -- the texts before the members of an object of JSON for a VRP
 unfoldable pub reason_key : List ℕ
@@ -75,7 +77,8 @@ item_text Json false reason p = codes "," ++ vrp_object reason p
 abbrev pub AreReasonTexts : Form → Bool → FamilyPrefix → ℕ → List Vrp → List ℕ → Type 0
 AreReasonTexts form first route asn [] text = text ≡ []
 AreReasonTexts form first route asn (p ∷ explained) text =
-    (reason : Reason) × IsReason route asn p reason × (more : List ℕ) × (text ≡ item_text form first reason p ++ more) × AreReasonTexts form false route asn explained more
+    (reason : Reason) × IsReason route asn p reason × (more : List ℕ) × (text ≡ item_text form first reason p ++ more)
+    × AreReasonTexts form false route asn explained more
 
 -- the VRP is the same, as it is sent, as the one before it
 abbrev pub IsSentAgain : Option Vrp → Vrp → Type 0
@@ -90,8 +93,11 @@ is_first (Some before) = false
 -- the text printed for a VRP after the one before it; it is empty if both are sent alike
 abbrev pub IsNextReasonText : Form → FamilyPrefix → ℕ → Option Vrp → Vrp → List ℕ → Type 0
 IsNextReasonText form route asn last p text =
-    (IsSentAgain last p × (text ≡ [])) ⊎ ((¬ IsSentAgain last p) × ((reason : Reason) × IsReason route asn p reason × (text ≡ item_text form (is_first last) reason p)))
+    (IsSentAgain last p × (text ≡ []))
+    ⊎ ((¬ IsSentAgain last p)
+    × ((reason : Reason) × IsReason route asn p reason × (text ≡ item_text form (is_first last) reason p)))
 
 -- the text is the explanation of a route
 abbrev pub IsExplanationText : Form → FamilyPrefix → ℕ → List Vrp → List ℕ → Type 0
-IsExplanationText form route asn vrps text = (explained : List Vrp) × IsExplanation route vrps explained × AreReasonTexts form true route asn explained text
+IsExplanationText form route asn vrps text =
+    (explained : List Vrp) × IsExplanation route vrps explained × AreReasonTexts form true route asn explained text

@@ -48,7 +48,9 @@ IsVrpsMember true vrps route asn text =
 -- the text is the object for the route to a prefix
 abbrev pub IsJsonRouteAnswer : Bool → List Vrp → FamilyPrefix → Option ℕ → List ℕ → Type 0
 IsJsonRouteAnswer why vrps prefix origin text =
-    (outcome : Outcome) × IsOutcomeOf prefix (asked_asn origin) vrps outcome × (member : List ℕ) × IsVrpsMember why vrps prefix (asked_asn origin) member × (text ≡ object_head outcome prefix origin ++ member ++ codes "}")
+    (outcome : Outcome) × IsOutcomeOf prefix (asked_asn origin) vrps outcome × (member : List ℕ)
+    × IsVrpsMember why vrps prefix (asked_asn origin) member
+    × (text ≡ object_head outcome prefix origin ++ member ++ codes "}")
 
 -- the text is the value for a line: a string of JSON (RFC 8259, 7), or null if the line is not UTF-8 (RFC 8259, 8.1)
 abbrev pub IsLineValue : List ℕ → List ℕ → Type 0
@@ -57,7 +59,10 @@ IsLineValue line text = (IsUtf8 line × (text ≡ quoted line)) ⊎ ((¬ IsUtf8 
 -- the text is the object for a line that is not a route: its fault and the line
 abbrev pub IsErrorObject : RouteFault → List ℕ → List ℕ → Type 0
 IsErrorObject fault line text =
-    (value : List ℕ) × IsLineValue line value × (text ≡ codes "{\"state\":\"error\",\"error\":" ++ quoted (route_fault_text fault) ++ codes ",\"line\":" ++ value ++ codes "}")
+    (value : List ℕ) × IsLineValue line value
+    × (text
+    ≡ codes "{\"state\":\"error\",\"error\":" ++ quoted (route_fault_text fault) ++ codes ",\"line\":" ++ value
+    ++ codes "}")
 
 -- the object for a line that announces no route
 abbrev pub skipped_object : List ℕ

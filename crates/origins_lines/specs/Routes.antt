@@ -1,6 +1,7 @@
 -- The route of a line: a prefix and an AS number, or a line of `bgpdump -m`, which prints the tables and the updates of
 -- route collectors (RFC 6396, 4.2 to 4.4; RFC 8050, 3 and 4).
-use Rattle.std.specs.Prelude.{◌≡◌, ◌⊎◌, ◌==◌, ◌-◌, ◌++◌, ℕ, Bool, List, [], Option, Some, None, codes, length, slice_get, slice_index}
+use Rattle.std.specs.Prelude.{◌≡◌, ◌⊎◌, ◌==◌, ◌-◌, ◌++◌, ℕ, Bool, List, [], Option, Some, None, codes, length}
+use Rattle.std.specs.Prelude.{slice_get, slice_index}
 use Rattle.std.specs.List.{after_first, after_last, before_first, position_or_len, slice_split}
 use Rattle.std.specs.Str.{IsUtf8, trim}
 use Rattle.rpki_text.specs.Cuts.{is_comma, is_space}
@@ -156,13 +157,15 @@ HasWordFault word = (¬ HasNoOrigin word) × IsNoAsnText word
 
 -- the route of a dump's line whose path has the index n
 abbrev pub IsDumpRoute : ℕ → List ℕ → Route → Type 0
-IsDumpRoute n line route = (prefix : List ℕ) × (path : List ℕ) × AreDumpTexts n line prefix path × IsRouteBy (IsWordOrigin (last_word path)) prefix route
+IsDumpRoute n line route = (prefix : List ℕ) × (path : List ℕ) × AreDumpTexts n line prefix path
+    × IsRouteBy (IsWordOrigin (last_word path)) prefix route
 
 -- the fault of a dump's line: a field is missing, or the prefix or the origin has a fault
 abbrev pub HasDumpFault : ℕ → List ℕ → RouteFault → Type 0
 HasDumpFault n line fault =
     ((IsNoFieldAt 5 line ⊎ IsNoFieldAt n line) × (fault ≡ TooFewFields))
-    ⊎ ((prefix : List ℕ) × (path : List ℕ) × AreDumpTexts n line prefix path × HasFaultBy (HasWordFault (last_word path)) prefix fault)
+    ⊎ ((prefix : List ℕ) × (path : List ℕ) × AreDumpTexts n line prefix path
+    × HasFaultBy (HasWordFault (last_word path)) prefix fault)
 
 -- ---- any line
 
@@ -178,11 +181,13 @@ IsKindOf line Words = IsNoDump line × ¬ AnnouncesNothing line
 
 -- the route of a line without white space at its ends
 abbrev pub IsLineOf : List ℕ → Route → Type 0
-IsLineOf line route = (IsNoDump line × AreRouteWords line route) ⊎ ((n : ℕ) × IsPathPlace line n × IsDumpRoute n line route)
+IsLineOf line route =
+    (IsNoDump line × AreRouteWords line route) ⊎ ((n : ℕ) × IsPathPlace line n × IsDumpRoute n line route)
 
 -- the first fault of a line without white space at its ends
 abbrev pub HasLineFault : List ℕ → RouteFault → Type 0
-HasLineFault line fault = (IsNoDump line × HaveWordsFault line fault) ⊎ ((n : ℕ) × IsPathPlace line n × HasDumpFault n line fault)
+HasLineFault line fault =
+    (IsNoDump line × HaveWordsFault line fault) ⊎ ((n : ℕ) × IsPathPlace line n × HasDumpFault n line fault)
 
 -- what is read of a line without white space at its ends: its route, or nothing if it announces none
 abbrev pub IsReadOf : List ℕ → Option Route → Type 0

@@ -8,12 +8,14 @@ use Rattle.pigyelund_c.specs.Numbers.{addresses_there, mode_number, numbers_ther
 use Rattle.pigyelund_c.specs.declared.certificate.Certificate.{Certificate}
 use Rattle.pigyelund_c.specs.declared.encodings.Present.{Present}
 use Rattle.pigyelund_c.specs.declared.refusal.ArgumentError.{ArgumentError}
-use Rattle.pigyelund_c.specs.declared.refusal.ArgumentError.TheVariants.{NoEncoding, NoMode, NoPresence, NoFamily, Outside}
+use Rattle.pigyelund_c.specs.declared.refusal.ArgumentError.TheVariants.{NoEncoding, NoMode, NoPresence, NoFamily}
+use Rattle.pigyelund_c.specs.declared.refusal.ArgumentError.TheVariants.{Outside}
 
 -- ---- as octets and numbers
 
 -- The certificate has the octets of the extensions that are present, the encoding, and the mode with this number.
-pub record IsCertificate (present : ℕ) (numbers addresses : List ℕ) (encoding : Encoding) (mode : ℕ) (certificate : Extensions) : Type 0 where
+pub record IsCertificate (present : ℕ) (numbers addresses : List ℕ) (encoding : Encoding) (mode : ℕ)
+    (certificate : Extensions) : Type 0 where
   pub there : Present
   pub is_there : present ≡ present_number there
   pub numbers_are : octets_of_numbers certificate ≡ numbers_there there numbers
@@ -24,7 +26,8 @@ pub record IsCertificate (present : ℕ) (numbers addresses : List ℕ) (encodin
 -- The number of the extensions that are present is unknown, or else the number of the mode is.
 abbrev pub IsArgumentError : ℕ → ℕ → ArgumentError → Type 0
 IsArgumentError present mode NoPresence = (there : Present) → present ≢ present_number there
-IsArgumentError present mode NoMode = ((there : Present) × (present ≡ present_number there)) × ((m : Overclaim) → mode ≢ mode_number m)
+IsArgumentError present mode NoMode =
+    ((there : Present) × (present ≡ present_number there)) × ((m : Overclaim) → mode ≢ mode_number m)
 IsArgumentError present mode NoEncoding = ⊥
 IsArgumentError present mode NoFamily = ⊥
 IsArgumentError present mode Outside = ⊥
@@ -37,7 +40,8 @@ pub record LiesInRun (run : List ℕ) (c : Certificate) : Type 0 where
   pub addresses : c.ip_start + c.ip_len ≤ length run
 
 -- The certificate has the octets of the two ranges of the run.
-pub record IsCertificateAt (run : List ℕ) (encoding : Encoding) (c : Certificate) (certificate : Extensions) : Type 0 where
+pub record IsCertificateAt (run : List ℕ) (encoding : Encoding) (c : Certificate) (certificate : Extensions)
+    : Type 0 where
   pub inside : LiesInRun run c
   pub says : IsCertificate c.present (slice_range run c.as_start (c.as_start + c.as_len))
       (slice_range run c.ip_start (c.ip_start + c.ip_len)) encoding c.mode certificate

@@ -29,7 +29,8 @@ cover_octets family (p ∷ ps) = prefix_octets family p ++ cover_octets family p
 
 -- The octets are those of the shortest cover of a set.
 abbrev pub AreCoverOctets : AddressFamily → Runs → List ℕ → Type 0
-AreCoverOctets family set octets = (ps : List PrefixValue) × IsShortestCover 128 (Holds set) ps × (octets ≡ cover_octets family ps)
+AreCoverOctets family set octets =
+    (ps : List PrefixValue) × IsShortestCover 128 (Holds set) ps × (octets ≡ cover_octets family ps)
 
 -- The octets are the shortest cover of the addresses of one family in IP address blocks.
 abbrev pub IsCoverIn : Encoding → AddressFamily → List ℕ → List ℕ → Type 0
@@ -39,15 +40,18 @@ IsCoverIn encoding family addresses octets =
 -- The octets are the cover in the encoding and of the family with these numbers.
 abbrev pub IsCover : List ℕ → ℕ → ℕ → List ℕ → Type 0
 IsCover addresses encoding family octets =
-    (way : Encoding) × (encoding ≡ encoding_number way) × ((kind : AddressFamily) × (family ≡ family_number kind) × IsCoverIn way kind addresses octets)
+    (way : Encoding) × (encoding ≡ encoding_number way)
+    × ((kind : AddressFamily) × (family ≡ family_number kind) × IsCoverIn way kind addresses octets)
 
 -- The number of the encoding is unknown, or else the number of the family is, or else the octets list no set.
 abbrev pub IsNoCover : List ℕ → ℕ → ℕ → CoverError → Type 0
 IsNoCover addresses encoding family (Asked why) =
     ((why ≡ NoEncoding) × ((way : Encoding) → encoding ≢ encoding_number way))
-    ⊎ ((why ≡ NoFamily) × ((way : Encoding) × (encoding ≡ encoding_number way)) × ((kind : AddressFamily) → family ≢ family_number kind))
+    ⊎ ((why ≡ NoFamily) × ((way : Encoding) × (encoding ≡ encoding_number way))
+    × ((kind : AddressFamily) → family ≢ family_number kind))
 IsNoCover addresses encoding family (Unread reason) =
-    (way : Encoding) × (encoding ≡ encoding_number way) × ((kind : AddressFamily) × (family ≡ family_number kind)) × IsNoSet way [] addresses reason
+    (way : Encoding) × (encoding ≡ encoding_number way) × ((kind : AddressFamily) × (family ≡ family_number kind))
+    × IsNoSet way [] addresses reason
 
 -- The status of the reason why there is no cover.
 abbrev pub cover_error_status : CoverError → ℕ

@@ -20,11 +20,13 @@ AreTwo encoding a_as a_ip b_as b_ip pair = IsSet encoding a_as a_ip pair.first �
 abbrev pub AreNotTwo : Encoding → List ℕ → List ℕ → List ℕ → List ℕ → ReadPairError → Type 0
 AreNotTwo encoding a_as a_ip b_as b_ip NoEncoding = ⊥
 AreNotTwo encoding a_as a_ip b_as b_ip (First reason) = IsNoSet encoding a_as a_ip reason
-AreNotTwo encoding a_as a_ip b_as b_ip (Second reason) = ((a : Triple) × IsSet encoding a_as a_ip a) × IsNoSet encoding b_as b_ip reason
+AreNotTwo encoding a_as a_ip b_as b_ip (Second reason) =
+    ((a : Triple) × IsSet encoding a_as a_ip a) × IsNoSet encoding b_as b_ip reason
 
 -- The two sets are those that the octets list in the encoding with this number.
 abbrev pub AreRead : List ℕ → List ℕ → List ℕ → List ℕ → ℕ → Pair → Type 0
-AreRead a_as a_ip b_as b_ip encoding pair = (way : Encoding) × (encoding ≡ encoding_number way) × AreTwo way a_as a_ip b_as b_ip pair
+AreRead a_as a_ip b_as b_ip encoding pair =
+    (way : Encoding) × (encoding ≡ encoding_number way) × AreTwo way a_as a_ip b_as b_ip pair
 
 -- The number of the encoding is unknown, or else the octets are not two sets for the reason.
 abbrev pub AreNotRead : List ℕ → List ℕ → List ℕ → List ℕ → ℕ → ReadPairError → Type 0
@@ -42,7 +44,8 @@ IsBy Difference = IsDifferenceOf
 
 -- R holds for the two sets that were read and this set.
 abbrev pub IsMade : (Triple → Triple → Triple → Type 0) → List ℕ → List ℕ → List ℕ → List ℕ → ℕ → Triple → Type 0
-IsMade R a_as a_ip b_as b_ip encoding set = (pair : Pair) × AreRead a_as a_ip b_as b_ip encoding pair × R pair.first pair.second set
+IsMade R a_as a_ip b_as b_ip encoding set =
+    (pair : Pair) × AreRead a_as a_ip b_as b_ip encoding pair × R pair.first pair.second set
 
 -- The answer is yes if and only if R holds for the two sets that were read.
 abbrev pub IsTested : (Triple → Triple → Type 0) → List ℕ → List ℕ → List ℕ → List ℕ → ℕ → Bool → Type 0

@@ -23,19 +23,22 @@ IsCertificateStep run encoding issuer c set =
 abbrev pub IsNoCertificateStep : List ℕ → Encoding → Triple → Certificate → Refusal → Type 0
 IsNoCertificateStep run encoding issuer c reason =
     OfArgumentError (IsArgumentErrorAt run c) reason
-    ⊎ ((certificate : Extensions) × IsCertificateAt run encoding c certificate × IsVerifyRefusal issuer certificate reason)
+    ⊎ ((certificate : Extensions) × IsCertificateAt run encoding c certificate
+    × IsVerifyRefusal issuer certificate reason)
 
 -- The set is the part of the anchor's set that all certificates leave. Each is verified by the part that the
 -- certificates before it leave.
 abbrev pub IsLeftOnPath : List ℕ → Encoding → Triple → List Certificate → Triple → Type 0
 IsLeftOnPath run encoding anchor [] set = set ≡ anchor
-IsLeftOnPath run encoding anchor (c ∷ cs) set = (next : Triple) × IsCertificateStep run encoding anchor c next × IsLeftOnPath run encoding next cs set
+IsLeftOnPath run encoding anchor (c ∷ cs) set =
+    (next : Triple) × IsCertificateStep run encoding anchor c next × IsLeftOnPath run encoding next cs set
 
 -- The number of verified certificates, and the reason why the next one is not verified.
 abbrev pub IsFirstRefused : List ℕ → Encoding → Triple → List Certificate → PathError → Type 0
 IsFirstRefused run encoding anchor cs error =
     (c : Certificate) × (error.verified < length cs) × (slice_index_or cs error.verified c ≡ c)
-    × ((issuer : Triple) × IsLeftOnPath run encoding anchor (take error.verified cs) issuer × IsNoCertificateStep run encoding issuer c error.reason)
+    × ((issuer : Triple) × IsLeftOnPath run encoding anchor (take error.verified cs) issuer
+    × IsNoCertificateStep run encoding issuer c error.reason)
 
 -- ---- from the anchor's octets
 

@@ -24,12 +24,14 @@ as_range run = record { min = run.0; max = run.1 }
 -- The list has the runs of the AS numbers in AS identifiers, in the encoding with this number.
 abbrev pub AreAsRanges : List ℕ → ℕ → List RawAsRange → Type 0
 AreAsRanges numbers encoding list =
-    (way : Encoding) × (encoding ≡ encoding_number way) × ((set : Triple) × IsSet way numbers [] set × (list ≡ map as_range set.asn))
+    (way : Encoding) × (encoding ≡ encoding_number way)
+    × ((set : Triple) × IsSet way numbers [] set × (list ≡ map as_range set.asn))
 
 -- The number of the encoding is unknown, or else the octets list no set.
 abbrev pub HaveNoAsRanges : List ℕ → ℕ → CoverError → Type 0
 HaveNoAsRanges numbers encoding (Asked why) = (why ≡ NoEncoding) × ((way : Encoding) → encoding ≢ encoding_number way)
-HaveNoAsRanges numbers encoding (Unread reason) = (way : Encoding) × (encoding ≡ encoding_number way) × IsNoSet way numbers [] reason
+HaveNoAsRanges numbers encoding (Unread reason) =
+    (way : Encoding) × (encoding ≡ encoding_number way) × IsNoSet way numbers [] reason
 
 -- ---- addresses
 

@@ -36,7 +36,8 @@ pub record AreInherited (encoding : Encoding) (numbers addresses : List ℕ) : T
 abbrev pub IsNoSet : Encoding → List ℕ → List ℕ → ReadSetError → Type 0
 IsNoSet encoding numbers addresses (Numbers fault) = HasNumbersFault encoding (some_octets numbers) fault
 IsNoSet encoding numbers addresses (Addresses fault) =
-    ((asn : Claim) × IsNumbersClaim encoding (some_octets numbers) asn) × HasAddressesFault encoding (some_octets addresses) fault
+    ((asn : Claim) × IsNumbersClaim encoding (some_octets numbers) asn)
+    × HasAddressesFault encoding (some_octets addresses) fault
 IsNoSet encoding numbers addresses Inherited = AreInherited encoding numbers addresses
 
 -- ---- written

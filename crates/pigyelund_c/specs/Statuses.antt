@@ -6,7 +6,8 @@ use Rattle.rpki_text.specs.declared.memory.OrMemory.TheVariants.{Refused, Memory
 use Rattle.rpki_resources.specs.Triples.{Triple, no_resources}
 use Rattle.pigyelund_c.specs.VerifyErrors.{verify_error_excess, verify_error_status}
 use Rattle.pigyelund_c.specs.declared.refusal.ArgumentError.{ArgumentError}
-use Rattle.pigyelund_c.specs.declared.refusal.ArgumentError.TheVariants.{NoEncoding, NoMode, NoPresence, NoFamily, Outside}
+use Rattle.pigyelund_c.specs.declared.refusal.ArgumentError.TheVariants.{NoEncoding, NoMode, NoPresence, NoFamily}
+use Rattle.pigyelund_c.specs.declared.refusal.ArgumentError.TheVariants.{Outside}
 use Rattle.pigyelund_c.specs.declared.refusal.Refusal.{Refusal}
 use Rattle.pigyelund_c.specs.declared.refusal.Refusal.TheVariants.{Asked, Issuer, Unverified}
 use Rattle.pigyelund_c.specs.declared.refusal.ReadSetError.{ReadSetError}

@@ -4,9 +4,11 @@ use Rattle.std.specs.Str.{IsUtf8}
 use Rattle.rpki_text.specs.declared.memory.OrMemory.{OrMemory}
 use Rattle.rpki_text.specs.declared.memory.OrMemory.TheVariants.{Refused, Memory}
 use Rattle.rpki_as_block.specs.declared.error.FromStrError.{FromStrError as AsTextError}
-use Rattle.rpki_as_block.specs.declared.error.FromStrError.TheVariants.{BadAsn, BadRange as BadAsRange, BadBlocks as BadAsBlocks}
+use Rattle.rpki_as_block.specs.declared.error.FromStrError.TheVariants.{BadAsn, BadRange as BadAsRange}
+use Rattle.rpki_as_block.specs.declared.error.FromStrError.TheVariants.{BadBlocks as BadAsBlocks}
 use Rattle.rpki_ip.specs.declared.error.FromStrError.{FromStrError as IpTextError}
-use Rattle.rpki_ip.specs.declared.error.FromStrError.TheVariants.{Addr, PrefixLen, MissingSeparator, FamilyMismatch, BadBlocks, BadRange}
+use Rattle.rpki_ip.specs.declared.error.FromStrError.TheVariants.{Addr, PrefixLen, MissingSeparator, FamilyMismatch}
+use Rattle.rpki_ip.specs.declared.error.FromStrError.TheVariants.{BadBlocks, BadRange}
 use Rattle.rpki_resources.specs.Triples.{Triple, no_resources}
 use Rattle.rpki_resources.specs.TripleFaults.{HasTripleFault}
 use Rattle.rpki_resources.specs.TripleText.{IsTripleText}

@@ -65,7 +65,8 @@ IsNoOutcomeIn issuer_as issuer_ip present cert_as cert_ip encoding mode reason =
 -- The set is the part that the certificate claims, in the encoding with this number.
 abbrev pub IsOutcome : List ℕ → List ℕ → ℕ → List ℕ → List ℕ → ℕ → ℕ → Triple → Type 0
 IsOutcome issuer_as issuer_ip present cert_as cert_ip encoding mode set =
-    (way : Encoding) × (encoding ≡ encoding_number way) × IsOutcomeIn issuer_as issuer_ip present cert_as cert_ip way mode set
+    (way : Encoding) × (encoding ≡ encoding_number way)
+    × IsOutcomeIn issuer_as issuer_ip present cert_as cert_ip way mode set
 
 -- The number of the encoding is unknown, and this is the refusal.
 abbrev pub HasNoEncoding : ℕ → Refusal → Type 0
@@ -75,4 +76,5 @@ HasNoEncoding encoding reason = (reason ≡ Asked NoEncoding) × ((way : Encodin
 abbrev pub IsNoOutcome : List ℕ → List ℕ → ℕ → List ℕ → List ℕ → ℕ → ℕ → Refusal → Type 0
 IsNoOutcome issuer_as issuer_ip present cert_as cert_ip encoding mode reason =
     HasNoEncoding encoding reason
-    ⊎ ((way : Encoding) × (encoding ≡ encoding_number way) × IsNoOutcomeIn issuer_as issuer_ip present cert_as cert_ip way mode reason)
+    ⊎ ((way : Encoding) × (encoding ≡ encoding_number way)
+    × IsNoOutcomeIn issuer_as issuer_ip present cert_as cert_ip way mode reason)

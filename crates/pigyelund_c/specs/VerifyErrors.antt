@@ -4,7 +4,8 @@ use Rattle.std.specs.Prelude.{ℕ, ◌+◌, []}
 use Rattle.rpki_der.specs.Faults.{fault_number}
 use Rattle.rpki_resources.specs.Triples.{Triple, no_resources}
 use Rattle.rpki_extensions.specs.declared.error.VerifyError.{VerifyError}
-use Rattle.rpki_extensions.specs.declared.error.VerifyError.TheVariants.{Absent, AsOctets, AddressOctets, Inherited, Asn, Ipv4, Ipv6}
+use Rattle.rpki_extensions.specs.declared.error.VerifyError.TheVariants.{Absent, AsOctets, AddressOctets, Inherited}
+use Rattle.rpki_extensions.specs.declared.error.VerifyError.TheVariants.{Asn, Ipv4, Ipv6}
 
 -- The status of the reason why an issuer does not verify a certificate's extensions. 4096 is added if the octets of an
 -- extension are invalid, or if resources are inherited without an issuer.

@@ -1,5 +1,6 @@
 -- What the proofs of this crate use of std, of the crates below and of its own definitions, passed on by one name.
-pub use Rattle.std.proofs.Common.{List, [], ap, append_assoc, arith, get_or, length, lit<, map, refl, subst, sym, take, ℕ, ◌++◌, ◌+◌, ◌<◌, ◌∙◌, ◌∷◌, ◌≡◌}
+pub use Rattle.std.proofs.Common.{List, [], ap, append_assoc, arith, get_or, length, lit<, map, refl, subst, sym, take}
+pub use Rattle.std.proofs.Common.{ℕ, ◌++◌, ◌+◌, ◌<◌, ◌∙◌, ◌∷◌, ◌≡◌}
 pub use Rattle.std.proofs.VecSteps.Shapes.{after}
 pub use Rattle.std.proofs.alloc.Calls.{Goes-blank, handle_tells}
 pub use Rattle.std.proofs.option.Made.{Some-of, none_of}
@@ -26,11 +27,13 @@ pub use prog.Routine.{Routine}
 pub use prog.Wp.{Calls, Loops, WpFn}
 pub use seplogic.Ra.Ura.{Ura}
 pub use types.ByLocal.{alloc_all, env, free_all, get, get_in, look_at, pass_all, sets, sets_last, through}
-pub use types.Kit.{at_ret, !, by, drop, feq_i, feq_l, fjoin, fpack, fpick, fsplit, keep, move, qed, raw, split, suffices, use0, use1, ‵, ◌$◌, ◌∵◌, ◌⊛◌}
+pub use types.Kit.{at_ret, !, by, drop, feq_i, feq_l, fjoin, fpack, fpick, fsplit, keep, move, qed, raw, split}
+pub use types.Kit.{suffices, use0, use1, ‵, ◌$◌, ◌∵◌, ◌⊛◌}
 pub use types.Logic.{Logic, sem}
 pub use types.Match.{live}
 pub use types.Part.{agg, sub, whole}
-pub use types.Run.{addr, and_then, bin, blocks, branches, enter, exec, first, fld, lit, no_more, of_opd, returns, returns_within, skips, stop}
+pub use types.Run.{addr, and_then, bin, blocks, branches, enter, exec, first, fld, lit, no_more, of_opd, returns}
+pub use types.Run.{returns_within, skips, stop}
 pub use Rattle.box_pointer.proofs.BoxWords.{apart, fit, together, words}
 pub use Rattle.pigyelund_routes.specs.Handles.{boxed_table, table_row}
 pub use Rattle.pigyelund_routes.specs.Origins.{AreEach, IsFirstElementError, IsOrigin}

@@ -1,5 +1,7 @@
 -- Routes that are looked up beside each other, some after others.
-use Rattle.pigyelund_routes.proofs.Common.{List, [], ap, arith, get_or, length, subst, sym, take, ℕ, ◌++◌, ◌+◌, ◌<◌, ◌∙◌, ◌∷◌, ◌≡◌, Some, AreEach, IsFirstElementError, IsOrigin, Route, IsNoRoute}
+use Rattle.pigyelund_routes.proofs.Common.{List, [], ap, arith, get_or, length, subst, sym, take, ℕ, ◌++◌, ◌+◌, ◌<◌}
+use Rattle.pigyelund_routes.proofs.Common.{◌∙◌, ◌∷◌, ◌≡◌, Some, AreEach, IsFirstElementError, IsOrigin, Route}
+use Rattle.pigyelund_routes.proofs.Common.{IsNoRoute}
 use Rattle.std.specs.Prelude.{drop, slice_range}
 use Rattle.std.proofs.Math.Seq.{take-add}
 use Rattle.std.proofs.lemmas.List.{get_or-drop, get_or-take, length-drop, length-take, take-take}
@@ -25,14 +27,16 @@ module _ (vrps : List Vrp) where
       → AreEach IsLookupValidity ss octets → AreEach (IsOrigin vrps) rs octets
   origins [] ss octets none written = subst (λ (ts : List RouteLookup). AreEach IsLookupValidity ts octets) none written
   origins (r ∷ rs) ss octets (s, is, (rest, all, each)) written =
-      let (octet, one, (others, put, more)) = subst (λ (ts : List RouteLookup). AreEach IsLookupValidity ts octets) all written in
+      let (octet, one, (others, put, more)) =
+      subst (λ (ts : List RouteLookup). AreEach IsLookupValidity ts octets) all written in
       (octet, origin r s octet is one, (others, put, origins rs rest others each more))
 
 -- a piece of a list
 of_piece : {X : Type 0} (xs : List X) (at n : ℕ) → slice_range xs at (at + n) ≡ take n (drop at xs)
 of_piece xs at n = ap (λ k. take k (drop at xs)) (omega arith)
 
-module _ (vrps : List Vrp) (routes : List Route) (at n : ℕ) (octets : List ℕ) (so_far : AreEach (IsOrigin vrps) (take at routes) octets) where
+module _ (vrps : List Vrp) (routes : List Route) (at n : ℕ) (octets : List ℕ)
+    (so_far : AreEach (IsOrigin vrps) (take at routes) octets) where
   -- the validities of the first routes of a piece follow those before it
   written_after : (k : ℕ) (ss : List RouteLookup) (written : List ℕ)
       → AreEach (IsLookupIn vrps) (take k (drop at routes)) ss → AreEach IsLookupValidity ss written
@@ -57,6 +61,7 @@ module _ (vrps : List Vrp) (routes : List Route) (at n : ℕ) (octets : List ℕ
       let (r, small, here, lookups, none) = rw (of_piece routes at n) at begun in
       let below : k < n = omega (arith, small, length-take n (drop at routes)) in
       let left : at + k < length routes = omega (arith, small, length-take n (drop at routes), length-drop at routes) in
-      let is : get_or routes (at + k) r ≡ r = sym (get_or-drop at routes k r) ∙ sym (get_or-take n (drop at routes) k r below) ∙ here in
+      let is : get_or routes (at + k) r ≡ r =
+      sym (get_or-drop at routes k r) ∙ sym (get_or-take n (drop at routes) k r below) ∙ here in
       let front = rw (take-take k n (drop at routes) (omega (arith, below))) at lookups in
       (r, left, is, (octets ++ written, written_after k ss written front each, none))

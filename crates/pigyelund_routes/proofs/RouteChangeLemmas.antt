@@ -1,5 +1,6 @@
 -- Marks of two lists, one after another; and validities by two tables, which differ or not.
-use Rattle.pigyelund_routes.proofs.Common.{List, [], ap, arith, get_or, length, refl, take, ℕ, ◌++◌, ◌+◌, ◌<◌, ◌∷◌, ◌≡◌, AreEach, IsFirstElementError, IsOrigin, IsNoRoute, Route}
+use Rattle.pigyelund_routes.proofs.Common.{List, [], ap, arith, get_or, length, refl, take, ℕ, ◌++◌, ◌+◌, ◌<◌, ◌∷◌, ◌≡◌}
+use Rattle.pigyelund_routes.proofs.Common.{AreEach, IsFirstElementError, IsOrigin, IsNoRoute, Route}
 use Rattle.std.specs.Prelude.{◌≢◌, ◌⊎◌}
 use Rattle.std.proofs.lemmas.List.{length-take, take_more}
 use Rattle.rpki_prefix.specs.Values.{FamilyPrefix}
@@ -31,7 +32,8 @@ pub marks_grown : (xs ys : List ℕ) (at m : ℕ) (octets all : List ℕ) → at
     → m ≡ change_mark (get_or xs at 0) (get_or ys at 0) → octets ≡ marks (take at xs) (take at ys)
     → all ≡ octets ++ m ∷ [] → all ≡ marks (take (at + 1) xs) (take (at + 1) ys)
 marks_grown xs ys at m octets all small same is so_far put =
-    let lengths : length (take at xs) ≡ length (take at ys) = omega (arith, length-take at xs, length-take at ys, same) in
+    let lengths : length (take at xs) ≡ length (take at ys) =
+    omega (arith, length-take at xs, length-take at ys, same) in
     let inside : at < length ys = omega (arith, small, same) in
     let pushed = marks_push (take at xs) (take at ys) (get_or xs at 0) (get_or ys at 0) lengths in
     rw (put, so_far, is, take_more xs at 0 small, take_more ys at 0 inside, pushed)
@@ -46,7 +48,8 @@ module _ (old new : List Vrp) where
       → AreEach (IsOrigin new) routes ys → AreEach (IsRouteChange old new) routes (marks xs ys)
   changes [] xs ys none others = rw none refl
   changes (r ∷ routes) xs ys (x, was, (before, all, each)) (y, is, (after, all_of, each_of)) =
-      let one : IsRouteChange old new r (change_mark x y) = record { before = x; after = y; was = was; is = is; change = marked x y } in
+      let one : IsRouteChange old new r (change_mark x y) =
+      record { before = x; after = y; was = was; is = is; change = marked x y } in
       rw (all, all_of) (change_mark x y, one, (marks before after, refl, changes routes before after each each_of))
 
 module _ (vrps : List Vrp) where

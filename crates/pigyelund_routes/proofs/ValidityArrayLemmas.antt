@@ -1,5 +1,6 @@
 -- One element of an array after another; and validities in a table's order.
-use Rattle.pigyelund_routes.proofs.Common.{List, [], ap, get_or, length, refl, take, ℕ, ◌++◌, ◌+◌, ◌<◌, ◌∷◌, ◌≡◌, Err, MatchResult, Ok, Result, AreEach, IsFirstElementError}
+use Rattle.pigyelund_routes.proofs.Common.{List, [], ap, get_or, length, refl, take, ℕ, ◌++◌, ◌+◌, ◌<◌, ◌∷◌, ◌≡◌, Err}
+use Rattle.pigyelund_routes.proofs.Common.{MatchResult, Ok, Result, AreEach, IsFirstElementError}
 use Rattle.std.proofs.lemmas.List.{take_more}
 use Rattle.rpki_text.specs.Memory.{IfRefused}
 use Rattle.rpki_text.specs.declared.memory.OrMemory.{OrMemory}
@@ -36,5 +37,6 @@ module _ {X Y : Type 0} (R S : X → Y → Type 0) (so : (x : X) (y : Y) → R x
       → MatchResult r (λ v. AreEach R xs (items v)) (IfRefused (IsFirstElementError R N xs))
       → MatchResult r (λ v. AreEach S xs (items v)) (IfRefused (IsFirstElementError S N xs))
   by_another N xs items (Ok v) written = all_too xs (items v) written
-  by_another N xs items (Err (Refused first)) (x, small, here, (ys, each, none)) = (x, small, here, (ys, all_too (take first.at xs) ys each, none))
+  by_another N xs items (Err (Refused first)) (x, small, here, (ys, each, none)) =
+      (x, small, here, (ys, all_too (take first.at xs) ys each, none))
   by_another N xs items (Err (Memory error)) written = written

@@ -9,5 +9,9 @@ module _ {X Y : Type 0} (R : X → Y → Type 0) where
 
   pub one_written : (all left rest : List X) (written more : List Y) (x : X) (y : Y) → left ≡ x ∷ rest
       → more ≡ written ++ y ∷ [] → R x y → SoFar all left written → SoFar all rest more
-  one_written all left rest written more x y next put is (done, same, each) =
-      (done ++ x ∷ [], append_assoc done (x ∷ []) rest ∙ sym (ap (λ (xs : List X). done ++ xs) next) ∙ same, rw put (append R done written x y each is))
+  one_written all left rest written more x y next put is (done, same, each) = (
+    done ++ x ∷ [],
+    append_assoc done (x ∷ []) rest ∙ sym (ap (λ (xs : List X). done ++ xs) next)
+        ∙ same,
+    rw put (append R done written x y each is),
+  )

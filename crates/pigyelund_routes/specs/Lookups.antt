@@ -20,8 +20,10 @@ pub record IsLookupIn (vrps : List Vrp) (r : Route) (lookup : RouteLookup) : Typ
 abbrev pub AreBegun : List Vrp → List Route → List RouteLookup → Option RouteError → Type 0
 AreBegun vrps routes lookups None = AreEach (IsLookupIn vrps) routes lookups
 AreBegun vrps routes lookups (Some reason) =
-    (r : Route) × (length lookups < length routes) × (slice_index_or routes (length lookups) r ≡ r) × AreEach (IsLookupIn vrps) (take (length lookups) routes) lookups × IsNoRoute r reason
+    (r : Route) × (length lookups < length routes) × (slice_index_or routes (length lookups) r ≡ r)
+    × AreEach (IsLookupIn vrps) (take (length lookups) routes) lookups × IsNoRoute r reason
 
 -- The octet is the validity that the lookup finds.
 abbrev pub IsLookupValidity : RouteLookup → ℕ → Type 0
-IsLookupValidity lookup octet = (validity : Validity) × IsValidity lookup.route lookup.asn lookup.vrps validity × (octet ≡ validity_number validity)
+IsLookupValidity lookup octet =
+    (validity : Validity) × IsValidity lookup.route lookup.asn lookup.vrps validity × (octet ≡ validity_number validity)

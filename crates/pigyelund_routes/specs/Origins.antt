@@ -25,7 +25,8 @@ AreEach {X} {Y} R (x ∷ xs) ys = (y : Y) × R x y × ((rest : List Y) × (ys �
 abbrev pub IsFirstElementError : {X Y : Type 0} → (X → Y → Type 0) → (X → RouteError → Type 0) → List X → ElementError
     → Type 0
 IsFirstElementError {X} {Y} R N xs first =
-    (x : X) × (first.at < length xs) × (slice_index_or xs first.at x ≡ x) × ((ys : List Y) × AreEach R (take first.at xs) ys × N x first.reason)
+    (x : X) × (first.at < length xs) × (slice_index_or xs first.at x ≡ x)
+    × ((ys : List Y) × AreEach R (take first.at xs) ys × N x first.reason)
 
 -- ---- validities
 
@@ -76,4 +77,6 @@ IsAnsweredAt {X} R P status index_of N before after len index result =
 
 -- The validities of routes by VRPs are returned.
 abbrev pub AreOriginsReturned : List Handed → List Route → List ℕ → List ℕ → ℕ → ℕ → ℕ → Type 0
-AreOriginsReturned handed routes = IsAnsweredAt ValidationError (AreOrigins handed routes) validation_error_status validation_error_index (HasValidationError handed routes)
+AreOriginsReturned handed routes =
+    IsAnsweredAt ValidationError (AreOrigins handed routes) validation_error_status validation_error_index
+    (HasValidationError handed routes)

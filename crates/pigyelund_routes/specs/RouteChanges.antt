@@ -2,7 +2,8 @@
 use Rattle.std.specs.Prelude.{◌≡◌, ◌≢◌, ◌⊎◌, ℕ, List, [], ◌∷◌, ◌==◌, if◌then◌else◌}
 use Rattle.std.specs.Ptr.{Ptr}
 use Rattle.roa_origin.specs.Vrps.{Vrp}
-use Rattle.pigyelund_routes.specs.Origins.{AreEach, IsAnsweredAt, IsFirstElementError, IsOrigin, validation_error_index, validation_error_status}
+use Rattle.pigyelund_routes.specs.Origins.{AreEach, IsAnsweredAt, IsFirstElementError, IsOrigin, validation_error_index}
+use Rattle.pigyelund_routes.specs.Origins.{validation_error_status}
 use Rattle.pigyelund_routes.specs.Routes.{IsNoRoute, IsRoute}
 use Rattle.pigyelund_routes.specs.Tables.{IsAsked}
 use Rattle.pigyelund_routes.specs.declared.origin.ValidationError.{ValidationError}
@@ -43,6 +44,7 @@ abbrev pub AreRouteChangesReturned : Ptr → List Vrp → Ptr → List Vrp → L
 AreRouteChangesReturned old_at old new_at new routes before after len index result =
     IsAsked old_at
     (IsAsked new_at
-    (IsAnsweredAt ValidationError (AreEach (IsRouteChange old new) routes) validation_error_status validation_error_index (HasRouteError routes) before after len index result)
+    (IsAnsweredAt ValidationError (AreEach (IsRouteChange old new) routes) validation_error_status
+    validation_error_index (HasRouteError routes) before after len index result)
     ((after ≡ before) × (len ≡ 0) × (index ≡ 0)) result)
     ((after ≡ before) × (len ≡ 0) × (index ≡ 0)) result

@@ -33,7 +33,8 @@ pub record HasPrefix (family : ℕ) (address : List ℕ) (len : ℕ) (p : Family
 abbrev pub HasNoPrefix : ℕ → List ℕ → ℕ → RouteError → Type 0
 HasNoPrefix family address len NoFamily = (kind : AddressFamily) → family ≢ family_number kind
 HasNoPrefix family address len NoPrefix =
-    (kind : AddressFamily) × (family ≡ family_number kind) × ((why : PrefixError) × HasPrefixError (address_in kind address) len why)
+    (kind : AddressFamily) × (family ≡ family_number kind)
+    × ((why : PrefixError) × HasPrefixError (address_in kind address) len why)
 HasNoPrefix family address len NoMaxLen = ⊥
 
 -- ---- a route, and a VRP
@@ -58,7 +59,8 @@ abbrev pub IsNoVrp : Handed → RouteError → Type 0
 IsNoVrp handed NoFamily = HasNoPrefix handed.family handed.address handed.len NoFamily
 IsNoVrp handed NoPrefix = HasNoPrefix handed.family handed.address handed.len NoPrefix
 IsNoVrp handed NoMaxLen =
-    (p : FamilyPrefix) × HasPrefix handed.family handed.address handed.len p × ((why : MaxLenError) × HasMaxLenError p (Some handed.max_len) why)
+    (p : FamilyPrefix) × HasPrefix handed.family handed.address handed.len p
+    × ((why : MaxLenError) × HasMaxLenError p (Some handed.max_len) why)
 
 -- The status of an invalid VRP, and of an invalid route before 4096 is added.
 abbrev pub route_error_status : RouteError → ℕ

@@ -7,7 +7,8 @@ use Rattle.roa_origin.specs.Vrps.{Vrp}
 use Rattle.roa_origin.specs.Updates.{AreUpdates, HasChangeFault, IsUpdated}
 use Rattle.roa_origin.specs.declared.updates.ChangeFault.{ChangeFault}
 use Rattle.roa_origin.specs.declared.updates.ChangeFault.TheVariants.{DuplicateAnnouncement, UnknownWithdrawal}
-use Rattle.pigyelund_routes.specs.Origins.{AreEach, IsAnsweredAt, IsFirstElementError, IsOrigin, validation_error_index, validation_error_status}
+use Rattle.pigyelund_routes.specs.Origins.{AreEach, IsAnsweredAt, IsFirstElementError, IsOrigin, validation_error_index}
+use Rattle.pigyelund_routes.specs.Origins.{validation_error_status}
 use Rattle.pigyelund_routes.specs.Routes.{IsNoVrp, IsNoRoute, IsVrp, route_error_status}
 use Rattle.pigyelund_routes.specs.Written.{AreWritten, IsAnswered}
 use Rattle.pigyelund_routes.specs.ReturnedVrps.{AreCoveringsOf, handed_of, route_status}
@@ -42,7 +43,9 @@ IsTableReturned R P status index_of N given at index result =
 
 -- A table of VRPs that are passed is returned.
 abbrev pub IsMadeTableReturned : List Handed → Option (List Vrp) → Ptr → ℕ → ℕ → Type 0
-IsMadeTableReturned handed = IsTableReturned ValidationError (IsTableOfHanded handed) validation_error_status validation_error_index (IsNoTable handed)
+IsMadeTableReturned handed =
+    IsTableReturned ValidationError (IsTableOfHanded handed) validation_error_status validation_error_index
+    (IsNoTable handed)
 
 -- ---- read
 
@@ -59,13 +62,15 @@ HasTableValidationError table routes (NoRoute first) = IsFirstElementError (IsOr
 abbrev pub AreTableOriginsReturned : Ptr → List Vrp → List Route → List ℕ → List ℕ → ℕ → ℕ → ℕ → Type 0
 AreTableOriginsReturned at table routes before after len index result =
     IsAsked at
-    (IsAnsweredAt ValidationError (AreEach (IsOrigin table) routes) validation_error_status validation_error_index (HasTableValidationError table routes) before after len index result)
+    (IsAnsweredAt ValidationError (AreEach (IsOrigin table) routes) validation_error_status validation_error_index
+    (HasTableValidationError table routes) before after len index result)
     ((after ≡ before) × (len ≡ 0) × (index ≡ 0)) result
 
 -- The VRPs that cover a route are returned.
 abbrev pub AreCoveringsReturned : Ptr → List Vrp → Route → List Covering → List Covering → ℕ → ℕ → Type 0
 AreCoveringsReturned at table route before after len result =
-    IsAsked at (IsAnswered RouteError (AreCoveringsOf table route) route_status (IsNoRoute route) before after len result)
+    IsAsked at
+    (IsAnswered RouteError (AreCoveringsOf table route) route_status (IsNoRoute route) before after len result)
     ((after ≡ before) × (len ≡ 0)) result
 
 -- The number of VRPs is returned.
@@ -75,7 +80,8 @@ IsCountReturned at table len result = IsAsked at ((len ≡ length table) × (res
 -- All VRPs are returned, in the table's order.
 abbrev pub AreVrpsReturned : Ptr → List Vrp → List Handed → List Handed → ℕ → ℕ → Type 0
 AreVrpsReturned at table before after len result =
-    IsAsked at (AreWritten (map handed_of table) before after len result ⊎ ((result ≡ 2) × (after ≡ before) × (len ≡ 0)))
+    IsAsked at
+    (AreWritten (map handed_of table) before after len result ⊎ ((result ≡ 2) × (after ≡ before) × (len ≡ 0)))
     ((after ≡ before) × (len ≡ 0)) result
 
 -- ---- changed
@@ -97,7 +103,8 @@ HasChangeTableError table announced withdrawn (Announced first) = IsFirstElement
 HasChangeTableError table announced withdrawn (Withdrawn first) =
     ((vrps : List Vrp) × AreEach IsVrp announced vrps) × IsFirstElementError IsVrp IsNoVrp withdrawn first
 HasChangeTableError table announced withdrawn (Fault fault) =
-    (changes : List Vrp × List Vrp) × AreHanded announced withdrawn changes × HasChangeFault table changes.0 changes.1 fault
+    (changes : List Vrp × List Vrp) × AreHanded announced withdrawn changes
+    × HasChangeFault table changes.0 changes.1 fault
 
 -- The status of an impossible change.
 abbrev pub fault_status : ChangeFault → ℕ
@@ -125,5 +132,6 @@ change_table_error_index (Fault fault) = fault_index fault
 abbrev pub IsChangedTableReturned : Ptr → List Vrp → List Handed → List Handed → Option (List Vrp) → Ptr → ℕ → ℕ
     → Type 0
 IsChangedTableReturned at table announced withdrawn given next index result =
-    IsAsked at (IsTableReturned ChangeTableError (IsChangedTable table announced withdrawn) change_table_error_status change_table_error_index (HasChangeTableError table announced withdrawn) given next index result)
+    IsAsked at (IsTableReturned ChangeTableError (IsChangedTable table announced withdrawn) change_table_error_status
+    change_table_error_index (HasChangeTableError table announced withdrawn) given next index result)
     ((next ≡ null_ptr) × (index ≡ 0)) result

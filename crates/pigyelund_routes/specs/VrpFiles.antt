@@ -9,7 +9,8 @@ use Rattle.roa_vrps.specs.declared.fault.ItemFault.TheVariants.{Member as OfMemb
 use Rattle.roa_vrps.specs.declared.fault.MemberFault.{MemberFault}
 use Rattle.roa_vrps.specs.declared.fault.MemberFault.TheVariants.{Missing, Repeated, Kind}
 use Rattle.roa_vrps.specs.declared.fault.VrpFault.{VrpFault}
-use Rattle.roa_vrps.specs.declared.fault.VrpFault.TheVariants.{NotUtf8, TooManyFields, TooFewFields, Asn, Prefix, MaxLenFormat, MaxLen}
+use Rattle.roa_vrps.specs.declared.fault.VrpFault.TheVariants.{NotUtf8, TooManyFields, TooFewFields, Asn, Prefix}
+use Rattle.roa_vrps.specs.declared.fault.VrpFault.TheVariants.{MaxLenFormat, MaxLen}
 use Rattle.roa_vrps.specs.declared.member.Member.{Member}
 use Rattle.roa_vrps.specs.declared.member.Member.TheVariants.{Asn as AsnMember, Prefix as PrefixMember, MaxLength}
 use Rattle.pigyelund_routes.specs.Origins.{IsAnsweredAt}
@@ -73,4 +74,5 @@ file_fault_line NoVrp = 0
 
 -- The VRPs of a file are returned, or its first fault and the line or item that has it.
 abbrev pub AreFileVrpsReturned : List ℕ → List Handed → List Handed → ℕ → ℕ → ℕ → Type 0
-AreFileVrpsReturned file = IsAnsweredAt FileFault (AreFileVrps file) file_fault_status file_fault_line (HasFileFault file)
+AreFileVrpsReturned file =
+    IsAnsweredAt FileFault (AreFileVrps file) file_fault_status file_fault_line (HasFileFault file)

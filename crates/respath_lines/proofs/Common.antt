@@ -1,5 +1,8 @@
 -- What the proofs of this crate use of std, of the crates below and of its own definitions, passed on by one name.
-pub use Rattle.std.proofs.Common.{Err, List, MatchResult, Ok, Result, [], ap, append_assoc, arith, codes, decimal, drop, eqb, false, get_or, inl, inr, length, lit<, map, refl, rules, slice_set, subst, suc, sym, take, zero, ℕ, ◌%◌, ◌*◌, ◌++◌, ◌+◌, ◌-◌, ◌/◌, ◌<◌, ◌==◌, ◌∙◌, ◌∷◌, ◌≡◌, ◌≢◌, ◌≤◌, ◌⊎◌}
+pub use Rattle.std.proofs.Common.{Err, List, MatchResult, Ok, Result, [], ap, append_assoc, arith, codes, decimal, drop}
+pub use Rattle.std.proofs.Common.{eqb, false, get_or, inl, inr, length, lit<, map, refl, rules, slice_set, subst, suc}
+pub use Rattle.std.proofs.Common.{sym, take, zero, ℕ, ◌%◌, ◌*◌, ◌++◌, ◌+◌, ◌-◌, ◌/◌, ◌<◌, ◌==◌, ◌∙◌, ◌∷◌, ◌≡◌, ◌≢◌, ◌≤◌}
+pub use Rattle.std.proofs.Common.{◌⊎◌}
 pub use Rattle.std.proofs.lemmas.Bool.{ne_eqb}
 pub use Rattle.std.proofs.lemmas.Grind.{common_steps}
 pub use Rattle.std.proofs.lemmas.List.{append-nil, flat_map_more, length-append, map-append}
@@ -29,6 +32,7 @@ pub use Rattle.rpki_text.specs.declared.memory.OrMemory.TheVariants.{Memory, Ref
 pub use Rattle.respath_lines.specs.Cover.{cover_text, listed_text, prefix_with_length}
 pub use Rattle.respath_lines.specs.Hexadecimal.{IsPairOf}
 unfoldable pub use Rattle.respath_lines.specs.Hexadecimal.{IsHexadecimal, lower_hexadecimal}
-pub use Rattle.respath_lines.specs.Path.{ArePath, HasRootFault, HasStepFault, HavePathFault, IsStepText, ShowsLeft, ShowsPath, list_of, parts_of}
+pub use Rattle.respath_lines.specs.Path.{ArePath, HasRootFault, HasStepFault, HavePathFault, IsStepText, ShowsLeft}
+pub use Rattle.respath_lines.specs.Path.{ShowsPath, list_of, parts_of}
 pub use Rattle.respath_lines.specs.Read.{HasFault, IsEnded, ShowsHexadecimal, ShowsOctets, family_text}
 pub use Rattle.respath_lines.specs.Shown.{ShowsResult}

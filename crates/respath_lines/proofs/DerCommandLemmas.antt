@@ -1,5 +1,6 @@
 -- The resources of a family that a text writes.
-use Rattle.respath_lines.proofs.Common.{arith, List, MatchResult, Result, codes, ℕ, ◌≢◌, AddressFamily, Claim, FromStrError, HasBlocksFault, IfRefused, OrMemory}
+use Rattle.respath_lines.proofs.Common.{arith, List, MatchResult, Result, codes, ℕ, ◌≢◌, AddressFamily, Claim}
+use Rattle.respath_lines.proofs.Common.{FromStrError, HasBlocksFault, IfRefused, OrMemory}
 use Rattle.respath_lines.specs.Der.{HasIpResourcesFault, IsIpResourcesText, IsListed}
 
 module _ (family : AddressFamily) (list : List ℕ) (other : list ≢ codes "inherit") where

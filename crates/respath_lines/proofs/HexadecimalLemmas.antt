@@ -1,7 +1,10 @@
 -- The octets that a text of digits writes, and the text that writes octets.
-use Rattle.respath_lines.proofs.Common.{List, [], arith, drop, get_or, length, refl, rules, slice_set, suc, take, zero, ℕ, ◌%◌, ◌*◌, ◌+◌, ◌/◌, ◌<◌, ◌∷◌, ◌≡◌, ◌≤◌, ◌⊎◌, common_steps, IsBytes, IsHexadecimal, IsPairOf, lower_hexadecimal}
+use Rattle.respath_lines.proofs.Common.{List, [], arith, drop, get_or, length, refl, rules, slice_set, suc, take, zero}
+use Rattle.respath_lines.proofs.Common.{ℕ, ◌%◌, ◌*◌, ◌+◌, ◌/◌, ◌<◌, ◌∷◌, ◌≡◌, ◌≤◌, ◌⊎◌, common_steps, IsBytes}
+use Rattle.respath_lines.proofs.Common.{IsHexadecimal, IsPairOf, lower_hexadecimal}
 use Rattle.std.proofs.lemmas.Bool.Decides.{nat_tests}
-use Rattle.std.proofs.lemmas.List.{drop-set, drop_all, drop_more, get_or-take, length-take-le, take-set-le, take-take, take_all}
+use Rattle.std.proofs.lemmas.List.{drop-set, drop_all, drop_more, get_or-take, length-take-le, take-set-le, take-take}
+use Rattle.std.proofs.lemmas.List.{take_all}
 use Rattle.std.proofs.lemmas.Str.{digit_value-digit_char}
 use Rattle.std.specs.Char.{digit_value, digit_char}
 unfoldable use Rattle.rpki_text.specs.Digits.{hex_value}

@@ -1,5 +1,7 @@
 -- What a take at the front of octets, and then their end, tell of all of them.
-use Rattle.respath_lines.proofs.Common.{Err, List, MatchResult, Ok, Result, [], arith, length, refl, subst, ℕ, ◌∷◌, ◌≡◌, ◌≢◌, ne_eqb, fault_text, IfRefused, OrMemory, Memory, Refused, IsHexadecimal, HasFault, IsEnded, ShowsHexadecimal, ShowsOctets, ShowsResult}
+use Rattle.respath_lines.proofs.Common.{Err, List, MatchResult, Ok, Result, [], arith, length, refl, subst, ℕ, ◌∷◌, ◌≡◌}
+use Rattle.respath_lines.proofs.Common.{◌≢◌, ne_eqb, fault_text, IfRefused, OrMemory, Memory, Refused, IsHexadecimal}
+use Rattle.respath_lines.proofs.Common.{HasFault, IsEnded, ShowsHexadecimal, ShowsOctets, ShowsResult}
 use Rattle.rpki_der.specs.Der.{OneFront}
 use Rattle.rpki_der.specs.FrontLaws.{none_where_more, none_where_no_front, whole_value}
 use Rattle.rpki_der.specs.Views.{left}
@@ -27,7 +29,8 @@ module _ {X Y : Type 0} (G : List ℕ → X → Type 0) (reading : List ℕ → 
   ended_take C one old new (Ok x) reads took (Ok y) (same, nothing) =
       rw same (whole_value G (left old) x (rw nothing at reads))
   ended_take C one old new (Ok x) reads took (Err (Refused fault)) (more, trailing) =
-      rw trailing (none_where_more G (left old) one x (left new) reads more, only_more (left old) (left new) took.0 took.1 more)
+      rw trailing
+      (none_where_more G (left old) one x (left new) reads more, only_more (left old) (left new) took.0 took.1 more)
   ended_take C one old new (Ok x) reads took (Err (Memory error)) impossible = absurd impossible
   ended_take C one old new (Err (Refused fault)) reads took answer is =
       rw is (none_where_no_front G (left old) reads.0, rw took.0 refl)
@@ -44,6 +47,9 @@ module _ {X Y : Type 0} (G : List ℕ → X → Type 0) (reading : List ℕ → 
     pub shows_text : (text octets answer : List ℕ) → IsHexadecimal text octets
         → ShowsOctets G reading value_text octets answer → ShowsHexadecimal G reading value_text text answer
     shows_text text octets answer writes shows = record {
-      octets = λ others also. subst (λ bytes. ShowsOctets G reading value_text bytes answer) (one_octets text octets others writes also) shows;
+      octets =
+          λ others also.
+          subst (λ bytes. ShowsOctets G reading value_text bytes answer) (one_octets text octets others writes also)
+          shows;
       none = λ no. absurd (no octets writes);
     }

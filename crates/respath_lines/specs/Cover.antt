@@ -20,7 +20,8 @@ prefix_with_length family p = addr_text family p.first ++ slash ∷ decimal p.le
 
 -- the text printed for a prefix in a list; a comma and a space precede it unless it is the first
 abbrev pub listed_text : Bool → AddressFamily → PrefixValue → List ℕ
-listed_text is_first family p = if is_first then prefix_with_length family p else codes ", " ++ prefix_with_length family p
+listed_text is_first family p =
+    if is_first then prefix_with_length family p else codes ", " ++ prefix_with_length family p
 
 -- the text printed for a list of prefixes
 abbrev pub cover_text : AddressFamily → List PrefixValue → List ℕ
@@ -36,7 +37,9 @@ IsCoverText family list text = (ps : List PrefixValue) × IsCoverOf family list 
 
 -- the text is the answer to `cover` for a list of blocks of a family
 abbrev pub IsCoverIp : AddressFamily → List ℕ → List ℕ → Type 0
-IsCoverIp family list text = ShowsValueOrFault (IsCoverOf family list) (cover_text family) (HasBlocksFault family list) IpFaults.ip_from_str_error_text text
+IsCoverIp family list text =
+    ShowsValueOrFault (IsCoverOf family list) (cover_text family) (HasBlocksFault family list)
+    IpFaults.ip_from_str_error_text text
 
 -- the text is the answer to `cover` for a list of blocks of this kind
 pub record IsCoverAnswer (kind list text : List ℕ) : Type 0 where

@@ -24,7 +24,9 @@ octets_text octets (Blocks set) = lower_hexadecimal (octets (Blocks set))
 
 -- the text is the answer to `der` for a list of AS resources
 abbrev pub IsDerAs : List ℕ → List ℕ → Type 0
-IsDerAs list text = ShowsValueOrFault (IsAsResourcesText list) (octets_text as_resources_octets) (HasAsResourcesFault list) AsFaults.as_from_str_error_text text
+IsDerAs list text =
+    ShowsValueOrFault (IsAsResourcesText list) (octets_text as_resources_octets) (HasAsResourcesFault list)
+    AsFaults.as_from_str_error_text text
 
 -- ---- resources of a family
 
@@ -49,7 +51,9 @@ one_family_der Ipv6 claim = ip_families_der Missing claim
 
 -- the text is the answer to `der` for the resources of a family
 abbrev pub IsDerIp : AddressFamily → List ℕ → List ℕ → Type 0
-IsDerIp family list text = ShowsValueOrFault (IsIpResourcesText family list) (octets_text (one_family_der family)) (HasIpResourcesFault family list) IpFaults.ip_from_str_error_text text
+IsDerIp family list text =
+    ShowsValueOrFault (IsIpResourcesText family list) (octets_text (one_family_der family))
+    (HasIpResourcesFault family list) IpFaults.ip_from_str_error_text text
 
 -- the text is the answer to `der` for resources of this kind
 pub record IsDerAnswer (kind list text : List ℕ) : Type 0 where

@@ -11,11 +11,14 @@ use Rattle.respath_lines.specs.Shown.{ShowsValueOrFault}
 
 -- the text is the answer to `norm` for a list of AS blocks
 abbrev pub IsNormAs : List ℕ → List ℕ → Type 0
-IsNormAs list text = ShowsValueOrFault (IsAsListText list) as_list_text (HasAsListFault list) AsFaults.as_from_str_error_text text
+IsNormAs list text =
+    ShowsValueOrFault (IsAsListText list) as_list_text (HasAsListFault list) AsFaults.as_from_str_error_text text
 
 -- the text is the answer to `norm` for a list of blocks of addresses of a family
 abbrev pub IsNormIp : AddressFamily → List ℕ → List ℕ → Type 0
-IsNormIp family list text = ShowsValueOrFault (IsSetOf (HasBlocks family list)) (set_text family) (HasBlocksFault family list) IpFaults.ip_from_str_error_text text
+IsNormIp family list text =
+    ShowsValueOrFault (IsSetOf (HasBlocks family list)) (set_text family) (HasBlocksFault family list)
+    IpFaults.ip_from_str_error_text text
 
 -- the text is the answer to `norm` for a list of blocks of this kind
 pub record IsNormAnswer (kind list text : List ℕ) : Type 0 where

@@ -96,7 +96,8 @@ part_fault_text fault_text (BadList fault) = fault_text fault
 
 -- the text printed for a refusal: the index of the refused step, and its fault
 abbrev pub refusal_text : {F : Type 0} → (F → List ℕ) → PathRefusal F → List ℕ
-refusal_text excess_text refusal = codes "refused at step " ++ decimal refusal.step ++ codes ": " ++ excess_text refusal.fault
+refusal_text excess_text refusal =
+    codes "refused at step " ++ decimal refusal.step ++ codes ": " ++ excess_text refusal.fault
 
 -- the text is that of the resources that remain after a path, or that of a refusal; an out-of-memory error has no text
 abbrev pub ShowsLeft : {S F : Type 0} → (S → List ℕ) → (F → List ℕ) → Result S (OrMemory (PathRefusal F)) → List ℕ
@@ -109,7 +110,8 @@ ShowsLeft list_text excess_text (Err (Memory error)) text = ⊥
 abbrev pub ShowsPath : (Runs → List ℕ) → (Runs → List ℕ) → Runs → List (Step Claim) → List ℕ → Type 0
 ShowsPath list_text excess_text root steps text =
     ((left : Runs) × IsPathResult (λ claim. claim) (Holds root) steps left × (text ≡ list_text left))
-    ⊎ ((refusal : PathRefusal Runs) × IsFirstRefusal (λ claim. claim) (Holds root) steps refusal × (text ≡ refusal_text excess_text refusal))
+    ⊎ ((refusal : PathRefusal Runs) × IsFirstRefusal (λ claim. claim) (Holds root) steps refusal
+    × (text ≡ refusal_text excess_text refusal))
 
 -- ---- the answer
 
@@ -117,16 +119,21 @@ ShowsPath list_text excess_text root steps text =
 abbrev pub IsPathOf : {E : Type 0} → (List ℕ → Runs → Type 0) → (Runs → List ℕ) → (Runs → List ℕ)
     → (List ℕ → E → Type 0) → (E → List ℕ) → List ℕ → List ℕ → Type 0
 IsPathOf {E} Writes list_text excess_text Fails fault_text path text =
-    ((root : Runs) × (steps : List (Step Claim)) × ArePath (λ claim. claim) Writes (parts_of path) root steps × ShowsPath list_text excess_text root steps text)
-    ⊎ ((fault : PartFault E) × HavePathFault Fails (λ (claim : Claim). claim) Writes (parts_of path) fault × (text ≡ error_line (part_fault_text fault_text fault)))
+    ((root : Runs) × (steps : List (Step Claim)) × ArePath (λ claim. claim) Writes (parts_of path) root steps
+    × ShowsPath list_text excess_text root steps text)
+    ⊎ ((fault : PartFault E) × HavePathFault Fails (λ (claim : Claim). claim) Writes (parts_of path) fault
+    × (text ≡ error_line (part_fault_text fault_text fault)))
 
 -- the text is the answer to `path` for AS numbers
 abbrev pub IsPathAs : List ℕ → List ℕ → Type 0
-IsPathAs = IsPathOf IsAsListText as_list_text AsFaults.overclaimed_as_text HasAsListFault AsBlockFaults.as_from_str_error_text
+IsPathAs =
+    IsPathOf IsAsListText as_list_text AsFaults.overclaimed_as_text HasAsListFault AsBlockFaults.as_from_str_error_text
 
 -- the text is the answer to `path` for addresses of a family
 abbrev pub IsPathIp : AddressFamily → List ℕ → List ℕ → Type 0
-IsPathIp family = IsPathOf (λ list. IsSetOf (HasBlocks family list)) (set_text family) (IpTexts.overclaimed_ip_text family) (HasBlocksFault family) IpFaults.ip_from_str_error_text
+IsPathIp family =
+    IsPathOf (λ list. IsSetOf (HasBlocks family list)) (set_text family) (IpTexts.overclaimed_ip_text family)
+    (HasBlocksFault family) IpFaults.ip_from_str_error_text
 
 -- the text is the answer to `path` for resources of this kind
 pub record IsPathAnswer (kind path text : List ℕ) : Type 0 where

@@ -41,7 +41,8 @@ ShowsOctets {V} Is reading value_text octets answer =
     ⊎ ((fault : DerError) × HasFault Is reading octets fault × (answer ≡ error_line (fault_text fault)))
 
 -- the answer to octets in hexadecimal; for any other text it is `error: bad hex`
-pub record ShowsHexadecimal {V Y : Type 0} (Is : List ℕ → V → Type 0) (reading : List ℕ → Result (Y × List ℕ) DerError) (value_text : V → List ℕ) (text answer : List ℕ) : Type 0 where
+pub record ShowsHexadecimal {V Y : Type 0} (Is : List ℕ → V → Type 0) (reading : List ℕ → Result (Y × List ℕ) DerError)
+    (value_text : V → List ℕ) (text answer : List ℕ) : Type 0 where
   pub octets : (octets : List ℕ) → IsHexadecimal text octets → ShowsOctets Is reading value_text octets answer
   pub none : ((octets : List ℕ) → ¬ IsHexadecimal text octets) → answer ≡ codes "error: bad hex"
 
@@ -60,11 +61,14 @@ family_text family (Some (Blocks set)) = set_text family set
 
 -- the answer to octets of families, which shows the resources of one family
 abbrev pub ShowsFamily : AddressFamily → List ℕ → List ℕ → Type 0
-ShowsFamily family = ShowsOctets IsIpFamilies ip_families_at (λ (found : ByFamily Claim). family_text family (of_family family found))
+ShowsFamily family =
+    ShowsOctets IsIpFamilies ip_families_at (λ (found : ByFamily Claim). family_text family (of_family family found))
 
 -- the answer to `read` for octets of families, which shows the resources of one family
 abbrev pub IsReadIp : AddressFamily → List ℕ → List ℕ → Type 0
-IsReadIp family = ShowsHexadecimal IsIpFamilies ip_families_at (λ (found : ByFamily Claim). family_text family (of_family family found))
+IsReadIp family =
+    ShowsHexadecimal IsIpFamilies ip_families_at
+    (λ (found : ByFamily Claim). family_text family (of_family family found))
 
 -- the answer to `read` for resources of this kind
 pub record IsReadAnswer (kind text answer : List ℕ) : Type 0 where

@@ -1,10 +1,14 @@
 -- What a check has found in octets, by their lines.
-use Rattle.respath_places.proofs.Common.{Bool, List, Option, [], arith, cond, drop, eqb, false, get_or, inl, inr, length, ltb, refl, rules, subst, suc, sym, take, true, zero, ℕ, ◌&&◌, ◌++◌, ◌+◌, ◌<◌, ◌≡◌, ◌≤◌, ◌∙◌, ◌∷◌, ◌⊎◌, ◌↔◌, ◌||◌, nat_tests, Any, IfSome, IsTrue, HasNo, Begins, error_word, refused_word}
+use Rattle.respath_places.proofs.Common.{Bool, List, Option, [], arith, cond, drop, eqb, false, get_or, inl, inr}
+use Rattle.respath_places.proofs.Common.{length, ltb, refl, rules, subst, suc, sym, take, true, zero, ℕ, ◌&&◌, ◌++◌}
+use Rattle.respath_places.proofs.Common.{◌+◌, ◌<◌, ◌≡◌, ◌≤◌, ◌∙◌, ◌∷◌, ◌⊎◌, ◌↔◌, ◌||◌, nat_tests, Any, IfSome, IsTrue}
+use Rattle.respath_places.proofs.Common.{HasNo, Begins, error_word, refused_word}
 use Rattle.std.proofs.lemmas.Bool.{cases_lt}
 use Rattle.std.proofs.lemmas.List.{drop_all, drop_more, take_more}
 use Rattle.std.specs.Io.KnownBytes.{Appends, Keeps}
 use Rattle.rpki_text.specs.Lines.{lines_of}
-use Rattle.respath_places.specs.Checks.{HasFaultLine, are_equal_states, checked_behind, checked_nothing, checked_with, known_checked, matched_with}
+use Rattle.respath_places.specs.Checks.{HasFaultLine, are_equal_states, checked_behind, checked_nothing, checked_with}
+use Rattle.respath_places.specs.Checks.{known_checked, matched_with}
 use Rattle.respath_places.specs.declared.check.Seen.{Seen}
 
 -- ---- texts that begin with a word
@@ -70,7 +74,8 @@ unfolding first
 octets_begin octets [] none begins = begins_all octets
 octets_begin [] (b ∷ word) none begins = begins
 octets_begin (octet ∷ octets) (b ∷ word) none begins =
-    by_first (eqb octet 10) octet b octets word (octets_begin octets word (λ k small. none (suc k) (omega (arith, small)))) begins
+    by_first (eqb octet 10) octet b octets word
+    (octets_begin octets word (λ k small. none (suc k) (omega (arith, small)))) begins
 
 any_first : {X : Type 0} (P : X → Type 0) (x : X) (xs : List X) → P x → Any P (x ∷ xs)
 any_first P x xs holds = (0, x, omega arith, refl, holds)
@@ -95,7 +100,8 @@ module _ (word : List ℕ) (none : HasNo 10 word) (some : 0 < length word) where
       → Begins octets word ⊎ Any (Line word) (later octets)
   lines_there [] any = absurd (any_none (Line word) any)
   lines_there (octet ∷ octets) any =
-      elim (any_cases (Line word) (first (octet ∷ octets)) (later (octet ∷ octets)) (rw (lines_are octet octets) at any)) [
+      elim
+      (any_cases (Line word) (first (octet ∷ octets)) (later (octet ∷ octets)) (rw (lines_are octet octets) at any)) [
         | inl begins ↦ inl (octets_begin (octet ∷ octets) word none begins)
         | inr others ↦ inr others
       ]
@@ -110,7 +116,8 @@ module _ (word : List ℕ) (none : HasNo 10 word) (some : 0 < length word) where
       no_word (b ∷ word) some begins = begins_none b word begins
   lines_back [] (inr any) = any
   lines_back (octet ∷ octets) (inl begins) =
-      rw (lines_are octet octets) (any_first (Line word) (first (octet ∷ octets)) (later (octet ∷ octets)) (line_begins (octet ∷ octets) word none begins))
+      rw (lines_are octet octets) (any_first (Line word) (first (octet ∷ octets)) (later (octet ∷ octets))
+      (line_begins (octet ∷ octets) word none begins))
   lines_back (octet ∷ octets) (inr any) =
       rw (lines_are octet octets) (any_later (Line word) (first (octet ∷ octets)) (later (octet ∷ octets)) any)
 
@@ -151,13 +158,18 @@ module _ (word : List ℕ) (none : HasNo 10 word) (some : 0 < length word) where
         → (count < length word) × Begins (octet ∷ octets) (drop count word)
     one_more count same begins =
         let small : count < length word = grind (arith, nat_tests) in
-        let is : octet ≡ get_or word count 0 = grind (arith, nat_tests) in
-        (small, rw (drop_more word count 0 small) (begins_more octet (get_or word count 0) octets (drop (count + 1) word) is begins))
+        let is : octet ≡ get_or word count 0 = grind (arith, nat_tests) in (
+          small,
+          rw (drop_more word count 0 small)
+              (begins_more octet (get_or word count 0) octets (drop (count + 1) word) is begins),
+        )
 
     one_less : (count : ℕ) → count < length word → Begins (octet ∷ octets) (drop count word)
         → (next_is count octet ≡ true) × Begins octets (drop (count + 1) word)
     one_less count small begins =
-        let tail = begins_tail octet (get_or word count 0) octets (drop (count + 1) word) (rw (drop_more word count 0 small) at begins) in
+        let tail =
+        begins_tail octet (get_or word count 0) octets (drop (count + 1) word)
+        (rw (drop_more word count 0 small) at begins) in
         let is = tail.0 in
         (grind (arith, nat_tests), tail.1)
 
@@ -211,7 +223,8 @@ module _ (word : List ℕ) (none : HasNo 10 word) (some : 0 < length word) where
     complete_by false true count ends is inner (inl (small, begins)) =
         let less = one_less count small begins in
         elim (cases_lt (count + 1) (length word)) [
-          | inl inside ↦ or_right (eqb (count + 1) (length word)) (finds word (count + 1) octets) (inner (count + 1) (inl (inside, less.1)))
+          | inl inside ↦ or_right (eqb (count + 1) (length word)) (finds word (count + 1) octets)
+              (inner (count + 1) (inl (inside, less.1)))
           | inr at ↦ or_left (eqb (count + 1) (length word)) (finds word (count + 1) octets) (grind (arith, nat_tests))
         ]
     complete_by false true count ends is inner (inr any) =
@@ -221,7 +234,8 @@ module _ (word : List ℕ) (none : HasNo 10 word) (some : 0 < length word) where
         let apart = less.0 in
         absurd cc
     complete_by false false count ends is inner (inr any) =
-        or_right (eqb (length word + 1) (length word)) (finds word (length word + 1) octets) (inner (length word + 1) (inr any))
+        or_right (eqb (length word + 1) (length word)) (finds word (length word + 1) octets)
+        (inner (length word + 1) (inr any))
 
   sound : (octets : List ℕ) (count : ℕ) → finds word count octets ≡ true → Found count octets (later octets)
   unfolding finds later
@@ -305,7 +319,9 @@ whole_found octets = (there, back)
   where
     there : IsTrue (checked_behind checked_nothing octets).has_found → HasFaultLine octets
     there found =
-        elim (or_cases (finds error_word 0 octets) (finds refused_word 0 octets) (rw (found_behind checked_nothing octets) at found)) [
+        elim
+        (or_cases (finds error_word 0 octets) (finds refused_word 0 octets)
+        (rw (found_behind checked_nothing octets) at found)) [
           | inl is ↦ any_left (Line error_word) (Line refused_word) (lines_of octets) ((error_found octets).0 is)
           | inr is ↦ any_right (Line error_word) (Line refused_word) (lines_of octets) ((refused_found octets).0 is)
         ]

@@ -1,5 +1,6 @@
 -- Where texts may be cut, and how they are shown.
-use Rattle.respath_places.proofs.Common.{Bool, List, [], append_assoc, arith, drop, get_or, length, ℕ, ◌++◌, ◌+◌, ◌-◌, ◌<◌, ◌≡◌, ◌≤◌, ◌∷◌}
+use Rattle.respath_places.proofs.Common.{Bool, List, [], append_assoc, arith, drop, get_or, length, ℕ, ◌++◌, ◌+◌, ◌-◌}
+use Rattle.respath_places.proofs.Common.{◌<◌, ◌≡◌, ◌≤◌, ◌∷◌}
 use Rattle.std.proofs.Common.{length-take}
 use Rattle.std.proofs.lemmas.List.{append-nil, map-append}
 use Rattle.std.proofs.lemmas.List.Sums.{count_by-le-length}
@@ -25,7 +26,13 @@ pub shown_more : (old place new : List ℕ) (cs : List ℕ) (c shown : ℕ) → 
     → place ≡ old ++ encode_utf8_all (map shown_char cs) → new ≡ place ++ encode_utf8 shown
     → new ≡ old ++ encode_utf8_all (map shown_char (cs ++ c ∷ []))
 shown_more old place new cs c shown is so_far wrote =
-    grind (arith, map-append shown_char cs (c ∷ []), encodes-append (map shown_char cs) (shown_char c ∷ []), append_assoc, append-nil)
+    grind (
+      arith,
+      map-append shown_char cs (c ∷ []),
+      encodes-append (map shown_char cs) (shown_char c ∷ []),
+      append_assoc,
+      append-nil,
+    )
 
 -- an index behind a cut
 pub behind_cut : (cut : ℕ) → cut + 1 - 1 ≡ cut

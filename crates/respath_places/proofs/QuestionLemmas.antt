@@ -1,5 +1,6 @@
 -- Where the argument of a question begins.
-use Rattle.respath_places.proofs.Common.{Bool, List, [], ap, append_assoc, arith, codes, cond, get_or, length, length-append, ℕ, ◌++◌, ◌+◌, ◌-◌, ◌<◌, ◌≡◌, ◌≤◌, ◌∙◌, ◌∷◌}
+use Rattle.respath_places.proofs.Common.{Bool, List, [], ap, append_assoc, arith, codes, cond, get_or, length}
+use Rattle.respath_places.proofs.Common.{length-append, ℕ, ◌++◌, ◌+◌, ◌-◌, ◌<◌, ◌≡◌, ◌≤◌, ◌∙◌, ◌∷◌}
 use Rattle.std.proofs.Math.Seq.{get_or-append-add}
 use Rattle.respath_lines.specs.Command.{argument_of, kind_of}
 use Rattle.respath_places.specs.Questions.{IsQuestion}
@@ -13,7 +14,8 @@ question_head line question head is_path is =
     let long : head ≡ length command + (length kind + 1) =
     is.start ∙ length-append command (kind ++ 32 ∷ []) ∙ ap (λ n. length command + n) (length-append kind (32 ∷ [])) in
     let split : question ≡ command ++ (kind ++ 32 ∷ argument_of line) =
-    is.text ∙ append_assoc command (kind ++ 32 ∷ []) (argument_of line) ∙ ap (λ t. command ++ t) (append_assoc kind (32 ∷ []) (argument_of line)) in
+    is.text ∙ append_assoc command (kind ++ 32 ∷ []) (argument_of line)
+    ∙ ap (λ t. command ++ t) (append_assoc kind (32 ∷ []) (argument_of line)) in
     let at : get_or question (length command + (length kind + 0)) 0 ≡ 32 =
     rw split
     (get_or-append-add command (kind ++ 32 ∷ argument_of line) (length kind + 0) 0

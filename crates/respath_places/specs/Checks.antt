@@ -1,5 +1,6 @@
 -- The lines that a check looks for: the errors and the refusals.
-use Rattle.std.specs.Prelude.{◌==◌, ◌&&◌, ◌||◌, ℕ, ◌+◌, Bool, false, List, [], ◌∷◌, Option, None, Some, length, nat_lt, not, slice_index, if◌then◌else◌}
+use Rattle.std.specs.Prelude.{◌==◌, ◌&&◌, ◌||◌, ℕ, ◌+◌, Bool, false, List, [], ◌∷◌, Option, None, Some, length, nat_lt}
+use Rattle.std.specs.Prelude.{not, slice_index, if◌then◌else◌}
 use Rattle.std.specs.List.{Any}
 use Rattle.rpki_text.specs.Lines.{lines_of}
 use Rattle.respath_places.specs.Words.{IsErrorOrRefusal, error_word, refused_word}
@@ -47,4 +48,5 @@ are_equal_states a b = (a.error == b.error) && ((a.refused == b.refused) && are_
 -- the known octets if `seen` is the state of a check of them; otherwise they are unknown
 abbrev pub known_checked : Seen → Option (List ℕ) → Option (List ℕ)
 known_checked seen None = None
-known_checked seen (Some octets) = if are_equal_states (checked_behind checked_nothing octets) seen then Some octets else None
+known_checked seen (Some octets) =
+    if are_equal_states (checked_behind checked_nothing octets) seen then Some octets else None

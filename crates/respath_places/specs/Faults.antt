@@ -8,7 +8,8 @@ use Rattle.respath_places.specs.declared.fault.Fault.TheVariants.{Element, NoSte
 -- the answer is an error that no element of a list causes
 abbrev pub IsErrorOfLine : List ℕ → Type 0
 IsErrorOfLine answer =
-    (answer ≡ codes "error: not UTF-8") ⊎ (answer ≡ codes "error: unknown command") ⊎ (answer ≡ codes "error: unknown kind")
+    (answer ≡ codes "error: not UTF-8") ⊎ (answer ≡ codes "error: unknown command")
+    ⊎ (answer ≡ codes "error: unknown kind")
 
 -- the answer reports this fault of an element of a list, or of a part of a path
 abbrev pub Reports : List ℕ → Fault → Type 0

@@ -1,5 +1,7 @@
 -- The position of an element of a line, or of a part of a path.
-use Rattle.std.specs.Prelude.{◌≡◌, ◌⊎◌, ◌==◌, ◌&&◌, ◌||◌, ℕ, ◌+◌, ◌-◌, ◌<◌, ◌≤◌, Bool, true, false, List, ◌++◌, codes, count_by, decimal, encode_utf8_all, length, map, nat_lt, slice_index, slice_range, take, if◌then◌else◌}
+use Rattle.std.specs.Prelude.{◌≡◌, ◌⊎◌, ◌==◌, ◌&&◌, ◌||◌, ℕ, ◌+◌, ◌-◌, ◌<◌, ◌≤◌, Bool, true, false, List, ◌++◌, codes}
+use Rattle.std.specs.Prelude.{count_by, decimal, encode_utf8_all, length, map, nat_lt, slice_index, slice_range, take}
+use Rattle.std.specs.Prelude.{if◌then◌else◌}
 use Rattle.std.specs.Char.{is_control}
 use Rattle.std.specs.List.{after_first}
 use Rattle.std.specs.Str.{chars, trim}

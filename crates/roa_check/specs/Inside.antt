@@ -18,7 +18,8 @@ numbers_each (V6 n) = 1
 
 -- the lowest and the highest of the numbers of the prefix's addresses
 abbrev pub prefix_numbers : FamilyPrefix → ℕ × ℕ
-prefix_numbers p = ((interval p).first * numbers_each p.addr, (last_of (width p.addr) (interval p) + 1) * numbers_each p.addr - 1)
+prefix_numbers p =
+    ((interval p).first * numbers_each p.addr, (last_of (width p.addr) (interval p) + 1) * numbers_each p.addr - 1)
 
 -- the set's addresses of the prefix's family include each address of the prefix
 abbrev pub IsPrefixInside : Triple → FamilyPrefix → Type 0
@@ -28,4 +29,5 @@ IsPrefixInside set p = (n : ℕ) → IsWithin (prefix_numbers p) n → Holds (se
 abbrev pub IsFirstOutside : Triple → List MaxLenValue → Option ℕ → Type 0
 IsFirstOutside set prefixes found =
     MatchOption found (All (λ e. IsPrefixInside set e.prefix) prefixes)
-    (λ at. (at < length prefixes) × HoldsAt (λ e. ¬ IsPrefixInside set e.prefix) prefixes at × AllWithin (λ e. IsPrefixInside set e.prefix) prefixes 0 at)
+    (λ at. (at < length prefixes) × HoldsAt (λ e. ¬ IsPrefixInside set e.prefix) prefixes at
+    × AllWithin (λ e. IsPrefixInside set e.prefix) prefixes 0 at)

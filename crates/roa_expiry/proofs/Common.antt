@@ -1,5 +1,7 @@
 -- What the proofs of this crate use of std, of the crates below and of its own definitions, passed on by one name.
-pub use Rattle.std.proofs.Common.{Bool, Err, List, MatchResult, None, Ok, Option, Result, Some, Vec, [], ap, append-nil, append_assoc, arith, cond, drop, false, get_or, inl, inr, length, not, refl, suc, sym, take, true, zero, ℕ, ◌++◌, ◌+◌, ◌-◌, ◌^◌, ◌<◌, ◌∙◌, ◌∷◌, ◌≡◌, ◌≢◌, ◌≤◌, ◌⊎◌}
+pub use Rattle.std.proofs.Common.{Bool, Err, List, MatchResult, None, Ok, Option, Result, Some, Vec, [], ap, append-nil}
+pub use Rattle.std.proofs.Common.{append_assoc, arith, cond, drop, false, get_or, inl, inr, length, not, refl, suc, sym}
+pub use Rattle.std.proofs.Common.{take, true, zero, ℕ, ◌++◌, ◌+◌, ◌-◌, ◌^◌, ◌<◌, ◌∙◌, ◌∷◌, ◌≡◌, ◌≢◌, ◌≤◌, ◌⊎◌}
 pub use Rattle.std.proofs.lemmas.List.{length-append, take_more}
 pub use Rattle.json.specs.Json.{Items, Json, Members, array, document, item, no_items, number, object}
 pub use Rattle.json.specs.Value.{items_view, members_view, value_view}
@@ -17,8 +19,10 @@ pub use Rattle.roa_vrps.specs.declared.fault.VrpFault.{VrpFault}
 pub use Rattle.roa_vrps.specs.declared.row.Row.{Row}
 pub use Rattle.roa_vrps.specs.declared.row.Row.TheVariants.{Blank, Header, Vrp}
 pub use Rattle.roa_expiry.specs.Expiries.{IsTimeText, is_expired, unexpired_of}
-pub use Rattle.roa_expiry.specs.ItemExpiries.{AreItemExpiries, AreJsonExpiries, HasExpiresFault, HasJsonExpiryFault, HasRoas, HaveWrongExpires, IsItemExpiry}
-pub use Rattle.roa_expiry.specs.RowExpiries.{AreCsvExpiries, AreLineExpiries, AreRowExpiries, HasCsvExpiryFault, HasLineExpiryFault, HaveWrongRow, IsDatedLine, IsLineExpiry}
+pub use Rattle.roa_expiry.specs.ItemExpiries.{AreItemExpiries, AreJsonExpiries, HasExpiresFault, HasJsonExpiryFault}
+pub use Rattle.roa_expiry.specs.ItemExpiries.{HasRoas, HaveWrongExpires, IsItemExpiry}
+pub use Rattle.roa_expiry.specs.RowExpiries.{AreCsvExpiries, AreLineExpiries, AreRowExpiries, HasCsvExpiryFault}
+pub use Rattle.roa_expiry.specs.RowExpiries.{HasLineExpiryFault, HaveWrongRow, IsDatedLine, IsLineExpiry}
 pub use Rattle.roa_expiry.specs.declared.fault.ExpiresFault.{ExpiresFault}
 pub use Rattle.roa_expiry.specs.declared.fault.ExpiryFault.{ExpiryFault}
 pub use Rattle.roa_expiry.specs.declared.fault.ExpiryFault.TheVariants.{File, Item, Line}

@@ -1,12 +1,17 @@
 -- The expiries of the lines of a file, one after another.
-use Rattle.roa_expiry.proofs.Common.{List, None, Option, Some, [], append-nil, append_assoc, inl, inr, length, length-append, refl, ℕ, ◌++◌, ◌+◌, ◌∷◌, ◌≡◌, ◌≢◌, MaxLenValue, lines_of, usual, AreRows, IsCsvFile, columns_after, vrps_of, HasRowFault, IsRow, Columns, VrpFault, Row, Blank, Header, Vrp, AreCsvExpiries, AreLineExpiries, AreRowExpiries, HasCsvExpiryFault, HasLineExpiryFault, HaveWrongRow, IsDatedLine, IsTimeText}
+use Rattle.roa_expiry.proofs.Common.{List, None, Option, Some, [], append-nil, append_assoc, inl, inr, length}
+use Rattle.roa_expiry.proofs.Common.{length-append, refl, ℕ, ◌++◌, ◌+◌, ◌∷◌, ◌≡◌, ◌≢◌, MaxLenValue, lines_of, usual}
+use Rattle.roa_expiry.proofs.Common.{AreRows, IsCsvFile, columns_after, vrps_of, HasRowFault, IsRow, Columns, VrpFault}
+use Rattle.roa_expiry.proofs.Common.{Row, Blank, Header, Vrp, AreCsvExpiries, AreLineExpiries, AreRowExpiries}
+use Rattle.roa_expiry.proofs.Common.{HasCsvExpiryFault, HasLineExpiryFault, HaveWrongRow, IsDatedLine, IsTimeText}
 use Rattle.roa_vrps.specs.Fields.{field}
 use Rattle.roa_vrps.proofs.RowLemmas.{row_apart, row_one}
 use Rattle.roa_expiry.proofs.ExpiryLemmas.{Vrps}
 
 -- The expiries of the rest of a text, after the expiries before it, are those of the text. The first invalid expiry of
 -- the rest is that of the text. Each line of the rest is valid.
-pub record IsDatedSo (text rest : List ℕ) (number : ℕ) (columns : Columns) (column : Option ℕ) (expiries : List (Option ℕ))
+pub record IsDatedSo (text rest : List ℕ) (number : ℕ) (columns : Columns) (column : Option ℕ)
+    (expiries : List (Option ℕ))
     : Type 0 where
   pub values : (more : List (Option ℕ)) → AreRowExpiries columns column (lines_of rest) more
       → AreCsvExpiries text (expiries ++ more)

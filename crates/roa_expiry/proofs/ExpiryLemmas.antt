@@ -1,5 +1,6 @@
 -- The time that a text gives, and the VRPs of the rest of a list that have not expired.
-use Rattle.roa_expiry.proofs.Common.{List, Option, arith, drop, sym, ℕ, ◌^◌, ◌<◌, ◌≡◌, MaxLenValue, IsTimeText, unexpired_of}
+use Rattle.roa_expiry.proofs.Common.{List, Option, arith, drop, sym, ℕ, ◌^◌, ◌<◌, ◌≡◌, MaxLenValue, IsTimeText}
+use Rattle.roa_expiry.proofs.Common.{unexpired_of}
 use Rattle.std.specs.Str.Parse.{IsNumeral, digits_value, without_leading_plus}
 
 abbrev pub Vrps : Type 0

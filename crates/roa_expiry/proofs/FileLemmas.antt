@@ -1,5 +1,7 @@
 -- The expiries of a file in either form.
-use Rattle.roa_expiry.proofs.Common.{Err, List, MatchResult, None, Ok, Option, Result, Some, Vec, [], inl, inr, length, ℕ, ◌∷◌, ◌≡◌, Items, Members, array, document, object, lines_of, usual, IsCsvFile, IsJsonFile, values_in, roas, ExpiryFault, Item, Line, File}
+use Rattle.roa_expiry.proofs.Common.{Err, List, MatchResult, None, Ok, Option, Result, Some, Vec, [], inl, inr, length}
+use Rattle.roa_expiry.proofs.Common.{ℕ, ◌∷◌, ◌≡◌, Items, Members, array, document, object, lines_of, usual, IsCsvFile}
+use Rattle.roa_expiry.proofs.Common.{IsJsonFile, values_in, roas, ExpiryFault, Item, Line, File}
 use Rattle.roa_vrps.specs.Files.{IsCsvText, IsObjectText, IsVrpFile, IsVrpText}
 use Rattle.roa_vrps.specs.Marks.{IsUnmarked}
 use Rattle.rpki_text.specs.Memory.{IfRefused}

@@ -1,5 +1,8 @@
 -- The expiries of items, one after another.
-use Rattle.roa_expiry.proofs.Common.{List, Option, [], arith, get_or, inl, inr, length, refl, suc, take, take_more, zero, ℕ, ◌++◌, ◌+◌, ◌<◌, ◌∷◌, ◌≡◌, Items, item, no_items, Value, items_view, value_view, AreItemExpiries, AreItems, ExpiresFault, HasExpiresFault, HaveWrongExpires, IsItemExpiry}
+use Rattle.roa_expiry.proofs.Common.{List, Option, [], arith, get_or, inl, inr, length, refl, suc, take, take_more}
+use Rattle.roa_expiry.proofs.Common.{zero, ℕ, ◌++◌, ◌+◌, ◌<◌, ◌∷◌, ◌≡◌, Items, item, no_items, Value, items_view}
+use Rattle.roa_expiry.proofs.Common.{value_view, AreItemExpiries, AreItems, ExpiresFault, HasExpiresFault}
+use Rattle.roa_expiry.proofs.Common.{HaveWrongExpires, IsItemExpiry}
 use Rattle.roa_expiry.proofs.ExpiryLemmas.{Vrps}
 
 module _ {A : Type 0} where

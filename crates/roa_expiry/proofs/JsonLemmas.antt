@@ -1,5 +1,8 @@
 -- The expiries of the items of a JSON text.
-use Rattle.roa_expiry.proofs.Common.{Err, List, MatchResult, Ok, Option, Result, Some, Vec, [], ℕ, ◌∷◌, ◌≡◌, Items, Members, array, document, object, IsJsonFile, AreItemExpiries, AreJsonExpiries, HasJsonExpiryFault, HaveWrongExpires, ExpiresFault, ExpiryFault, Item, values_in, roas}
+use Rattle.roa_expiry.proofs.Common.{Err, List, MatchResult, Ok, Option, Result, Some, Vec, [], ℕ, ◌∷◌, ◌≡◌, Items}
+use Rattle.roa_expiry.proofs.Common.{Members, array, document, object, IsJsonFile, AreItemExpiries, AreJsonExpiries}
+use Rattle.roa_expiry.proofs.Common.{HasJsonExpiryFault, HaveWrongExpires, ExpiresFault, ExpiryFault, Item, values_in}
+use Rattle.roa_expiry.proofs.Common.{roas}
 use Rattle.rpki_text.specs.Memory.{IfRefused}
 use Rattle.rpki_text.specs.declared.memory.OrMemory.{OrMemory}
 use Rattle.rpki_text.specs.declared.memory.OrMemory.TheVariants.{Memory, Refused}

@@ -15,4 +15,5 @@ is_expired time (Some expiry) = nat_lt expiry time
 
 -- the VRPs that have not expired, in their order; each VRP has the expiry of the same index
 abbrev pub unexpired_of : ℕ → List (MaxLenValue × ℕ) → List (Option ℕ) → List (MaxLenValue × ℕ)
-unexpired_of time vrps expiries = map (λ dated. dated.0) (filter (λ dated. not (is_expired time dated.1)) (zip vrps expiries))
+unexpired_of time vrps expiries =
+    map (λ dated. dated.0) (filter (λ dated. not (is_expired time dated.1)) (zip vrps expiries))

@@ -12,7 +12,8 @@ use Rattle.roa_expiry.specs.declared.fault.ExpiryFault.TheVariants.{File, Line, 
 
 -- the expiries of a text: as JSON if it opens an object, as CSV if it opens neither an object nor an array
 abbrev pub AreTextExpiries : List ℕ → List (Option ℕ) → Type 0
-AreTextExpiries text expiries = (IsObjectText text × AreJsonExpiries text expiries) ⊎ (IsCsvText text × AreCsvExpiries text expiries)
+AreTextExpiries text expiries =
+    (IsObjectText text × AreJsonExpiries text expiries) ⊎ (IsCsvText text × AreCsvExpiries text expiries)
 
 -- the first invalid expiry of a text: that of an item of JSON, or of a line of CSV
 abbrev pub HasTextExpiryFault : List ℕ → ExpiryFault → Type 0
@@ -27,7 +28,8 @@ AreFileExpiries file expiries = (text : List ℕ) × IsUnmarked file text × Are
 -- the file is a file of VRPs, and its text has an invalid expiry
 abbrev pub HasWrongExpiry : List ℕ → ExpiryFault → Type 0
 HasWrongExpiry file fault =
-    ((vrps : List (MaxLenValue × ℕ)) × IsVrpFile file vrps) × ((text : List ℕ) × IsUnmarked file text × HasTextExpiryFault text fault)
+    ((vrps : List (MaxLenValue × ℕ)) × IsVrpFile file vrps)
+    × ((text : List ℕ) × IsUnmarked file text × HasTextExpiryFault text fault)
 
 -- the fault of the file as a file of VRPs; if it has none, its first invalid expiry
 abbrev pub HasExpiryFault : List ℕ → ExpiryFault → Type 0

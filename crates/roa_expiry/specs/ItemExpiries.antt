@@ -19,7 +19,8 @@ IsNumeric value = (text : List ℕ) × (value ≡ number text)
 -- an item has no member `expires`, or exactly one, which is a number that gives this time
 abbrev pub IsItemExpiry : Json → Option ℕ → Type 0
 IsItemExpiry value None = named_values expires_name value ≡ []
-IsItemExpiry value (Some time) = (text : List ℕ) × (named_values expires_name value ≡ number text ∷ []) × IsTimeText text time
+IsItemExpiry value (Some time) =
+    (text : List ℕ) × (named_values expires_name value ≡ number text ∷ []) × IsTimeText text time
 
 -- the member is repeated or no number, or its number is no time
 abbrev pub HasExpiresFault : Json → ExpiresFault → Type 0
@@ -31,7 +32,8 @@ HasExpiresFault value Number =
 abbrev pub AreItemExpiries : Items → List (Option ℕ) → Type 0
 AreItemExpiries no_items expiries = expiries ≡ []
 AreItemExpiries (item value items) expiries =
-    (expiry : Option ℕ) × IsItemExpiry value expiry × (more : List (Option ℕ)) × (expiries ≡ expiry ∷ more) × AreItemExpiries items more
+    (expiry : Option ℕ) × IsItemExpiry value expiry × (more : List (Option ℕ)) × (expiries ≡ expiry ∷ more)
+    × AreItemExpiries items more
 
 -- the item at this number is the first one whose expiry is invalid; first is the number of the first item
 abbrev pub HaveWrongExpires : ℕ → Items → ℕ → ExpiresFault → Type 0

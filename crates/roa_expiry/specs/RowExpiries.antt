@@ -48,7 +48,8 @@ AreLineExpiries column line (Header columns) own = own ≡ []
 AreLineExpiries column line (Vrp vrp) own = (expiry : Option ℕ) × IsLineExpiry column line expiry × (own ≡ expiry ∷ [])
 
 -- what a line is, its expiries, and the index of the column `Expires` for the lines after it
-pub record IsDatedLine (columns : Columns) (column : Option ℕ) (line : List ℕ) (row : Row) (own : List (Option ℕ)) (next : Option ℕ)
+pub record IsDatedLine (columns : Columns) (column : Option ℕ) (line : List ℕ) (row : Row) (own : List (Option ℕ))
+    (next : Option ℕ)
     : Type 0 where
   pub row_is : IsRow columns line row
   pub expiries : AreLineExpiries column line row own

@@ -1,5 +1,7 @@
 -- The first place that is at fault, and what changes in order say of a place.
-use Rattle.roa_origin.proofs.Common.{Any, Bool, IsTrue, List, arith, false, get_or, inl, inr, length, sym, true, ℕ, ◌+◌, ◌<◌, ◌↔◌, ◌∙◌, ◌≡◌, ◌⊎◌, cases_lt, get_or_default, IsLawfulVrp, Vrp, AreChangesOf, IsDuplicateAnnouncement, IsOf, IsOfBefore, IsSentIn, IsUnknownWithdrawal, Change}
+use Rattle.roa_origin.proofs.Common.{Any, Bool, IsTrue, List, arith, false, get_or, inl, inr, length, sym, true, ℕ, ◌+◌}
+use Rattle.roa_origin.proofs.Common.{◌<◌, ◌↔◌, ◌∙◌, ◌≡◌, ◌⊎◌, cases_lt, get_or_default, IsLawfulVrp, Vrp, AreChangesOf}
+use Rattle.roa_origin.proofs.Common.{IsDuplicateAnnouncement, IsOf, IsOfBefore, IsSentIn, IsUnknownWithdrawal, Change}
 use Rattle.roa_origin.specs.Updates.{IsFirst}
 use Rattle.roa_origin.proofs.ChangesAsListed.{is_sent, sent_before}
 

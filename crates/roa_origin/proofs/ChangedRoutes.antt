@@ -1,5 +1,8 @@
 -- The places of the routes gone through whose validity differs by two lists.
-use Rattle.roa_origin.proofs.Common.{AllPairs, Contains, List, [], arith, get_or, length, ℕ, ◌++◌, ◌+◌, ◌<◌, ◌↔◌, ◌∙◌, ◌∷◌, ◌≡◌, ◌≢◌, ◌≤◌, cases_lt, get_or_default, Contains-append_left, Contains-get_or, Contains-push, Contains-push_cases, all_pairs_push, FamilyPrefix, Vrp, IsValidity, Validity}
+use Rattle.roa_origin.proofs.Common.{AllPairs, Contains, List, [], arith, get_or, length, ℕ, ◌++◌, ◌+◌, ◌<◌, ◌↔◌, ◌∙◌}
+use Rattle.roa_origin.proofs.Common.{◌∷◌, ◌≡◌, ◌≢◌, ◌≤◌, cases_lt, get_or_default, Contains-append_left}
+use Rattle.roa_origin.proofs.Common.{Contains-get_or, Contains-push, Contains-push_cases, all_pairs_push, FamilyPrefix}
+use Rattle.roa_origin.proofs.Common.{Vrp, IsValidity, Validity}
 use Rattle.roa_origin.specs.Reevaluations.{AreChanged, HasChanged, IsChangedAt}
 
 -- a list gives a route one validity

@@ -1,5 +1,11 @@
 -- What changes in order say of the list that they came in.
-use Rattle.roa_origin.proofs.Common.{All, Any, Contains, List, [], ap, arith, get_or, length, map, sym, take, ℕ, ◌++◌, ◌+◌, ◌<◌, ◌↔◌, ◌∙◌, ◌∷◌, ◌≡◌, ◌≤◌, common_steps, cases_lt, get_or-map, get_or-take, get_or_default, length-map, length-take, take_all, All-contains, All-permutation, IsPermutation-map, IsPermutation-refl, IsPermutation-trans, IsNonDecreasingBy, IsPermutation, IsLawfulVrp, Vrp, sent_place, as_sent, AreChangesOf, AreSorted, IsFirstPlace, IsLawfulChange, IsOf, IsOfBefore, IsSearched, IsSentIn, sent_change, Change}
+use Rattle.roa_origin.proofs.Common.{All, Any, Contains, List, [], ap, arith, get_or, length, map, sym, take, ℕ, ◌++◌}
+use Rattle.roa_origin.proofs.Common.{◌+◌, ◌<◌, ◌↔◌, ◌∙◌, ◌∷◌, ◌≡◌, ◌≤◌, common_steps, cases_lt, get_or-map, get_or-take}
+use Rattle.roa_origin.proofs.Common.{get_or_default, length-map, length-take, take_all, All-contains, All-permutation}
+use Rattle.roa_origin.proofs.Common.{IsPermutation-map, IsPermutation-refl, IsPermutation-trans, IsNonDecreasingBy}
+use Rattle.roa_origin.proofs.Common.{IsPermutation, IsLawfulVrp, Vrp, sent_place, as_sent, AreChangesOf, AreSorted}
+use Rattle.roa_origin.proofs.Common.{IsFirstPlace, IsLawfulChange, IsOf, IsOfBefore, IsSearched, IsSentIn, sent_change}
+use Rattle.roa_origin.proofs.Common.{Change}
 use Rattle.roa_origin.proofs.SortedSearch.{any_moved, found}
 use Rattle.roa_origin.proofs.OrderNumbers.{lower, upper}
 use Rattle.roa_origin.proofs.SentVrps.{same_sent, sent_same}

@@ -1,5 +1,11 @@
 -- The VRPs that cover a route, among the first of a table.
-use Rattle.roa_origin.proofs.Common.{List, [], ap, arith, false, get_or, length, refl, reverse, suc, true, zero, ℕ, ◌+◌, ◌-◌, ◌<◌, ◌↔◌, ◌∙◌, ◌∷◌, ◌≡◌, ◌≤◌, ◌⊎◌, and_parts, eq-eqb, eqb-true, le-leb, leb-true, append-nil, reverse-append, reverse-reverse, take_all, All-filter, filter_more, filter_passes, IsNonDecreasingBy-filter, filter, IsNonDecreasingBy, covers_round, round_covers, FamilyPrefix, IsFamilyPrefix, AreThose, IsWalk, covering_before, covers_route, AreLater, IsInOrder, IsLink, NoneCovers, CoversRoute, Vrp, prefix_len, table_place, vrp_place, Link}
+use Rattle.roa_origin.proofs.Common.{List, [], ap, arith, false, get_or, length, refl, reverse, suc, true, zero, ℕ, ◌+◌}
+use Rattle.roa_origin.proofs.Common.{◌-◌, ◌<◌, ◌↔◌, ◌∙◌, ◌∷◌, ◌≡◌, ◌≤◌, ◌⊎◌, and_parts, eq-eqb, eqb-true, le-leb}
+use Rattle.roa_origin.proofs.Common.{leb-true, append-nil, reverse-append, reverse-reverse, take_all, All-filter}
+use Rattle.roa_origin.proofs.Common.{filter_more, filter_passes, IsNonDecreasingBy-filter, filter, IsNonDecreasingBy}
+use Rattle.roa_origin.proofs.Common.{covers_round, round_covers, FamilyPrefix, IsFamilyPrefix, AreThose, IsWalk}
+use Rattle.roa_origin.proofs.Common.{covering_before, covers_route, AreLater, IsInOrder, IsLink, NoneCovers}
+use Rattle.roa_origin.proofs.Common.{CoversRoute, Vrp, prefix_len, table_place, vrp_place, Link}
 use Rattle.roa_origin.proofs.NestedRoutes.{covers_between, same_width}
 use Rattle.roa_origin.proofs.OrderNumbers.{covers_len, covers_place}
 use Rattle.roa_origin.proofs.LinkWalks.{later_covers_none, no_link, nowhere, passes_none, prefix_of}
@@ -22,7 +28,11 @@ module _ (route : FamilyPrefix) (xs : List Vrp) where
   covers_step : (k : ℕ) (d : Vrp) → k < length xs → CoversRoute route (get_or xs k d)
       → covering_before route xs (k + 1) ≡ get_or xs k d ∷ covering_before route xs k
   covers_step k d small covers =
-      rw (filter_more (covers_route route) xs k d small, (covers_if_true route (get_or xs k d)).1 covers, reverse-append) refl
+      rw (
+        filter_more (covers_route route) xs k d small,
+        (covers_if_true route (get_or xs k d)).1 covers,
+        reverse-append,
+      ) refl
 
   free_step : (k : ℕ) (d : Vrp) → k < length xs → ¬ CoversRoute route (get_or xs k d)
       → covering_before route xs (k + 1) ≡ covering_before route xs k

@@ -1,6 +1,9 @@
 -- The first bits of addresses: how many numbers they write, and that they follow the order of places. So a prefix is
 -- sought between two places.
-use Rattle.roa_origin.proofs.Common.{List, [], arith, get_or, length, lit≤, slice_index, subst, ℕ, ◌*◌, ◌+◌, ◌-◌, ◌/◌, ◌<◌, ◌^◌, ◌≡◌, ◌≤◌, ◌++◌, ◌∷◌, common_steps, get_or_default, le-div, pow_pos, shr_below, FamilyPrefix, IsFamilyPrefix, address_number, width, IsInOrder, Vrp, vrp_place, place, IsStart, first_bits, Link}
+use Rattle.roa_origin.proofs.Common.{List, [], arith, get_or, length, lit≤, slice_index, subst, ℕ, ◌*◌, ◌+◌, ◌-◌, ◌/◌}
+use Rattle.roa_origin.proofs.Common.{◌<◌, ◌^◌, ◌≡◌, ◌≤◌, ◌++◌, ◌∷◌, common_steps, get_or_default, le-div, pow_pos}
+use Rattle.roa_origin.proofs.Common.{shr_below, FamilyPrefix, IsFamilyPrefix, address_number, width, IsInOrder, Vrp}
+use Rattle.roa_origin.proofs.Common.{vrp_place, place, IsStart, first_bits, Link}
 use Rattle.std.proofs.Math.Nat.{div-mul-le_self, pow-le-pow_right}
 use Rattle.roa_origin.proofs.NestedRoutes.{len_small}
 use Rattle.roa_origin.proofs.LinkWalks.{nowhere, prefix_of}

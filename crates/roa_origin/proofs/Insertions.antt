@@ -1,5 +1,6 @@
 -- A VRP moves to its place among VRPs in a table's order.
-use Rattle.roa_origin.proofs.Common.{All, List, arith, false, get_or, length, true, ℕ, ◌+◌, ◌-◌, ◌<◌, ◌≡◌, ◌≤◌, All-permutation, IsNonDecreasingBy, IsLawfulVrp, Vrp, table_place}
+use Rattle.roa_origin.proofs.Common.{All, List, arith, false, get_or, length, true, ℕ, ◌+◌, ◌-◌, ◌<◌, ◌≡◌, ◌≤◌}
+use Rattle.roa_origin.proofs.Common.{All-permutation, IsNonDecreasingBy, IsLawfulVrp, Vrp, table_place}
 use Rattle.std.proofs.lemmas.Bool.{cases_eq, leb-false, leb-true}
 use Rattle.std.proofs.lemmas.List.{get_or_read}
 use Rattle.std.proofs.lemmas.List.Sorted.{IsPermutation-trans}

@@ -1,6 +1,10 @@
 -- One step of the walk along the links, from the first n VRPs on: what it passes over, and what that tells of a
 -- route.
-use Rattle.roa_origin.proofs.Common.{Any, List, arith, get_or, inr, length, refl, sym, ℕ, ◌-◌, ◌<◌, ◌∙◌, ◌≡◌, ◌≤◌, ◌⊎◌, cases_lt, get_or_default, slice_range, CoversPrefix, FamilyPrefix, IsFamilyPrefix, IsWalk, AreLater, AreUpTo, IsGroup, IsLink, NoneCovers, CoversRoute, HasAs, Matches, Vrp, HasCoveringAsn, IsMatched, IsRouteCovered, IsValidity, Link, Validity, Invalid, NotFound, Valid}
+use Rattle.roa_origin.proofs.Common.{Any, List, arith, get_or, inr, length, refl, sym, ℕ, ◌-◌, ◌<◌, ◌∙◌, ◌≡◌, ◌≤◌, ◌⊎◌}
+use Rattle.roa_origin.proofs.Common.{cases_lt, get_or_default, slice_range, CoversPrefix, FamilyPrefix, IsFamilyPrefix}
+use Rattle.roa_origin.proofs.Common.{IsWalk, AreLater, AreUpTo, IsGroup, IsLink, NoneCovers, CoversRoute, HasAs}
+use Rattle.roa_origin.proofs.Common.{Matches, Vrp, HasCoveringAsn, IsMatched, IsRouteCovered, IsValidity, Link}
+use Rattle.roa_origin.proofs.Common.{Validity, Invalid, NotFound, Valid}
 use Rattle.roa_origin.specs.Links.{IsTable}
 use Rattle.roa_origin.proofs.PrefixGroups.{any_in, group, none_in}
 use Rattle.roa_origin.proofs.LinkWalks.{fewer, later_covers_none, no_link, nowhere, passes_none, steps}

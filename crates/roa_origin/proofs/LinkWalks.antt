@@ -1,5 +1,8 @@
 -- A walk along the links passes no VRP that covers the prefix.
-use Rattle.roa_origin.proofs.Common.{List, None, [], arith, get_or, length, length-append, suc, sym, zero, ℕ, ◌++◌, ◌+◌, ◌-◌, ◌<◌, ◌∙◌, ◌∷◌, ◌≡◌, ◌≤◌, cases_lt, get_or_append_left, get_or_default, get_or_push, V4, CoversPrefix, FamilyPrefix, IsFamilyPrefix, AreLater, AreLinks, AreUpTo, IsInOrder, IsLink, NoneCovers, Vrp, prefix_len, Link}
+use Rattle.roa_origin.proofs.Common.{List, None, [], arith, get_or, length, length-append, suc, sym, zero, ℕ, ◌++◌, ◌+◌}
+use Rattle.roa_origin.proofs.Common.{◌-◌, ◌<◌, ◌∙◌, ◌∷◌, ◌≡◌, ◌≤◌, cases_lt, get_or_append_left, get_or_default}
+use Rattle.roa_origin.proofs.Common.{get_or_push, V4, CoversPrefix, FamilyPrefix, IsFamilyPrefix, AreLater, AreLinks}
+use Rattle.roa_origin.proofs.Common.{AreUpTo, IsInOrder, IsLink, NoneCovers, Vrp, prefix_len, Link}
 use Rattle.roa_origin.proofs.NestedRoutes.{covers_between}
 use Rattle.roa_origin.proofs.OrderNumbers.{covers_len, covers_place, no_earlier, same_prefix}
 

@@ -1,5 +1,7 @@
 -- One walk along two lists in order: what the one has and the other hasn't.
-use Rattle.roa_origin.proofs.Common.{AllPairs, Contains, List, [], arith, get_or, length, take, ℕ, ◌++◌, ◌+◌, ◌<◌, ◌↔◌, ◌∷◌, ◌≡◌, ◌≢◌, ◌≤◌, cases_lt, cases_order, get_or_default, IsTotalOrder, Ordering, Equal, Less, AreThose}
+use Rattle.roa_origin.proofs.Common.{AllPairs, Contains, List, [], arith, get_or, length, take, ℕ, ◌++◌, ◌+◌, ◌<◌, ◌↔◌}
+use Rattle.roa_origin.proofs.Common.{◌∷◌, ◌≡◌, ◌≢◌, ◌≤◌, cases_lt, cases_order, get_or_default, IsTotalOrder, Ordering}
+use Rattle.roa_origin.proofs.Common.{Equal, Less, AreThose}
 use Rattle.roa_origin.proofs.SortedMerge.{stays_at}
 
 -- what stays of the one list up to a place; before a place of the other one all are less than what is left of the one

@@ -1,5 +1,7 @@
 -- Members of lists: of what is mapped, of what a property picks out, and of two lists in one strict order.
-use Rattle.roa_origin.proofs.Common.{All, AllPairs, Contains, List, [], ap, arith, inl, inr, length, map, refl, subst, suc, sym, ℕ, ◌<◌, ◌↔◌, ◌∙◌, ◌∷◌, ◌≡◌, ◌⊎◌, get_or-map, length-map, All-head, All-tail, Contains-get_or, AllPairs-cons, AreThose}
+use Rattle.roa_origin.proofs.Common.{All, AllPairs, Contains, List, [], ap, arith, inl, inr, length, map, refl, subst}
+use Rattle.roa_origin.proofs.Common.{suc, sym, ℕ, ◌<◌, ◌↔◌, ◌∙◌, ◌∷◌, ◌≡◌, ◌⊎◌, get_or-map, length-map, All-head}
+use Rattle.roa_origin.proofs.Common.{All-tail, Contains-get_or, AllPairs-cons, AreThose}
 
 module _ {X : Type 0} where
   pub here : (x : X) (xs : List X) → Contains (x ∷ xs) x

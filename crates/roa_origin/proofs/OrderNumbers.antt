@@ -1,5 +1,9 @@
 -- What the numbers of a table's order say: a place tells the prefix, a rank the AS number and the maximum length.
-use Rattle.roa_origin.proofs.Common.{All, Bool, List, Option, ap, arith, get_or, ℕ, ◌*◌, ◌+◌, ◌-◌, ◌<◌, ◌^◌, ◌≡◌, ◌≤◌, pow_below, pow_pos, IsNonDecreasingBy, bool_cmp, nat_cmp, ordering_then, IpAddr, round_covers, CoversPrefix, FamilyPrefix, IsFamilyPrefix, address_number, width, addr_of, IsLawfulVrp, Vrp, longest, family_place, vrp_place, place, rank, table_place, max_len_flag}
+use Rattle.roa_origin.proofs.Common.{All, Bool, List, Option, ap, arith, get_or, ℕ, ◌*◌, ◌+◌, ◌-◌, ◌<◌, ◌^◌, ◌≡◌, ◌≤◌}
+use Rattle.roa_origin.proofs.Common.{pow_below, pow_pos, IsNonDecreasingBy, bool_cmp, nat_cmp, ordering_then, IpAddr}
+use Rattle.roa_origin.proofs.Common.{round_covers, CoversPrefix, FamilyPrefix, IsFamilyPrefix, address_number, width}
+use Rattle.roa_origin.proofs.Common.{addr_of, IsLawfulVrp, Vrp, longest, family_place, vrp_place, place, rank}
+use Rattle.roa_origin.proofs.Common.{table_place, max_len_flag}
 use Rattle.std.proofs.lemmas.Bool.Decides.{nat_tests}
 use Rattle.rpki_addr.proofs.WidthLemmas.{width_small}
 use Rattle.roa_origin.proofs.NestedRoutes.{len_small, number_small, same_place, same_width}
@@ -32,7 +36,8 @@ max_len_flag_small m = grind (arith)
 
 -- a rank has 64 bits
 pub rank_small : (p : Vrp) → IsLawfulVrp p → rank p < 2 ^ 64
-rank_small p is = (let long = longest_small p is in let one = max_len_flag_small p.0.max_len in omega (arith, long, one))
+rank_small p is =
+    (let long = longest_small p is in let one = max_len_flag_small p.0.max_len in omega (arith, long, one))
 
 -- what ranks no higher has no lesser AS number, and by one AS no longer a maximum length
 pub rank_asn : (p q : Vrp) → IsLawfulVrp p → IsLawfulVrp q → rank p ≤ rank q → q.1 ≤ p.1

@@ -1,5 +1,9 @@
 -- The VRPs of one prefix, as a piece of a table.
-use Rattle.roa_origin.proofs.Common.{Any, Bool, List, arith, get_or, leb, length, length-drop, ℕ, ◌+◌, ◌-◌, ◌<◌, ◌∙◌, ◌≡◌, ◌≤◌, le-leb, leb-false, leb-true, get_or-drop, get_or-take, get_or_default, length-take-le, All-drop, All-take, IsNonDecreasingBy-drop, IsNonDecreasingBy-take, IsPartitionPoint-from_clause, Mut, slice_range, IsPartitionedBy, Bor, CoversPrefix, FamilyPrefix, IsGroup, IsInOrder, IsLastOf, IsLawfulVrp, Vrp, table_place}
+use Rattle.roa_origin.proofs.Common.{Any, Bool, List, arith, get_or, leb, length, length-drop, ℕ, ◌+◌, ◌-◌, ◌<◌, ◌∙◌}
+use Rattle.roa_origin.proofs.Common.{◌≡◌, ◌≤◌, le-leb, leb-false, leb-true, get_or-drop, get_or-take, get_or_default}
+use Rattle.roa_origin.proofs.Common.{length-take-le, All-drop, All-take, IsNonDecreasingBy-drop, IsNonDecreasingBy-take}
+use Rattle.roa_origin.proofs.Common.{IsPartitionPoint-from_clause, Mut, slice_range, IsPartitionedBy, Bor, CoversPrefix}
+use Rattle.roa_origin.proofs.Common.{FamilyPrefix, IsGroup, IsInOrder, IsLastOf, IsLawfulVrp, Vrp, table_place}
 use Rattle.roa_origin.proofs.SortedSearch.{Parts, Tests}
 use Rattle.roa_origin.proofs.OrderNumbers.{by_ranks, rank_asn, rank_longest}
 use Rattle.roa_origin.specs.Links.{AllHave}

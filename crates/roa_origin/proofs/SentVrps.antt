@@ -1,5 +1,6 @@
 -- VRPs are the same as they are sent where a number of theirs is, which follows the table's order.
-use Rattle.roa_origin.proofs.Common.{List, ap, arith, get_or, length, ℕ, ◌<◌, ◌≡◌, ◌≤◌, IsNonDecreasingBy, IsLawfulVrp, Vrp, sent_place, table_place, max_len_flag, as_sent, IsSearched, IsSentIn}
+use Rattle.roa_origin.proofs.Common.{List, ap, arith, get_or, length, ℕ, ◌<◌, ◌≡◌, ◌≤◌, IsNonDecreasingBy, IsLawfulVrp}
+use Rattle.roa_origin.proofs.Common.{Vrp, sent_place, table_place, max_len_flag, as_sent, IsSearched, IsSentIn}
 use Rattle.roa_origin.proofs.SortedSearch.{found}
 use Rattle.roa_origin.proofs.OrderNumbers.{longest_small, same_prefix, max_len_flag_small}
 

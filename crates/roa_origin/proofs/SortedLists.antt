@@ -1,5 +1,8 @@
 -- Lists in order: whether one has an element, and what is sorted and freed of duplicates.
-use Rattle.roa_origin.proofs.Common.{AllPairs, Bool, Contains, IsTrue, List, [], arith, inr, refl, ◌↔◌, ◌∷◌, ◌≡◌, ◌⊎◌, Contains-dedup, Contains-from_dedup, IsStrictlySortedBy-dedup, Contains-permutation, IsPermutation-sym, IsEquivalence, IsTotalOrder, IsPermutation, IsSorted, eq_by_cmp, Ordering, Equal, Less}
+use Rattle.roa_origin.proofs.Common.{AllPairs, Bool, Contains, IsTrue, List, [], arith, inr, refl, ◌↔◌, ◌∷◌, ◌≡◌, ◌⊎◌}
+use Rattle.roa_origin.proofs.Common.{Contains-dedup, Contains-from_dedup, IsStrictlySortedBy-dedup}
+use Rattle.roa_origin.proofs.Common.{Contains-permutation, IsPermutation-sym, IsEquivalence, IsTotalOrder}
+use Rattle.roa_origin.proofs.Common.{IsPermutation, IsSorted, eq_by_cmp, Ordering, Equal, Less}
 use Rattle.std.proofs.lemmas.List.Filters.{dedup_is}
 use Rattle.std.proofs.lemmas.Map.Keys.{Less-from_sorted}
 use Rattle.std.specs.List.Retain.{IsFiltered, DiffersFromLast}

@@ -1,6 +1,10 @@
 -- Two lists in order, merged by turns: each turn takes the next element of one of them, which comes no later than the
 -- next of the other.
-use Rattle.roa_origin.proofs.Common.{All, List, [], ap, append_assoc, arith, get_or, inl, inr, length, refl, take, ℕ, ◌++◌, ◌+◌, ◌-◌, ◌<◌, ◌∷◌, ◌≡◌, ◌≤◌, get_or_default, get_or_push, length_push, take_more, All-contains, Contains-get_or, IsNonDecreasingBy-push, IsPermutation-append_left, IsPermutation-middle, IsPermutation-push_more, IsPermutation-sym, IsNonDecreasingBy, IsPermutation, AreThose}
+use Rattle.roa_origin.proofs.Common.{All, List, [], ap, append_assoc, arith, get_or, inl, inr, length, refl, take, ℕ}
+use Rattle.roa_origin.proofs.Common.{◌++◌, ◌+◌, ◌-◌, ◌<◌, ◌∷◌, ◌≡◌, ◌≤◌, get_or_default, get_or_push, length_push}
+use Rattle.roa_origin.proofs.Common.{take_more, All-contains, Contains-get_or, IsNonDecreasingBy-push}
+use Rattle.roa_origin.proofs.Common.{IsPermutation-append_left, IsPermutation-middle, IsPermutation-push_more}
+use Rattle.roa_origin.proofs.Common.{IsPermutation-sym, IsNonDecreasingBy, IsPermutation, AreThose}
 use Rattle.roa_origin.proofs.ListMembers.{those_are}
 
 -- a list in order whose last element comes no later than what is left of two lists from places on

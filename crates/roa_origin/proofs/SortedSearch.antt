@@ -1,5 +1,9 @@
 -- A list in the order of numbers has one of them where a search for it stops, or nowhere.
-use Rattle.roa_origin.proofs.Common.{Any, Bool, List, arith, false, get_or, leb, length, ltb, true, ℕ, ◌+◌, ◌<◌, ◌≡◌, cases_lt, leb-false, leb-true, ltb-false, ltb-true, get_or_default, Contains-permutation, IsPartitionPoint-from_clause, IsPartitionedBy-leb, IsPartitionedBy-ltb, Mut, IsNonDecreasingBy, IsPartitionPoint, IsPartitionedBy, IsPermutation, Bor, IsSearched}
+use Rattle.roa_origin.proofs.Common.{Any, Bool, List, arith, false, get_or, leb, length, ltb, true, ℕ, ◌+◌, ◌<◌, ◌≡◌}
+use Rattle.roa_origin.proofs.Common.{cases_lt, leb-false, leb-true, ltb-false, ltb-true, get_or_default}
+use Rattle.roa_origin.proofs.Common.{Contains-permutation, IsPartitionPoint-from_clause, IsPartitionedBy-leb}
+use Rattle.roa_origin.proofs.Common.{IsPartitionedBy-ltb, Mut, IsNonDecreasingBy, IsPartitionPoint, IsPartitionedBy}
+use Rattle.roa_origin.proofs.Common.{IsPermutation, Bor, IsSearched}
 use Rattle.std.specs.Fn.{Called, ComputesKey}
 
 pub found : {X : Type 0} (f : X → ℕ) (xs : List X) (t at : ℕ) → IsNonDecreasingBy f xs → IsSearched f xs t at

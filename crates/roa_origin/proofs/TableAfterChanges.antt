@@ -1,5 +1,8 @@
 -- What a table has after changes.
-use Rattle.roa_origin.proofs.Common.{Contains, List, arith, inl, inr, map, ◌++◌, ◌↔◌, ◌∙◌, ◌≡◌, ◌⊎◌, Contains-append_cases, Contains-append_left, Contains-append_right, Contains-permutation, IsPermutation-sym, IsPermutation-trans, IsPermutation, Vrp, as_sent, IsSentIn, IsUpdated}
+use Rattle.roa_origin.proofs.Common.{Contains, List, arith, inl, inr, map, ◌++◌, ◌↔◌, ◌∙◌, ◌≡◌, ◌⊎◌}
+use Rattle.roa_origin.proofs.Common.{Contains-append_cases, Contains-append_left, Contains-append_right}
+use Rattle.roa_origin.proofs.Common.{Contains-permutation, IsPermutation-sym, IsPermutation-trans, IsPermutation, Vrp}
+use Rattle.roa_origin.proofs.Common.{as_sent, IsSentIn, IsUpdated}
 use Rattle.roa_origin.proofs.ListMembers.{map_from, map_has, those_are, those_have, those_one}
 
 module _ (table announced withdrawn next : List Vrp) (is : IsUpdated table announced withdrawn next) where

@@ -1,7 +1,14 @@
 -- One walk along a table and the changes of it, turn by turn.
-use Rattle.roa_origin.proofs.Common.{All, Any, List, [], append_assoc, arith, drop, get_or, length, length-drop, map, refl, suc, sym, take, zero, ℕ, ◌++◌, ◌+◌, ◌-◌, ◌<◌, ◌∷◌, ◌≡◌, ◌≤◌, take-suc, cases_lt, append-nil, get_or-drop, get_or_default, map-append, take_more, All-append, All-map, All-take, All-permutation, IsPermutation-append_right, IsPermutation-trans, slice_range, IsNonDecreasingBy, IsInOrder, IsLawfulVrp, Vrp, sent_place, table_place, AreChangesOf, AreSorted, IsMergedOf, IsOf, IsSearched, IsSentIn, IsUpdated, sent_change, Change}
+use Rattle.roa_origin.proofs.Common.{All, Any, List, [], append_assoc, arith, drop, get_or, length, length-drop, map}
+use Rattle.roa_origin.proofs.Common.{refl, suc, sym, take, zero, ℕ, ◌++◌, ◌+◌, ◌-◌, ◌<◌, ◌∷◌, ◌≡◌, ◌≤◌, take-suc}
+use Rattle.roa_origin.proofs.Common.{cases_lt, append-nil, get_or-drop, get_or_default, map-append, take_more}
+use Rattle.roa_origin.proofs.Common.{All-append, All-map, All-take, All-permutation, IsPermutation-append_right}
+use Rattle.roa_origin.proofs.Common.{IsPermutation-trans, slice_range, IsNonDecreasingBy, IsInOrder, IsLawfulVrp, Vrp}
+use Rattle.roa_origin.proofs.Common.{sent_place, table_place, AreChangesOf, AreSorted, IsMergedOf, IsOf, IsSearched}
+use Rattle.roa_origin.proofs.Common.{IsSentIn, IsUpdated, sent_change, Change}
 use Rattle.roa_origin.proofs.ChangesAsListed.{by_vrp, change_vrp, is_sent}
-use Rattle.roa_origin.proofs.SortedMerge.{All-those, IsMerged, moved_last, moved_middle, skipped, stays_at, taken, turned}
+use Rattle.roa_origin.proofs.SortedMerge.{All-those, IsMerged, moved_last, moved_middle, skipped, stays_at, taken}
+use Rattle.roa_origin.proofs.SortedMerge.{turned}
 use Rattle.roa_origin.proofs.ListMembers.{those_too}
 use Rattle.roa_origin.proofs.OrderNumbers.{by_places}
 use Rattle.roa_origin.proofs.SentVrps.{by_sent_place, by_sent}
@@ -28,7 +35,8 @@ pub record IsSoFar (table : List Vrp) (withdrawn announced : List Change) (at go
 -- what is announced is in a table's order, since each has its maximum length
 up : (cs : List Change) → AreSorted cs → IsNonDecreasingBy come_place cs
 up cs order i j d le small =
-    by_sent_place _ _ (order.lawful i d (omega arith)).sent (order.lawful j d small).sent (by_vrp cs order i j d le small)
+    by_sent_place _ _ (order.lawful i d (omega arith)).sent (order.lawful j d small).sent
+    (by_vrp cs order i j d le small)
 
 module _ {table : List Vrp} {withdrawn announced : List Change} {at gone come : ℕ} {list : List Vrp}
     (so_far : IsSoFar table withdrawn announced at gone come list) where

@@ -1,9 +1,12 @@
 -- What is known of a route's validity when some places of a list of VRPs were looked at.
-use Rattle.roa_origin.proofs.Common.{List, arith, get_or, length, ℕ, ◌<◌, ◌≡◌, ◌⊎◌, IsPermutation-sym, IsPermutation, FamilyPrefix, CoversRoute, Matches, Vrp, IsRouteCovered, IsValidity, Validity, Invalid, NotFound}
+use Rattle.roa_origin.proofs.Common.{List, arith, get_or, length, ℕ, ◌<◌, ◌≡◌, ◌⊎◌, IsPermutation-sym, IsPermutation}
+use Rattle.roa_origin.proofs.Common.{FamilyPrefix, CoversRoute, Matches, Vrp, IsRouteCovered, IsValidity, Validity}
+use Rattle.roa_origin.proofs.Common.{Invalid, NotFound}
 use Rattle.roa_origin.proofs.SortedSearch.{any_moved}
 
 -- none at the places that Seen are matches the route, and the validity is what those say that cover it
-pub record IsValidityOfSeen (route : FamilyPrefix) (asn : ℕ) (xs : List Vrp) (Seen : ℕ → Type 0) (v : Validity) : Type 0 where
+pub record IsValidityOfSeen (route : FamilyPrefix) (asn : ℕ) (xs : List Vrp) (Seen : ℕ → Type 0) (v : Validity)
+    : Type 0 where
   pub unmatched : (k : ℕ) (d : Vrp) → k < length xs → Seen k → ¬ Matches route asn (get_or xs k d)
   pub so_far : ((v ≡ NotFound) × ((k : ℕ) (d : Vrp) → k < length xs → Seen k → ¬ CoversRoute route (get_or xs k d)))
       ⊎ ((v ≡ Invalid) × IsRouteCovered route xs)

@@ -1,5 +1,7 @@
 -- The order of VRPs is total, and VRPs tie in it exactly where they are the same.
-use Rattle.roa_origin.proofs.Common.{Bool, IsTrue, ap, arith, subst, true, ◌&&◌, ◌==◌, ◌↔◌, ◌≡◌, ◌≢◌, ◌⊎◌, and_parts, eq-eqb, eqb-true, IsTotalOrder, nat_cmp, ordering_reverse, Ordering, Equal, Greater, Less, MaxLenValue, max_len_cmp, Vrp, vrp_cmp}
+use Rattle.roa_origin.proofs.Common.{Bool, IsTrue, ap, arith, subst, true, ◌&&◌, ◌==◌, ◌↔◌, ◌≡◌, ◌≢◌, ◌⊎◌, and_parts}
+use Rattle.roa_origin.proofs.Common.{eq-eqb, eqb-true, IsTotalOrder, nat_cmp, ordering_reverse, Ordering, Equal}
+use Rattle.roa_origin.proofs.Common.{Greater, Less, MaxLenValue, max_len_cmp, Vrp, vrp_cmp}
 use Rattle.std.proofs.lemmas.Cmp.{nat_cmp_total, on_total, then_total, tied_itself}
 use Rattle.std.proofs.lemmas.Map.Lookups.{exact_pairs, exact_unsigned}
 use Rattle.std.specs.Ordering.{is_eq, is_lt}

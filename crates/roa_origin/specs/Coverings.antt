@@ -16,7 +16,8 @@ AreThose {X} P (x ∷ xs) ys = (P x × (zs : List X) × (ys ≡ x ∷ zs) × Are
 abbrev pub covers_route : FamilyPrefix → Vrp → Bool
 covers_route route vrp =
     (width vrp.0.prefix.addr == width route.addr)
-    && (nat_le (address_number vrp.0.prefix.addr) (address_number route.addr) && nat_le (last_bits route) (last_bits vrp.0.prefix))
+    && (nat_le (address_number vrp.0.prefix.addr) (address_number route.addr) && nat_le (last_bits route)
+    (last_bits vrp.0.prefix))
 
 -- the VRPs among the first n that cover the route, the last first
 abbrev pub covering_before : FamilyPrefix → List Vrp → ℕ → List Vrp

@@ -5,7 +5,8 @@ use Rattle.roa_origin.specs.Places.{table_place}
 
 -- the first n VRPs are in a table's order
 abbrev pub RisesTo : ℕ → List Vrp → Type 0
-RisesTo n xs = (i j : ℕ) (d : Vrp) → i ≤ j → j < n → table_place (slice_index_or xs i d) ≤ table_place (slice_index_or xs j d)
+RisesTo n xs =
+    (i j : ℕ) (d : Vrp) → i ≤ j → j < n → table_place (slice_index_or xs i d) ≤ table_place (slice_index_or xs j d)
 
 -- The VRPs up to index `at` are in a table's order, except for the one at index `place`. It comes by those after it.
 pub record IsInserting (xs : List Vrp) (place at : ℕ) : Type 0 where

@@ -1,5 +1,6 @@
 -- A router's table after the changes that a cache sends (RFC 8210, 5.3, 5.6, 5.7, 5.11 and 12).
-use Rattle.std.specs.Prelude.{◌≡◌, ℕ, ◌+◌, ◌*◌, ◌^◌, ◌<◌, ◌≤◌, ◌⊎◌, List, ◌++◌, All, Any, length, map, slice_index_or, take}
+use Rattle.std.specs.Prelude.{◌≡◌, ℕ, ◌+◌, ◌*◌, ◌^◌, ◌<◌, ◌≤◌, ◌⊎◌, List, ◌++◌, All, Any, length, map, slice_index_or}
+use Rattle.std.specs.Prelude.{take}
 use Rattle.std.specs.List.Sorted.{IsNonDecreasingBy, IsPermutation}
 use Rattle.roa_origin.specs.Coverings.{AreThose}
 use Rattle.roa_origin.specs.Vrps.{IsLawfulVrp, Vrp}
@@ -35,7 +36,8 @@ pub record IsFirst (P : ℕ → Type 0) (n : ℕ) : Type 0 where
 -- the first fault of changes: withdrawals are checked first, each list in its order
 abbrev pub HasChangeFault : List Vrp → List Vrp → List Vrp → ChangeFault → Type 0
 HasChangeFault table announced withdrawn (UnknownWithdrawal n) = IsFirst (IsUnknownWithdrawal table withdrawn) n
-HasChangeFault table announced withdrawn (DuplicateAnnouncement n) = ((k : ℕ) → ¬ IsUnknownWithdrawal table withdrawn k) × IsFirst (IsDuplicateAnnouncement table announced withdrawn) n
+HasChangeFault table announced withdrawn (DuplicateAnnouncement n) =
+    ((k : ℕ) → ¬ IsUnknownWithdrawal table withdrawn k) × IsFirst (IsDuplicateAnnouncement table announced withdrawn) n
 
 -- the changes have no fault: each withdrawal is known, and no announcement is a duplicate
 pub record AreUpdates (table announced withdrawn : List Vrp) : Type 0 where

@@ -1,5 +1,8 @@
 -- Whether a filter matches a VRP is decided, for any VRP; so those that no filter matches are a filtered list.
-use Rattle.roa_slurm.proofs.Common.{Any, Bool, IsTrue, List, [], arith, false, inl, inr, length, get_or, refl, suc, true, zero, ℕ, ◌++◌, ◌+◌, ◌<◌, ◌∷◌, ◌≡◌, ◌≤◌, ◌↔◌, ◌⊎◌, not, CoversPrefix, FamilyPrefix, MaxLenValue, address_number, is_v6, ByAsn, ByBoth, ByPrefix, PrefixFilter, IsApplied, IsRemoved, IsRemovedBy}
+use Rattle.roa_slurm.proofs.Common.{Any, Bool, IsTrue, List, [], arith, false, inl, inr, length, get_or, refl, suc}
+use Rattle.roa_slurm.proofs.Common.{true, zero, ℕ, ◌++◌, ◌+◌, ◌<◌, ◌∷◌, ◌≡◌, ◌≤◌, ◌↔◌, ◌⊎◌, not, CoversPrefix}
+use Rattle.roa_slurm.proofs.Common.{FamilyPrefix, MaxLenValue, address_number, is_v6, ByAsn, ByBoth, ByPrefix}
+use Rattle.roa_slurm.proofs.Common.{PrefixFilter, IsApplied, IsRemoved, IsRemovedBy}
 use Rattle.std.proofs.Common.{add-one}
 use Rattle.std.specs.Prelude.{filter}
 use Rattle.std.proofs.Common.{append-nil, cond}

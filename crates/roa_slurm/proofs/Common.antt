@@ -1,5 +1,7 @@
 -- What the proofs of this crate use of std, of the crates below and of its own definitions, passed on by one name.
-pub use Rattle.std.proofs.Common.{Bool, IsTrue, List, MatchOption, MatchResult, None, Ok, Err, Option, Result, Some, [], ap, arith, false, inl, inr, length, get_or, not, refl, suc, sym, take, true, zero, ℕ, ◌++◌, ◌+◌, ◌-◌, ◌^◌, ◌<◌, ◌∙◌, ◌∷◌, ◌≡◌, ◌≢◌, ◌≤◌, ◌↔◌, ◌⊎◌}
+pub use Rattle.std.proofs.Common.{Bool, IsTrue, List, MatchOption, MatchResult, None, Ok, Err, Option, Result, Some, []}
+pub use Rattle.std.proofs.Common.{ap, arith, false, inl, inr, length, get_or, not, refl, suc, sym, take, true, zero, ℕ}
+pub use Rattle.std.proofs.Common.{◌++◌, ◌+◌, ◌-◌, ◌^◌, ◌<◌, ◌∙◌, ◌∷◌, ◌≡◌, ◌≢◌, ◌≤◌, ◌↔◌, ◌⊎◌}
 pub use Rattle.std.proofs.lemmas.List.{take_more}
 pub use Rattle.std.specs.Borrow.{Bor}
 pub use Rattle.std.specs.Prelude.{Any}
@@ -12,7 +14,9 @@ pub use Rattle.roa_slurm.specs.Applied.{IsApplied, IsRemoved, IsRemovedBy}
 pub use Rattle.roa_slurm.specs.Entries.{HaveAssertionFault, HaveKeyFault, HaveKeyFilterFault}
 pub use Rattle.roa_slurm.specs.Lists.{AreEntries, HaveInvalid}
 pub use Rattle.roa_slurm.specs.Objects.{Defines, HasUnknown, HasValue, IsString, KnowsAll, Lacks}
-pub use Rattle.roa_slurm.specs.Parts.{GivesAsn, HasAsnMemberFault, HasLongest, HasLongestFault, HasOptionalFault, HasOptionalText, GivesPrefix, HasPrefixMemberFault, HasRequiredText, HasRequiredTextFault, IsMissing}
+pub use Rattle.roa_slurm.specs.Parts.{GivesAsn, HasAsnMemberFault, HasLongest, HasLongestFault, HasOptionalFault}
+pub use Rattle.roa_slurm.specs.Parts.{HasOptionalText, GivesPrefix, HasPrefixMemberFault, HasRequiredText}
+pub use Rattle.roa_slurm.specs.Parts.{HasRequiredTextFault, IsMissing}
 pub use Rattle.roa_slurm.specs.declared.fault.SlurmFault.{SlurmFault}
 pub use Rattle.roa_slurm.specs.declared.fault.SlurmItemFault.{SlurmItemFault}
 pub use Rattle.roa_slurm.specs.declared.filter.PrefixFilter.{PrefixFilter}

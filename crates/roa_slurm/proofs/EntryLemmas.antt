@@ -1,5 +1,10 @@
 -- The first fault of the members of an item.
-use Rattle.roa_slurm.proofs.Common.{List, MatchOption, None, Option, Some, inl, inr, ℕ, ◌⊎◌, Bor, Members, string, FamilyPrefix, HaveAssertionFault, HaveKeyFault, HaveKeyFilterFault, HasValue, IsString, Lacks, GivesAsn, HasAsnMemberFault, HasLongest, HasLongestFault, HasOptionalFault, HasOptionalText, GivesPrefix, HasRequiredText, HasRequiredTextFault, IsMissing, SlurmItemFault, SlurmMember, Asn, Comment, RouterPublicKey, Ski}
+use Rattle.roa_slurm.proofs.Common.{List, MatchOption, None, Option, Some, inl, inr, ℕ, ◌⊎◌, Bor, Members, string}
+use Rattle.roa_slurm.proofs.Common.{FamilyPrefix, HaveAssertionFault, HaveKeyFault, HaveKeyFilterFault, HasValue}
+use Rattle.roa_slurm.proofs.Common.{IsString, Lacks, GivesAsn, HasAsnMemberFault, HasLongest, HasLongestFault}
+use Rattle.roa_slurm.proofs.Common.{HasOptionalFault, HasOptionalText, GivesPrefix, HasRequiredText}
+use Rattle.roa_slurm.proofs.Common.{HasRequiredTextFault, IsMissing, SlurmItemFault, SlurmMember, Asn, Comment}
+use Rattle.roa_slurm.proofs.Common.{RouterPublicKey, Ski}
 
 -- a text that is there or not is an optional one
 pub optional_has : (part : SlurmMember) (members : Members) (found : Option (Bor (List ℕ)))

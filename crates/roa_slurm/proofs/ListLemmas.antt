@@ -1,5 +1,7 @@
 -- The items of a list, one after another.
-use Rattle.roa_slurm.proofs.Common.{List, [], arith, inl, inr, refl, suc, take, zero, ℕ, ◌++◌, ◌+◌, ◌<◌, ◌∷◌, ◌≡◌, length, get_or, take_more, Value, items_view, value_view, Json, AreEntries, HaveInvalid, SlurmItemFault}
+use Rattle.roa_slurm.proofs.Common.{List, [], arith, inl, inr, refl, suc, take, zero, ℕ, ◌++◌, ◌+◌, ◌<◌, ◌∷◌, ◌≡◌}
+use Rattle.roa_slurm.proofs.Common.{length, get_or, take_more, Value, items_view, value_view, Json, AreEntries}
+use Rattle.roa_slurm.proofs.Common.{HaveInvalid, SlurmItemFault}
 
 module _ {A X : Type 0} (Is : Json → X → Type 0) where
   listed_push : (vs : List (Value A)) (v : Value A) (xs : List X) (x : X) → AreEntries Is (items_view vs) xs

@@ -1,5 +1,7 @@
 -- The names of an object's members, one after another.
-use Rattle.roa_slurm.proofs.Common.{List, [], arith, inl, inr, suc, take, zero, ℕ, ◌++◌, ◌+◌, ◌<◌, ◌∷◌, ◌≡◌, length, get_or, take_more, Bor, Value, members_view, Defines, HasUnknown, KnowsAll, SlurmObject}
+use Rattle.roa_slurm.proofs.Common.{List, [], arith, inl, inr, suc, take, zero, ℕ, ◌++◌, ◌+◌, ◌<◌, ◌∷◌, ◌≡◌, length}
+use Rattle.roa_slurm.proofs.Common.{get_or, take_more, Bor, Value, members_view, Defines, HasUnknown, KnowsAll}
+use Rattle.roa_slurm.proofs.Common.{SlurmObject}
 
 known_push : {A : Type 0} (whole : SlurmObject) (ms : List (Bor (List ℕ) × Value A)) (m : Bor (List ℕ) × Value A)
     → KnowsAll whole (members_view ms) → Defines whole m.0.now → KnowsAll whole (members_view (ms ++ m ∷ []))

@@ -4,7 +4,9 @@ use Rattle.json.specs.Json.{Json, Members, object}
 use Rattle.rpki_prefix.specs.MaxLen.{MaxLenValue}
 use Rattle.rpki_prefix.specs.Values.{FamilyPrefix}
 use Rattle.roa_slurm.specs.Objects.{HasUnknown, IsString, KnowsAll, Lacks}
-use Rattle.roa_slurm.specs.Parts.{GivesAsn, HasAsnMemberFault, HasLongest, HasLongestFault, HasOptionalFault, HasOptionalText, GivesPrefix, HasPrefixMemberFault, HasRequiredText, HasRequiredTextFault, IsMissing}
+use Rattle.roa_slurm.specs.Parts.{GivesAsn, HasAsnMemberFault, HasLongest, HasLongestFault, HasOptionalFault}
+use Rattle.roa_slurm.specs.Parts.{HasOptionalText, GivesPrefix, HasPrefixMemberFault, HasRequiredText}
+use Rattle.roa_slurm.specs.Parts.{HasRequiredTextFault, IsMissing}
 use Rattle.roa_slurm.specs.Steps.{FaultThen}
 use Rattle.roa_slurm.specs.declared.bgpsec.KeyAssertion.{KeyAssertion}
 use Rattle.roa_slurm.specs.declared.bgpsec.KeyFilter.{KeyFilter}
@@ -14,7 +16,8 @@ use Rattle.roa_slurm.specs.declared.filter.PrefixFilter.{PrefixFilter}
 use Rattle.roa_slurm.specs.declared.filter.PrefixFilter.TheVariants.{ByAsn, ByBoth, ByPrefix}
 use Rattle.roa_slurm.specs.declared.member.SlurmMember.TheVariants.{Asn, Comment, Prefix, RouterPublicKey, Ski}
 use Rattle.roa_slurm.specs.declared.object.SlurmObject.{SlurmObject}
-use Rattle.roa_slurm.specs.declared.object.SlurmObject.TheVariants.{BgpsecAssertionItem, BgpsecFilterItem, PrefixAssertionItem, PrefixFilterItem}
+use Rattle.roa_slurm.specs.declared.object.SlurmObject.TheVariants.{BgpsecAssertionItem, BgpsecFilterItem}
+use Rattle.roa_slurm.specs.declared.object.SlurmObject.TheVariants.{PrefixAssertionItem, PrefixFilterItem}
 
 -- the item is an object of these members, and the RFC defines each of them for such an object
 abbrev pub IsItemOf : SlurmObject → Json → Members → Type 0
@@ -82,7 +85,8 @@ HaveAssertionFault members fault =
 
 -- an item of `prefixAssertions` (RFC 8416, 3.4.1)
 abbrev pub IsPrefixAssertion : Json → MaxLenValue × ℕ → Type 0
-IsPrefixAssertion value vrp = (members : Members) × IsItemOf PrefixAssertionItem value members × AreAssertion members vrp
+IsPrefixAssertion value vrp =
+    (members : Members) × IsItemOf PrefixAssertionItem value members × AreAssertion members vrp
 
 abbrev pub HasPrefixAssertionFault : Json → SlurmItemFault → Type 0
 HasPrefixAssertionFault = HasEntryFault PrefixAssertionItem HaveAssertionFault

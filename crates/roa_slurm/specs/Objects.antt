@@ -4,9 +4,15 @@ use Rattle.json.specs.Json.{Json, number, string, array, object, Items, Members,
 use Rattle.roa_vrps.specs.Members.{values_in, AreWrong}
 use Rattle.roa_vrps.specs.declared.fault.MemberFault.{MemberFault}
 use Rattle.roa_slurm.specs.declared.member.SlurmMember.{SlurmMember}
-use Rattle.roa_slurm.specs.declared.member.SlurmMember.TheVariants.{SlurmVersion, ValidationOutputFilters, LocallyAddedAssertions, PrefixFilters, BgpsecFilters, PrefixAssertions, BgpsecAssertions, Prefix, Asn, MaxPrefixLength, Ski, RouterPublicKey, Comment}
+use Rattle.roa_slurm.specs.declared.member.SlurmMember.TheVariants.{SlurmVersion, ValidationOutputFilters}
+use Rattle.roa_slurm.specs.declared.member.SlurmMember.TheVariants.{LocallyAddedAssertions, PrefixFilters}
+use Rattle.roa_slurm.specs.declared.member.SlurmMember.TheVariants.{BgpsecFilters, PrefixAssertions, BgpsecAssertions}
+use Rattle.roa_slurm.specs.declared.member.SlurmMember.TheVariants.{Prefix, Asn, MaxPrefixLength, Ski, RouterPublicKey}
+use Rattle.roa_slurm.specs.declared.member.SlurmMember.TheVariants.{Comment}
 use Rattle.roa_slurm.specs.declared.object.SlurmObject.{SlurmObject}
-use Rattle.roa_slurm.specs.declared.object.SlurmObject.TheVariants.{File, Filters, Assertions, PrefixFilterItem, BgpsecFilterItem, PrefixAssertionItem, BgpsecAssertionItem}
+use Rattle.roa_slurm.specs.declared.object.SlurmObject.TheVariants.{File, Filters, Assertions, PrefixFilterItem}
+use Rattle.roa_slurm.specs.declared.object.SlurmObject.TheVariants.{BgpsecFilterItem, PrefixAssertionItem}
+use Rattle.roa_slurm.specs.declared.object.SlurmObject.TheVariants.{BgpsecAssertionItem}
 
 -- the name of a member
 abbrev pub slurm_name : SlurmMember → List ℕ

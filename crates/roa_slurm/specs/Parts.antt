@@ -13,7 +13,8 @@ use Rattle.rpki_text.specs.declared.number.ParseIntError.{ParseIntError}
 use Rattle.roa_vrps.specs.declared.fault.MemberFault.{MemberFault}
 use Rattle.roa_vrps.specs.declared.fault.MemberFault.TheVariants.{Missing}
 use Rattle.roa_slurm.specs.declared.fault.SlurmItemFault.{SlurmItemFault}
-use Rattle.roa_slurm.specs.declared.fault.SlurmItemFault.TheVariants.{InvalidAsn, InvalidPrefix, MaxLen, MaxLenFormat, Member}
+use Rattle.roa_slurm.specs.declared.fault.SlurmItemFault.TheVariants.{InvalidAsn, InvalidPrefix, MaxLen, MaxLenFormat}
+use Rattle.roa_slurm.specs.declared.fault.SlurmItemFault.TheVariants.{Member}
 use Rattle.roa_slurm.specs.declared.member.SlurmMember.{SlurmMember}
 use Rattle.roa_slurm.specs.declared.member.SlurmMember.TheVariants.{Asn, MaxPrefixLength, Prefix}
 use Rattle.roa_slurm.specs.Objects.{HasValue, IsNumber, IsString, IsWrongMember, Lacks}
@@ -50,7 +51,8 @@ GivesPrefix members (Some prefix) = (text : List ℕ) × HasValue Prefix members
 abbrev pub HasPrefixMemberFault : Members → SlurmItemFault → Type 0
 HasPrefixMemberFault members fault =
     HasOptionalFault Prefix IsString members fault
-    ⊎ ((text : List ℕ) × HasValue Prefix members (string text) × (wrong : ParsePrefixError) × HasPrefixTextFault text wrong
+    ⊎ ((text : List ℕ) × HasValue Prefix members (string text) × (wrong : ParsePrefixError)
+    × HasPrefixTextFault text wrong
     × (fault ≡ InvalidPrefix wrong))
 
 -- the AS number of an object, a number of 32 bits, or None if it has none

@@ -6,7 +6,9 @@ use Rattle.rpki_prefix.specs.MaxLen.{MaxLenValue}
 use Rattle.roa_vrps.specs.JsonFiles.{IsJsonObject}
 use Rattle.roa_vrps.specs.Marks.{IsUnmarked}
 use Rattle.roa_vrps.specs.declared.fault.MemberFault.{MemberFault}
-use Rattle.roa_slurm.specs.Entries.{HasKeyAssertionFault, HasKeyFilterFault, HasPrefixAssertionFault, HasPrefixFilterFault, IsKeyAssertion, IsKeyFilter, IsPrefixAssertion, IsPrefixFilter}
+use Rattle.roa_slurm.specs.Entries.{HasKeyAssertionFault, HasKeyFilterFault, HasPrefixAssertionFault}
+use Rattle.roa_slurm.specs.Entries.{HasPrefixFilterFault, IsKeyAssertion, IsKeyFilter, IsPrefixAssertion}
+use Rattle.roa_slurm.specs.Entries.{IsPrefixFilter}
 use Rattle.roa_slurm.specs.Lists.{HasList, HasListFault}
 use Rattle.roa_slurm.specs.Objects.{HasUnknown, HasValue, IsNumber, IsObject, IsWrongMember, KnowsAll}
 use Rattle.roa_slurm.specs.Steps.{FaultThen}
@@ -16,7 +18,10 @@ use Rattle.roa_slurm.specs.declared.fault.SlurmFault.{SlurmFault}
 use Rattle.roa_slurm.specs.declared.fault.SlurmFault.TheVariants.{Member, NotObject, Unknown, UnknownIn, Version}
 use Rattle.roa_slurm.specs.declared.filter.PrefixFilter.{PrefixFilter}
 use Rattle.roa_slurm.specs.declared.member.SlurmMember.{SlurmMember}
-use Rattle.roa_slurm.specs.declared.member.SlurmMember.TheVariants.{BgpsecAssertions, BgpsecFilters, LocallyAddedAssertions, PrefixAssertions, PrefixFilters, SlurmVersion, ValidationOutputFilters}
+use Rattle.roa_slurm.specs.declared.member.SlurmMember.TheVariants.{BgpsecAssertions, BgpsecFilters}
+use Rattle.roa_slurm.specs.declared.member.SlurmMember.TheVariants.{LocallyAddedAssertions, PrefixAssertions}
+use Rattle.roa_slurm.specs.declared.member.SlurmMember.TheVariants.{PrefixFilters, SlurmVersion}
+use Rattle.roa_slurm.specs.declared.member.SlurmMember.TheVariants.{ValidationOutputFilters}
 use Rattle.roa_slurm.specs.declared.object.SlurmObject.{SlurmObject}
 use Rattle.roa_slurm.specs.declared.object.SlurmObject.TheVariants.{Assertions, File, Filters}
 use Rattle.roa_slurm.specs.declared.slurm.Slurm.{Slurm}

@@ -1,5 +1,6 @@
 -- The columns that a line names.
-use Rattle.roa_vrps.proofs.Common.{List, [], arith, suc, ℕ, ◌+◌, ◌-◌, ◌<◌, ◌≡◌, after_first, IsColumn, IsHeader, Names, field, is_comma, Columns}
+use Rattle.roa_vrps.proofs.Common.{List, [], arith, suc, ℕ, ◌+◌, ◌-◌, ◌<◌, ◌≡◌, after_first, IsColumn, IsHeader, Names}
+use Rattle.roa_vrps.proofs.Common.{field, is_comma, Columns}
 use borrow.Author.Tests.{ltb-true, ltb-false}
 use Rattle.roa_vrps.specs.declared.columns.Column.{Column}
 use Rattle.roa_vrps.proofs.FieldLemmas.{field_empty}

@@ -1,5 +1,8 @@
 -- What the proofs of this crate use of std, of the crates below and of its own definitions, passed on by one name.
-pub use Rattle.std.proofs.Common.{Err, IfOk, IsTrue, List, MatchResult, None, Ok, Option, Result, Some, Vec, [], ap, append-nil, append_assoc, arith, drop, false, if◌then◌else◌, inl, inr, length, lit≤, not, refl, suc, sym, take, true, zero, ℕ, ◌++◌, ◌+◌, ◌-◌, ◌<◌, ◌^◌, ◌∙◌, ◌∷◌, ◌≡◌, ◌≢◌, ◌≤◌, ◌↔◌, ◌⊎◌}
+pub use Rattle.std.proofs.Common.{Err, IfOk, IsTrue, List, MatchResult, None, Ok, Option, Result, Some, Vec, [], ap}
+pub use Rattle.std.proofs.Common.{append-nil, append_assoc, arith, drop, false, if◌then◌else◌, inl, inr, length, lit≤}
+pub use Rattle.std.proofs.Common.{not, refl, suc, sym, take, true, zero, ℕ, ◌++◌, ◌+◌, ◌-◌, ◌<◌, ◌^◌, ◌∙◌, ◌∷◌, ◌≡◌}
+pub use Rattle.std.proofs.Common.{◌≢◌, ◌≤◌, ◌↔◌, ◌⊎◌}
 pub use Rattle.std.proofs.lemmas.Bool.{eqb-false, eqb-true}
 pub use Rattle.std.proofs.lemmas.List.{length-append, length-take, nil_from_length, take_more}
 pub use Rattle.std.proofs.lemmas.List.Elements.{All-append, All-cons, All-weaker}
@@ -9,8 +12,12 @@ pub use Rattle.std.specs.List.{All, after_first, before_first, count_by}
 pub use Rattle.std.specs.Str.{IsUtf8, bytes_eq, trim}
 pub use denote.Shadow.{shadow}
 pub use denote.Text.{Utf8}
-pub use Rattle.json.proofs.Grammar.{Takes, items_end, items_fail, items_more, left, left-parse_map, left_none, left_some, members_end, members_fail, members_more, members_no_key, read_key-shorter, skip_value-shorter, value-begin_array, value-begin_object, value_is}
-pub use Rattle.json.specs.Json.{Items, Json, Members, Parse, after_end_array, array, document, item, items, member, members, no_items, no_members, object, parse_map, read_key, value}
+pub use Rattle.json.proofs.Grammar.{Takes, items_end, items_fail, items_more, left, left-parse_map, left_none}
+pub use Rattle.json.proofs.Grammar.{left_some, members_end, members_fail, members_more, members_no_key}
+pub use Rattle.json.proofs.Grammar.{read_key-shorter, skip_value-shorter, value-begin_array, value-begin_object}
+pub use Rattle.json.proofs.Grammar.{value_is}
+pub use Rattle.json.specs.Json.{Items, Json, Members, Parse, after_end_array, array, document, item, items, member}
+pub use Rattle.json.specs.Json.{members, no_items, no_members, object, parse_map, read_key, value}
 pub use Rattle.json.specs.Reads.{token_of}
 pub use Rattle.json.specs.Token.{Token}
 pub use Rattle.json.specs.Value.{members_view, value_view}

@@ -1,5 +1,7 @@
 -- The lines of a file, read one after another; a file writes one list of VRPs, or has one fault.
-use Rattle.roa_vrps.proofs.Common.{List, [], append-nil, append_assoc, arith, inl, inr, refl, sym, ℕ, ◌++◌, ◌+◌, ◌∙◌, ◌∷◌, ◌≡◌, ◌≢◌, usual, HasRowFault, IsRow, Columns, FileFault, Line, MaxLenValue, NoVrp, Vrp, VrpFault, Row}
+use Rattle.roa_vrps.proofs.Common.{List, [], append-nil, append_assoc, arith, inl, inr, refl, sym, ℕ, ◌++◌, ◌+◌, ◌∙◌}
+use Rattle.roa_vrps.proofs.Common.{◌∷◌, ◌≡◌, ◌≢◌, usual, HasRowFault, IsRow, Columns, FileFault, Line, MaxLenValue}
+use Rattle.roa_vrps.proofs.Common.{NoVrp, Vrp, VrpFault, Row}
 use Rattle.rpki_text.specs.Lines.{lines_of}
 use Rattle.roa_vrps.specs.Csv.{AreRows, HaveFirstFault, HasCsvFault, IsCsvFile, columns_after, vrps_of}
 use Rattle.roa_vrps.specs.Asking.{BeginVrps, HasCsvVrp}

@@ -1,5 +1,6 @@
 -- Fields of a line, one after another.
-use Rattle.roa_vrps.proofs.Common.{List, [], ap, arith, refl, suc, zero, ℕ, ◌-◌, ◌<◌, ◌≤◌, ◌∙◌, ◌≡◌, length, after_first, before_first, trim, after_commas, field, is_comma, unquoted}
+use Rattle.roa_vrps.proofs.Common.{List, [], ap, arith, refl, suc, zero, ℕ, ◌-◌, ◌<◌, ◌≤◌, ◌∙◌, ◌≡◌, length}
+use Rattle.roa_vrps.proofs.Common.{after_first, before_first, trim, after_commas, field, is_comma, unquoted}
 use Rattle.std.specs.List.{count_by}
 use Rattle.std.proofs.lemmas.List.Sums.{count_by-le-length}
 use Rattle.rpki_text.proofs.PrintedListLemmas.{trim_shown}
@@ -15,7 +16,8 @@ after_commas_empty zero = refl
 after_commas_empty (suc n) = after_commas_empty n
 
 pub field_empty : (n : ℕ) → field n [] ≡ []
-field_empty n = ap (λ z. unquoted (trim (before_first is_comma z))) (after_commas_empty n) ∙ ap unquoted (trim_shown [] tt)
+field_empty n =
+    ap (λ z. unquoted (trim (before_first is_comma z))) (after_commas_empty n) ∙ ap unquoted (trim_shown [] tt)
 
 -- a line has no more commas than octets
 pub few_commas : (line : List ℕ) → count_by is_comma line ≤ length line

@@ -1,5 +1,6 @@
 -- A text in either form writes one list of VRPs, or has one fault, and so does a file.
-use Rattle.roa_vrps.proofs.Common.{List, MatchResult, Result, arith, inl, inr, sym, ℕ, ◌∙◌, ◌≡◌, MaxLenValue, AnswersOrMemory, FileFault}
+use Rattle.roa_vrps.proofs.Common.{List, MatchResult, Result, arith, inl, inr, sym, ℕ, ◌∙◌, ◌≡◌, MaxLenValue}
+use Rattle.roa_vrps.proofs.Common.{AnswersOrMemory, FileFault}
 use Rattle.std.specs.Prelude.{IfErr}
 use Rattle.rpki_text.specs.Memory.{IfRefused, IsMemory, MatchOrMemory}
 use Rattle.rpki_text.specs.declared.memory.OrMemory.{OrMemory}

@@ -1,5 +1,9 @@
 -- Items and members of JSON's grammar, one after another. Where its turns are enough, more of them change nothing.
-use Rattle.roa_vrps.proofs.Common.{List, None, Option, Some, ap, arith, length, refl, suc, zero, ℕ, ◌-◌, ◌∙◌, ◌≡◌, ◌≤◌, Takes, items_end, items_fail, items_more, left, left-parse_map, left_none, left_some, members_end, members_fail, members_more, members_no_key, read_key-shorter, skip_value-shorter, Items, Json, Members, Parse, after_end_array, item, items, member, members, option_and_then, parse_map, read_key, value, Token}
+use Rattle.roa_vrps.proofs.Common.{List, None, Option, Some, ap, arith, length, refl, suc, zero, ℕ, ◌-◌, ◌∙◌, ◌≡◌, ◌≤◌}
+use Rattle.roa_vrps.proofs.Common.{Takes, items_end, items_fail, items_more, left, left-parse_map, left_none, left_some}
+use Rattle.roa_vrps.proofs.Common.{members_end, members_fail, members_more, members_no_key, read_key-shorter}
+use Rattle.roa_vrps.proofs.Common.{skip_value-shorter, Items, Json, Members, Parse, after_end_array, item, items}
+use Rattle.roa_vrps.proofs.Common.{member, members, option_and_then, parse_map, read_key, value, Token}
 
 module _ (p : Parse Json) (takes : Takes p) where
   items_turns : (most n m : ℕ) (ts : List Token) (end : Option (List Token)) → after_end_array ts ≡ end

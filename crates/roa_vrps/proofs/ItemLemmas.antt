@@ -1,5 +1,7 @@
 -- Items one after another; an item writes one VRP, or has one fault, and so do the items of an array.
-use Rattle.roa_vrps.proofs.Common.{List, arith, inl, inr, refl, sym, ℕ, ◌+◌, ◌∙◌, ◌≡◌, Items, Json, item, no_items, MaxLenValue, AreItems, HasItemFault, HasTexts, HaveWrongItem, IsItem, HasText, HaveFault, FileFault, ItemFault, VrpFault}
+use Rattle.roa_vrps.proofs.Common.{List, arith, inl, inr, refl, sym, ℕ, ◌+◌, ◌∙◌, ◌≡◌, Items, Json, item, no_items}
+use Rattle.roa_vrps.proofs.Common.{MaxLenValue, AreItems, HasItemFault, HasTexts, HaveWrongItem, IsItem, HasText}
+use Rattle.roa_vrps.proofs.Common.{HaveFault, FileFault, ItemFault, VrpFault}
 use Rattle.roa_vrps.specs.declared.member.Member.TheVariants.{Asn, MaxLength, Prefix}
 use Rattle.roa_vrps.specs.declared.fault.ItemFault.TheVariants.{Member, Vrp}
 use Rattle.roa_vrps.proofs.MemberLemmas.{member_fault_one, text_apart, text_one}

@@ -1,5 +1,6 @@
 -- A text of JSON is one object or none; what it writes is one list of VRPs, or one fault.
-use Rattle.roa_vrps.proofs.Common.{List, None, Some, [], arith, ℕ, ◌∷◌, ◌≡◌, ◌≢◌, value-begin_object, value_is, Members, document, object, Token, HasJsonFault, IsJsonFile, FileFault}
+use Rattle.roa_vrps.proofs.Common.{List, None, Some, [], arith, ℕ, ◌∷◌, ◌≡◌, ◌≢◌, value-begin_object, value_is, Members}
+use Rattle.roa_vrps.proofs.Common.{document, object, Token, HasJsonFault, IsJsonFile, FileFault}
 use Rattle.json.specs.Lex.{tokens}
 use Rattle.roa_vrps.proofs.GrammarLemmas.{members_in}
 use Rattle.roa_vrps.proofs.ItemLemmas.{Vrps, items_apart, items_one, wrong_item_one}

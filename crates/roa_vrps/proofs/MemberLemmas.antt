@@ -1,5 +1,7 @@
 -- Members of an object, one after another; an item's member has one text, or one fault.
-use Rattle.roa_vrps.proofs.Common.{List, [], append-nil, arith, false, if◌then◌else◌, length, not, refl, true, ℕ, ◌++◌, ◌<◌, ◌∷◌, ◌≡◌, length-append, bytes_eq, Json, members_view, value_view, AreWrong, HasMemberFault, HasText, values_in, Missing, take, take_more, ◌+◌}
+use Rattle.roa_vrps.proofs.Common.{List, [], append-nil, arith, false, if◌then◌else◌, length, not, refl, true, ℕ, ◌++◌}
+use Rattle.roa_vrps.proofs.Common.{◌<◌, ◌∷◌, ◌≡◌, length-append, bytes_eq, Json, members_view, value_view, AreWrong}
+use Rattle.roa_vrps.proofs.Common.{HasMemberFault, HasText, values_in, Missing, take, take_more, ◌+◌}
 use Rattle.std.specs.Borrow.{Bor}
 use Rattle.std.proofs.Common.{get_or}
 use Rattle.json.specs.declared.value.Value.{Value}

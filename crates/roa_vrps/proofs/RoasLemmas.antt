@@ -1,5 +1,11 @@
 -- The results of the values of the member `roas`, one after another, and of the items of one.
-use Rattle.roa_vrps.proofs.Common.{Err, IfOk, IsTrue, List, None, Ok, Result, Some, Vec, [], ap, append-nil, append_assoc, arith, false, inr, length, not, refl, true, ℕ, ◌++◌, ◌+◌, ◌-◌, ◌<◌, ◌∙◌, ◌∷◌, ◌≡◌, ◌↔◌, length-append, bytes_eq, items_end, left, left_none, left_some, members_end, value-begin_array, value-begin_object, Items, Json, Members, array, item, member, no_items, no_members, parse_map, Token, MaxLenValue, AreItems, HasItemFault, HaveWrongItem, IsItem, IsRoasResult, roas, values_in, FileFault, Item, Roas, ItemFault, Kind, Missing, Repeated}
+use Rattle.roa_vrps.proofs.Common.{Err, IfOk, IsTrue, List, None, Ok, Result, Some, Vec, [], ap, append-nil}
+use Rattle.roa_vrps.proofs.Common.{append_assoc, arith, false, inr, length, not, refl, true, ℕ, ◌++◌, ◌+◌, ◌-◌, ◌<◌}
+use Rattle.roa_vrps.proofs.Common.{◌∙◌, ◌∷◌, ◌≡◌, ◌↔◌, length-append, bytes_eq, items_end, left, left_none, left_some}
+use Rattle.roa_vrps.proofs.Common.{members_end, value-begin_array, value-begin_object, Items, Json, Members, array}
+use Rattle.roa_vrps.proofs.Common.{item, member, no_items, no_members, parse_map, Token, MaxLenValue, AreItems}
+use Rattle.roa_vrps.proofs.Common.{HasItemFault, HaveWrongItem, IsItem, IsRoasResult, roas, values_in, FileFault, Item}
+use Rattle.roa_vrps.proofs.Common.{Roas, ItemFault, Kind, Missing, Repeated}
 use Rattle.roa_vrps.proofs.GrammarLemmas.{a_member, an_item, items_in, members_in}
 use Rattle.roa_vrps.proofs.ItemLemmas.{Vrps}
 use Rattle.json.specs.Json as json
@@ -77,7 +83,8 @@ member_read depth first now s r key outcome next had is_key (j, read, is) =
       is_result = is;
       fails = λ none. had.fails (one_more ∙ ap (parse_map (member key j)) none);
       reads = λ ms rest behind.
-          let (all, whole, named) = had.reads (member key j ms) rest (one_more ∙ ap (parse_map (member key j)) behind) in
+          let (all, whole, named) =
+          had.reads (member key j ms) rest (one_more ∙ ap (parse_map (member key j)) behind) in
           (all, whole, named ∙ grind (arith, append_assoc, append-nil));
     }
 

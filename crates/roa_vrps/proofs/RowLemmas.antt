@@ -1,13 +1,17 @@
 -- A line writes one thing alone, or has one fault.
-use Rattle.roa_vrps.proofs.Common.{List, MatchResult, Result, Some, [], ap, arith, inl, inr, sym, ℕ, ◌-◌, ◌^◌, ◌∙◌, ◌≡◌, ◌≢◌, ◌⊎◌, IsUtf8, trim, HasMaxLenError, IsMaxLenOf, MaxLenValue, Answers, IsHeader, AreVrpTexts, HasRowFault, HaveFault, IsBody, IsRow, Columns, VrpFault, Row, Vrp}
+use Rattle.roa_vrps.proofs.Common.{List, MatchResult, Result, Some, [], ap, arith, inl, inr, sym, ℕ, ◌-◌, ◌^◌, ◌∙◌, ◌≡◌}
+use Rattle.roa_vrps.proofs.Common.{◌≢◌, ◌⊎◌, IsUtf8, trim, HasMaxLenError, IsMaxLenOf, MaxLenValue, Answers, IsHeader}
+use Rattle.roa_vrps.proofs.Common.{AreVrpTexts, HasRowFault, HaveFault, IsBody, IsRow, Columns, VrpFault, Row, Vrp}
 use Rattle.roa_vrps.specs.Rows.{FitsColumns, HasCountFault, HaveColumnsFault}
 use Rattle.rpki_text.proofs.ReadingLemmas.{Answers-from_found}
 use Rattle.rpki_base.proofs.AsnLemmas.{IsAsnText-one}
 use Rattle.rpki_text.proofs.NumberTexts.{IsNumberText-one}
 use Rattle.rpki_prefix.specs.Values.{FamilyPrefix}
 use Rattle.rpki_prefix.specs.declared.error.MaxLenError.{MaxLenError}
-use Rattle.rpki_prefix.proofs.PrefixTextLemmas.{IsPrefixText-one, IsPrefixText-no_fault, HasPrefixTextFault-one, number_apart, same_number_fault}
-use Rattle.roa_vrps.specs.declared.fault.VrpFault.TheVariants.{NotUtf8, TooManyFields, TooFewFields, Asn, Prefix, MaxLenFormat, MaxLen}
+use Rattle.rpki_prefix.proofs.PrefixTextLemmas.{IsPrefixText-one, IsPrefixText-no_fault, HasPrefixTextFault-one}
+use Rattle.rpki_prefix.proofs.PrefixTextLemmas.{number_apart, same_number_fault}
+use Rattle.roa_vrps.specs.declared.fault.VrpFault.TheVariants.{NotUtf8, TooManyFields, TooFewFields, Asn, Prefix}
+use Rattle.roa_vrps.specs.declared.fault.VrpFault.TheVariants.{MaxLenFormat, MaxLen}
 use Rattle.roa_vrps.proofs.ColumnLemmas.{header_one}
 
 -- a number is a maximum length of a prefix, or has one error

@@ -1,5 +1,7 @@
 -- Fields of the usual form, and the line that they begin.
-use Rattle.roa_vrps.proofs.Common.{List, append_assoc, arith, drop, length, lit≤, refl, take, ℕ, ◌++◌, ◌-◌, ◌<◌, ◌^◌, ◌∷◌, ◌≡◌, ◌≢◌, ◌≤◌, length-take, All-append, All-cons, All-weaker, IsInRange, All, MaxLenValue, comma, AreFurther, AreShown, EndsField, IsUsualLine}
+use Rattle.roa_vrps.proofs.Common.{List, append_assoc, arith, drop, length, lit≤, refl, take, ℕ, ◌++◌, ◌-◌, ◌<◌, ◌^◌}
+use Rattle.roa_vrps.proofs.Common.{◌∷◌, ◌≡◌, ◌≢◌, ◌≤◌, length-take, All-append, All-cons, All-weaker, IsInRange, All}
+use Rattle.roa_vrps.proofs.Common.{MaxLenValue, comma, AreFurther, AreShown, EndsField, IsUsualLine}
 use Rattle.std.proofs.Common.{length-drop}
 use Rattle.std.proofs.lemmas.List.{take-append-drop, take_rest}
 use Rattle.std.proofs.lemmas.List.Elements.{All-from_recursion}
@@ -23,7 +25,8 @@ use Rattle.roa_vrps.specs.UsualRows.{IsDigitText, IsFirstField, IsVrpOf}
 -- bytes within the shown ones are shown
 within : (low high : ℕ) → 45 ≤ low → high ≤ 126 → (xs : List ℕ) → AllByRecursion (IsInRange low high) xs → AreShown xs
 within low high above below xs h =
-    All-weaker (IsInRange low high) (IsInRange 45 126) (λ b byte. (omega (arith, above, byte.0), omega (arith, below, byte.1)))
+    All-weaker (IsInRange low high) (IsInRange 45 126)
+    (λ b byte. (omega (arith, above, byte.0), omega (arith, below, byte.1)))
     xs (All-from_recursion (IsInRange low high) xs h)
 
 -- the AS number before a comma is the first field
@@ -77,7 +80,8 @@ prefix_first text after len left rest a n addr e digits f =
     record { split = refl; first = no_slash addr.front written } in
     let parts : AreParts addr.front digits.front a n =
     record { addr_text = addr.writes; len_text = digits.writes.number } in
-    let bytes = All-cons (IsInRange 45 126) slash digits.front (lit≤ tt, lit≤ tt) (digits_shown _ digits.writes.digits) in
+    let bytes =
+    All-cons (IsInRange 45 126) slash digits.front (lit≤ tt, lit≤ tt) (digits_shown _ digits.writes.digits) in
     record {
       field = addr.front ++ slash ∷ digits.front;
       split = grind (arith, append_assoc, addr.split, digits.split);

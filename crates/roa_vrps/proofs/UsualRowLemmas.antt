@@ -1,5 +1,10 @@
 -- A line of the usual form writes the VRP of its first three fields.
-use Rattle.roa_vrps.proofs.Common.{List, [], ap, append-nil, append_assoc, arith, drop, false, inl, inr, length, lit≤, None, Option, Some, refl, suc, zero, ℕ, ◌++◌, ◌+◌, ◌-◌, ◌<◌, ◌∙◌, ◌∷◌, ◌≡◌, ◌≢◌, length-append, length-take, All-append, All-cons, All-weaker, IsInRange, IsUtf8, All, after_first, before_first, count_by, trim, comma, after_commas, field, is_comma, unquoted, IsHeader, IsBody, IsRow, MaxLenValue, Names, AreFurther, AreShown, EndsField, IsUsualLine, Columns, Vrp}
+use Rattle.roa_vrps.proofs.Common.{List, [], ap, append-nil, append_assoc, arith, drop, false, inl, inr, length, lit≤}
+use Rattle.roa_vrps.proofs.Common.{None, Option, Some, refl, suc, zero, ℕ, ◌++◌, ◌+◌, ◌-◌, ◌<◌, ◌∙◌, ◌∷◌, ◌≡◌, ◌≢◌}
+use Rattle.roa_vrps.proofs.Common.{length-append, length-take, All-append, All-cons, All-weaker, IsInRange, IsUtf8, All}
+use Rattle.roa_vrps.proofs.Common.{after_first, before_first, count_by, trim, comma, after_commas, field, is_comma}
+use Rattle.roa_vrps.proofs.Common.{unquoted, IsHeader, IsBody, IsRow, MaxLenValue, Names, AreFurther, AreShown}
+use Rattle.roa_vrps.proofs.Common.{EndsField, IsUsualLine, Columns, Vrp}
 use Rattle.std.proofs.Common.{IfSome, codes, cond, lit<}
 use Rattle.std.proofs.lemmas.Bool.Decides.{nat_tests}
 use Rattle.std.proofs.lemmas.List.{drop_at, get_or-take, length_push, take_all, take_at}
@@ -129,7 +134,8 @@ not_blank : (line : List ℕ) → AreVisible line → 0 < length line → trim l
 not_blank line h some none =
     let first = All-get_or (IsInRange 44 126) line 0 0 some h in
     let last = All-get_or (IsInRange 44 126) line (length line - 1) 0 (omega (arith, some)) h in
-    let same = trim_visible line (ascii line h) some (omega (arith, first.0), first.1) (omega (arith, last.0), last.1) in
+    let same =
+    trim_visible line (ascii line h) some (omega (arith, first.0), first.1) (omega (arith, last.0), last.1) in
     omega (arith, some, ap length (same ∙ none))
 
 module _ (columns : Columns) (line : List ℕ) (vrp : MaxLenValue × ℕ) (count : ℕ) (h : IsUsualLine line vrp count) where
@@ -137,7 +143,9 @@ module _ (columns : Columns) (line : List ℕ) (vrp : MaxLenValue × ℕ) (count
   visible =
       let more = All-append (IsInRange 44 126) h.max_len h.more (wider h.max_len h.max_len_shown) h.further.shown in
       let behind = All-cons (IsInRange 44 126) comma (h.max_len ++ h.more) (lit≤ tt, lit≤ tt) more in
-      let two = All-append (IsInRange 44 126) h.prefix (comma ∷ (h.max_len ++ h.more)) (wider h.prefix h.prefix_shown) behind in
+      let two =
+      All-append (IsInRange 44 126) h.prefix (comma ∷ (h.max_len ++ h.more)) (wider h.prefix h.prefix_shown)
+      behind in
       let after = All-cons (IsInRange 44 126) comma _ (lit≤ tt, lit≤ tt) two in
       rw h.split (All-append (IsInRange 44 126) h.asn _ (wider h.asn h.asn_shown) after)
 
@@ -186,4 +194,5 @@ pub usual_found : (columns : Columns) (line first second left : List ℕ) (asn :
     → IfSome r (λ vrp. IsRow columns line (Vrp vrp))
 usual_found columns line first second left asn a n m count None front next digits further allow h = tt
 usual_found columns line first second left asn a n m count (Some v) front next digits further allow h =
-    usual_row columns line v count (usual_line line first second left asn a n m count v front next digits further h) allow
+    usual_row columns line v count (usual_line line first second left asn a n m count v front next digits further h)
+    allow

@@ -27,7 +27,8 @@ columns_after columns (Vrp vrp) = columns
 abbrev pub AreRows : Columns → List (List ℕ) → List (MaxLenValue × ℕ) → Type 0
 AreRows columns [] vrps = vrps ≡ []
 AreRows columns (line ∷ lines) vrps =
-    (row : Row) × IsRow columns line row × (more : List (MaxLenValue × ℕ)) × (vrps ≡ vrps_of row ++ more) × AreRows (columns_after columns row) lines more
+    (row : Row) × IsRow columns line row × (more : List (MaxLenValue × ℕ)) × (vrps ≡ vrps_of row ++ more)
+    × AreRows (columns_after columns row) lines more
 
 -- the first invalid line and its fault; number is that of the first line
 abbrev pub HaveFirstFault : ℕ → Columns → List (List ℕ) → FileFault → Type 0

@@ -1,5 +1,6 @@
 -- The fields of a line.
-use Rattle.std.specs.Prelude.{ℕ, zero, suc, Bool, List, ◌==◌, ◌&&◌, ◌+◌, ◌-◌, length, nat_lt, slice_index, slice_range, if◌then◌else◌}
+use Rattle.std.specs.Prelude.{ℕ, zero, suc, Bool, List, ◌==◌, ◌&&◌, ◌+◌, ◌-◌, length, nat_lt, slice_index, slice_range}
+use Rattle.std.specs.Prelude.{if◌then◌else◌}
 use Rattle.std.specs.List.{before_first, after_first, count_by}
 use Rattle.std.specs.Str.{trim}
 use Rattle.rpki_text.specs.Cuts.{is_comma}

@@ -19,14 +19,16 @@ pub record HasTexts (value : Json) (asn_text prefix_text max_text : List ℕ) : 
 -- an item gives this VRP
 abbrev pub IsItem : Json → MaxLenValue × ℕ → Type 0
 IsItem value vrp =
-    (asn : List ℕ) × (prefix : List ℕ) × (max : List ℕ) × HasTexts value asn prefix max × AreVrpTexts asn prefix max vrp.0 vrp.1
+    (asn : List ℕ) × (prefix : List ℕ) × (max : List ℕ) × HasTexts value asn prefix max
+    × AreVrpTexts asn prefix max vrp.0 vrp.1
 
 -- the first fault of an item: of its members, in their order, and then of the VRP that they give
 abbrev pub HasItemFault : Json → ItemFault → Type 0
 HasItemFault value (Member Asn f) = HasMemberFault Asn value f
 HasItemFault value (Member Prefix f) = ((asn : List ℕ) × HasText Asn value asn) × HasMemberFault Prefix value f
 HasItemFault value (Member MaxLength f) =
-    ((asn : List ℕ) × HasText Asn value asn) × ((prefix : List ℕ) × HasText Prefix value prefix) × HasMemberFault MaxLength value f
+    ((asn : List ℕ) × HasText Asn value asn) × ((prefix : List ℕ) × HasText Prefix value prefix)
+    × HasMemberFault MaxLength value f
 HasItemFault value (Vrp f) =
     (asn : List ℕ) × (prefix : List ℕ) × (max : List ℕ) × HasTexts value asn prefix max × HaveFault asn prefix max f
 
@@ -34,7 +36,8 @@ HasItemFault value (Vrp f) =
 abbrev pub AreItems : Items → List (MaxLenValue × ℕ) → Type 0
 AreItems no_items vrps = vrps ≡ []
 AreItems (item value items) vrps =
-    (vrp : MaxLenValue × ℕ) × IsItem value vrp × (more : List (MaxLenValue × ℕ)) × (vrps ≡ vrp ∷ more) × AreItems items more
+    (vrp : MaxLenValue × ℕ) × IsItem value vrp × (more : List (MaxLenValue × ℕ)) × (vrps ≡ vrp ∷ more)
+    × AreItems items more
 
 -- the first invalid item and its fault; place is the number of the first item
 abbrev pub HaveWrongItem : ℕ → Items → FileFault → Type 0

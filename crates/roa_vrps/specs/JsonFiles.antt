@@ -27,7 +27,8 @@ HaveRoasFault values NoVrp = ⊥
 HaveRoasFault values JsonArray = ⊥
 HaveRoasFault values NotObject = ⊥
 HaveRoasFault values (Roas wrong) = AreWrong (λ value. (items : Items) × (value ≡ array items)) values wrong
-HaveRoasFault values (Item place wrong) = (items : Items) × (values ≡ array items ∷ []) × HaveWrongItem 1 items (Item place wrong)
+HaveRoasFault values (Item place wrong) =
+    (items : Items) × (values ≡ array items ∷ []) × HaveWrongItem 1 items (Item place wrong)
 
 -- the values of `roas` give these VRPs, or this fault
 abbrev pub IsRoasResult : {A : Type 0} → List Json → Result (Vec (MaxLenValue × ℕ) A) FileFault → Type 0
@@ -35,7 +36,8 @@ IsRoasResult values outcome = MatchResult outcome (λ vrps. WriteRoas values vrp
 
 -- the member `roas` of the text has these VRPs, and there is at least one
 abbrev pub IsJsonFile : List ℕ → List (MaxLenValue × ℕ) → Type 0
-IsJsonFile text vrps = ((members : Members) × IsJsonObject text members × WriteRoas (values_in roas members) vrps) × (vrps ≢ [])
+IsJsonFile text vrps =
+    ((members : Members) × IsJsonObject text members × WriteRoas (values_in roas members) vrps) × (vrps ≢ [])
 
 -- the text is no JSON object, or its member `roas` is invalid or has no items
 abbrev pub HasJsonFault : List ℕ → FileFault → Type 0
@@ -43,5 +45,7 @@ HasJsonFault text (Line number wrong) = ⊥
 HasJsonFault text NoVrp = (members : Members) × IsJsonObject text members × WriteRoas (values_in roas members) []
 HasJsonFault text JsonArray = ⊥
 HasJsonFault text NotObject = (members : Members) → ¬ IsJsonObject text members
-HasJsonFault text (Roas wrong) = (members : Members) × IsJsonObject text members × HaveRoasFault (values_in roas members) (Roas wrong)
-HasJsonFault text (Item place wrong) = (members : Members) × IsJsonObject text members × HaveRoasFault (values_in roas members) (Item place wrong)
+HasJsonFault text (Roas wrong) =
+    (members : Members) × IsJsonObject text members × HaveRoasFault (values_in roas members) (Roas wrong)
+HasJsonFault text (Item place wrong) =
+    (members : Members) × IsJsonObject text members × HaveRoasFault (values_in roas members) (Item place wrong)

@@ -33,7 +33,8 @@ AreWrong IsKind values Kind = (value : Json) × (values ≡ value ∷ []) × ¬ 
 
 -- the result of a search for a member: its only value, or Missing or Repeated
 abbrev pub IsFound : {A : Type 0} → List Json → Result (Bor (Value A)) MemberFault → Type 0
-IsFound values found = MatchResult found (λ value. values ≡ value_view value.now ∷ []) (AreWrong (λ value. Unit {0}) values)
+IsFound values found =
+    MatchResult found (λ value. values ≡ value_view value.now ∷ []) (AreWrong (λ value. Unit {0}) values)
 
 -- the name of a member of an item
 abbrev pub name_of : Member → List ℕ
@@ -54,4 +55,5 @@ HasText part item text = (value : Json) × (named_values (name_of part) item ≡
 
 -- the member is missing, repeated, or of another kind
 abbrev pub HasMemberFault : Member → Json → MemberFault → Type 0
-HasMemberFault part item fault = AreWrong (λ value. (text : List ℕ) × Writes part text value) (named_values (name_of part) item) fault
+HasMemberFault part item fault =
+    AreWrong (λ value. (text : List ℕ) × Writes part text value) (named_values (name_of part) item) fault

@@ -10,7 +10,8 @@ use Rattle.roa_vrps.specs.Columns.{IsHeader}
 use Rattle.roa_vrps.specs.Fields.{field, field_count}
 use Rattle.roa_vrps.specs.declared.columns.Columns.{Columns}
 use Rattle.roa_vrps.specs.declared.fault.VrpFault.{VrpFault}
-use Rattle.roa_vrps.specs.declared.fault.VrpFault.TheVariants.{NotUtf8, TooManyFields, TooFewFields, Asn, Prefix, MaxLenFormat, MaxLen}
+use Rattle.roa_vrps.specs.declared.fault.VrpFault.TheVariants.{NotUtf8, TooManyFields, TooFewFields, Asn, Prefix}
+use Rattle.roa_vrps.specs.declared.fault.VrpFault.TheVariants.{MaxLenFormat, MaxLen}
 use Rattle.roa_vrps.specs.declared.row.Row.{Row}
 use Rattle.roa_vrps.specs.declared.row.Row.TheVariants.{Blank, Header, Vrp}
 
@@ -38,9 +39,12 @@ HaveFault asn_text prefix_text max_text (TooManyFields found named) = ⊥
 HaveFault asn_text prefix_text max_text (TooFewFields found named) = ⊥
 HaveFault asn_text prefix_text max_text (Asn f) = (n : ℕ) → ¬ IsAsnText asn_text n
 HaveFault asn_text prefix_text max_text (Prefix f) = WritesAsn asn_text × HasPrefixTextFault prefix_text f
-HaveFault asn_text prefix_text max_text (MaxLenFormat f) = WritesAsn asn_text × WritesPrefix prefix_text × HasNumberFault (2 ^ 8 - 1) max_text f
+HaveFault asn_text prefix_text max_text (MaxLenFormat f) =
+    WritesAsn asn_text × WritesPrefix prefix_text × HasNumberFault (2 ^ 8 - 1) max_text f
 HaveFault asn_text prefix_text max_text (MaxLen f) =
-    WritesAsn asn_text × ((p : FamilyPrefix) × (len : ℕ) × IsPrefixText prefix_text p × IsNumberText (2 ^ 8 - 1) max_text len × HasMaxLenError p (Some len) f)
+    WritesAsn asn_text
+    × ((p : FamilyPrefix) × (len : ℕ) × IsPrefixText prefix_text p × IsNumberText (2 ^ 8 - 1) max_text len
+    × HasMaxLenError p (Some len) f)
 
 -- the line must be a VRP: it is UTF-8 and not blank, and doesn't name the columns
 pub record IsBody (line : List ℕ) : Type 0 where
@@ -65,7 +69,8 @@ FitsColumns columns line = (¬ IsTooLong columns line) × HasColumns columns lin
 -- the fault of the number of a line's fields, with its number of fields and the number of columns
 abbrev pub HasCountFault : Columns → List ℕ → VrpFault → Type 0
 HasCountFault columns line NotUtf8 = ⊥
-HasCountFault columns line (TooManyFields found named) = IsTooLong columns line × (found ≡ field_count line) × (named ≡ columns.count)
+HasCountFault columns line (TooManyFields found named) =
+    IsTooLong columns line × (found ≡ field_count line) × (named ≡ columns.count)
 HasCountFault columns line (TooFewFields found named) =
     (¬ IsTooLong columns line) × (¬ HasColumns columns line) × (found ≡ field_count line) × (named ≡ columns.count)
 HasCountFault columns line (Asn f) = ⊥
@@ -75,11 +80,13 @@ HasCountFault columns line (MaxLen f) = ⊥
 
 -- the texts in the three columns of a line denote this VRP
 abbrev pub AreColumns : Columns → List ℕ → MaxLenValue × ℕ → Type 0
-AreColumns columns line vrp = AreVrpTexts (field columns.asn line) (field columns.prefix line) (field columns.max_len line) vrp.0 vrp.1
+AreColumns columns line vrp =
+    AreVrpTexts (field columns.asn line) (field columns.prefix line) (field columns.max_len line) vrp.0 vrp.1
 
 -- the first fault of the texts in the three columns of a line
 abbrev pub HaveColumnsFault : Columns → List ℕ → VrpFault → Type 0
-HaveColumnsFault columns line fault = HaveFault (field columns.asn line) (field columns.prefix line) (field columns.max_len line) fault
+HaveColumnsFault columns line fault =
+    HaveFault (field columns.asn line) (field columns.prefix line) (field columns.max_len line) fault
 
 -- the content of a line: blank, the names of columns, or a VRP
 abbrev pub IsRow : Columns → List ℕ → Row → Type 0
@@ -90,9 +97,12 @@ IsRow columns line (Vrp vrp) = IsBody line × FitsColumns columns line × AreCol
 -- the first fault of a line
 abbrev pub HasRowFault : Columns → List ℕ → VrpFault → Type 0
 HasRowFault columns line NotUtf8 = ¬ IsUtf8 line
-HasRowFault columns line (TooManyFields found named) = IsBody line × HasCountFault columns line (TooManyFields found named)
-HasRowFault columns line (TooFewFields found named) = IsBody line × HasCountFault columns line (TooFewFields found named)
+HasRowFault columns line (TooManyFields found named) =
+    IsBody line × HasCountFault columns line (TooManyFields found named)
+HasRowFault columns line (TooFewFields found named) =
+    IsBody line × HasCountFault columns line (TooFewFields found named)
 HasRowFault columns line (Asn f) = IsBody line × FitsColumns columns line × HaveColumnsFault columns line (Asn f)
 HasRowFault columns line (Prefix f) = IsBody line × FitsColumns columns line × HaveColumnsFault columns line (Prefix f)
-HasRowFault columns line (MaxLenFormat f) = IsBody line × FitsColumns columns line × HaveColumnsFault columns line (MaxLenFormat f)
+HasRowFault columns line (MaxLenFormat f) =
+    IsBody line × FitsColumns columns line × HaveColumnsFault columns line (MaxLenFormat f)
 HasRowFault columns line (MaxLen f) = IsBody line × FitsColumns columns line × HaveColumnsFault columns line (MaxLen f)

@@ -1,5 +1,6 @@
 -- A printed address is made of the bytes of a written one, so it has neither a slash nor a dash nor a comma.
-use Rattle.rpki_addr.proofs.Common.{List, arith, lit<, refl, ℕ, ◌≢◌, All, last_digits_below, length-last_digits, groups_of, octets_of, ip_text, ipv4_text, ipv6_text, IpAddr}
+use Rattle.rpki_addr.proofs.Common.{List, arith, lit<, refl, ℕ, ◌≢◌, All, last_digits_below, length-last_digits}
+use Rattle.rpki_addr.proofs.Common.{groups_of, octets_of, ip_text, ipv4_text, ipv6_text, IpAddr}
 use Rattle.rpki_text.specs.Cuts.{HasNo, slash, dash}
 use Rattle.rpki_addr.proofs.AddressLemmas.{to_dotted, printed_colon_hex}
 use Rattle.rpki_addr.proofs.WrittenBytes.{IsWrittenByte, dots_written, colon_hex_written}

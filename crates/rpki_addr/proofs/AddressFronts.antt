@@ -1,5 +1,8 @@
 -- Texts that begin with an address or are one: what std's readers find in them, as the number of the address.
-use Rattle.rpki_addr.proofs.Common.{List, None, Result, Some, [], ap, append-nil, arith, lit≤, option_map, refl, sym, ℕ, ◌++◌, ◌∙◌, ◌≡◌, read_ipv4_complete, read_ipv4_sound, read_ipv6_complete, read_ipv6_sound, same_parts, none-some, same_Some, Read, read_ipv4, read_ipv6, whole_value, from_groups, from_octets, IsIpv4Text, IsIpv6Text}
+use Rattle.rpki_addr.proofs.Common.{List, None, Result, Some, [], ap, append-nil, arith, lit≤, option_map, refl, sym, ℕ}
+use Rattle.rpki_addr.proofs.Common.{◌++◌, ◌∙◌, ◌≡◌, read_ipv4_complete, read_ipv4_sound, read_ipv6_complete}
+use Rattle.rpki_addr.proofs.Common.{read_ipv6_sound, same_parts, none-some, same_Some, Read, read_ipv4, read_ipv6}
+use Rattle.rpki_addr.proofs.Common.{whole_value, from_groups, from_octets, IsIpv4Text, IsIpv6Text}
 use Rattle.std.proofs.lemmas.List.{nil_from_length}
 use Rattle.std.specs.Prelude.{MatchResult}
 use Rattle.rpki_text.specs.Reading.{Answers}

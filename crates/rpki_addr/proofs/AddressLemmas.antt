@@ -1,5 +1,9 @@
 -- Texts of addresses: our grammar and that of std's readers are one.
-use Rattle.rpki_addr.proofs.Common.{get_or, lit<, last_digit_below, length-last_digits, IsColonHex-ipv6_text, groups_of, ipv6_text, Bool, IsTrue, List, [], ap, append_assoc, arith, codes, false, flat_map, inl, inr, length, refl, sym, true, ℕ, ◌%◌, ◌++◌, ◌+◌, ◌-◌, ◌/◌, ◌<◌, ◌∙◌, ◌∷◌, ◌≡◌, ◌⊎◌, AllBelowBase, segments_of, dotted_text, from_octets, AreGroups, AreGroupsAtEnd, IsGroupText, IsGroupsText, IsIpv4Text, dotted}
+use Rattle.rpki_addr.proofs.Common.{get_or, lit<, last_digit_below, length-last_digits, IsColonHex-ipv6_text, groups_of}
+use Rattle.rpki_addr.proofs.Common.{ipv6_text, Bool, IsTrue, List, [], ap, append_assoc, arith, codes, false, flat_map}
+use Rattle.rpki_addr.proofs.Common.{inl, inr, length, refl, sym, true, ℕ, ◌%◌, ◌++◌, ◌+◌, ◌-◌, ◌/◌, ◌<◌, ◌∙◌, ◌∷◌, ◌≡◌}
+use Rattle.rpki_addr.proofs.Common.{◌⊎◌, AllBelowBase, segments_of, dotted_text, from_octets, AreGroups, AreGroupsAtEnd}
+use Rattle.rpki_addr.proofs.Common.{IsGroupText, IsGroupsText, IsIpv4Text, dotted}
 use Rattle.std.proofs.lemmas.List.{append-nil}
 use Rattle.std.specs.Net.Grammar as std
 use Rattle.rpki_text.specs.Lists.{joined_by, HaveValues}

@@ -1,9 +1,14 @@
 -- What the readers of addresses answer: a text writes one address at most, and a printed address is read back.
-use Rattle.rpki_addr.proofs.Common.{dotted, Result, List, Ok, arith, from_groups, from_octets, lit<, read_ipv4, read_ipv6, refl, ℕ, ◌<◌, ◌^◌, ◌≡◌, IsDotted-not_colon_hex, last_digits_below, length-last_digits, number-last_digits, groups_of, octets_of, IsIpText, IsIpv4Text, IsIpv6Text, ip_text, ipv4_text, ipv6_text, IsAddress, ReadsIp, ReadsIpv4, ReadsIpv6, IpAddr}
+use Rattle.rpki_addr.proofs.Common.{dotted, Result, List, Ok, arith, from_groups, from_octets, lit<, read_ipv4}
+use Rattle.rpki_addr.proofs.Common.{read_ipv6, refl, ℕ, ◌<◌, ◌^◌, ◌≡◌, IsDotted-not_colon_hex, last_digits_below}
+use Rattle.rpki_addr.proofs.Common.{length-last_digits, number-last_digits, groups_of, octets_of, IsIpText, IsIpv4Text}
+use Rattle.rpki_addr.proofs.Common.{IsIpv6Text, ip_text, ipv4_text, ipv6_text, IsAddress, ReadsIp, ReadsIpv4, ReadsIpv6}
+use Rattle.rpki_addr.proofs.Common.{IpAddr}
 use Rattle.rpki_addr.specs.declared.addr.AddrParseError.{AddrParseError}
 use Rattle.rpki_addr.proofs.AddressFronts.{IsReadWhole, ipv4_reader, ipv6_reader, numbered_by, whole_answers, whole_one}
 use Rattle.rpki_addr.specs.declared.addr.AddrParseError.TheVariants.{Ipv4, Ipv6}
-use Rattle.rpki_addr.proofs.AddressLemmas.{IsIpv4Text-dotted, IsGroupsText-colon_hex, IsColonHex-groups, printed_colon_hex}
+use Rattle.rpki_addr.proofs.AddressLemmas.{IsIpv4Text-dotted, IsGroupsText-colon_hex, IsColonHex-groups}
+use Rattle.rpki_addr.proofs.AddressLemmas.{printed_colon_hex}
 
 -- a text writes one address at most, of one family
 pub IsIpv4Text-not_ipv6 : (text : List ℕ) (m n : ℕ) → IsIpv4Text text m → IsIpv6Text text n → ⊥

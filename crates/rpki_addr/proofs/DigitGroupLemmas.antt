@@ -1,9 +1,15 @@
 -- Digits at the front of a text, as std's readers take them.
-use Rattle.rpki_addr.proofs.Common.{suc, zero, Bool, List, None, Some, [], ap, append_assoc, arith, decimal, drop, drop_at, false, get_or, length, length-take-le, lit<, lit≤, option_map, refl, subst, take, ℕ, ◌*◌, ◌++◌, ◌+◌, ◌-◌, ◌<◌, ◌==◌, ◌∙◌, ◌∷◌, ◌≡◌, ◌≢◌, ◌≤◌, pow-le-pow_right, read_ipv4_sound, cases_lt, nat_tests, decimal_is_IsNumeral, digits_value-lt, none-some, same_Some, digit_value, digit_count, Read, read_ipv4, read_ipv4_if, read_number, read_octet, read_segment, AllDigits, digits_value, with_octets}
+use Rattle.rpki_addr.proofs.Common.{suc, zero, Bool, List, None, Some, [], ap, append_assoc, arith, decimal, drop}
+use Rattle.rpki_addr.proofs.Common.{drop_at, false, get_or, length, length-take-le, lit<, lit≤, option_map, refl, subst}
+use Rattle.rpki_addr.proofs.Common.{take, ℕ, ◌*◌, ◌++◌, ◌+◌, ◌-◌, ◌<◌, ◌==◌, ◌∙◌, ◌∷◌, ◌≡◌, ◌≢◌, ◌≤◌, pow-le-pow_right}
+use Rattle.rpki_addr.proofs.Common.{read_ipv4_sound, cases_lt, nat_tests, decimal_is_IsNumeral, digits_value-lt}
+use Rattle.rpki_addr.proofs.Common.{none-some, same_Some, digit_value, digit_count, Read, read_ipv4, read_ipv4_if}
+use Rattle.rpki_addr.proofs.Common.{read_number, read_octet, read_segment, AllDigits, digits_value, with_octets}
 use Rattle.std.proofs.lemmas.Fmt.{length-decimal-le}
 use Rattle.std.proofs.lemmas.Int.Digits.{digits_more, digits_value_more}
 use Rattle.std.proofs.lemmas.List.{get_or_past, take-append-drop, take_rest}
-use Rattle.std.proofs.NetLemmas.Numbers.{digit_count-append, read_number_empty, read_number_large_at, read_number_some, read_number_some_at}
+use Rattle.std.proofs.NetLemmas.Numbers.{digit_count-append, read_number_empty, read_number_large_at, read_number_some}
+use Rattle.std.proofs.NetLemmas.Numbers.{read_number_some_at}
 
 -- the first k bytes of a text are digits
 abbrev pub AreDigits : ℕ → List ℕ → ℕ → Type 0

@@ -1,5 +1,12 @@
 -- Groups as one number while they are read.
-use Rattle.rpki_addr.proofs.Common.{Bor, List, None, Some, [], ap, append-nil, append_assoc, arith, false, length, length-append, lit<, lit≤, nat_lt, option_map, refl, replicate, suc, true, zero, ℕ, ◌*◌, ◌++◌, ◌+◌, ◌-◌, ◌<◌, ◌==◌, ◌^◌, ◌∷◌, ◌≡◌, ◌≢◌, ◌≤◌, mul-one, pow-le-pow_right, pow-succ', pow-zero, read_ipv4_sound, nat_tests, number_after_append, number_push, length-replicate, mul-add-lt, pow-add, none-some, number_from_digits_after, segments_of, read_ipv4, read_ipv4_if, read_segment, read_segments, read_separator, below_power, next_below, from_groups, from_octets, numbered, with_octets, IsSoFar, parts}
+use Rattle.rpki_addr.proofs.Common.{Bor, List, None, Some, [], ap, append-nil, append_assoc, arith, false, length}
+use Rattle.rpki_addr.proofs.Common.{length-append, lit<, lit≤, nat_lt, option_map, refl, replicate, suc, true, zero, ℕ}
+use Rattle.rpki_addr.proofs.Common.{◌*◌, ◌++◌, ◌+◌, ◌-◌, ◌<◌, ◌==◌, ◌^◌, ◌∷◌, ◌≡◌, ◌≢◌, ◌≤◌, mul-one, pow-le-pow_right}
+use Rattle.rpki_addr.proofs.Common.{pow-succ', pow-zero, read_ipv4_sound, nat_tests, number_after_append, number_push}
+use Rattle.rpki_addr.proofs.Common.{length-replicate, mul-add-lt, pow-add, none-some, number_from_digits_after}
+use Rattle.rpki_addr.proofs.Common.{segments_of, read_ipv4, read_ipv4_if, read_segment, read_segments, read_separator}
+use Rattle.rpki_addr.proofs.Common.{below_power, next_below, from_groups, from_octets, numbered, with_octets, IsSoFar}
+use Rattle.rpki_addr.proofs.Common.{parts}
 use Rattle.std.proofs.Common.{◌%◌}
 use Rattle.std.proofs.Math.Nat.{mod-eq_of_lt}
 use Rattle.rpki_addr.specs.declared.addr.read.Groups.{Groups}

@@ -1,5 +1,12 @@
 -- What is printed of an IPv6 address is the one text that its groups ask for.
-use Rattle.rpki_addr.proofs.Common.{List, [], AllSegments, AllSegments-drop, append_assoc, cond_both, drop_at, last_digit_below, length-append, length-replicate, ◌⊎◌, ap, ap₂, arith, codes, drop, flat_map, inl, inr, le-ltb, length, length-take-le, lit<, lt-ltb, map, refl, replicate, suc, sym, take, ℕ, ◌%◌, ◌++◌, ◌+◌, ◌<◌, ◌≤◌, ◌^◌, ◌∷◌, ◌≡◌, div-div-eq-div-mul, cases_lt, lt-leb, append_cancel_left, div_below, hex, hex_groups_text, longest_zero_run, number-last_digits, groups_of, HasZeroRun, IsFirstLongestRun, IsMapped, IsPrintedIpv6, IsShortened, IsUnshortened, hex_text, ipv4_text, ipv6_text}
+use Rattle.rpki_addr.proofs.Common.{List, [], AllSegments, AllSegments-drop, append_assoc, cond_both, drop_at}
+use Rattle.rpki_addr.proofs.Common.{last_digit_below, length-append, length-replicate, ◌⊎◌, ap, ap₂, arith, codes, drop}
+use Rattle.rpki_addr.proofs.Common.{flat_map, inl, inr, le-ltb, length, length-take-le, lit<, lt-ltb, map, refl}
+use Rattle.rpki_addr.proofs.Common.{replicate, suc, sym, take, ℕ, ◌%◌, ◌++◌, ◌+◌, ◌<◌, ◌≤◌, ◌^◌, ◌∷◌, ◌≡◌}
+use Rattle.rpki_addr.proofs.Common.{div-div-eq-div-mul, cases_lt, lt-leb, append_cancel_left, div_below, hex}
+use Rattle.rpki_addr.proofs.Common.{hex_groups_text, longest_zero_run, number-last_digits, groups_of, HasZeroRun}
+use Rattle.rpki_addr.proofs.Common.{IsFirstLongestRun, IsMapped, IsPrintedIpv6, IsShortened, IsUnshortened, hex_text}
+use Rattle.rpki_addr.proofs.Common.{ipv4_text, ipv6_text}
 use Rattle.std.proofs.Common.{take-add}
 use Rattle.std.specs.Net.Addr.{octets_of as std_octets_of}
 use Rattle.std.specs.Net.Text as std

@@ -1,12 +1,17 @@
 -- Addresses of the usual form, as std's readers take them.
-use Rattle.rpki_addr.proofs.Common.{List, None, Some, ap, arith, drop, false, true, get_or, length, length-take-le, lit<, lit≤, nat_lt, option_map, refl, sym, take, ℕ, ◌*◌, ◌+◌, ◌-◌, ◌<◌, ◌==◌, ◌^◌, ◌∙◌, ◌∷◌, ◌≡◌, ◌≢◌, ◌≤◌, cases_eq, digit_value, inl, inr, read_ipv6, read_segments, read_separator, from_groups, numbered}
+use Rattle.rpki_addr.proofs.Common.{List, None, Some, ap, arith, drop, false, true, get_or, length, length-take-le}
+use Rattle.rpki_addr.proofs.Common.{lit<, lit≤, nat_lt, option_map, refl, sym, take, ℕ, ◌*◌, ◌+◌, ◌-◌, ◌<◌, ◌==◌, ◌^◌}
+use Rattle.rpki_addr.proofs.Common.{◌∙◌, ◌∷◌, ◌≡◌, ◌≢◌, ◌≤◌, cases_eq, digit_value, inl, inr, read_ipv6, read_segments}
+use Rattle.rpki_addr.proofs.Common.{read_separator, from_groups, numbered}
 use Rattle.std.proofs.Common.{add-zero, eq-eqb, ne_eqb, subst, Bool, Option}
 use Rattle.std.proofs.lemmas.List.{get_or-drop, drop-drop, drop_more, take_rest}
 use Rattle.std.specs.Net.Reader.{read_byte}
 use Rattle.rpki_addr.specs.GroupProgress.{EndsGroupAt, IsGroupAt, IsSoFarAt, groups_at}
 use Rattle.rpki_addr.specs.ReaderResults.{with_number}
-use Rattle.rpki_addr.proofs.DigitGroupLemmas.{AreDigits, digits_are, group_fits, group_none, group_some, no_group, no_last_two, written}
-use Rattle.rpki_addr.proofs.GroupLemmas.{all_read, fits_behind, no_colon, no_more, number_elided, one_more_fits, with_group}
+use Rattle.rpki_addr.proofs.DigitGroupLemmas.{AreDigits, digits_are, group_fits, group_none, group_some, no_group}
+use Rattle.rpki_addr.proofs.DigitGroupLemmas.{no_last_two, written}
+use Rattle.rpki_addr.proofs.GroupLemmas.{all_read, fits_behind, no_colon, no_more, number_elided, one_more_fits}
+use Rattle.rpki_addr.proofs.GroupLemmas.{with_group}
 
 -- ---- one group
 

@@ -1,6 +1,10 @@
 -- The bytes of which the text of an address is made.
 use Rattle.std.proofs.lemmas.List.Elements.{All-cons}
-use Rattle.rpki_addr.proofs.Common.{Bool, List, [], arith, codes, false, inl, inr, length, length-append, lit<, lit≤, refl, true, ℕ, ◌++◌, ◌<◌, ◌∷◌, ◌≡◌, ◌⊎◌, All-ipv4_text, IsDigitOrDot, nat_tests, All-append, All-from_recursion, All-nil, All-weaker, Contains-append_left, Contains-append_right, IsInRange, All, Contains, segments_of, IsColonHex, IsDotted, IsGroupsAfter, AllDigits, IsIpv4Text, IsIpv6Text}
+use Rattle.rpki_addr.proofs.Common.{Bool, List, [], arith, codes, false, inl, inr, length, length-append, lit<, lit≤}
+use Rattle.rpki_addr.proofs.Common.{refl, true, ℕ, ◌++◌, ◌<◌, ◌∷◌, ◌≡◌, ◌⊎◌, All-ipv4_text, IsDigitOrDot, nat_tests}
+use Rattle.rpki_addr.proofs.Common.{All-append, All-from_recursion, All-nil, All-weaker, Contains-append_left}
+use Rattle.rpki_addr.proofs.Common.{Contains-append_right, IsInRange, All, Contains, segments_of, IsColonHex, IsDotted}
+use Rattle.rpki_addr.proofs.Common.{IsGroupsAfter, AllDigits, IsIpv4Text, IsIpv6Text}
 use Rattle.rpki_text.proofs.DigitLemmas.{each_below}
 use Rattle.rpki_addr.proofs.AddressLemmas.{IsIpv4Text-dotted, IsGroupsText-colon_hex}
 

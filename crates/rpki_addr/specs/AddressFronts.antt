@@ -3,7 +3,8 @@ use Rattle.std.specs.Prelude.{◌≡◌, ◌≢◌, ℕ, ◌≤◌, List, ◌++�
 use Rattle.std.specs.Char.{digit_value}
 
 -- the text begins with a text that writes the value, and rest follows it
-pub record IsAtFront {A : Type 0} (Writes : List ℕ → A → Type 0) (text : List ℕ) (value : A) (rest : List ℕ) : Type 0 where
+pub record IsAtFront {A : Type 0} (Writes : List ℕ → A → Type 0) (text : List ℕ) (value : A) (rest : List ℕ)
+    : Type 0 where
   pub front : List ℕ
   pub split : text ≡ front ++ rest
   pub writes : Writes front value

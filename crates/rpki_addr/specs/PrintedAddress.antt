@@ -1,6 +1,7 @@
 -- The printed text of an address: for IPv6 the form of RFC 5952, section 4, and for mapped addresses that of section
 -- 5.
-use Rattle.std.specs.Prelude.{◌≡◌, ℕ, ◌/◌, ◌%◌, ◌^◌, ◌≤◌, ◌<◌, ◌⊎◌, List, ◌++◌, length, map, replicate, codes, nat_lt, if◌then◌else◌}
+use Rattle.std.specs.Prelude.{◌≡◌, ℕ, ◌/◌, ◌%◌, ◌^◌, ◌≤◌, ◌<◌, ◌⊎◌, List, ◌++◌, length, map, replicate, codes, nat_lt}
+use Rattle.std.specs.Prelude.{if◌then◌else◌}
 use Rattle.std.specs.Char.{digit_char}
 use Rattle.std.specs.Net.Text as std
 use Rattle.rpki_addr.specs.AddressText.{dotted}
@@ -15,7 +16,8 @@ ipv4_text n = dotted (octets_of n)
 
 -- the number of hexadecimal digits of a group without leading zeros (RFC 5952, 4.1)
 abbrev pub hex_len : ℕ → ℕ
-hex_len group = if nat_lt group 0x10 then 1 else (if nat_lt group 0x100 then 2 else (if nat_lt group 0x1000 then 3 else 4))
+hex_len group =
+    if nat_lt group 0x10 then 1 else (if nat_lt group 0x100 then 2 else (if nat_lt group 0x1000 then 3 else 4))
 
 -- a group in hexadecimal digits, in lower case and without leading zeros (RFC 5952, 4.1 and 4.3)
 abbrev pub hex_text : ℕ → List ℕ

@@ -1,5 +1,8 @@
 -- The numbers of the blocks of a set, and how many they are.
-use Rattle.rpki_as.proofs.Common.{flat_map, sym, take_all, Runs, List, ap, arith, get_or, length, map, subst, take, ℕ, ◌+◌, ◌<◌, ◌^◌, ◌∙◌, ◌≡◌, ◌≤◌, length-append, flat_map-map, length-flat_map-take, length-numbers_within, as_bounds, IsListOf, IsSizeOf, numbers_of, numbers_within, AsBlock, Holds, IsAsSet, written_more}
+use Rattle.rpki_as.proofs.Common.{flat_map, sym, take_all, Runs, List, ap, arith, get_or, length, map, subst, take, ℕ}
+use Rattle.rpki_as.proofs.Common.{◌+◌, ◌<◌, ◌^◌, ◌∙◌, ◌≡◌, ◌≤◌, length-append, flat_map-map, length-flat_map-take}
+use Rattle.rpki_as.proofs.Common.{length-numbers_within, as_bounds, IsListOf, IsSizeOf, numbers_of, numbers_within}
+use Rattle.rpki_as.proofs.Common.{AsBlock, Holds, IsAsSet, written_more}
 use Rattle.rpki_as.proofs.RunNumberLemmas.{runs_listed, size_below}
 
 -- the numbers of the blocks, block by block, are those of the set

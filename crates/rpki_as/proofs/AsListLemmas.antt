@@ -1,5 +1,12 @@
 -- A text writes one set at most, or has one first fault; what is printed of a set writes it.
-use Rattle.rpki_as.proofs.Common.{ap, ◌↔◌, same_numbers, Holds, List, MatchResult, Result, [], arith, lit≤, map, refl, subst, ℕ, ◌<◌, ◌^◌, ◌∷◌, ◌≡◌, ◌≤◌, All-head, All-tail, All, AllByRecursion, IsAsBlockText-block_text, IsAsBlockText-one, block_apart, same_block_fault, HasAsBlockFault, IsAsBlockText, as_block_text, as_bounds, new_as_block, AsBlock, FromStrError, IsRunsOf-unique, IsRunsOfBlocks-bounds, Runs, Covers, AnswersOrMemory-from_found, HaveValues-one, first_fault_apart, same_first_fault, HaveValues, elements, IfRefused, AnswersOrMemory, OrMemory, IsAsSet, HasAsListFault, IsAsListText, as_list_text, IsElement, elements-joined}
+use Rattle.rpki_as.proofs.Common.{ap, ◌↔◌, same_numbers, Holds, List, MatchResult, Result, [], arith, lit≤, map, refl}
+use Rattle.rpki_as.proofs.Common.{subst, ℕ, ◌<◌, ◌^◌, ◌∷◌, ◌≡◌, ◌≤◌, All-head, All-tail, All, AllByRecursion}
+use Rattle.rpki_as.proofs.Common.{IsAsBlockText-block_text, IsAsBlockText-one, block_apart, same_block_fault}
+use Rattle.rpki_as.proofs.Common.{HasAsBlockFault, IsAsBlockText, as_block_text, as_bounds, new_as_block, AsBlock}
+use Rattle.rpki_as.proofs.Common.{FromStrError, IsRunsOf-unique, IsRunsOfBlocks-bounds, Runs, Covers}
+use Rattle.rpki_as.proofs.Common.{AnswersOrMemory-from_found, HaveValues-one, first_fault_apart, same_first_fault}
+use Rattle.rpki_as.proofs.Common.{HaveValues, elements, IfRefused, AnswersOrMemory, OrMemory, IsAsSet, HasAsListFault}
+use Rattle.rpki_as.proofs.Common.{IsAsListText, as_list_text, IsElement, elements-joined}
 use Rattle.rpki_base.proofs.AsnLemmas.{asn_text_bytes}
 use Rattle.rpki_as_block.proofs.AsBlockIndexLemmas.{shown, shown-append}
 

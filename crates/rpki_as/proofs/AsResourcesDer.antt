@@ -1,5 +1,9 @@
 -- What is written of AS resources, and what is taken of them in either mode.
-use Rattle.rpki_as.proofs.Common.{List, None, arith, length, ◌<◌, ◌^◌, ◌≡◌, ◌≢◌, IsNextBlock, as_bounds, AsBlock, IsSaidInModes, one_said, written_said, Encloses, IsSequenceFrom, IsChoiceOf, Claim, IsClaim, IsRunsOfBlocks, ResourcesChoice, Missing, OneFront, IsAsChoice, IsAsResources, IsPresentAsClaim, as_resources_octets, as_choice_at, as_choice_by, greatest_of_as_block, IsAsSet, enclosed_said, choice_said}
+use Rattle.rpki_as.proofs.Common.{List, None, arith, length, ◌<◌, ◌^◌, ◌≡◌, ◌≢◌, IsNextBlock, as_bounds, AsBlock}
+use Rattle.rpki_as.proofs.Common.{IsSaidInModes, one_said, written_said, Encloses, IsSequenceFrom, IsChoiceOf, Claim}
+use Rattle.rpki_as.proofs.Common.{IsClaim, IsRunsOfBlocks, ResourcesChoice, Missing, OneFront, IsAsChoice}
+use Rattle.rpki_as.proofs.Common.{IsAsResources, IsPresentAsClaim, as_resources_octets, as_choice_at, as_choice_by}
+use Rattle.rpki_as.proofs.Common.{greatest_of_as_block, IsAsSet, enclosed_said, choice_said}
 use Rattle.rpki_chain.specs.Choices.{ListsBy}
 use Rattle.rpki_as.proofs.AsSetDerLemmas.{blocks, length-value, set_octets_few}
 

@@ -1,9 +1,11 @@
 -- AS resources are refused for a list of no blocks exactly where a SEQUENCE of nothing stands in the values that
 -- enclose it, whose ends are looked at behind it.
-use Rattle.rpki_as.proofs.Common.{Err, List, Result, arith, ℕ, ◌↔◌, ◌≡◌, as_block_at, AsBlock, enclosed_at, values_of, choice_at, ResourcesChoice, tagged_at, DerError, as_blocks_at, as_choice_at}
+use Rattle.rpki_as.proofs.Common.{Err, List, Result, arith, ℕ, ◌↔◌, ◌≡◌, as_block_at, AsBlock, enclosed_at, values_of}
+use Rattle.rpki_as.proofs.Common.{choice_at, ResourcesChoice, tagged_at, DerError, as_blocks_at, as_choice_at}
 use Rattle.rpki_der.specs.declared.error.DerError.TheVariants.{EmptyBlocks}
 use Rattle.rpki_der.specs.SequenceFaults.{BeginsEmpty, BeginsWithValue}
-use Rattle.rpki_der.proofs.SequenceFaults.{NamesTo, enclosed_fails, enclosed_names, header_names, no_values, refined_names, values_names}
+use Rattle.rpki_der.proofs.SequenceFaults.{NamesTo, enclosed_fails, enclosed_names, header_names, no_values}
+use Rattle.rpki_der.proofs.SequenceFaults.{refined_names, values_names}
 use Rattle.rpki_chain.proofs.ChoiceFaults.{choice_fails, choice_names}
 use Rattle.rpki_as_block.proofs.AsBlockDerFaults.{block_names}
 

@@ -1,5 +1,11 @@
 -- A text writes one claim at most, or has one fault; what is printed of resources writes them.
-use Rattle.rpki_as.proofs.Common.{refl, Bool, List, MatchResult, Result, [], ap, arith, codes, false, slice_index, ℕ, ◌++◌, ◌∷◌, ◌≡◌, block_apart, same_block_fault, HasAsBlockFault, IsAsBlockText, as_block_text, AsBlock, FromStrError, empty_set, Claim, IsClaim, claim_of, Runs, Blocks, Inherit, Missing, AnswersOrMemory-from_found, first_fault_apart, same_first_fault, elements, IfRefused, AnswersOrMemory, OrMemory, IsAsSet, HasAsListFault, IsAsListText, as_list_text, HasAsResourcesFault, IsAsResourcesText, IsInherit, as_resources_text}
+use Rattle.rpki_as.proofs.Common.{refl, Bool, List, MatchResult, Result, [], ap, arith, codes, false, slice_index, ℕ}
+use Rattle.rpki_as.proofs.Common.{◌++◌, ◌∷◌, ◌≡◌, block_apart, same_block_fault, HasAsBlockFault, IsAsBlockText}
+use Rattle.rpki_as.proofs.Common.{as_block_text, AsBlock, FromStrError, empty_set, Claim, IsClaim, claim_of, Runs}
+use Rattle.rpki_as.proofs.Common.{Blocks, Inherit, Missing, AnswersOrMemory-from_found, first_fault_apart}
+use Rattle.rpki_as.proofs.Common.{same_first_fault, elements, IfRefused, AnswersOrMemory, OrMemory, IsAsSet}
+use Rattle.rpki_as.proofs.Common.{HasAsListFault, IsAsListText, as_list_text, HasAsResourcesFault, IsAsResourcesText}
+use Rattle.rpki_as.proofs.Common.{IsInherit, as_resources_text}
 use Rattle.std.specs.Bool.{Decides}
 use Rattle.rpki_as.proofs.AsListLemmas.{list_says, one_list}
 

@@ -1,5 +1,13 @@
 -- What is written of sets of AS numbers, and what is taken of them in either mode.
-use Rattle.rpki_as.proofs.Common.{AsBlock, ◌∙◌, List, None, [], ap, arith, get_or, length, map, suc, zero, ℕ, ◌*◌, ◌+◌, ◌<◌, ◌^◌, ◌∷◌, ◌≡◌, ◌≤◌, cases_lt, eq-eqb, le-ltb, lt-ltb, ne_eqb, length-append, recursion_from_All, flat_map-map, AllByRecursion, block_numbers, block_spelled, block_written, length-content, length-number, IsAsBlock, as_block_octets, as_block_has_octets, as_block_reading, next_block_modal, IsNextBlock, IsStrictBlock, as_block_at, next_block_by, as_bounds, new_as_block, IsSaidInModes, IsSequenceFrom, IsSequenceOf, IsRunsOfBlocks, Runs, length-header, header, length_octets, value, as_run_octets, as_sequence_octets, as_set_octets, as_blocks_at, as_blocks_by, greatest_of_as_block, IsAsSet, AreBlocksInModes, set_said}
+use Rattle.rpki_as.proofs.Common.{AsBlock, ◌∙◌, List, None, [], ap, arith, get_or, length, map, suc, zero, ℕ, ◌*◌, ◌+◌}
+use Rattle.rpki_as.proofs.Common.{◌<◌, ◌^◌, ◌∷◌, ◌≡◌, ◌≤◌, cases_lt, eq-eqb, le-ltb, lt-ltb, ne_eqb, length-append}
+use Rattle.rpki_as.proofs.Common.{recursion_from_All, flat_map-map, AllByRecursion, block_numbers, block_spelled}
+use Rattle.rpki_as.proofs.Common.{block_written, length-content, length-number, IsAsBlock, as_block_octets}
+use Rattle.rpki_as.proofs.Common.{as_block_has_octets, as_block_reading, next_block_modal, IsNextBlock, IsStrictBlock}
+use Rattle.rpki_as.proofs.Common.{as_block_at, next_block_by, as_bounds, new_as_block, IsSaidInModes, IsSequenceFrom}
+use Rattle.rpki_as.proofs.Common.{IsSequenceOf, IsRunsOfBlocks, Runs, length-header, header, length_octets, value}
+use Rattle.rpki_as.proofs.Common.{as_run_octets, as_sequence_octets, as_set_octets, as_blocks_at, as_blocks_by}
+use Rattle.rpki_as.proofs.Common.{greatest_of_as_block, IsAsSet, AreBlocksInModes, set_said}
 use Rattle.rpki_der.proofs.NumberOctets.{length-octets}
 use Rattle.rpki_der.specs.SequenceWriting.{octets_of_all}
 

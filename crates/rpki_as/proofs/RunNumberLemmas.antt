@@ -1,5 +1,10 @@
 -- Lists of numbers: those of runs, one after the other.
-use Rattle.rpki_as.proofs.Common.{List, None, Option, Some, [], ap, arith, get_or, inl, inr, length, suc, zero, ℕ, ⊎_elim, ◌++◌, ◌+◌, ◌-◌, ◌<◌, ◌↔◌, ◌∙◌, ◌∷◌, ◌≡◌, ◌≤◌, ◌⊎◌, cases_lt, get_or-append_right, get_or_append_left, length-append, All-tail, Contains-append_cases, Contains-append_left, Contains-append_right, Contains-get_or, All, AllPairs, flat_map, IsListOf-numbers_within, length-numbers_within, as_bounds, IsListOf, IsSizeOf, numbers_within, AsBlock, Holds, Runs, IsWithin}
+use Rattle.rpki_as.proofs.Common.{List, None, Option, Some, [], ap, arith, get_or, inl, inr, length, suc, zero, ℕ}
+use Rattle.rpki_as.proofs.Common.{⊎_elim, ◌++◌, ◌+◌, ◌-◌, ◌<◌, ◌↔◌, ◌∙◌, ◌∷◌, ◌≡◌, ◌≤◌, ◌⊎◌, cases_lt}
+use Rattle.rpki_as.proofs.Common.{get_or-append_right, get_or_append_left, length-append, All-tail}
+use Rattle.rpki_as.proofs.Common.{Contains-append_cases, Contains-append_left, Contains-append_right, Contains-get_or}
+use Rattle.rpki_as.proofs.Common.{All, AllPairs, flat_map, IsListOf-numbers_within, length-numbers_within, as_bounds}
+use Rattle.rpki_as.proofs.Common.{IsListOf, IsSizeOf, numbers_within, AsBlock, Holds, Runs, IsWithin}
 use Rattle.std.specs.Iterator.{YieldsFirst}
 use Rattle.rpki_chain_core.proofs.Chains.{Covers-nil}
 use Rattle.rpki_chain_core.proofs.UniqueChain.{Covers-head, Covers-tail, Covers-cons_cases}
@@ -10,7 +15,8 @@ IsListOf-append : (S U : ℕ → Type 0) (ms ns : List ℕ) → IsListOf S ms �
 IsListOf-append S U ms ns h k apart = record {
   members = λ n. (
     λ c. ⊎_elim (λ m. inl ((h.members n).0 m)) (λ m. inr ((k.members n).0 m)) (Contains-append_cases ms ns n c),
-    ⊎_elim (λ s. Contains-append_left ms ns n ((h.members n).1 s)) (λ u. Contains-append_right ms ns n ((k.members n).1 u)),
+    ⊎_elim (λ s. Contains-append_left ms ns n ((h.members n).1 s))
+        (λ u. Contains-append_right ms ns n ((k.members n).1 u)),
   );
   ascending = λ i j d below small.
       let there = j - length ms in
@@ -45,7 +51,8 @@ runs_listed (b ∷ runs) ordered apart =
     IsListOf-same _ _ _ (λ n. (
       ⊎_elim (Covers-head (λ x. x) b runs n) (Covers-tail (λ x. x) b runs n),
       Covers-cons_cases (λ x. x) b runs n,
-    )) (IsListOf-append (IsWithin b) (Holds runs) (numbers_within b) (flat_map numbers_within runs) (IsListOf-numbers_within b) rest (λ m n within (k, c, small, here, w).
+    )) (IsListOf-append (IsWithin b) (Holds runs) (numbers_within b) (flat_map numbers_within runs)
+    (IsListOf-numbers_within b) rest (λ m n within (k, c, small, here, w).
     let far : b.1 + 1 < (get_or runs k c).0 = apart 0 (suc k) c (omega arith) (omega arith) in
     let begins = ap (λ (x : ℕ × ℕ). x.0) here in
     omega (arith, within.1, w.0)))

@@ -28,4 +28,5 @@ as_blocks_by strict = sequence_from greatest_of_as_block (next_block_by strict) 
 
 -- the resources at the front of octets, with the list of their blocks, by the mode
 abbrev pub as_choice_by : Bool → List ℕ → Result (ResourcesChoice (List AsBlock) × List ℕ) DerError
-as_choice_by strict = enclosed_at 48 (enclosed_at 160 (choice_at (values_from greatest_of_as_block (next_block_by strict) None)))
+as_choice_by strict =
+    enclosed_at 48 (enclosed_at 160 (choice_at (values_from greatest_of_as_block (next_block_by strict) None)))

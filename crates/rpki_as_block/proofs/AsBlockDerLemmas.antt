@@ -1,5 +1,10 @@
 -- What is written of blocks of AS numbers.
-use Rattle.rpki_as_block.proofs.Common.{List, Ok, Option, Result, Some, arith, length, refl, subst, sym, true, ℕ, ◌++◌, ◌<◌, ◌^◌, ◌≡◌, ◌≤◌, length-append, as_number_octets, IsNew, same_reading, length-header, u32_is, value_is, IsReading, optional, HasAsNumbers, IsAsBlock, IsSetBlock, as_block_octets, as_range_content, as_block_has_octets, as_block_reading, as_block_modal, IsStrictBlock, as_block_at, as_block_by, as_bounds, new_as_block, AsBlock, Id, Range}
+use Rattle.rpki_as_block.proofs.Common.{List, Ok, Option, Result, Some, arith, length, refl, subst, sym, true, ℕ, ◌++◌}
+use Rattle.rpki_as_block.proofs.Common.{◌<◌, ◌^◌, ◌≡◌, ◌≤◌, length-append, as_number_octets, IsNew, same_reading}
+use Rattle.rpki_as_block.proofs.Common.{length-header, u32_is, value_is, IsReading, optional, HasAsNumbers, IsAsBlock}
+use Rattle.rpki_as_block.proofs.Common.{IsSetBlock, as_block_octets, as_range_content, as_block_has_octets}
+use Rattle.rpki_as_block.proofs.Common.{as_block_reading, as_block_modal, IsStrictBlock, as_block_at, as_block_by}
+use Rattle.rpki_as_block.proofs.Common.{as_bounds, new_as_block, AsBlock, Id, Range}
 use Rattle.rpki_der.proofs.SequenceModes.{optional_back_by}
 use Rattle.rpki_der.specs.Der.{Spells, header, integer}
 use Rattle.rpki_der.specs.Views.{Takes, is_strict, left}
@@ -9,11 +14,26 @@ use Rattle.rpki_der.proofs.ContentReadings.{length-integer}
 
 -- an AS number has seven octets at most
 pub length-number : (n : ℕ) → n < 2 ^ 32 → length (as_number_octets n) ≤ 7
-length-number n lt = let few = length-integer n lt in omega (arith, few, length-header 2 (length (integer n)) (omega arith), length-append (header 2 (length (integer n))) (integer n))
+length-number n lt =
+    let few = length-integer n lt in
+    omega (
+      arith,
+      few,
+      length-header 2 (length (integer n)) (omega arith),
+      length-append (header 2 (length (integer n)))
+          (integer n),
+    )
 
 -- two have fourteen
 pub length-content : (b : ℕ × ℕ) → b.0 ≤ b.1 → b.1 < 2 ^ 32 → length (as_range_content b) ≤ 14
-length-content b ordered lt = omega (arith, length-number b.0 (omega arith), length-number b.1 lt, length-append (as_number_octets b.0) (as_number_octets b.1))
+length-content b ordered lt =
+    omega (
+      arith,
+      length-number b.0 (omega arith),
+      length-number b.1 lt,
+      length-append (as_number_octets b.0)
+          (as_number_octets b.1),
+    )
 
 -- how long a header is
 pub ruleset header_lengths = (length-header)
@@ -23,8 +43,15 @@ pub block_written : (x : AsBlock) → (as_bounds x).0 ≤ (as_bounds x).1 → (a
     → IsAsBlock (as_block_octets x) x
 block_written (Id n) ordered lt = u32_is n lt
 block_written (Range r) ordered lt =
-    let short = length-content (r.min, r.max) ordered lt in
-    (ordered, (as_range_content (r.min, r.max), value_is 48 (as_range_content (r.min, r.max)) (omega arith) (omega arith), (as_number_octets r.max, (as_number_octets r.min, u32_is r.min (omega arith), refl), u32_is r.max lt)))
+    let short = length-content (r.min, r.max) ordered lt in (
+      ordered,
+      (
+        as_range_content (r.min, r.max),
+        value_is 48 (as_range_content (r.min, r.max)) (omega arith)
+            (omega arith),
+        (as_number_octets r.max, (as_number_octets r.min, u32_is r.min (omega arith), refl), u32_is r.max lt),
+      ),
+    )
 
 -- ---- canonical octets
 
@@ -47,10 +74,13 @@ pub set_block_is : (bytes : List ℕ) (x : AsBlock) → IsStrictBlock bytes x �
 set_block_is bytes x h = grind (arith, block_numbers, block_spelled)
 
 pub is_set_block : (bytes : List ℕ) (x : AsBlock) → Spells IsSetBlock as_block_octets bytes x → IsStrictBlock bytes x
-is_set_block bytes x (is, spelled) = (subst (λ (t : List ℕ). IsAsBlock t x) (sym spelled) (block_written x is.ordered is.below), is.new_form)
+is_set_block bytes x (is, spelled) =
+    (subst (λ (t : List ℕ). IsAsBlock t x) (sym spelled) (block_written x is.ordered is.below), is.new_form)
 
 pub set_block_reading : IsReading (Spells IsSetBlock as_block_octets) (as_block_by true)
-set_block_reading = same_reading IsStrictBlock (Spells IsSetBlock as_block_octets) (as_block_by true) (λ bytes x fits is. set_block_is bytes x is) is_set_block as_block_modal.tight
+set_block_reading =
+    same_reading IsStrictBlock (Spells IsSetBlock as_block_octets) (as_block_by true)
+    (λ bytes x fits is. set_block_is bytes x is) is_set_block as_block_modal.tight
 
 -- what was written of a block is read as the block
 pub block_back : (old new : Cursor) (result : Result (Option AsBlock) DerError)
@@ -59,4 +89,6 @@ pub block_back : (old new : Cursor) (result : Result (Option AsBlock) DerError)
     → left old ≡ as_block_octets block ++ rest → (result ≡ Ok (Some block)) × (left new ≡ rest)
 block_back old new result took block rest numbers form at =
     let written : IsAsBlock (as_block_octets block) block = block_written block numbers.0 numbers.1 in
-    optional_back_by IsAsBlock IsStrictBlock as_block_at as_block_by old new result as_block_reading as_block_modal took (as_block_octets block) rest block (as_block_has_octets (as_block_octets block) block written) written (λ strict. (written, form strict)) at
+    optional_back_by IsAsBlock IsStrictBlock as_block_at as_block_by old new result as_block_reading as_block_modal took
+    (as_block_octets block) rest block (as_block_has_octets (as_block_octets block) block written) written
+    (λ strict. (written, form strict)) at

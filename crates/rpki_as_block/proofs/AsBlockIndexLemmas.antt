@@ -1,5 +1,9 @@
 -- AS blocks at a place among bytes: one number, or two round a dash.
-use Rattle.rpki_as_block.proofs.Common.{List, Ok, Option, Some, [], ap, arith, drop, get_or, length, length-drop, subst, suc, take, ℕ, ◌++◌, ◌+◌, ◌-◌, ◌<◌, ◌∙◌, ◌∷◌, ◌≡◌, ◌≤◌, take-append-add, take-length, drop-drop, drop_more, length-take, take-append-drop, IsInRange, AllByRecursion, RangeValue, IsAsBlockAt, IsAsBlockBetween, StandsAt, IsAsBlockText, ReadsAsBlock, AsBlock, Id, Range}
+use Rattle.rpki_as_block.proofs.Common.{List, Ok, Option, Some, [], ap, arith, drop, get_or, length, length-drop, subst}
+use Rattle.rpki_as_block.proofs.Common.{suc, take, ℕ, ◌++◌, ◌+◌, ◌-◌, ◌<◌, ◌∙◌, ◌∷◌, ◌≡◌, ◌≤◌, take-append-add}
+use Rattle.rpki_as_block.proofs.Common.{take-length, drop-drop, drop_more, length-take, take-append-drop, IsInRange}
+use Rattle.rpki_as_block.proofs.Common.{AllByRecursion, RangeValue, IsAsBlockAt, IsAsBlockBetween, StandsAt}
+use Rattle.rpki_as_block.proofs.Common.{IsAsBlockText, ReadsAsBlock, AsBlock, Id, Range}
 use Rattle.rpki_base.specs.AsnPlaces.{IsAsnAt, IsAsnBetween}
 use Rattle.rpki_text.proofs.PrintedListLemmas.{IsShown}
 use Rattle.rpki_as_block.proofs.AsBlockTextLemmas.{no_dash, reads_block}

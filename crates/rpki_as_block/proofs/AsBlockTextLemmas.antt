@@ -1,5 +1,8 @@
 -- A text writes one block at most, or has one fault; what is printed of a block writes it.
-use Rattle.rpki_as_block.proofs.Common.{List, MatchResult, None, Some, lit<, Result, ap, arith, refl, ℕ, ◌<◌, ◌^◌, ◌≡◌, ◌≤◌, IsInRange, AllByRecursion, range_bounds, HasNo, dash, HasAsBlockFault, IsAsBlockText, IsAsRangeBetween, NoRange, ReadsAsBlock, as_block_text, as_bounds, AsBlock, Id, Range}
+use Rattle.rpki_as_block.proofs.Common.{List, MatchResult, None, Some, lit<, Result, ap, arith, refl, ℕ, ◌<◌, ◌^◌, ◌≡◌}
+use Rattle.rpki_as_block.proofs.Common.{◌≤◌, IsInRange, AllByRecursion, range_bounds, HasNo, dash, HasAsBlockFault}
+use Rattle.rpki_as_block.proofs.Common.{IsAsBlockText, IsAsRangeBetween, NoRange, ReadsAsBlock, as_block_text}
+use Rattle.rpki_as_block.proofs.Common.{as_bounds, AsBlock, Id, Range}
 use Rattle.std.proofs.lemmas.List.Elements.{All-from_recursion}
 use Rattle.std.proofs.lemmas.Str.Pattern.{IsSplitOnceResult, split_parts}
 use Rattle.std.specs.Borrow.{Bor}

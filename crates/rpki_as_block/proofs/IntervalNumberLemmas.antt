@@ -1,5 +1,6 @@
 -- Lists of numbers: those of an interval.
-use Rattle.rpki_as_block.proofs.Common.{List, Option, [], ap, arith, get_or, length, refl, suc, zero, ℕ, ◌+◌, ◌-◌, ◌<◌, ◌∙◌, ◌∷◌, ◌≡◌, IsWithin, IsListOf, IsSizeOf, numbers_from, numbers_within}
+use Rattle.rpki_as_block.proofs.Common.{List, Option, [], ap, arith, get_or, length, refl, suc, zero, ℕ, ◌+◌, ◌-◌, ◌<◌}
+use Rattle.rpki_as_block.proofs.Common.{◌∙◌, ◌∷◌, ◌≡◌, IsWithin, IsListOf, IsSizeOf, numbers_from, numbers_within}
 use Rattle.std.specs.Iterator.{YieldsFirst, MakesProgress, item_count}
 
 -- how many there are

@@ -11,7 +11,8 @@ use Rattle.rpki_as_block.specs.declared.block.AsBlock.TheVariants.{Id, Range}
 -- a SEQUENCE of the least number and the greatest, and nothing else; the least isn't above the greatest (3.2.3.8,
 -- 3.2.3.9)
 abbrev pub IsAsRange : List ℕ → RangeValue → Type 0
-IsAsRange bytes r = (r.min ≤ r.max) × ((content : List ℕ) × IsSequence bytes content × Both IsAsNumber IsAsNumber content r.min r.max)
+IsAsRange bytes r =
+    (r.min ≤ r.max) × ((content : List ℕ) × IsSequence bytes content × Both IsAsNumber IsAsNumber content r.min r.max)
 
 -- an AS number or a range (3.2.3.5)
 abbrev pub IsAsBlock : List ℕ → AsBlock → Type 0
@@ -22,7 +23,8 @@ IsAsBlock bytes (Range r) = IsAsRange bytes r
 abbrev pub IsBlockInAnyOrder : List ℕ → Unit {0} → Type 0
 IsBlockInAnyOrder bytes u =
     ((n : ℕ) × IsAsNumber bytes n) ⊎
-    ((content : List ℕ) × IsSequence bytes content × ((first : ℕ) × (second : ℕ) × Both IsAsNumber IsAsNumber content first second))
+    ((content : List ℕ) × IsSequence bytes content
+    × ((first : ℕ) × (second : ℕ) × Both IsAsNumber IsAsNumber content first second))
 
 -- ---- encodings
 

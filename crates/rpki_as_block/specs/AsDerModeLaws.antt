@@ -33,11 +33,14 @@ is_new_form_of (Range r) e = by_test (eqb r.min r.max) e
 
 -- a strict reading finds exactly the blocks in new form, and refuses other blocks by NotCanonical
 pub as_block_modal : IsModal IsStrictBlock as_block_at as_block_by
-as_block_modal = tested_modal IsAsBlock (IsNew as_bounds new_as_block) as_block_at (λ strict. as_block_at) is_new_form (plain_modal IsAsBlock as_block_at as_block_reading) new_form_is is_new_form_of
+as_block_modal =
+    tested_modal IsAsBlock (IsNew as_bounds new_as_block) as_block_at (λ strict. as_block_at) is_new_form
+    (plain_modal IsAsBlock as_block_at as_block_reading) new_form_is is_new_form_of
 
 -- a strict reading of a block after others requires also that it begins beyond them
 pub next_block_modal : (before : Option ℕ)
     → IsModal (IsNextBlock before) as_block_at (λ strict. next_block_by strict before)
 next_block_modal before =
-    tested_modal IsStrictBlock (λ block. IsBeyond before (as_bounds block).0) as_block_at as_block_by (λ block. is_beyond before (as_bounds block).0) as_block_modal
+    tested_modal IsStrictBlock (λ block. IsBeyond before (as_bounds block).0) as_block_at as_block_by
+    (λ block. is_beyond before (as_bounds block).0) as_block_modal
     (λ x e. beyond_is before (as_bounds x).0 e) (λ x e. is_beyond_of before (as_bounds x).0 e)

@@ -50,7 +50,8 @@ as_block_by strict = refined as_block_at (passing strict is_new_form)
 -- the block at the front of octets; in strict mode it must be in new form, and begin more than one above the greatest
 -- number before it
 abbrev pub next_block_by : Bool → Option ℕ → List ℕ → Result (AsBlock × List ℕ) DerError
-next_block_by strict before = refined (as_block_by strict) (passing strict (λ block. is_beyond before (as_bounds block).0))
+next_block_by strict before =
+    refined (as_block_by strict) (passing strict (λ block. is_beyond before (as_bounds block).0))
 
 -- ---- skipped blocks
 

@@ -1,5 +1,6 @@
 -- Sets of numbers as lists: all their numbers, ascending, and their count.
-use Rattle.std.specs.Prelude.{◌≡◌, ℕ, zero, suc, ◌+◌, ◌-◌, ◌<◌, ◌↔◌, List, [], ◌∷◌, length, AllPairs, Option, Some, None}
+use Rattle.std.specs.Prelude.{◌≡◌, ℕ, zero, suc, ◌+◌, ◌-◌, ◌<◌, ◌↔◌, List, [], ◌∷◌, length, AllPairs, Option, Some}
+use Rattle.std.specs.Prelude.{None}
 use Rattle.std.specs.List.{Contains, flat_map}
 use Rattle.rpki_block.specs.Ranges.{RangeValue, range_bounds}
 use Rattle.rpki_as_block.specs.Blocks.{as_bounds}

@@ -1,5 +1,9 @@
 -- AS numbers at a place among bytes: letters and digits behind them.
-use Rattle.rpki_base.proofs.Common.{List, Ok, [], ap, arith, drop, get_or, inl, inr, length, length-drop, subst, suc, take, ℕ, ◌+◌, ◌-◌, ◌<◌, ◌^◌, ◌∙◌, ◌∷◌, ◌≡◌, ◌≤◌, take-length, cases_lt, drop_more, get_or-drop, get_or-take, length-take, digit_at, without_leading_plus_none, AllDigits, digits_value, AreDigitsBetween, AreDigitsFrom, IsNumberText, IsAsnText, ReadsAsn}
+use Rattle.rpki_base.proofs.Common.{List, Ok, [], ap, arith, drop, get_or, inl, inr, length, length-drop, subst, suc}
+use Rattle.rpki_base.proofs.Common.{take, ℕ, ◌+◌, ◌-◌, ◌<◌, ◌^◌, ◌∙◌, ◌∷◌, ◌≡◌, ◌≤◌, take-length, cases_lt, drop_more}
+use Rattle.rpki_base.proofs.Common.{get_or-drop, get_or-take, length-take, digit_at, without_leading_plus_none}
+use Rattle.rpki_base.proofs.Common.{AllDigits, digits_value, AreDigitsBetween, AreDigitsFrom, IsNumberText, IsAsnText}
+use Rattle.rpki_base.proofs.Common.{ReadsAsn}
 use Rattle.std.proofs.lemmas.Str.{digit_value_digit}
 use Rattle.rpki_base.specs.AsnPlaces.{HasLettersAt, IsAfterLetters, IsAsnAt, IsAsnBetween}
 use Rattle.rpki_base.proofs.AsnLemmas.{digits_are_bytes, reads_number}

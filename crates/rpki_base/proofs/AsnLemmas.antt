@@ -1,5 +1,9 @@
 -- Texts of AS numbers: each writes one at most, and what is printed is read back.
-use Rattle.rpki_base.proofs.Common.{Err, List, Ok, [], ap, arith, codes, decimal, inl, inr, length, lit≤, refl, subst, suc, sym, take, ℕ, ◌++◌, ◌-◌, ◌<◌, ◌^◌, ◌∙◌, ◌∷◌, ◌≡◌, ◌≤◌, take-append_seam, decimal_is_IsNumeral, digit_from_value, IsInRange, AllByRecursion, str_to_ascii_lowercase, AllDigits, IsNumberText, IsAfterAs, IsAsAnd, IsAsnText, ReadsAsn, asn_text}
+use Rattle.rpki_base.proofs.Common.{Err, List, Ok, [], ap, arith, codes, decimal, inl, inr, length, lit≤, refl, subst}
+use Rattle.rpki_base.proofs.Common.{suc, sym, take, ℕ, ◌++◌, ◌-◌, ◌<◌, ◌^◌, ◌∙◌, ◌∷◌, ◌≡◌, ◌≤◌, take-append_seam}
+use Rattle.rpki_base.proofs.Common.{decimal_is_IsNumeral, digit_from_value, IsInRange, AllByRecursion}
+use Rattle.rpki_base.proofs.Common.{str_to_ascii_lowercase, AllDigits, IsNumberText, IsAfterAs, IsAsAnd, IsAsnText}
+use Rattle.rpki_base.proofs.Common.{ReadsAsn, asn_text}
 use Rattle.std.proofs.Common.{length-append}
 use Rattle.std.specs.Char.{to_ascii_lowercase}
 use Rattle.rpki_base.specs.declared.asn.ParseAsnError.{ParseAsnError}

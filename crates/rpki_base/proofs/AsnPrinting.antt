@@ -1,5 +1,6 @@
 -- Room for the text of an AS number, and what a buffer has after `AS` was put before digits.
-use Rattle.rpki_base.proofs.Common.{List, arith, decimal, drop, length, set, ℕ, ◌-◌, ◌<◌, ◌^◌, ◌∷◌, ◌≡◌, ◌≤◌, length-decimal-le, drop-set, length-set}
+use Rattle.rpki_base.proofs.Common.{List, arith, decimal, drop, length, set, ℕ, ◌-◌, ◌<◌, ◌^◌, ◌∷◌, ◌≡◌, ◌≤◌}
+use Rattle.rpki_base.proofs.Common.{length-decimal-le, drop-set, length-set}
 
 -- an AS number has ten digits at most
 pub ten_digits : (n : ℕ) → n < 2 ^ 32 → length (decimal n) ≤ 10

@@ -1,5 +1,7 @@
 -- What the proofs of this crate use of std, of the crates below and of its own definitions, passed on by one name.
-pub use Rattle.std.proofs.Common.{Contains, Err, IsTrue, List, Ok, Result, [], add-one, ap, arith, codes, decimal, drop, eqb, false, get_or, inl, inr, le-ltb, length, length-drop, lit≤, lt-ltb, refl, set, subst, suc, sym, take, ℕ, ◌++◌, ◌+◌, ◌-◌, ◌<◌, ◌^◌, ◌↔◌, ◌∙◌, ◌∷◌, ◌≡◌, ◌≤◌, ◌⊎◌}
+pub use Rattle.std.proofs.Common.{Contains, Err, IsTrue, List, Ok, Result, [], add-one, ap, arith, codes, decimal, drop}
+pub use Rattle.std.proofs.Common.{eqb, false, get_or, inl, inr, le-ltb, length, length-drop, lit≤, lt-ltb, refl, set}
+pub use Rattle.std.proofs.Common.{subst, suc, sym, take, ℕ, ◌++◌, ◌+◌, ◌-◌, ◌<◌, ◌^◌, ◌↔◌, ◌∙◌, ◌∷◌, ◌≡◌, ◌≤◌, ◌⊎◌}
 pub use Rattle.std.proofs.Math.Seq.{take-append_seam, take-length}
 pub use Rattle.std.proofs.lemmas.Bool.{cases_eq, cases_lt}
 pub use Rattle.std.proofs.lemmas.Fmt.{decimal_is_IsNumeral, length-decimal-le}

@@ -1,5 +1,8 @@
 -- Small sets: what the walks, a list and a search give.
-use Rattle.rpki_base.proofs.Common.{Contains, Err, IsTrue, List, Ok, Result, [], arith, eqb, get_or, length, refl, ℕ, ◌<◌, ◌↔◌, ◌∷◌, ◌≡◌, ◌≤◌, cases_lt, IsBinarySearchResult, IsPermutation, IsSorted, IsInBoth, IsInEither, IsInFirstAlone, IsInOne, IsSmallSet, IsSmallSetOf, any_side, only_both, only_left, only_one, walk, Wanted}
+use Rattle.rpki_base.proofs.Common.{Contains, Err, IsTrue, List, Ok, Result, [], arith, eqb, get_or, length, refl, ℕ}
+use Rattle.rpki_base.proofs.Common.{◌<◌, ◌↔◌, ◌∷◌, ◌≡◌, ◌≤◌, cases_lt, IsBinarySearchResult, IsPermutation, IsSorted}
+use Rattle.rpki_base.proofs.Common.{IsInBoth, IsInEither, IsInFirstAlone, IsInOne, IsSmallSet, IsSmallSetOf, any_side}
+use Rattle.rpki_base.proofs.Common.{only_both, only_left, only_one, walk, Wanted}
 use Rattle.std.proofs.lemmas.List.{get_or_default}
 use Rattle.std.specs.Ordering.{nat_cmp}
 use Rattle.std.specs.Result.{is_ok}
@@ -8,7 +11,9 @@ use Rattle.std.proofs.lemmas.List.Sorted.{searched, Contains-permutation, IsPerm
 use Rattle.std.proofs.lemmas.List.Filters.{dedup_is}
 use Rattle.std.proofs.lemmas.List.Kept.{AllPairs-from_increasing, Contains-dedup_nat, Contains-from_dedup}
 use Rattle.std.proofs.lemmas.Map.Keys.{IsStrictlyIncreasing-dedup}
-use Rattle.rpki_base.proofs.SmallSetWalkLemmas.{Among, IsStrictlyIncreasing-rises, IsWanted, Rises, Rises-from_increasing, above_is, from_among, is_among, to_among, walk_is}
+use Rattle.rpki_base.proofs.SmallSetWalkLemmas.{Among, IsStrictlyIncreasing-rises, IsWanted, Rises}
+use Rattle.rpki_base.proofs.SmallSetWalkLemmas.{Rises-from_increasing, above_is, from_among, is_among, to_among}
+use Rattle.rpki_base.proofs.SmallSetWalkLemmas.{walk_is}
 
 module _ (xs ys : List ℕ) (left : IsSmallSet xs) (right : IsSmallSet ys) where
   -- a walk gives the set S, where S are the wanted numbers

@@ -1,5 +1,7 @@
 -- A walk over two ascending lists gives the wanted numbers of both, ascending.
-use Rattle.rpki_base.proofs.Common.{Contains, IsTrue, List, [], add-one, arith, false, inl, inr, le-ltb, length, lt-ltb, suc, ℕ, ◌+◌, ◌<◌, ◌↔◌, ◌∷◌, ◌≡◌, ◌≤◌, ◌⊎◌, cases_eq, AllByRecursion, IsStrictlyIncreasing, all_kept, kept_items, walk, walk_step, Wanted}
+use Rattle.rpki_base.proofs.Common.{Contains, IsTrue, List, [], add-one, arith, false, inl, inr, le-ltb, length, lt-ltb}
+use Rattle.rpki_base.proofs.Common.{suc, ℕ, ◌+◌, ◌<◌, ◌↔◌, ◌∷◌, ◌≡◌, ◌≤◌, ◌⊎◌, cases_eq, AllByRecursion}
+use Rattle.rpki_base.proofs.Common.{IsStrictlyIncreasing, all_kept, kept_items, walk, walk_step, Wanted}
 
 -- n is one of the numbers
 abbrev pub Among : ℕ → List ℕ → Type 0

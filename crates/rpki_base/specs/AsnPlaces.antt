@@ -13,7 +13,8 @@ pub record HasLettersAt (start : ℕ) (text : List ℕ) : Type 0 where
 
 -- after is the index after `as` if `as` is at start, and start otherwise
 abbrev pub IsAfterLetters : ℕ → ℕ → List ℕ → Type 0
-IsAfterLetters start after text = ((after ≡ start) × (¬ HasLettersAt start text)) ⊎ ((after ≡ start + 2) × HasLettersAt start text)
+IsAfterLetters start after text =
+    ((after ≡ start) × (¬ HasLettersAt start text)) ⊎ ((after ≡ start + 2) × HasLettersAt start text)
 
 -- An AS number of the usual form is at start: an optional `as`, in any case of letters, and then one to ten digits. No
 -- digit follows them, or they are ten. They write n, and end is the index after them.

@@ -1,5 +1,9 @@
 -- Blocks that strict cursors take one after another: they are a chain, and the octets are what is written of their set.
-use Rattle.rpki_chain.proofs.Common.{List, None, Option, Some, [], ap, arith, length, map, refl, subst, suc, sym, ℕ, ◌+◌, ◌<◌, ◌^◌, ◌∙◌, ◌∷◌, ◌≡◌, ◌≤◌, All-cons, All-map, All-nil, All, AllPairs, ⊤, IsSequenceFrom, Covers-nil, IsChain-nil, Covers, IsChain, IsNew, EachFrom, Refines, Spells, Where, sequence_value, IsBlockChain, IsBlockSet, IsChoiceOf, ListsBy, MatchChoice, IsRunsOfBlocks, Runs, ResourcesChoice}
+use Rattle.rpki_chain.proofs.Common.{List, None, Option, Some, [], ap, arith, length, map, refl, subst, suc, sym, ℕ}
+use Rattle.rpki_chain.proofs.Common.{◌+◌, ◌<◌, ◌^◌, ◌∙◌, ◌∷◌, ◌≡◌, ◌≤◌, All-cons, All-map, All-nil, All, AllPairs, ⊤}
+use Rattle.rpki_chain.proofs.Common.{IsSequenceFrom, Covers-nil, IsChain-nil, Covers, IsChain, IsNew, EachFrom, Refines}
+use Rattle.rpki_chain.proofs.Common.{Spells, Where, sequence_value, IsBlockChain, IsBlockSet, IsChoiceOf, ListsBy}
+use Rattle.rpki_chain.proofs.Common.{MatchChoice, IsRunsOfBlocks, Runs, ResourcesChoice}
 use Rattle.std.proofs.lemmas.List.Folds.{flat_map-map}
 use Rattle.std.proofs.lemmas.List.Kept.{AllPairs-cons}
 use Rattle.rpki_block.specs.Beyond.{IsBeyond}

@@ -1,5 +1,8 @@
 -- Sets and resources of blocks in either mode: strictly, the octets are those that are written of them.
-use Rattle.rpki_chain.proofs.Common.{Bool, List, None, Ok, Option, Result, Some, [], arith, length, refl, true, ℕ, ◌<◌, ◌^◌, ◌∷◌, ◌≡◌, ◌≢◌, All, ⊤, IsSequenceFrom, Covers, IsChain, EachFrom, Where, IsModal, IsReading, DerError, IsBlockSet, IsChoiceOf, ListsBy, MatchChoice, Claim, IsRunsOfBlocks, Runs, ResourcesChoice, Blocks, Inherit, Missing, choice_at}
+use Rattle.rpki_chain.proofs.Common.{Bool, List, None, Ok, Option, Result, Some, [], arith, length, refl, true, ℕ, ◌<◌}
+use Rattle.rpki_chain.proofs.Common.{◌^◌, ◌∷◌, ◌≡◌, ◌≢◌, All, ⊤, IsSequenceFrom, Covers, IsChain, EachFrom, Where}
+use Rattle.rpki_chain.proofs.Common.{IsModal, IsReading, DerError, IsBlockSet, IsChoiceOf, ListsBy, MatchChoice, Claim}
+use Rattle.rpki_chain.proofs.Common.{IsRunsOfBlocks, Runs, ResourcesChoice, Blocks, Inherit, Missing, choice_at}
 use Rattle.rpki_der.proofs.ValueLists.{HasOctets}
 use Rattle.rpki_der.proofs.WrittenValues.{value_is}
 use Rattle.rpki_der.specs.Der.{Each}

@@ -1,9 +1,11 @@
 -- Resources are refused for a list of no blocks exactly where a SEQUENCE of nothing stands, whatever a block is.
-use Rattle.rpki_chain.proofs.Common.{List, Ok, Result, [], arith, ℕ, ◌↔◌, ◌≡◌, value_at, DerError, choice_at, choice_in, inherited_in, listed_in}
+use Rattle.rpki_chain.proofs.Common.{List, Ok, Result, [], arith, ℕ, ◌↔◌, ◌≡◌, value_at, DerError, choice_at, choice_in}
+use Rattle.rpki_chain.proofs.Common.{inherited_in, listed_in}
 use Rattle.std.proofs.Common.{Err}
 use Rattle.rpki_der.specs.declared.error.DerError.TheVariants.{EmptyBlocks}
 use Rattle.rpki_der.specs.SequenceFaults.{BeginsEmpty}
-use Rattle.rpki_der.proofs.SequenceFaults.{NamesTo, by_tag_names, not_named, nothing_names, refined_names, sequence_fails, value_names}
+use Rattle.rpki_der.proofs.SequenceFaults.{NamesTo, by_tag_names, not_named, nothing_names, refined_names}
+use Rattle.rpki_der.proofs.SequenceFaults.{sequence_fails, value_names}
 
 module _ {X : Type 0} (values : List ℕ → Result (List X) DerError)
     (names : (content : List ℕ) → NamesTo 10 (values content)) where

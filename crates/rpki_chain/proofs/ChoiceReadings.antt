@@ -1,5 +1,9 @@
 -- The reading of resources finds what the grammar says, and nothing else.
-use Rattle.rpki_chain.proofs.Common.{Bool, List, Result, [], arith, get_or, inl, inr, length, refl, true, ℕ, ◌<◌, ◌∷◌, ◌≡◌, ◌≢◌, ◌≤◌, SaysByTag, Covers-nil, Covers-head, IsBytes, IsNothing, IsSequence, IsTlv, Refines, IsModal, IsReading, Tightens, nothing, value_at, DerError, IsChoiceOf, choice_at, choice_in, inherited_in, listed_in, some_in, IsRunsOfBlocks, Runs, ResourcesChoice, Blocks, Inherit, Missing}
+use Rattle.rpki_chain.proofs.Common.{Bool, List, Result, [], arith, get_or, inl, inr, length, refl, true, ℕ, ◌<◌, ◌∷◌}
+use Rattle.rpki_chain.proofs.Common.{◌≡◌, ◌≢◌, ◌≤◌, SaysByTag, Covers-nil, Covers-head, IsBytes, IsNothing, IsSequence}
+use Rattle.rpki_chain.proofs.Common.{IsTlv, Refines, IsModal, IsReading, Tightens, nothing, value_at, DerError}
+use Rattle.rpki_chain.proofs.Common.{IsChoiceOf, choice_at, choice_in, inherited_in, listed_in, some_in, IsRunsOfBlocks}
+use Rattle.rpki_chain.proofs.Common.{Runs, ResourcesChoice, Blocks, Inherit, Missing}
 use Rattle.rpki_der.proofs.ContentReadings.{nothing_check}
 use Rattle.rpki_der.proofs.ReadingModes.{bind_tightens, looked_tightens}
 use Rattle.rpki_der.proofs.ValueReadings.{same_reading}

@@ -1,5 +1,6 @@
 -- Claims: when two are one, and that a grammar of resources has those that are written by it.
-use Rattle.rpki_chain.proofs.Common.{[], Covers-nil, arith, ℕ, ◌≡◌, Decides, same_runs, IsBlockSet, ListsBy, Claim, ResourcesChoice}
+use Rattle.rpki_chain.proofs.Common.{[], Covers-nil, arith, ℕ, ◌≡◌, Decides, same_runs, IsBlockSet, ListsBy, Claim}
+use Rattle.rpki_chain.proofs.Common.{ResourcesChoice}
 use Rattle.rpki_chain.specs.ChoiceEquality.{choice_eq}
 use Rattle.rpki_chain.proofs.SetLemmas.{same_runs_decides}
 

@@ -1,5 +1,7 @@
 -- What an issuer's claim leaves out of a set.
-use Rattle.rpki_chain.proofs.Common.{[], inl, inr, ℕ, ◌↔◌, ◌≡◌, ◌⊎◌, false≢true, Err, IfErr, IsOk, IfRefused, OrMemory, Memory, Refused, Claim, IsDifference, IsCovered, IsUncovered, Leaves, Holds, IsRunsOf, Runs, Blocks, Inherit, Missing}
+use Rattle.rpki_chain.proofs.Common.{[], inl, inr, ℕ, ◌↔◌, ◌≡◌, ◌⊎◌, false≢true, Err, IfErr, IsOk, IfRefused, OrMemory}
+use Rattle.rpki_chain.proofs.Common.{Memory, Refused, Claim, IsDifference, IsCovered, IsUncovered, Leaves, Holds}
+use Rattle.rpki_chain.proofs.Common.{IsRunsOf, Runs, Blocks, Inherit, Missing}
 use Rattle.std.specs.Prelude.{Result, Ok}
 use Rattle.rpki_chain.proofs.IssuedClaims.{none_held}
 use Rattle.rpki_chain.proofs.SetLawLemmas.{empty_set, inside_where_none}

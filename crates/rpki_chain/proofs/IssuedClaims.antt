@@ -1,5 +1,8 @@
 -- What one claim leaves, and by what it exceeds: each of its outcomes, and that there is one.
-use Rattle.rpki_chain.proofs.Common.{[], arith, refl, ℕ, ◌∷◌, ◌≡◌, ◌≢◌, ◌≤◌, le_refl, All-head, IsErrAnd, MatchResult, Covers-nil, Covers-head, AnswersOrMemory-from_found, IfRefused, OrMemory, Memory, Refused, Claim, IsDifference, IsIntersection, Exceeds, IsExcess, IsIssued, Leaves, Holds, IsRunsOf, Runs, Blocks, Overclaim, Refuse, Trim}
+use Rattle.rpki_chain.proofs.Common.{[], arith, refl, ℕ, ◌∷◌, ◌≡◌, ◌≢◌, ◌≤◌, le_refl, All-head, IsErrAnd, MatchResult}
+use Rattle.rpki_chain.proofs.Common.{Covers-nil, Covers-head, AnswersOrMemory-from_found, IfRefused, OrMemory, Memory}
+use Rattle.rpki_chain.proofs.Common.{Refused, Claim, IsDifference, IsIntersection, Exceeds, IsExcess, IsIssued, Leaves}
+use Rattle.rpki_chain.proofs.Common.{Holds, IsRunsOf, Runs, Blocks, Overclaim, Refuse, Trim}
 use Rattle.std.specs.Prelude.{Result}
 use Rattle.rpki_text.specs.Reading.{AnswersOrMemory}
 use Rattle.rpki_chain.proofs.SetLawLemmas.{inside_where_none}

@@ -1,5 +1,9 @@
 -- A path of one step, and what holds of what a path leaves.
-use Rattle.rpki_chain.proofs.Common.{List, [], arith, get_or, inl, length, take, ℕ, ◌<◌, ◌↔◌, ◌∷◌, ◌≡◌, ◌⊎◌, get_or_default, All-cons, All-contains, All-contains_itself, All-head, All-nil, All-tail, All-weaker, Contains, Claim, Exceeds, ExceedsAt, IsExcess, IsFirstRefusal, IsIssued, IsLeft, IsPathResult, Leaves, Lists, one_step, Holds, Runs, Overclaim, Refuse, Trim, Step}
+use Rattle.rpki_chain.proofs.Common.{List, [], arith, get_or, inl, length, take, ℕ, ◌<◌, ◌↔◌, ◌∷◌, ◌≡◌, ◌⊎◌}
+use Rattle.rpki_chain.proofs.Common.{get_or_default, All-cons, All-contains, All-contains_itself, All-head, All-nil}
+use Rattle.rpki_chain.proofs.Common.{All-tail, All-weaker, Contains, Claim, Exceeds, ExceedsAt, IsExcess}
+use Rattle.rpki_chain.proofs.Common.{IsFirstRefusal, IsIssued, IsLeft, IsPathResult, Leaves, Lists, one_step, Holds}
+use Rattle.rpki_chain.proofs.Common.{Runs, Overclaim, Refuse, Trim, Step}
 use Rattle.std.specs.List.{All}
 use Rattle.rpki_chain.proofs.CoveredSets.{Leaves-decided}
 use Rattle.rpki_chain.proofs.SetLawLemmas.{one_set}

@@ -1,5 +1,9 @@
 -- One step of a path after another, and that a path has one result or one first refusal.
-use Rattle.rpki_chain.proofs.Common.{List, Result, arith, get_or, length, subst, sym, take, ℕ, ◌+◌, ◌<◌, ◌↔◌, ◌≡◌, ◌≤◌, cases_lt, get_or-take, get_or_default, length-take-le, take_all, All-more, AnswersOrMemory-from_found, IfRefused, MatchResult, OrMemory, Claim, Exceeds, ExceedsAt, IsExcess, IsFirstRefusal, IsIssued, IsLeft, IsPathResult, Leaves, Holds, IsRunsOf, Runs, Overclaim, Step}
+use Rattle.rpki_chain.proofs.Common.{List, Result, arith, get_or, length, subst, sym, take, ℕ, ◌+◌, ◌<◌, ◌↔◌, ◌≡◌, ◌≤◌}
+use Rattle.rpki_chain.proofs.Common.{cases_lt, get_or-take, get_or_default, length-take-le, take_all, All-more}
+use Rattle.rpki_chain.proofs.Common.{AnswersOrMemory-from_found, IfRefused, MatchResult, OrMemory, Claim, Exceeds}
+use Rattle.rpki_chain.proofs.Common.{ExceedsAt, IsExcess, IsFirstRefusal, IsIssued, IsLeft, IsPathResult, Leaves, Holds}
+use Rattle.rpki_chain.proofs.Common.{IsRunsOf, Runs, Overclaim, Step}
 use Rattle.std.proofs.Common.{below_more}
 use Rattle.rpki_text.specs.Reading.{AnswersOrMemory}
 use Rattle.rpki_chain.specs.declared.path.PathRefusal.{PathRefusal}

@@ -1,5 +1,9 @@
 -- Runs of sets: those of a chain, and that a set has one list of them.
-use Rattle.rpki_chain.proofs.Common.{List, [], arith, get_or, inr, length, map, sym, take, ℕ, ◌++◌, ◌+◌, ◌<◌, ◌↔◌, ◌∷◌, ◌≡◌, ◌≤◌, ◌⊎◌, cases_lt, append_assoc, get_or-map, length-map, map-append, All-map, Covers-nil, IsChain-from, IsChainOf-itself, Covers-cons_cases, Covers-head, Covers-tail, IsChain-unique, Covers, IsChain, IsChainOf, IsDifference, IsInside, IsIntersection, IsWithin, Holds, IsRunsOf, IsRunsOfBlocks, Runs}
+use Rattle.rpki_chain.proofs.Common.{List, [], arith, get_or, inr, length, map, sym, take, ℕ, ◌++◌, ◌+◌, ◌<◌, ◌↔◌, ◌∷◌}
+use Rattle.rpki_chain.proofs.Common.{◌≡◌, ◌≤◌, ◌⊎◌, cases_lt, append_assoc, get_or-map, length-map, map-append, All-map}
+use Rattle.rpki_chain.proofs.Common.{Covers-nil, IsChain-from, IsChainOf-itself, Covers-cons_cases, Covers-head}
+use Rattle.rpki_chain.proofs.Common.{Covers-tail, IsChain-unique, Covers, IsChain, IsChainOf, IsDifference, IsInside}
+use Rattle.rpki_chain.proofs.Common.{IsIntersection, IsWithin, Holds, IsRunsOf, IsRunsOfBlocks, Runs}
 use Rattle.rpki_chain.specs.Operations.{IsUnion}
 use Rattle.std.proofs.lemmas.List.{map-id, map_more}
 use Rattle.rpki_chain_core.proofs.Chains.{element_at}

@@ -1,5 +1,6 @@
 -- Sets with the same numbers are one list of runs, and a set that has a number is not empty.
-use Rattle.rpki_chain.proofs.Common.{[], arith, ℕ, ◌↔◌, ◌≡◌, Covers-nil, IsDifference, IsIntersection, Holds, IsRunsOf, Runs}
+use Rattle.rpki_chain.proofs.Common.{[], arith, ℕ, ◌↔◌, ◌≡◌, Covers-nil, IsDifference, IsIntersection, Holds, IsRunsOf}
+use Rattle.rpki_chain.proofs.Common.{Runs}
 use Rattle.rpki_chain.proofs.RunLists.{Holds-decided, IsRunsOf-same, IsRunsOf-unique}
 
 -- sets with the same numbers are one

@@ -1,5 +1,8 @@
 -- Chains of blocks, and the sets that they are.
-use Rattle.rpki_chain.proofs.Common.{IfOk, List, Result, [], arith, get_or, length, map, refl, sym, ℕ, ◌-◌, ◌<◌, ◌↔◌, ◌∷◌, ◌≡◌, ◌≤◌, All-head, All-map, All-tail, Decides, All, Covers, Covers-nil, IsChain-from, is_same_pair, le_refl, same_runs, IsChain, IsChainOf, IsOfKind, IsBlockChain, IsBlockSet, Holds, IsRunsOf, IsRunsOfBlocks, Runs}
+use Rattle.rpki_chain.proofs.Common.{IfOk, List, Result, [], arith, get_or, length, map, refl, sym, ℕ, ◌-◌, ◌<◌, ◌↔◌}
+use Rattle.rpki_chain.proofs.Common.{◌∷◌, ◌≡◌, ◌≤◌, All-head, All-map, All-tail, Decides, All, Covers, Covers-nil}
+use Rattle.rpki_chain.proofs.Common.{IsChain-from, is_same_pair, le_refl, same_runs, IsChain, IsChainOf, IsOfKind}
+use Rattle.rpki_chain.proofs.Common.{IsBlockChain, IsBlockSet, Holds, IsRunsOf, IsRunsOfBlocks, Runs}
 use Rattle.std.specs.Cmp.Lexicographic.{pointwise_decides}
 use Rattle.std.proofs.lemmas.Grind.{common_steps}
 use Rattle.rpki_chain.proofs.RunLists.{IsRunsOf-itself, IsRunsOfBlocks-bounds, same_numbers}

@@ -10,7 +10,8 @@ pub record IsBlockSet (first last : ℕ) (runs : Runs) : Type 0 where
   pub below : All (λ b. b.1 ≤ last) runs
 
 -- a chain of blocks of numbers from the first to the last
-pub record IsBlockChain {B : Type 0} (bounds : B → ℕ × ℕ) (form : ℕ × ℕ → B) (first last : ℕ) (blocks : List B) : Type 0 where
+pub record IsBlockChain {B : Type 0} (bounds : B → ℕ × ℕ) (form : ℕ × ℕ → B) (first last : ℕ) (blocks : List B)
+    : Type 0 where
   pub chain : IsChain bounds form blocks
   pub above : All (λ x. first ≤ (bounds x).0) blocks
   pub below : All (λ x. (bounds x).1 ≤ last) blocks

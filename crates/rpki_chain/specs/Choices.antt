@@ -13,7 +13,8 @@ MatchChoice (Blocks x) M I B = B x
 
 -- both are missing, both are inherited, or both list, and R relates the values that they list
 abbrev pub ListsBy : {X Y : Type 0} → (X → Y → Type 0) → ResourcesChoice X → ResourcesChoice Y → Type 0
-ListsBy {X} {Y} R x y = MatchChoice x (y ≡ Missing) (y ≡ Inherit) (λ listed. (other : Y) × R listed other × (y ≡ Blocks other))
+ListsBy {X} {Y} R x y =
+    MatchChoice x (y ≡ Missing) (y ≡ Inherit) (λ listed. (other : Y) × R listed other × (y ≡ Blocks other))
 
 -- the resources, or None if they are missing
 abbrev pub if_present : {X : Type 0} → ResourcesChoice X → Option (ResourcesChoice X)

@@ -1,6 +1,7 @@
 -- Claims on the numbers that an issuer has, and what remains of a root after a path of claims: sets by membership (RFC
 -- 3779, 2.3 and 3.3; RFC 6487, 7.2; RFC 8360, 4).
-use Rattle.std.specs.Prelude.{◌≡◌, ◌≢◌, ℕ, ◌<◌, List, [], ◌∷◌, ◌++◌, Option, All, codes, decimal, length, option_map, slice_index_or, take, ⊤}
+use Rattle.std.specs.Prelude.{◌≡◌, ◌≢◌, ℕ, ◌<◌, List, [], ◌∷◌, ◌++◌, Option, All, codes, decimal, length, option_map}
+use Rattle.std.specs.Prelude.{slice_index_or, take, ⊤}
 use Rattle.rpki_chain.specs.Claims.{Claim}
 use Rattle.rpki_chain.specs.Runs.{Runs, Holds, IsRunsOf}
 use Rattle.rpki_chain.specs.declared.choice.ResourcesChoice.TheVariants.{Missing, Inherit, Blocks}
@@ -82,4 +83,5 @@ module _ {R : Type 0} (claim : R → Claim) where
 -- the index of the step and the text of its fault, if that is known
 abbrev pub path_refusal_text : {F : Type 0} → (F → Option (List ℕ)) → PathRefusal F → Option (List ℕ)
 path_refusal_text fault_text refusal =
-    option_map (λ text. codes "refused at step " ++ decimal refusal.step ++ codes ": " ++ text) (fault_text refusal.fault)
+    option_map (λ text. codes "refused at step " ++ decimal refusal.step ++ codes ": " ++ text)
+    (fault_text refusal.fault)

@@ -1,5 +1,6 @@
 -- A chain of the first numbers of a set, and what comes behind it.
-use Rattle.rpki_chain_core.proofs.Common.{List, [], arith, length, ℕ, ◌++◌, ◌+◌, ◌<◌, ◌↔◌, ◌∷◌, ◌≤◌, ◌⊎◌, le_refl, Covers, IsChain, IsChainOf, IsNew, IsWithin}
+use Rattle.rpki_chain_core.proofs.Common.{List, [], arith, length, ℕ, ◌++◌, ◌+◌, ◌<◌, ◌↔◌, ◌∷◌, ◌≤◌, ◌⊎◌, le_refl}
+use Rattle.rpki_chain_core.proofs.Common.{Covers, IsChain, IsChainOf, IsNew, IsWithin}
 use Rattle.rpki_chain_core.proofs.Chains.{Covers-push, Covers-at, IsChain-push, IsChainOf-from}
 
 -- `out` is the chain of those numbers of S that P holds of

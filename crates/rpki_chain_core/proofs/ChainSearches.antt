@@ -1,5 +1,7 @@
 -- The first run that doesn't end before a number: a search finds it, and it tells what is covered from there on.
-use Rattle.rpki_chain_core.proofs.Common.{IfSome, List, MatchOption, None, Option, Some, arith, get_or, length, subst, ℕ, ◌<◌, ◌↔◌, ◌≡◌, ◌≤◌, le_refl, cases_lt, Covers, HoldsBlock, IsChain, IsRun, IsRunFrom, IsWithin, numbers}
+use Rattle.rpki_chain_core.proofs.Common.{IfSome, List, MatchOption, None, Option, Some, arith, get_or, length, subst}
+use Rattle.rpki_chain_core.proofs.Common.{ℕ, ◌<◌, ◌↔◌, ◌≡◌, ◌≤◌, le_refl, cases_lt, Covers, HoldsBlock, IsChain, IsRun}
+use Rattle.rpki_chain_core.proofs.Common.{IsRunFrom, IsWithin, numbers}
 use Rattle.rpki_chain_core.proofs.Chains.{element_at, IsChainOf-itself}
 use Rattle.rpki_chain_core.proofs.WalkSides.{lies_before}
 

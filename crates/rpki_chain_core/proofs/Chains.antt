@@ -1,5 +1,8 @@
 -- Lists of blocks that ascend and neither overlap nor touch, and what they cover.
-use Rattle.rpki_chain_core.proofs.Common.{List, [], arith, get_or, length, refl, suc, sym, zero, ℕ, ◌++◌, ◌+◌, ◌-◌, ◌<◌, ◌↔◌, ◌∙◌, ◌∷◌, ◌≡◌, ◌≤◌, ◌⊎◌, le_refl, cases_lt, get_or_append_left, get_or_default, get_or_push, length_push, All-push, Covers, IsChain, IsChainOf, IsNew, IsRun, IsWithin}
+use Rattle.rpki_chain_core.proofs.Common.{List, [], arith, get_or, length, refl, suc, sym, zero, ℕ, ◌++◌, ◌+◌, ◌-◌, ◌<◌}
+use Rattle.rpki_chain_core.proofs.Common.{◌↔◌, ◌∙◌, ◌∷◌, ◌≡◌, ◌≤◌, ◌⊎◌, le_refl, cases_lt, get_or_append_left}
+use Rattle.rpki_chain_core.proofs.Common.{get_or_default, get_or_push, length_push, All-push, Covers, IsChain}
+use Rattle.rpki_chain_core.proofs.Common.{IsChainOf, IsNew, IsRun, IsWithin}
 use Rattle.std.proofs.lemmas.List.Quantifiers.{all_pairs_push}
 
 -- the element at an index

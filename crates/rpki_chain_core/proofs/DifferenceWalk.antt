@@ -1,12 +1,15 @@
 -- A walk that takes one chain's numbers out of another: what each of its turns does.
-use Rattle.rpki_chain_core.proofs.Common.{List, MatchOption, None, Option, Some, [], ap, arith, inl, inr, length, sym, ℕ, ◌++◌, ◌+◌, ◌<◌, ◌∙◌, ◌∷◌, ◌≡◌, ◌≤◌, le_refl, cases_lt, length_push, Before, Covers, HoldsBlock, IsChain, IsChainOf, IsOverhang, Overhang, numbers}
+use Rattle.rpki_chain_core.proofs.Common.{List, MatchOption, None, Option, Some, [], ap, arith, inl, inr, length, sym}
+use Rattle.rpki_chain_core.proofs.Common.{ℕ, ◌++◌, ◌+◌, ◌<◌, ◌∙◌, ◌∷◌, ◌≡◌, ◌≤◌, le_refl, cases_lt, length_push, Before}
+use Rattle.rpki_chain_core.proofs.Common.{Covers, HoldsBlock, IsChain, IsChainOf, IsOverhang, Overhang, numbers}
 use Rattle.std.specs.Option.{IfSome}
 use Rattle.rpki_chain_core.specs.Cut.{GoesOn, IsCut, IsCutBy}
 use Rattle.rpki_chain_core.specs.declared.difference.Cut.{Cut}
 use Rattle.rpki_chain_core.specs.declared.difference.Cut.TheVariants.{End, Skip, Keep, Drop, Split, Advance}
 use Rattle.rpki_chain_core.proofs.Chains.{Covers-nil, IsChain-nil}
 use Rattle.rpki_chain_core.proofs.ChainGathering.{IsGathered, gathered_all, gathered_as, gathered_push}
-use Rattle.rpki_chain_core.proofs.WalkSides.{IsAt, IsAt-from, before_next, bounds_of, covers_at, gap_before, ordered_at, up_to}
+use Rattle.rpki_chain_core.proofs.WalkSides.{IsAt, IsAt-from, before_next, bounds_of, covers_at, gap_before, ordered_at}
+use Rattle.rpki_chain_core.proofs.WalkSides.{up_to}
 
 -- b is the block of `xs` at i, from some number on
 pub record IsPart {B : Type 0} (f : B → ℕ × ℕ) (xs : List B) (i : ℕ) (b : ℕ × ℕ) : Type 0 where

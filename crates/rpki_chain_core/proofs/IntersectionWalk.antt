@@ -1,8 +1,11 @@
 -- A walk over two chains that gathers what they have in common.
-use Rattle.rpki_chain_core.proofs.Common.{List, None, Option, Some, arith, inl, inr, length, take, ℕ, ◌+◌, ◌<◌, ◌↔◌, ◌≡◌, ◌≤◌, ◌⊎◌, cases_lt, get_or-take, length-take-le, length_push, All-take, Before, Covers, HoldsBlock, IsChain, IsChainOf, IsOverhang, Overhang, numbers}
+use Rattle.rpki_chain_core.proofs.Common.{List, None, Option, Some, arith, inl, inr, length, take, ℕ, ◌+◌, ◌<◌, ◌↔◌}
+use Rattle.rpki_chain_core.proofs.Common.{◌≡◌, ◌≤◌, ◌⊎◌, cases_lt, get_or-take, length-take-le, length_push, All-take}
+use Rattle.rpki_chain_core.proofs.Common.{Before, Covers, HoldsBlock, IsChain, IsChainOf, IsOverhang, Overhang, numbers}
 use Rattle.rpki_chain_core.specs.Common.{IsCommonPushed}
 use Rattle.rpki_chain_core.proofs.ChainGathering.{IsGathered, gathered_all, gathered_as, gathered_push}
-use Rattle.rpki_chain_core.proofs.WalkSides.{IsAt, IsAt-from, before_next, bounds_of, covers_at, gap_before, lies_before, low_at, ordered_at, up_to}
+use Rattle.rpki_chain_core.proofs.WalkSides.{IsAt, IsAt-from, before_next, bounds_of, covers_at, gap_before}
+use Rattle.rpki_chain_core.proofs.WalkSides.{lies_before, low_at, ordered_at, up_to}
 
 -- `out` is what the chains have in common before one of the blocks at hand
 pub record Meet {B I : Type 0} (f : B → ℕ × ℕ) (form : ℕ × ℕ → B) (number : I → ℕ) (last : ℕ) (xs ys : List B)

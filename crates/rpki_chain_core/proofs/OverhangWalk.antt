@@ -1,5 +1,9 @@
 -- A walk over two chains that finds the first block of the one that doesn't lie in the other.
-use Rattle.rpki_chain_core.proofs.Common.{Bool, IsTrue, List, MatchOption, None, Option, Some, arith, drop, get_or, is_some, length, not, refl, subst, ℕ, ⊎_elim, ◌+◌, ◌-◌, ◌<◌, ◌↔◌, ◌∷◌, ◌≡◌, ◌≤◌, ◌⊎◌, cases_lt, drop_more, get_or_default, nat_tests, Before, Covers, HoldsBlock, IsChain, IsFitIn, IsInside, IsOverhang, IsWithin, Overhang, numbers}
+use Rattle.rpki_chain_core.proofs.Common.{Bool, IsTrue, List, MatchOption, None, Option, Some, arith, drop, get_or}
+use Rattle.rpki_chain_core.proofs.Common.{is_some, length, not, refl, subst, ℕ, ⊎_elim, ◌+◌, ◌-◌, ◌<◌, ◌↔◌, ◌∷◌, ◌≡◌}
+use Rattle.rpki_chain_core.proofs.Common.{◌≤◌, ◌⊎◌, cases_lt, drop_more, get_or_default, nat_tests, Before, Covers}
+use Rattle.rpki_chain_core.proofs.Common.{HoldsBlock, IsChain, IsFitIn, IsInside, IsOverhang, IsWithin, Overhang}
+use Rattle.rpki_chain_core.proofs.Common.{numbers}
 use Rattle.std.specs.Prelude.{Result, ⊤, IfOk, IsOkAnd}
 use Rattle.rpki_chain_core.specs.declared.overhang.Fit.TheVariants as fit
 use Rattle.rpki_chain_core.proofs.Chains.{Covers-at, element_at}

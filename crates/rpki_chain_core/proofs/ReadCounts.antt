@@ -1,6 +1,8 @@
 -- How often the blocks of a chain were read: once each by a walk, and by a search that halves once for each binary
 -- digit.
-use Rattle.rpki_chain_core.proofs.Common.{List, Option, add-one, arith, if◌then◌else◌, is_some, length, ℕ, ◌*◌, ◌+◌, ◌-◌, ◌<◌, ◌^◌, ◌∙◌, ◌≡◌, ◌≤◌, mul-le, mul-le-mul_right, pow-le-pow_right, two-pow-succ, cases_lt, HoldsBlock}
+use Rattle.rpki_chain_core.proofs.Common.{List, Option, add-one, arith, if◌then◌else◌, is_some, length, ℕ, ◌*◌, ◌+◌}
+use Rattle.rpki_chain_core.proofs.Common.{◌-◌, ◌<◌, ◌^◌, ◌∙◌, ◌≡◌, ◌≤◌, mul-le, mul-le-mul_right, pow-le-pow_right}
+use Rattle.rpki_chain_core.proofs.Common.{two-pow-succ, cases_lt, HoldsBlock}
 
 -- a reader of `xs` is at i: its blocks are still these, and those behind i are left to be read
 pub record IsReader {B : Type 0} (xs now : List B) (i count most : ℕ) : Type 0 where

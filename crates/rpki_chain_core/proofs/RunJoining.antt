@@ -1,5 +1,8 @@
 -- A run behind a chain is made longer, or closed: then it is the last block of the chain.
-use Rattle.rpki_chain_core.proofs.Common.{List, [], ap, arith, get_or, length, sym, take, ℕ, ◌++◌, ◌+◌, ◌-◌, ◌<◌, ◌↔◌, ◌∙◌, ◌∷◌, ◌≡◌, ◌≤◌, ◌⊎◌, get_or_default, take_all, take_more, All-push, IsNonDecreasingBy, IsBehind, IsInChainOrRun, Covers, IsChain, IsOfKind, IsWithin, numbers}
+use Rattle.rpki_chain_core.proofs.Common.{List, [], ap, arith, get_or, length, sym, take, ℕ, ◌++◌, ◌+◌, ◌-◌, ◌<◌, ◌↔◌}
+use Rattle.rpki_chain_core.proofs.Common.{◌∙◌, ◌∷◌, ◌≡◌, ◌≤◌, ◌⊎◌, get_or_default, take_all, take_more, All-push}
+use Rattle.rpki_chain_core.proofs.Common.{IsNonDecreasingBy, IsBehind, IsInChainOrRun, Covers, IsChain, IsOfKind}
+use Rattle.rpki_chain_core.proofs.Common.{IsWithin, numbers}
 use Rattle.rpki_chain_core.proofs.Chains.{IsChain-push, Covers-nil, Covers-push_as}
 
 -- a turn of a walk: the next bounds are held too, behind the run that is at hand then

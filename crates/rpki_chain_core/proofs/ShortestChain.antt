@@ -1,5 +1,7 @@
 -- No list of blocks with the same cover is shorter than a chain.
-use Rattle.rpki_chain_core.proofs.Common.{List, [], arith, get_or, le_refl, length, inl, inr, suc, sym, ℕ, ⊎_elim, ◌+◌, ◌<◌, ◌↔◌, ◌∷◌, ◌≤◌, IsPermutation-remove, length_permutation, IsPermutation, Covers, IsChain, IsWithin, ◌⊎◌}
+use Rattle.rpki_chain_core.proofs.Common.{List, [], arith, get_or, le_refl, length, inl, inr, suc, sym, ℕ, ⊎_elim, ◌+◌}
+use Rattle.rpki_chain_core.proofs.Common.{◌<◌, ◌↔◌, ◌∷◌, ◌≤◌, IsPermutation-remove, length_permutation, IsPermutation}
+use Rattle.rpki_chain_core.proofs.Common.{Covers, IsChain, IsWithin, ◌⊎◌}
 use Rattle.std.specs.List.{remove}
 use Rattle.rpki_chain_core.proofs.Chains.{Covers-at, IsChainOf-itself}
 use Rattle.rpki_chain_core.proofs.SortedBlocks.{Covers-permutation}

@@ -1,6 +1,8 @@
 -- What another order of a list, or a list with the same bounds, says of what it covers.
 use Rattle.rpki_chain_core.proofs.Chains.{element_at}
-use Rattle.rpki_chain_core.proofs.Common.{List, [], ap, arith, get_or, get_or-map, length-map, length, map, sym, take, ℕ, ◌++◌, ◌+◌, ◌<◌, ◌↔◌, ◌∙◌, ◌∷◌, ◌≡◌, map-append, take_more, Contains-permutation, IsPermutation-sym, IsPermutation, Covers}
+use Rattle.rpki_chain_core.proofs.Common.{List, [], ap, arith, get_or, get_or-map, length-map, length, map, sym, take}
+use Rattle.rpki_chain_core.proofs.Common.{ℕ, ◌++◌, ◌+◌, ◌<◌, ◌↔◌, ◌∙◌, ◌∷◌, ◌≡◌, map-append, take_more}
+use Rattle.rpki_chain_core.proofs.Common.{Contains-permutation, IsPermutation-sym, IsPermutation, Covers}
 
 -- a loop's step: what was mapped and what was passed grow by one
 pub map_push_taken : {B C : Type 0} (f : B → ℕ × ℕ) (g : C → ℕ × ℕ) (xs : List B) (ys : List C) (i : ℕ) (x : B) (y : C)

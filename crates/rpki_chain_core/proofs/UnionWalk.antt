@@ -1,7 +1,11 @@
 -- Walks that take the block that begins first into the run at hand: what is held, and the blocks that are left.
-use Rattle.rpki_chain_core.proofs.Common.{List, Some, None, [], arith, drop, get_or, inl, inr, le_refl, length, refl, ℕ, ⊎_elim, ◌++◌, ◌+◌, ◌-◌, ◌↔◌, ◌∷◌, ◌≡◌, ◌≤◌, ◌⊎◌, drop_all, drop_more, length-append, IsBehind, IsInChainOrRun, Covers, HoldsBlock, IsChain, IsChainOf, IsWithin, numbers}
+use Rattle.rpki_chain_core.proofs.Common.{List, Some, None, [], arith, drop, get_or, inl, inr, le_refl, length, refl, ℕ}
+use Rattle.rpki_chain_core.proofs.Common.{⊎_elim, ◌++◌, ◌+◌, ◌-◌, ◌↔◌, ◌∷◌, ◌≡◌, ◌≤◌, ◌⊎◌, drop_all, drop_more}
+use Rattle.rpki_chain_core.proofs.Common.{length-append, IsBehind, IsInChainOrRun, Covers, HoldsBlock, IsChain}
+use Rattle.rpki_chain_core.proofs.Common.{IsChainOf, IsWithin, numbers}
 use Rattle.std.proofs.Common.{IfOk, Result}
-use Rattle.rpki_chain_core.proofs.Chains.{Covers-nil, Covers-push_as, element_at, IsChainOf-from, IsChain-from, chain_of_same}
+use Rattle.rpki_chain_core.proofs.Chains.{Covers-nil, Covers-push_as, element_at, IsChainOf-from, IsChain-from}
+use Rattle.rpki_chain_core.proofs.Chains.{chain_of_same}
 use Rattle.rpki_chain_core.proofs.ReadCounts.{IsReader, reader_next}
 use Rattle.rpki_chain_core.proofs.RunJoining.{Turn, first_run, closed_run}
 use Rattle.rpki_chain_core.proofs.WalkSides.{IsAt, ordered_at, covers_at, before_next}

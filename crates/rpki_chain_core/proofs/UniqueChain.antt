@@ -1,5 +1,6 @@
 -- A set of numbers has exactly one chain.
-use Rattle.rpki_chain_core.proofs.Common.{List, [], ap, arith, refl, suc, sym, ℕ, ⊎_elim, ◌+◌, ◌<◌, ◌↔◌, ◌∙◌, ◌∷◌, ◌≡◌, ◌≤◌, ◌⊎◌, cases_lt, All-tail, Covers, IsChain, IsInside, IsNew, IsWithin}
+use Rattle.rpki_chain_core.proofs.Common.{List, [], ap, arith, refl, suc, sym, ℕ, ⊎_elim, ◌+◌, ◌<◌, ◌↔◌, ◌∙◌, ◌∷◌, ◌≡◌}
+use Rattle.rpki_chain_core.proofs.Common.{◌≤◌, ◌⊎◌, cases_lt, All-tail, Covers, IsChain, IsInside, IsNew, IsWithin}
 use Rattle.rpki_chain_core.proofs.Chains.{Covers-nil}
 
 module _ {B : Type 0} (f : B → ℕ × ℕ) where

@@ -1,5 +1,6 @@
 -- One side of a walk over two chains: the block at hand, and the numbers before it.
-use Rattle.rpki_chain_core.proofs.Common.{List, MatchOption, None, Option, Some, ap, arith, get_or, length, ℕ, ◌+◌, ◌<◌, ◌≡◌, ◌≤◌, cases_lt, option_map, Before, Covers, HoldsBlock, IsChain, numbers}
+use Rattle.rpki_chain_core.proofs.Common.{List, MatchOption, None, Option, Some, ap, arith, get_or, length, ℕ, ◌+◌, ◌<◌}
+use Rattle.rpki_chain_core.proofs.Common.{◌≡◌, ◌≤◌, cases_lt, option_map, Before, Covers, HoldsBlock, IsChain, numbers}
 use Rattle.rpki_chain_core.proofs.Chains.{Covers-at, element_at, ascends}
 
 -- the block at an index is at hand, or none is at the end of the list

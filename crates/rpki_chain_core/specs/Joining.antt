@@ -7,7 +7,8 @@ abbrev pub IsInChainOrRun : {B : Type 0} → (B → ℕ × ℕ) → List B → �
 IsInChainOrRun bounds xs run n = Covers bounds xs n ⊎ IsWithin run n
 
 -- the run begins after the chain and doesn't touch it
-pub record IsBehind {B : Type 0} (bounds : B → ℕ × ℕ) (form : ℕ × ℕ → B) (last : ℕ) (xs : List B) (run : ℕ × ℕ) : Type 0 where
+pub record IsBehind {B : Type 0} (bounds : B → ℕ × ℕ) (form : ℕ × ℕ → B) (last : ℕ) (xs : List B) (run : ℕ × ℕ)
+    : Type 0 where
   pub chain : IsChain bounds form xs
   pub ordered : run.0 ≤ run.1
   pub to_last : run.1 ≤ last

@@ -11,7 +11,8 @@ Before (Some b) n = n < b.0
 
 -- the first block of xs that doesn't lie in ys: the numbers of xs before this block lie in ys, and the block does not;
 -- the numbers of ys before the current block of ys come before this block
-pub record IsOverhang {B I : Type 0} (bounds : B → ℕ × ℕ) (number : I → ℕ) (first last : ℕ) (xs ys : List B) (o : Overhang I) : Type 0 where
+pub record IsOverhang {B I : Type 0} (bounds : B → ℕ × ℕ) (number : I → ℕ) (first last : ℕ) (xs ys : List B)
+    (o : Overhang I) : Type 0 where
   pub own_block : HoldsBlock bounds number last xs o.own_at (Some (o.min, o.max))
   pub other_block : HoldsBlock bounds number last ys o.other_at o.other
   pub from_first : first ≤ number o.min

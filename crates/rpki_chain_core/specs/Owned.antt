@@ -20,6 +20,7 @@ pub record IsOwned {T A : Type 0} (bounds : T → ℕ × ℕ) (form : ℕ × ℕ
   pub some : MatchOption held ⊤ (λ v. v.items ≡ [] → ⊥)
 
 -- the blocks of a shared chain are a chain, and the empty chain holds no memory
-pub record IsShared {T A : Type 0} (bounds : T → ℕ × ℕ) (form : ℕ × ℕ → T) (held : Option (Rc (List T) A)) : Type 0 where
+pub record IsShared {T A : Type 0} (bounds : T → ℕ × ℕ) (form : ℕ × ℕ → T) (held : Option (Rc (List T) A))
+    : Type 0 where
   pub chain : IsChain bounds form (shared_blocks held)
   pub some : MatchOption held ⊤ (λ rc. rc.value ≡ [] → ⊥)

@@ -1,7 +1,8 @@
 -- Sets of whole numbers: the numbers that a list of blocks covers, the runs of a set, and the chain of its runs (RFC
 -- 3779, 2.2.3.6 and 3.2.3.4: blocks are sorted, don't overlap, and are combined if they are contiguous). `bounds` gives
 -- the least and the greatest number of a block.
-use Rattle.std.specs.Prelude.{◌≡◌, ℕ, ◌+◌, ◌<◌, ◌≤◌, ◌↔◌, List, Option, MatchOption, length, slice_index_or, All, Any, AllPairs}
+use Rattle.std.specs.Prelude.{◌≡◌, ℕ, ◌+◌, ◌<◌, ◌≤◌, ◌↔◌, List, Option, MatchOption, length, slice_index_or, All, Any}
+use Rattle.std.specs.Prelude.{AllPairs}
 pub use Rattle.rpki_block.specs.Bounds.{IsBeside, IsNew, IsWithin}
 
 -- n lies in some block of the list
@@ -50,4 +51,6 @@ numbers number p = (number p.0, number p.1)
 -- the result of a read at an index: the numbers of the block there, or nothing at the end of the list
 abbrev pub HoldsBlock : {B I : Type 0} → (B → ℕ × ℕ) → (I → ℕ) → ℕ → List B → ℕ → Option (I × I) → Type 0
 HoldsBlock {B} bounds number last blocks at block =
-    MatchOption block (at ≡ length blocks) (λ b. (at < length blocks) × ((d : B) → bounds (slice_index_or blocks at d) ≡ numbers number b) × (number b.1 ≤ last))
+    MatchOption block (at ≡ length blocks)
+    (λ b. (at < length blocks) × ((d : B) → bounds (slice_index_or blocks at d) ≡ numbers number b)
+    × (number b.1 ≤ last))

@@ -1,5 +1,6 @@
 -- On masks, which clear or set the last bits of a number.
-use Rattle.rpki_cover.proofs.Common.{arith, bit_and, bit_or, ℕ, ◌*◌, ◌+◌, ◌-◌, ◌/◌, ◌<◌, ◌^◌, ◌≡◌, ◌≤◌, and_mask, pow_pos}
+use Rattle.rpki_cover.proofs.Common.{arith, bit_and, bit_or, ℕ, ◌*◌, ◌+◌, ◌-◌, ◌/◌, ◌<◌, ◌^◌, ◌≡◌, ◌≤◌, and_mask}
+use Rattle.rpki_cover.proofs.Common.{pow_pos}
 use Rattle.std.proofs.lemmas.Nat.Bits.{ones_shr, and_high_mask}
 use Rattle.std.specs.Int.Bits.{or_add_and}
 

@@ -1,5 +1,7 @@
 -- What the proofs of this crate use of std, of the crates below and of its own definitions, passed on by one name.
-pub use Rattle.std.proofs.Common.{Bool, List, MatchOption, Option, [], ap, arith, bit_and, bit_or, false, inl, inr, leb, length, map, min, refl, subst, suc, true, zero, ℕ, ◌%◌, ◌*◌, ◌++◌, ◌+◌, ◌-◌, ◌/◌, ◌<◌, ◌^◌, ◌∙◌, ◌∷◌, ◌≡◌, ◌≤◌, ◌⊎◌}
+pub use Rattle.std.proofs.Common.{Bool, List, MatchOption, Option, [], ap, arith, bit_and, bit_or, false, inl, inr, leb}
+pub use Rattle.std.proofs.Common.{length, map, min, refl, subst, suc, true, zero, ℕ, ◌%◌, ◌*◌, ◌++◌, ◌+◌, ◌-◌, ◌/◌, ◌<◌}
+pub use Rattle.std.proofs.Common.{◌^◌, ◌∙◌, ◌∷◌, ◌≡◌, ◌≤◌, ◌⊎◌}
 pub use Rattle.std.proofs.Math.Nat.{mul-le-mul_right, mul-mod_left, mul-sub, pow-le-pow_right, two-pow-succ}
 pub use Rattle.std.proofs.Math.Pow.{pow_mono}
 pub use Rattle.std.proofs.lemmas.Bool.{cases_Bool, cases_eq, cases_lt, cases_order, le-leb, lt-leb}

@@ -1,6 +1,9 @@
 -- How many prefixes a cover list of a range has.
-use Rattle.rpki_cover.proofs.Common.{ap, arith, le-leb, inl, inr, length, suc, zero, ℕ, ◌%◌, ◌*◌, ◌+◌, ◌/◌, ◌<◌, ◌^◌, ◌≡◌, ◌≤◌, ◌⊎◌, pow_mono, two-pow-succ, cases_eq, cases_lt, lt-leb, cover_list, cover_list_upto, free_bits_upto}
-use Rattle.rpki_cover.proofs.Multiples.{IsMultiple, multiple_gap, multiple_zero, multiple_self, multiple_sum, multiple_smaller}
+use Rattle.rpki_cover.proofs.Common.{ap, arith, le-leb, inl, inr, length, suc, zero, ℕ, ◌%◌, ◌*◌, ◌+◌, ◌/◌, ◌<◌, ◌^◌}
+use Rattle.rpki_cover.proofs.Common.{◌≡◌, ◌≤◌, ◌⊎◌, pow_mono, two-pow-succ, cases_eq, cases_lt, lt-leb, cover_list}
+use Rattle.rpki_cover.proofs.Common.{cover_list_upto, free_bits_upto}
+use Rattle.rpki_cover.proofs.Multiples.{IsMultiple, multiple_gap, multiple_zero, multiple_self, multiple_sum}
+use Rattle.rpki_cover.proofs.Multiples.{multiple_smaller}
 use Rattle.rpki_cover.proofs.GreatestBlock.{IsGreatest, free_bits_upto_is}
 
 -- of two neighbouring multiples of a power of 2, one is a multiple of the next power

@@ -1,9 +1,12 @@
 -- The walk through a range finds its cover list.
-use Rattle.rpki_cover.proofs.Common.{cases_lt, le-leb, lt-leb, List, [], ap, arith, inl, inr, refl, suc, zero, ℕ, ◌+◌, ◌-◌, ◌<◌, ◌^◌, ◌∷◌, ◌≡◌, ◌≤◌, All-cons, pow_pos, All, Contains, IsIn, IsPrefix, LiesIn, PrefixValue, Ascends, cover_list, cover_list_upto, free_bits_upto}
+use Rattle.rpki_cover.proofs.Common.{cases_lt, le-leb, lt-leb, List, [], ap, arith, inl, inr, refl, suc, zero, ℕ, ◌+◌}
+use Rattle.rpki_cover.proofs.Common.{◌-◌, ◌<◌, ◌^◌, ◌∷◌, ◌≡◌, ◌≤◌, All-cons, pow_pos, All, Contains, IsIn, IsPrefix}
+use Rattle.rpki_cover.proofs.Common.{LiesIn, PrefixValue, Ascends, cover_list, cover_list_upto, free_bits_upto}
 use Rattle.rpki_cover.proofs.Multiples.{multiple_mod}
 use Rattle.rpki_cover.proofs.GreatestBlock.{IsGreatest, free_bits_upto_is}
 use Rattle.rpki_cover.proofs.ListMembership.{contains_later}
-use Rattle.rpki_cover.proofs.NestedPrefixes.{InRange, Within, first_in, within_of, of_within, longer_inside, multiple_at}
+use Rattle.rpki_cover.proofs.NestedPrefixes.{InRange, Within, first_in, within_of, of_within, longer_inside}
+use Rattle.rpki_cover.proofs.NestedPrefixes.{multiple_at}
 
 -- ascending prefixes inside S, in one of which lies each prefix inside S: proofs/ShortestCover says that they are the
 -- cover list of S

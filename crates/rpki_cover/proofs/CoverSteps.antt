@@ -1,5 +1,7 @@
 -- The walk that finds a cover list, step by step.
-use Rattle.rpki_cover.proofs.Common.{MatchOption, Option, [], arith, refl, suc, zero, ℕ, ◌+◌, ◌-◌, ◌<◌, ◌^◌, ◌∷◌, ◌≡◌, ◌≤◌, le-leb, lt-leb, pow_pos, cover_list, cover_list_upto, free_bits, free_bits_upto, left_cover}
+use Rattle.rpki_cover.proofs.Common.{MatchOption, Option, [], arith, refl, suc, zero, ℕ, ◌+◌, ◌-◌, ◌<◌, ◌^◌, ◌∷◌, ◌≡◌}
+use Rattle.rpki_cover.proofs.Common.{◌≤◌, le-leb, lt-leb, pow_pos, cover_list, cover_list_upto, free_bits}
+use Rattle.rpki_cover.proofs.Common.{free_bits_upto, left_cover}
 use Rattle.rpki_cover.proofs.CoverList.{head_prefix}
 
 -- any count that is large enough gives one list

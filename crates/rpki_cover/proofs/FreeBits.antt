@@ -1,5 +1,6 @@
 -- The greatest prefix at the beginning of a range, by zeros at the end and a logarithm.
-use Rattle.rpki_cover.proofs.Common.{arith, min, suc, ℕ, ◌*◌, ◌+◌, ◌-◌, ◌<◌, ◌^◌, ◌≡◌, ◌≤◌, pow_mono, count_trailing_zeros, free_bits}
+use Rattle.rpki_cover.proofs.Common.{arith, min, suc, ℕ, ◌*◌, ◌+◌, ◌-◌, ◌<◌, ◌^◌, ◌≡◌, ◌≤◌, pow_mono}
+use Rattle.rpki_cover.proofs.Common.{count_trailing_zeros, free_bits}
 use Rattle.rpki_cover.proofs.Multiples.{IsMultiple, multiple_smaller, zeros_divide, zeros_greatest}
 use Rattle.rpki_cover.proofs.GreatestBlock.{free_bits_upto_is, same_greatest}
 

@@ -1,5 +1,6 @@
 -- The cover list of two sets with a gap between them.
-use Rattle.rpki_cover.proofs.Common.{List, [], arith, inl, inr, ℕ, ◌++◌, ◌+◌, ◌-◌, ◌<◌, ◌^◌, ◌∷◌, ◌≤◌, ◌⊎◌, cases_lt, All-append, All-tail, All, IsPrefix, LiesIn, PrefixValue, Ascends}
+use Rattle.rpki_cover.proofs.Common.{List, [], arith, inl, inr, ℕ, ◌++◌, ◌+◌, ◌-◌, ◌<◌, ◌^◌, ◌∷◌, ◌≤◌, ◌⊎◌, cases_lt}
+use Rattle.rpki_cover.proofs.Common.{All-append, All-tail, All, IsPrefix, LiesIn, PrefixValue, Ascends}
 use Rattle.std.proofs.lemmas.List.Elements.{Contains-append_left, Contains-append_right}
 use Rattle.rpki_cover.proofs.CoverList.{CoverOf}
 use Rattle.rpki_cover.proofs.NestedPrefixes.{first_in, last_in}

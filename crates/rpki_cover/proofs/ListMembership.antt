@@ -1,5 +1,6 @@
 -- Elements of lists.
-use Rattle.rpki_cover.proofs.Common.{Bool, refl, List, [], ap, arith, false, length, suc, true, zero, ◌<◌, ◌∙◌, ◌∷◌, ◌≡◌, ◌⊎◌, cases_Bool, Contains, filter}
+use Rattle.rpki_cover.proofs.Common.{Bool, refl, List, [], ap, arith, false, length, suc, true, zero, ◌<◌, ◌∙◌, ◌∷◌}
+use Rattle.rpki_cover.proofs.Common.{◌≡◌, ◌⊎◌, cases_Bool, Contains, filter}
 use Rattle.std.proofs.lemmas.List.Filters.{length-filter_both}
 use Rattle.std.specs.Prelude.{not}
 

@@ -1,5 +1,7 @@
 -- Multiples, and the greatest power of 2 of which a number is one.
-use Rattle.rpki_cover.proofs.Common.{arith, inl, inr, refl, suc, zero, ℕ, ◌%◌, ◌*◌, ◌+◌, ◌-◌, ◌/◌, ◌<◌, ◌^◌, ◌≡◌, ◌≤◌, mul-le-mul_right, mul-mod_left, mul-sub, two-pow-succ, cases_lt, pow-add, shr_split, count_trailing_zeros}
+use Rattle.rpki_cover.proofs.Common.{arith, inl, inr, refl, suc, zero, ℕ, ◌%◌, ◌*◌, ◌+◌, ◌-◌, ◌/◌, ◌<◌, ◌^◌, ◌≡◌, ◌≤◌}
+use Rattle.rpki_cover.proofs.Common.{mul-le-mul_right, mul-mod_left, mul-sub, two-pow-succ, cases_lt, pow-add}
+use Rattle.rpki_cover.proofs.Common.{shr_split, count_trailing_zeros}
 use lib.Count.{under}
 
 -- a is a multiple of s

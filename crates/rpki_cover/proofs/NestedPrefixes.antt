@@ -1,6 +1,8 @@
 -- Prefixes inside ranges and inside one another.
-use Rattle.rpki_cover.proofs.Common.{arith, ℕ, ◌+◌, ◌-◌, ◌<◌, ◌^◌, ◌≤◌, ◌⊎◌, cases_lt, pow_pos, IsIn, IsParent, IsPrefix, LiesIn, PrefixValue}
-use Rattle.rpki_cover.proofs.Multiples.{IsMultiple, mod_multiple, multiple_gap, multiple_self, multiple_smaller, multiple_sum}
+use Rattle.rpki_cover.proofs.Common.{arith, ℕ, ◌+◌, ◌-◌, ◌<◌, ◌^◌, ◌≤◌, ◌⊎◌, cases_lt, pow_pos, IsIn, IsParent}
+use Rattle.rpki_cover.proofs.Common.{IsPrefix, LiesIn, PrefixValue}
+use Rattle.rpki_cover.proofs.Multiples.{IsMultiple, mod_multiple, multiple_gap, multiple_self, multiple_smaller}
+use Rattle.rpki_cover.proofs.Multiples.{multiple_sum}
 use Rattle.rpki_cover.proofs.PrefixNumbers.{cleared_prefix, cleared_holds}
 use Rattle.rpki_cover.specs.Bits.{cleared}
 

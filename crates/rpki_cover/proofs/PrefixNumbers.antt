@@ -1,5 +1,6 @@
 -- On the numbers of prefixes.
-use Rattle.rpki_cover.proofs.Common.{arith, ℕ, ◌*◌, ◌<◌, ◌^◌, ◌≡◌, ◌≤◌, pow-le-pow_right, two-pow-succ, cases_order, mod_below, pow_below, pow_pos, shr_split}
+use Rattle.rpki_cover.proofs.Common.{arith, ℕ, ◌*◌, ◌<◌, ◌^◌, ◌≡◌, ◌≤◌, pow-le-pow_right, two-pow-succ, cases_order}
+use Rattle.rpki_cover.proofs.Common.{mod_below, pow_below, pow_pos, shr_split}
 use Rattle.std.proofs.Math.Nat.{mul-mod_left}
 use Rattle.rpki_cover.specs.Bits.{cleared}
 use Rattle.rpki_cover.specs.Prefixes.{PrefixValue, IsPrefix, IsIn}

@@ -1,5 +1,8 @@
 -- A cover list has the union of its set, and no shorter list of prefixes has.
-use Rattle.rpki_cover.proofs.Common.{Bool, List, [], arith, cases_lt, inl, inr, leb, length, refl, subst, ℕ, ◌+◌, ◌-◌, ◌<◌, ◌^◌, ◌∷◌, ◌≡◌, ◌≤◌, le-leb, lt-leb, pow_below, All-contains, Contains-get_or, All, Contains, filter, IsIn, IsMaximal, IsPrefix, LiesIn, PrefixValue, Ascends, HasUnion, IsCoverList, IsShortest, IsShortestCover, cover_list}
+use Rattle.rpki_cover.proofs.Common.{Bool, List, [], arith, cases_lt, inl, inr, leb, length, refl, subst, ℕ, ◌+◌, ◌-◌}
+use Rattle.rpki_cover.proofs.Common.{◌<◌, ◌^◌, ◌∷◌, ◌≡◌, ◌≤◌, le-leb, lt-leb, pow_below, All-contains, Contains-get_or}
+use Rattle.rpki_cover.proofs.Common.{All, Contains, filter, IsIn, IsMaximal, IsPrefix, LiesIn, PrefixValue, Ascends}
+use Rattle.rpki_cover.proofs.Common.{HasUnion, IsCoverList, IsShortest, IsShortestCover, cover_list}
 use Rattle.rpki_cover.proofs.ListMembership.{contains_cases, contains_filter, contains_later, filter_shrinks}
 use Rattle.rpki_cover.proofs.Multiples.{multiple_mod}
 use Rattle.rpki_cover.proofs.NestedPrefixes.{InRange, first_in, last_in, longer_inside, parent_of}

@@ -1,5 +1,6 @@
 -- A set has one cover list.
-use Rattle.rpki_cover.proofs.Common.{List, [], arith, refl, ℕ, ◌+◌, ◌-◌, ◌^◌, ◌∷◌, ◌≡◌, ◌≤◌, pow_pos, All-contains, Contains, PrefixValue, Ascends, IsCoverList}
+use Rattle.rpki_cover.proofs.Common.{List, [], arith, refl, ℕ, ◌+◌, ◌-◌, ◌^◌, ◌∷◌, ◌≡◌, ◌≤◌, pow_pos, All-contains}
+use Rattle.rpki_cover.proofs.Common.{Contains, PrefixValue, Ascends, IsCoverList}
 use Rattle.rpki_cover.proofs.ListMembership.{contains_cases, contains_later}
 
 -- later prefixes begin behind an earlier one

@@ -1,5 +1,7 @@
 -- Cover lists of IPv4 addresses, at width 32 and as prefixes of addresses of 128 bits.
-use Rattle.rpki_cover.proofs.Common.{List, arith, map, refl, suc, zero, ℕ, ◌%◌, ◌*◌, ◌+◌, ◌-◌, ◌/◌, ◌<◌, ◌^◌, ◌≡◌, ◌≤◌, cases_lt, le-leb, lt-leb, pow-add, pow_pos, IsPrefix, PrefixValue, IsCoverList, IsShortestCover, widened, cover_list, cover_list_upto, free_bits_upto}
+use Rattle.rpki_cover.proofs.Common.{List, arith, map, refl, suc, zero, ℕ, ◌%◌, ◌*◌, ◌+◌, ◌-◌, ◌/◌, ◌<◌, ◌^◌, ◌≡◌, ◌≤◌}
+use Rattle.rpki_cover.proofs.Common.{cases_lt, le-leb, lt-leb, pow-add, pow_pos, IsPrefix, PrefixValue, IsCoverList}
+use Rattle.rpki_cover.proofs.Common.{IsShortestCover, widened, cover_list, cover_list_upto, free_bits_upto}
 use Rattle.rpki_cover.proofs.GreatestBlock.{free_bits_upto_is, same_greatest}
 use Rattle.rpki_cover.proofs.Multiples.{IsMultiple, multiple_mod, mod_multiple}
 use Rattle.rpki_cover.proofs.NestedPrefixes.{InRange}

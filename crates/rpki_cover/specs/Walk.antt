@@ -1,13 +1,15 @@
 -- The list of prefixes that a traversal of a range from its beginning finds. proofs/CoverList proves that it is the
 -- cover list of the range.
-use Rattle.std.specs.Prelude.{ℕ, zero, suc, ◌+◌, ◌-◌, ◌%◌, ◌^◌, ◌==◌, nat_le, ◌&&◌, List, [], ◌∷◌, if◌then◌else◌, Option, Some, None}
+use Rattle.std.specs.Prelude.{ℕ, zero, suc, ◌+◌, ◌-◌, ◌%◌, ◌^◌, ◌==◌, nat_le, ◌&&◌, List, [], ◌∷◌, if◌then◌else◌}
+use Rattle.std.specs.Prelude.{Option, Some, None}
 use Rattle.rpki_cover.specs.Prefixes.{PrefixValue}
 
 -- the highest k up to the first argument for which 2 ^ k divides a and the 2 ^ k numbers from a on end at b or
 -- before; 0 if there is no such k
 abbrev pub free_bits_upto : ℕ → ℕ → ℕ → ℕ
 free_bits_upto zero a b = 0
-free_bits_upto (suc k) a b = (if (a % 2 ^ suc k == 0) && nat_le (a + 2 ^ suc k) (b + 1) then suc k else free_bits_upto k a b)
+free_bits_upto (suc k) a b =
+    (if (a % 2 ^ suc k == 0) && nat_le (a + 2 ^ suc k) (b + 1) then suc k else free_bits_upto k a b)
 
 -- the largest prefix from a on, then the largest one from the number after it on, and so on; at most as many as the
 -- first argument says

@@ -1,7 +1,12 @@
 -- Contents: what the reading answers is what the conditions of X.690 say, and that is how they are spelled.
-use Rattle.rpki_der.proofs.Common.{List, [], arith, drop, length, refl, suc, zero, ℕ, ◌-◌, ◌<◌, ◌^◌, ◌∷◌, ◌≡◌, ◌≤◌, cases_lt, eqb-false, le-ltb, leb-false, lt-leb, lt-ltb, ltb-false, ltb-true, ne_eqb, or_from, or_parts, drop_at, length-append, bytes_high_first, to_be_bytes, w64, IsBitContent, IsBytes, IsNothing, IsUnsigned, big_endian, integer, octets, with_sign, bits, nothing, unsigned}
+use Rattle.rpki_der.proofs.Common.{List, [], arith, drop, length, refl, suc, zero, ℕ, ◌-◌, ◌<◌, ◌^◌, ◌∷◌, ◌≡◌, ◌≤◌}
+use Rattle.rpki_der.proofs.Common.{cases_lt, eqb-false, le-ltb, leb-false, lt-leb, lt-ltb, ltb-false, ltb-true, ne_eqb}
+use Rattle.rpki_der.proofs.Common.{or_from, or_parts, drop_at, length-append, bytes_high_first, to_be_bytes, w64}
+use Rattle.rpki_der.proofs.Common.{IsBitContent, IsBytes, IsNothing, IsUnsigned, big_endian, integer, octets, with_sign}
+use Rattle.rpki_der.proofs.Common.{bits, nothing, unsigned}
 use Rattle.rpki_der.proofs.ReadingSteps.{IsCheck, IsBytes-rest, passed, passed_true, ok_is, one_false}
-use Rattle.rpki_der.proofs.NumberOctets.{octets-big_endian, big_endian-octets, octets-zero, octets_head, length-without_zeros}
+use Rattle.rpki_der.proofs.NumberOctets.{octets-big_endian, big_endian-octets, octets-zero, octets_head}
+use Rattle.rpki_der.proofs.NumberOctets.{length-without_zeros}
 
 -- ---- an integer: the reading and the conditions
 

@@ -1,5 +1,7 @@
 -- From the reading to the grammar, for the calls on a cursor and on a content.
-use Rattle.rpki_der.proofs.Common.{Err, List, Option, Result, option_map, ℕ, ◌≡◌, IsBytes, NoFront, Gives, IsReading, optional, Parses, ReadsOptional, ReadsValue, Takes, left, Cursor, DerError, arith, Grammar, Reading}
+use Rattle.rpki_der.proofs.Common.{Err, List, Option, Result, option_map, ℕ, ◌≡◌, IsBytes, NoFront, Gives, IsReading}
+use Rattle.rpki_der.proofs.Common.{optional, Parses, ReadsOptional, ReadsValue, Takes, left, Cursor, DerError, arith}
+use Rattle.rpki_der.proofs.Common.{Grammar, Reading}
 use Rattle.rpki_der.proofs.ReadingSteps.{IsCheck, ok_or_err}
 use Rattle.rpki_der.proofs.ValueLists.{optional_some, optional_none, optional_err}
 

@@ -1,8 +1,14 @@
 -- Families are refused for none at all exactly where none are there, and for one that is there twice exactly where it
 -- stands behind members that were read, of which one has it.
-use Rattle.rpki_der.proofs.Common.{Bool, Err, List, Ok, [], arith, cond, false, inl, inr, length, refl, suc, true, zero, ℕ, ◌↔◌, ◌∷◌, ◌≡◌, ◌≢◌, ◌≤◌, refined, DuplicateFamily, NoFamily, BeginsEmpty, BeginsWithAll, BeginsWithValue, ByFamily, claims_among, families_at, families_in, member_at, member_in, members_by, seen, was_seen, family_at, AddressFamily, Reading, nil_from_length}
+use Rattle.rpki_der.proofs.Common.{Bool, Err, List, Ok, [], arith, cond, false, inl, inr, length, refl, suc, true, zero}
+use Rattle.rpki_der.proofs.Common.{ℕ, ◌↔◌, ◌∷◌, ◌≡◌, ◌≢◌, ◌≤◌, refined, DuplicateFamily, NoFamily, BeginsEmpty}
+use Rattle.rpki_der.proofs.Common.{BeginsWithAll, BeginsWithValue, ByFamily, claims_among, families_at, families_in}
+use Rattle.rpki_der.proofs.Common.{member_at, member_in, members_by, seen, was_seen, family_at, AddressFamily, Reading}
+use Rattle.rpki_der.proofs.Common.{nil_from_length}
 use Rattle.std.specs.Prelude.{◌⊎◌}
-use Rattle.rpki_der.proofs.SequenceFaults.{NamesTo, begins_value, bind_err, bind_fails, bind_names, cond_names, header_names, names_more, not_named, looked_shorter, tagged_fails, tagged_shorter}
+use Rattle.rpki_der.proofs.SequenceFaults.{NamesTo, begins_value, bind_err, bind_fails, bind_names, cond_names}
+use Rattle.rpki_der.proofs.SequenceFaults.{header_names, names_more, not_named, looked_shorter, tagged_fails}
+use Rattle.rpki_der.proofs.SequenceFaults.{tagged_shorter}
 use Rattle.rpki_der.proofs.FamiliesGathering.{behind}
 use Rattle.rpki_der.proofs.FamilyDerLemmas.{family_names}
 use Rattle.rpki_der.specs.FamiliesFaults.{BeginsWithRepeat, any_member_at}

@@ -1,6 +1,12 @@
 -- Members to the end of the octets: what is found is what stands there, each family once.
-use Rattle.rpki_der.proofs.Common.{Bool, List, Ok, Option, Result, Err, [], arith, cond, eqb, false, length, refl, suc, zero, ℕ, ◌++◌, ◌∙◌, ◌↔◌, ◌∷◌, ◌≡◌, ◌≢◌, append-nil, IfSome, Each, EachFrom, IsBytes, IsSequence, Refines, IsReading, DerError, NoFamily, each_from, ◌>>=◌, sym, ByFamily, IsFamilies, IsMember, SaysFamilies, claims_among, listed, of_family, families_at, families_in, member_at, members_by, none_found, seen, was_seen, with_claim, AddressFamily, Ipv4, Ipv6, Grammar, Reading, nil_from_length}
-use Rattle.rpki_der.proofs.ValueProofs.{content_reading, HasOctets, each_again, each_takes, value_has_octets, bind_ok, ok_is, passed, IsCheck, each-nil}
+use Rattle.rpki_der.proofs.Common.{Bool, List, Ok, Option, Result, Err, [], arith, cond, eqb, false, length, refl, suc}
+use Rattle.rpki_der.proofs.Common.{zero, ℕ, ◌++◌, ◌∙◌, ◌↔◌, ◌∷◌, ◌≡◌, ◌≢◌, append-nil, IfSome, Each, EachFrom, IsBytes}
+use Rattle.rpki_der.proofs.Common.{IsSequence, Refines, IsReading, DerError, NoFamily, each_from, ◌>>=◌, sym, ByFamily}
+use Rattle.rpki_der.proofs.Common.{IsFamilies, IsMember, SaysFamilies, claims_among, listed, of_family, families_at}
+use Rattle.rpki_der.proofs.Common.{families_in, member_at, members_by, none_found, seen, was_seen, with_claim}
+use Rattle.rpki_der.proofs.Common.{AddressFamily, Ipv4, Ipv6, Grammar, Reading, nil_from_length}
+use Rattle.rpki_der.proofs.ValueProofs.{content_reading, HasOctets, each_again, each_takes, value_has_octets, bind_ok}
+use Rattle.rpki_der.proofs.ValueProofs.{ok_is, passed, IsCheck, each-nil}
 use Rattle.rpki_der.proofs.SequenceReadings.{same_check}
 use Rattle.rpki_der.proofs.FamiliesMembers.{SaysNew, member_reading}
 

@@ -1,5 +1,9 @@
 -- Families of which each claim says something, in either mode: strictly, the octets are those that are written of them.
-use Rattle.rpki_der.proofs.Common.{Bool, List, None, Option, Some, [], ap, arith, length, refl, ℕ, ◌++◌, ◌<◌, ◌^◌, ◌∙◌, ◌∷◌, ◌≡◌, ◌≢◌, append-nil, length-append, IfSome, sequence_value, AreInOrder, ByFamily, IsFamilies, IsFamiliesInOrder, IsMember, SaysByFamily, SaysFamilies, SaysOption, families_at, families_by, families_der, member_der, option_der, AddressFamily, Ipv4, Ipv6, Grammar, Reading}
+use Rattle.rpki_der.proofs.Common.{Bool, List, None, Option, Some, [], ap, arith, length, refl, ℕ, ◌++◌, ◌<◌, ◌^◌, ◌∙◌}
+use Rattle.rpki_der.proofs.Common.{◌∷◌, ◌≡◌, ◌≢◌, append-nil, length-append, IfSome, sequence_value, AreInOrder}
+use Rattle.rpki_der.proofs.Common.{ByFamily, IsFamilies, IsFamiliesInOrder, IsMember, SaysByFamily, SaysFamilies}
+use Rattle.rpki_der.proofs.Common.{SaysOption, families_at, families_by, families_der, member_der, option_der}
+use Rattle.rpki_der.proofs.Common.{AddressFamily, Ipv4, Ipv6, Grammar, Reading}
 use Rattle.rpki_der.proofs.ValueProofs.{value_is}
 use Rattle.rpki_der.proofs.FamiliesGathering.{families_reading}
 use Rattle.rpki_der.proofs.FamiliesModes.{families_modal}

@@ -1,5 +1,7 @@
 -- The loop over the members: what was found, and what is left, give the whole.
-use Rattle.rpki_der.proofs.Common.{Bool, Err, List, Ok, Result, [], arith, length, refl, ℕ, ◌<◌, ◌∷◌, ◌≡◌, ◌≢◌, ◌≤◌, DerError, IfRefused, OrMemory, ByFamily, SaysByFamily, SaysClaim, members_by, seen, with_claim, AddressFamily, Reading}
+use Rattle.rpki_der.proofs.Common.{Bool, Err, List, Ok, Result, [], arith, length, refl, ℕ, ◌<◌, ◌∷◌, ◌≡◌, ◌≢◌, ◌≤◌}
+use Rattle.rpki_der.proofs.Common.{DerError, IfRefused, OrMemory, ByFamily, SaysByFamily, SaysClaim, members_by, seen}
+use Rattle.rpki_der.proofs.Common.{with_claim, AddressFamily, Reading}
 
 module _ {X Y : Type 0} (member_of : Bool × Bool → Reading (AddressFamily × Y)) (C : Y → X → Type 0) where
   -- what was found stands for what was read before, and this and what is left give the whole

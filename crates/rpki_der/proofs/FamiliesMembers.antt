@@ -1,6 +1,9 @@
 -- A member that is read is one of a family that wasn't there before, and each such member is read; strictly, of those
 -- that stand in order.
-use Rattle.rpki_der.proofs.Common.{Bool, List, Ok, [], arith, false, true, ◌↔◌, ℕ, ◌≡◌, append-nil, IsBytes, IsSequence, Refines, IsReading, passing, SaysMember, is_in_order, member_at, member_by, member_in, member_in_by, was_seen, IsFamilyDer, family_at, AddressFamily, Grammar, Reading}
+use Rattle.rpki_der.proofs.Common.{Bool, List, Ok, [], arith, false, true, ◌↔◌, ℕ, ◌≡◌, append-nil, IsBytes, IsSequence}
+use Rattle.rpki_der.proofs.Common.{Refines, IsReading, passing, SaysMember, is_in_order, member_at, member_by}
+use Rattle.rpki_der.proofs.Common.{member_in, member_in_by, was_seen, IsFamilyDer, family_at, AddressFamily, Grammar}
+use Rattle.rpki_der.proofs.Common.{Reading}
 use Rattle.rpki_der.proofs.ValueProofs.{content_reading, fits_rest, bind_ok, ok_is, passed, IsCheck}
 use Rattle.rpki_der.proofs.SequenceReadings.{ended_is}
 use Rattle.rpki_der.proofs.FamilyDerLemmas.{family_reading}

@@ -1,6 +1,11 @@
 -- Families in either mode.
-use Rattle.rpki_der.proofs.Common.{Bool, List, None, Option, Some, [], arith, refl, true, ℕ, ◌∷◌, ◌≡◌, ◌≢◌, append-nil, EachFrom, IsSequence, Refines, IsModal, Tightens, AreInOrder, ByFamily, IsFamiliesInOrder, families_at, families_by, families_in, families_in_by, member_at, member_by, member_in, member_in_by, none_found, seen, AddressFamily, Ipv4, Ipv6, Grammar, Reading, tagged_at}
-use Rattle.rpki_der.proofs.ValueProofs.{content_reading, value_has_octets, bind_tightens, cond_tightens, each_tightens, looked_tightens, passing_tightens, same_tightens}
+use Rattle.rpki_der.proofs.Common.{Bool, List, None, Option, Some, [], arith, refl, true, ℕ, ◌∷◌, ◌≡◌, ◌≢◌, append-nil}
+use Rattle.rpki_der.proofs.Common.{EachFrom, IsSequence, Refines, IsModal, Tightens, AreInOrder, ByFamily}
+use Rattle.rpki_der.proofs.Common.{IsFamiliesInOrder, families_at, families_by, families_in, families_in_by, member_at}
+use Rattle.rpki_der.proofs.Common.{member_by, member_in, member_in_by, none_found, seen, AddressFamily, Ipv4, Ipv6}
+use Rattle.rpki_der.proofs.Common.{Grammar, Reading, tagged_at}
+use Rattle.rpki_der.proofs.ValueProofs.{content_reading, value_has_octets, bind_tightens, cond_tightens, each_tightens}
+use Rattle.rpki_der.proofs.ValueProofs.{looked_tightens, passing_tightens, same_tightens}
 use Rattle.rpki_der.proofs.FamiliesGathering.{behind, gather, members_are, members_check}
 use Rattle.rpki_der.proofs.FamiliesMembers.{SaysNext, next_reading}
 

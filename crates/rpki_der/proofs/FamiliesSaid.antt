@@ -1,6 +1,8 @@
 -- Families whose claims stand for others: what the families stand for is what they are with the
 -- claims that theirs stand for.
-use Rattle.rpki_der.proofs.Common.{List, None, Option, Some, [], arith, refl, ℕ, ◌∷◌, ◌≡◌, ◌≢◌, Each, OneFront, Refines, IsReading, ByFamily, IsFamilies, IsMember, SaysByFamily, SaysOption, claims_among, listed, AddressFamily, Ipv4, Ipv6, Grammar, Reading}
+use Rattle.rpki_der.proofs.Common.{List, None, Option, Some, [], arith, refl, ℕ, ◌∷◌, ◌≡◌, ◌≢◌, Each, OneFront, Refines}
+use Rattle.rpki_der.proofs.Common.{IsReading, ByFamily, IsFamilies, IsMember, SaysByFamily, SaysOption, claims_among}
+use Rattle.rpki_der.proofs.Common.{listed, AddressFamily, Ipv4, Ipv6, Grammar, Reading}
 use Rattle.rpki_der.proofs.SequenceReadings.{one_front_said}
 use Rattle.rpki_der.proofs.FamiliesGathering.{families_reading}
 
@@ -55,7 +57,9 @@ module _ {X Y : Type 0} (G : AddressFamily → Grammar Y) (C : Y → X → Type 
   stands_for bytes fs (found, (content, is, (members, all, some, gathered)), says) =
       let v4 = says_listed C found.0 fs.0 says.0 in
       let v6 = says_listed C found.1 fs.1 says.1 in
-      let t = members_said members content (listed fs.0) (listed fs.1) all (rw (gathered Ipv4) v4) (rw (gathered Ipv6) v6) in
+      let t =
+      members_said members content (listed fs.0) (listed fs.1) all (rw (gathered Ipv4) v4)
+      (rw (gathered Ipv6) v6) in
       (content, is, (t.0, t.1, t.4 some, elim [ Ipv4 ↦ t.2 | Ipv6 ↦ t.3 ]))
 
   -- members whose claims stand for those of these

@@ -1,5 +1,8 @@
 -- Families in DER: what is read, what is written, and which faults are named.
-use Rattle.rpki_der.proofs.Common.{List, Ok, Result, [], arith, get_or, length, ℕ, ◌∷◌, ◌≡◌, and_parts, eqb-true, IsErrAnd, MatchResult, Refines, header, length_octets, Gives, IsReading, tagged_at, DerError, IsFamilyDer, SaysFamily, family_at, family_der, family_of_octets, AddressFamily, Skips, skipping, ◌++◌}
+use Rattle.rpki_der.proofs.Common.{List, Ok, Result, [], arith, get_or, length, ℕ, ◌∷◌, ◌≡◌, and_parts, eqb-true}
+use Rattle.rpki_der.proofs.Common.{IsErrAnd, MatchResult, Refines, header, length_octets, Gives, IsReading, tagged_at}
+use Rattle.rpki_der.proofs.Common.{DerError, IsFamilyDer, SaysFamily, family_at, family_der, family_of_octets}
+use Rattle.rpki_der.proofs.Common.{AddressFamily, Skips, skipping, ◌++◌}
 use Rattle.rpki_der.proofs.ValueProofs.{content_reading, IsTagged, same_reading, IsCheck, ok_is, ok_or_err, value_is}
 use Rattle.rpki_der.proofs.SequenceReadings.{skips_reading}
 use Rattle.rpki_der.proofs.SequenceFaults.{NamesTo, cond_names, header_names, refined_names}

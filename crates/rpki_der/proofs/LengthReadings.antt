@@ -1,7 +1,12 @@
 -- Lengths: what the reading answers is what the conditions of X.690 say, and that is how they are spelled.
-use Rattle.rpki_der.proofs.Common.{List, Ok, [], arith, get_or, inl, inr, length, refl, ℕ, ◌++◌, ◌-◌, ◌<◌, ◌^◌, ◌∷◌, ◌≡◌, ◌≢◌, ◌≤◌, eqb-false, le-ltb, lt-ltb, ltb-false, ne_eqb, or_from, or_parts, drop_at, get_or_append_left, length-append, length-take, take-append-drop, take_at, Front, IsBytes, IsLength, IsLongLength, length_octets, length_at, long_length_at, cases_lt}
+use Rattle.rpki_der.proofs.Common.{List, Ok, [], arith, get_or, inl, inr, length, refl, ℕ, ◌++◌, ◌-◌, ◌<◌, ◌^◌, ◌∷◌}
+use Rattle.rpki_der.proofs.Common.{◌≡◌, ◌≢◌, ◌≤◌, eqb-false, le-ltb, lt-ltb, ltb-false, ne_eqb, or_from, or_parts}
+use Rattle.rpki_der.proofs.Common.{drop_at, get_or_append_left, length-append, length-take, take-append-drop, take_at}
+use Rattle.rpki_der.proofs.Common.{Front, IsBytes, IsLength, IsLongLength, length_octets, length_at, long_length_at}
+use Rattle.rpki_der.proofs.Common.{cases_lt}
 use Rattle.rpki_der.proofs.ReadingSteps.{IsBytes-rest, fits_front, passed, ok_is}
-use Rattle.rpki_der.proofs.NumberOctets.{octets-big_endian, big_endian-octets, big_endian_small, length-octets, octets_head}
+use Rattle.rpki_der.proofs.NumberOctets.{octets-big_endian, big_endian-octets, big_endian_small, length-octets}
+use Rattle.rpki_der.proofs.NumberOctets.{octets_head}
 
 -- ---- the reading and the conditions
 

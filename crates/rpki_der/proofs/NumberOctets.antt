@@ -1,5 +1,8 @@
 -- Numbers and the octets that spell them.
-use Rattle.rpki_der.proofs.Common.{List, [], ap, arith, get_or, length, refl, replicate, suc, sym, take, zero, ℕ, ◌*◌, ◌++◌, ◌+◌, ◌-◌, ◌<◌, ◌^◌, ◌∙◌, ◌∷◌, ◌≡◌, ◌≢◌, ◌≤◌, length-append, length-replicate, from_be_bytes, to_be_bytes, w64, IsBytes, big_endian, big_endian_after, octets, without_zeros}
+use Rattle.rpki_der.proofs.Common.{List, [], ap, arith, get_or, length, refl, replicate, suc, sym, take, zero, ℕ, ◌*◌}
+use Rattle.rpki_der.proofs.Common.{◌++◌, ◌+◌, ◌-◌, ◌<◌, ◌^◌, ◌∙◌, ◌∷◌, ◌≡◌, ◌≢◌, ◌≤◌, length-append, length-replicate}
+use Rattle.rpki_der.proofs.Common.{from_be_bytes, to_be_bytes, w64, IsBytes, big_endian, big_endian_after, octets}
+use Rattle.rpki_der.proofs.Common.{without_zeros}
 use Rattle.std.proofs.Common.{lit≤}
 use Rattle.std.proofs.Math.Nat.{pow-le-pow_right}
 use Rattle.std.proofs.lemmas.Nat.{be_bytes_8, from_be_bytes-to_be_bytes_8, pow-add}

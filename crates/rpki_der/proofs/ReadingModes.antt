@@ -1,5 +1,10 @@
 -- Readings by the mode: leniently what is read without one, and strictly that or NotCanonical.
-use Rattle.rpki_der.proofs.Common.{Bool, Err, List, Ok, Option, Result, [], arith, cond, false, inl, refl, suc, true, zero, ℕ, ◌%◌, ◌^◌, ◌∷◌, ◌≡◌, eq-eqb, eqb-true, Bits, IsBitContent, IsBitString, IsPadded, NoFront, Refines, Where, last_octet, Gives, IsModal, IsReading, Tightens, bit_string_at, bit_string_by, bits, bits_by, each_from, is_padded, optional, passing, refined, ◌>>=◌, Lenient, NotCanonicalInOr, NotCanonicalOr, Takes, content_octets, is_strict, is_strict_in, Cursor, DerError, NotCanonical, Grammar, Reading}
+use Rattle.rpki_der.proofs.Common.{Bool, Err, List, Ok, Option, Result, [], arith, cond, false, inl, refl, suc, true}
+use Rattle.rpki_der.proofs.Common.{zero, ℕ, ◌%◌, ◌^◌, ◌∷◌, ◌≡◌, eq-eqb, eqb-true, Bits, IsBitContent, IsBitString}
+use Rattle.rpki_der.proofs.Common.{IsPadded, NoFront, Refines, Where, last_octet, Gives, IsModal, IsReading, Tightens}
+use Rattle.rpki_der.proofs.Common.{bit_string_at, bit_string_by, bits, bits_by, each_from, is_padded, optional, passing}
+use Rattle.rpki_der.proofs.Common.{refined, ◌>>=◌, Lenient, NotCanonicalInOr, NotCanonicalOr, Takes, content_octets}
+use Rattle.rpki_der.proofs.Common.{is_strict, is_strict_in, Cursor, DerError, NotCanonical, Grammar, Reading}
 use Rattle.std.specs.Prelude.{◌⊎◌}
 use Rattle.rpki_der.specs.declared.content.Content.{Content}
 use Rattle.rpki_der.proofs.ContentReadings.{bits_check}

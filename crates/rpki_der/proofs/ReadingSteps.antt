@@ -1,5 +1,7 @@
 -- Steps of reading that did not fail.
-use Rattle.rpki_der.proofs.Common.{Bool, Err, List, Ok, Result, arith, cond, false, length, replicate, suc, true, zero, ℕ, ◌&&◌, ◌++◌, ◌+◌, ◌∷◌, ◌≡◌, cases_lt, get_or-append-add, get_or_append_left, get_or_past, IsBytes, ◌>>=◌, DerError}
+use Rattle.rpki_der.proofs.Common.{Bool, Err, List, Ok, Result, arith, cond, false, length, replicate, suc, true, zero}
+use Rattle.rpki_der.proofs.Common.{ℕ, ◌&&◌, ◌++◌, ◌+◌, ◌∷◌, ◌≡◌, cases_lt, get_or-append-add, get_or_append_left}
+use Rattle.rpki_der.proofs.Common.{get_or_past, IsBytes, ◌>>=◌, DerError}
 
 -- octets behind the first
 pub IsBytes-rest : (b : ℕ) (bytes : List ℕ) → IsBytes (b ∷ bytes) → IsBytes bytes

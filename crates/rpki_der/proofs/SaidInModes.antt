@@ -1,5 +1,9 @@
 -- Takes in either mode that answer what is said by what was found. Strictly, that is what is written of the answer.
-use Rattle.rpki_der.proofs.Common.{Bool, List, Ok, Result, [], arith, length, true, ℕ, ◌++◌, ◌<◌, ◌^◌, ◌≡◌, length-append, MatchResult, OneFront, Refines, IsModal, IsReading, Lenient, Strict, is_strict, left, Cursor, DerError, IsMemory, OrMemory, Encloses, IsSequenceFrom, enclosed_at, sequence_from, values_of, NotCanonicalOrMemory, ReadsOrMemory, TakesSaidOrMemory, refined, tagged_at}
+use Rattle.rpki_der.proofs.Common.{Bool, List, Ok, Result, [], arith, length, true, ℕ, ◌++◌, ◌<◌, ◌^◌, ◌≡◌}
+use Rattle.rpki_der.proofs.Common.{length-append, MatchResult, OneFront, Refines, IsModal, IsReading, Lenient, Strict}
+use Rattle.rpki_der.proofs.Common.{is_strict, left, Cursor, DerError, IsMemory, OrMemory, Encloses, IsSequenceFrom}
+use Rattle.rpki_der.proofs.Common.{enclosed_at, sequence_from, values_of, NotCanonicalOrMemory, ReadsOrMemory}
+use Rattle.rpki_der.proofs.Common.{TakesSaidOrMemory, refined, tagged_at}
 use Rattle.rpki_der.proofs.ValueProofs.{HasOctets, found_is, lenient_is, refused_at, value_is, ok_is, ok_or_err}
 use Rattle.std.specs.Prelude.{IfOk}
 use Rattle.rpki_der.specs.Der.{Front, IsTag, Spells, value}

@@ -1,5 +1,8 @@
 -- From the reading to the grammar, for calls that take memory, or that look at the tag first.
-use Rattle.rpki_der.proofs.Common.{List, Ok, Option, Result, Some, arith, length, ℕ, ◌++◌, ◌<◌, ◌≡◌, IsBytes, Refines, IsReading, optional, ReadsOptional, Takes, left, Cursor, DerError, OrMemory, if_tagged, ReadsOrMemory, ReadsTagged, TakesOrMemory, TakesSaidOrMemory, Grammar, Reading, ◌∷◌, []}
+use Rattle.rpki_der.proofs.Common.{List, Ok, Option, Result, Some, arith, length, ℕ, ◌++◌, ◌<◌, ◌≡◌, IsBytes, Refines}
+use Rattle.rpki_der.proofs.Common.{IsReading, optional, ReadsOptional, Takes, left, Cursor, DerError, OrMemory}
+use Rattle.rpki_der.proofs.Common.{if_tagged, ReadsOrMemory, ReadsTagged, TakesOrMemory, TakesSaidOrMemory, Grammar}
+use Rattle.rpki_der.proofs.Common.{Reading, ◌∷◌, []}
 use Rattle.rpki_der.proofs.ValueProofs.{none_by, reads_optional_by}
 
 -- a take that may want memory

@@ -1,6 +1,10 @@
 -- Which faults readings name: those of their layer and of the layers below it, whose numbers are no greater. So a fault
 -- of a layer is named exactly where that layer finds it.
-use Rattle.rpki_der.proofs.Common.{Bool, Err, List, Ok, Result, [], arith, cond, length, subst, suc, true, zero, ℕ, ◌<◌, ◌↔◌, ◌∷◌, ◌≡◌, ◌≢◌, ◌≤◌, eqb-true, ne_eqb, Tlv, bits, each_from, ended, length_at, long_length_at, nothing, refined, tagged_at, unsigned, value_at, ◌>>=◌, DerError, u32_at, BeginsWithTwo, BeginsWithValue, by_tag, enclosed_at, only, pair_in, values_from, values_of, Reading, eq-eqb}
+use Rattle.rpki_der.proofs.Common.{Bool, Err, List, Ok, Result, [], arith, cond, length, subst, suc, true, zero, ℕ, ◌<◌}
+use Rattle.rpki_der.proofs.Common.{◌↔◌, ◌∷◌, ◌≡◌, ◌≢◌, ◌≤◌, eqb-true, ne_eqb, Tlv, bits, each_from, ended, length_at}
+use Rattle.rpki_der.proofs.Common.{long_length_at, nothing, refined, tagged_at, unsigned, value_at, ◌>>=◌, DerError}
+use Rattle.rpki_der.proofs.Common.{u32_at, BeginsWithTwo, BeginsWithValue, by_tag, enclosed_at, only, pair_in}
+use Rattle.rpki_der.proofs.Common.{values_from, values_of, Reading, eq-eqb}
 use Rattle.std.specs.Prelude.{◌⊎◌}
 use Rattle.std.proofs.lemmas.List.{length-drop}
 use Rattle.rpki_der.specs.Faults.{fault_number}

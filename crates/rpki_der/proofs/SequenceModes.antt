@@ -1,6 +1,13 @@
 -- Readings from readings by the mode, and calls that take memory.
-use Rattle.rpki_der.proofs.Common.{Bool, Err, List, Ok, Option, Result, Some, [], arith, length, refl, suc, true, zero, ℕ, ◌++◌, ◌<◌, ◌∷◌, ◌≡◌, ◌↔◌, each, EachFrom, IsBytes, Tlv, IsModal, IsReading, Tightens, each_from, optional, passing, tagged_at, ◌>>=◌, Takes, is_strict, left, Cursor, DerError, OrMemory, Memory, Refused, Encloses, IsSequenceFrom, SaysPair, by_tag, enclosed_at, only, pair_by, pair_in, sequence_from, values_from, values_of, ReadsOrMemory, Grammar, Reading}
-use Rattle.rpki_der.proofs.ValueProofs.{content_reading, HasOctets, shorter, bind_tightens, cond_tightens, each_tightens, found_is, looked_tightens, passed_is, passes, passing_tightens, same_found, same_tightens, IsCheck, bind_ok, ok_is, ok_or_err}
+use Rattle.rpki_der.proofs.Common.{Bool, Err, List, Ok, Option, Result, Some, [], arith, length, refl, suc, true, zero}
+use Rattle.rpki_der.proofs.Common.{ℕ, ◌++◌, ◌<◌, ◌∷◌, ◌≡◌, ◌↔◌, each, EachFrom, IsBytes, Tlv, IsModal, IsReading}
+use Rattle.rpki_der.proofs.Common.{Tightens, each_from, optional, passing, tagged_at, ◌>>=◌, Takes, is_strict, left}
+use Rattle.rpki_der.proofs.Common.{Cursor, DerError, OrMemory, Memory, Refused, Encloses, IsSequenceFrom, SaysPair}
+use Rattle.rpki_der.proofs.Common.{by_tag, enclosed_at, only, pair_by, pair_in, sequence_from, values_from, values_of}
+use Rattle.rpki_der.proofs.Common.{ReadsOrMemory, Grammar, Reading}
+use Rattle.rpki_der.proofs.ValueProofs.{content_reading, HasOctets, shorter, bind_tightens, cond_tightens}
+use Rattle.rpki_der.proofs.ValueProofs.{each_tightens, found_is, looked_tightens, passed_is, passes, passing_tightens}
+use Rattle.rpki_der.proofs.ValueProofs.{same_found, same_tightens, IsCheck, bind_ok, ok_is, ok_or_err}
 use Rattle.rpki_der.proofs.SequenceCursors.{optional_back}
 use Rattle.rpki_der.proofs.SequenceReadings.{enclosed_reading, pair_check, values_check}
 

@@ -1,6 +1,12 @@
 -- Readings from readings: of one of two tags, of two values, of values that are passed over, and of sequences.
-use Rattle.rpki_der.proofs.Common.{List, Ok, Result, [], arith, ℕ, ◌≡◌, ◌≢◌, eq-eqb, eqb-true, ne_eqb, append-nil, nil_from_length, ◌↔◌, EachFrom, IsBytes, IsTlv, IsU32, OneFront, Refines, IsReading, ended, refined, u32_at, value_at, ◌>>=◌, DerError, Encloses, IsSequenceFrom, SaysByTag, SaysPair, Skips, by_tag, enclosed_at, only, pair_in, sequence_from, skipping, values_from, Grammar, Reading}
-use Rattle.rpki_der.proofs.ValueProofs.{HasOctets, each_again, each_takes, fits_content, fits_rest, one_front, refined_reading, content_reading, value_reading, u32_reading, IsCheck, bind_ok, ok_is}
+use Rattle.rpki_der.proofs.Common.{List, Ok, Result, [], arith, ℕ, ◌≡◌, ◌≢◌, eq-eqb, eqb-true, ne_eqb, append-nil}
+use Rattle.rpki_der.proofs.Common.{nil_from_length, ◌↔◌, EachFrom, IsBytes, IsTlv, IsU32, OneFront, Refines, IsReading}
+use Rattle.rpki_der.proofs.Common.{ended, refined, u32_at, value_at, ◌>>=◌, DerError, Encloses, IsSequenceFrom}
+use Rattle.rpki_der.proofs.Common.{SaysByTag, SaysPair, Skips, by_tag, enclosed_at, only, pair_in, sequence_from}
+use Rattle.rpki_der.proofs.Common.{skipping, values_from, Grammar, Reading}
+use Rattle.rpki_der.proofs.ValueProofs.{HasOctets, each_again, each_takes, fits_content, fits_rest, one_front}
+use Rattle.rpki_der.proofs.ValueProofs.{refined_reading, content_reading, value_reading, u32_reading, IsCheck, bind_ok}
+use Rattle.rpki_der.proofs.ValueProofs.{ok_is}
 
 -- ---- passed over
 

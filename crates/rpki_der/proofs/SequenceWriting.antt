@@ -1,5 +1,7 @@
 -- Lists that are written: they are values of the grammar, and no two lists are written alike, also in a SEQUENCE.
-use Rattle.rpki_der.proofs.Common.{List, [], arith, length, refl, ℕ, ◌++◌, ◌<◌, ◌^◌, ◌∷◌, ◌≡◌, cases_lt, drop_at, length-append, AllByRecursion, Each, header, length_octets, octets, sequence_value, IsReading, octets_of_all, Grammar, Reading, le-ltb, lt-ltb}
+use Rattle.rpki_der.proofs.Common.{List, [], arith, length, refl, ℕ, ◌++◌, ◌<◌, ◌^◌, ◌∷◌, ◌≡◌, cases_lt, drop_at}
+use Rattle.rpki_der.proofs.Common.{length-append, AllByRecursion, Each, header, length_octets, octets, sequence_value}
+use Rattle.rpki_der.proofs.Common.{IsReading, octets_of_all, Grammar, Reading, le-ltb, lt-ltb}
 use Rattle.rpki_der.proofs.ValueProofs.{HasOctets, each_again}
 
 -- a SEQUENCE is longer than what is in it

@@ -1,5 +1,8 @@
 -- Values one after another to the end of the octets, each read in the state that the values before it led to.
-use Rattle.rpki_der.proofs.Common.{Err, List, None, Ok, Result, Some, [], ap, append_assoc, arith, length, refl, suc, zero, ℕ, ◌++◌, ◌<◌, ◌∙◌, ◌∷◌, ◌≡◌, ◌≢◌, ◌≤◌, ◌-◌, append-nil, length-append, EachFrom, Front, IsBytes, IsValue, header, IsReading, each_from, optional, ◌>>=◌, DerError, Grammar, Reading}
+use Rattle.rpki_der.proofs.Common.{Err, List, None, Ok, Result, Some, [], ap, append_assoc, arith, length, refl, suc}
+use Rattle.rpki_der.proofs.Common.{zero, ℕ, ◌++◌, ◌<◌, ◌∙◌, ◌∷◌, ◌≡◌, ◌≢◌, ◌≤◌, ◌-◌, append-nil, length-append}
+use Rattle.rpki_der.proofs.Common.{EachFrom, Front, IsBytes, IsValue, header, IsReading, each_from, optional, ◌>>=◌}
+use Rattle.rpki_der.proofs.Common.{DerError, Grammar, Reading}
 use Rattle.rpki_der.proofs.ReadingSteps.{bind_ok}
 use Rattle.rpki_der.proofs.ValueReadings.{fits_rest}
 

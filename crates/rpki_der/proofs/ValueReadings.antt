@@ -1,7 +1,15 @@
 -- The readings find the values of their grammars, whatever follows them, and no others.
-use Rattle.rpki_der.proofs.Common.{IsOctetString, IsSequence, List, Ok, Result, [], ap, append_assoc, arith, drop, eqb, length, ltb, refl, subst, sym, take, ℕ, ◌%◌, ◌++◌, ◌<◌, ◌^◌, ◌∙◌, ◌∷◌, ◌≡◌, ◌≢◌, ◌≤◌, eq-eqb, eqb-false, eqb-true, le-ltb, ltb-false, ne_eqb, append_cancel_right, drop_at, length-append, length-take, take-append-drop, take_at, Front, IsBitContent, IsBitString, IsBytes, IsNothing, IsNull, IsTag, IsTlv, IsU32, IsUnsigned, IsValue, OneFront, Refines, Tlv, header, length_octets, value, IsReading, bit_string_at, bits, length_at, nothing, null_at, refined, tagged_at, u32_at, unsigned, value_at, DerError, BadTag, Truncated, Grammar, Reading}
+use Rattle.rpki_der.proofs.Common.{IsOctetString, IsSequence, List, Ok, Result, [], ap, append_assoc, arith, drop, eqb}
+use Rattle.rpki_der.proofs.Common.{length, ltb, refl, subst, sym, take, ℕ, ◌%◌, ◌++◌, ◌<◌, ◌^◌, ◌∙◌, ◌∷◌, ◌≡◌, ◌≢◌, ◌≤◌}
+use Rattle.rpki_der.proofs.Common.{eq-eqb, eqb-false, eqb-true, le-ltb, ltb-false, ne_eqb, append_cancel_right, drop_at}
+use Rattle.rpki_der.proofs.Common.{length-append, length-take, take-append-drop, take_at, Front, IsBitContent}
+use Rattle.rpki_der.proofs.Common.{IsBitString, IsBytes, IsNothing, IsNull, IsTag, IsTlv, IsU32, IsUnsigned, IsValue}
+use Rattle.rpki_der.proofs.Common.{OneFront, Refines, Tlv, header, length_octets, value, IsReading, bit_string_at, bits}
+use Rattle.rpki_der.proofs.Common.{length_at, nothing, null_at, refined, tagged_at, u32_at, unsigned, value_at}
+use Rattle.rpki_der.proofs.Common.{DerError, BadTag, Truncated, Grammar, Reading}
 use Rattle.rpki_der.proofs.ReadingSteps.{IsCheck, IsBytes-rest, fits_front, fits_back, bind_ok, passed, ok_is}
-use Rattle.rpki_der.proofs.ContentReadings.{unsigned_check, unsigned_spelled, spelled_unsigned, bits_check, nothing_check}
+use Rattle.rpki_der.proofs.ContentReadings.{unsigned_check, unsigned_spelled, spelled_unsigned, bits_check}
+use Rattle.rpki_der.proofs.ContentReadings.{nothing_check}
 use Rattle.rpki_der.proofs.LengthReadings.{length_takes, length_again}
 
 -- ---- values of any tag

@@ -1,5 +1,6 @@
 -- One turn of writing values: what is written so far, and what is left to write.
-use Rattle.rpki_der.proofs.Common.{List, append_assoc, drop, get_or, length, take, ℕ, ◌++◌, ◌+◌, ◌<◌, ◌∙◌, ◌≡◌, append-nil, at_drop_more, length-append, take_more, octets_of_all}
+use Rattle.rpki_der.proofs.Common.{List, append_assoc, drop, get_or, length, take, ℕ, ◌++◌, ◌+◌, ◌<◌, ◌∙◌, ◌≡◌}
+use Rattle.rpki_der.proofs.Common.{append-nil, at_drop_more, length-append, take_more, octets_of_all}
 use Rattle.std.proofs.lemmas.List.Concat.{flat_map-append}
 
 module _ {X : Type 0} (octets : X → List ℕ) (xs : List X) (i : ℕ) (x : X) (inside : i < length xs)

@@ -1,5 +1,7 @@
 -- What is written is a value, and values are spelled by the conditions of X.690.
-use Rattle.rpki_der.proofs.Common.{List, arith, length, refl, ℕ, ◌++◌, ◌<◌, ◌^◌, ◌∷◌, ◌≡◌, lt-ltb, Bits, IsBitString, IsBits, IsBytes, IsLength, IsTag, IsU32, IsValue, bit_string_value, header, length_octets, u32_value, value}
+use Rattle.rpki_der.proofs.Common.{List, arith, length, refl, ℕ, ◌++◌, ◌<◌, ◌^◌, ◌∷◌, ◌≡◌, lt-ltb, Bits, IsBitString}
+use Rattle.rpki_der.proofs.Common.{IsBits, IsBytes, IsLength, IsTag, IsU32, IsValue, bit_string_value, header}
+use Rattle.rpki_der.proofs.Common.{length_octets, u32_value, value}
 use Rattle.rpki_der.proofs.ContentReadings.{length-integer}
 use Rattle.rpki_der.proofs.LengthReadings.{length_spelled, spelled_length}
 

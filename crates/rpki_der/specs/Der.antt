@@ -1,5 +1,6 @@
 -- DER values of X.690: the octets of each, and the definition of a value at the front of octets.
-use Rattle.std.specs.Prelude.{◌≡◌, ℕ, zero, suc, ◌+◌, ◌-◌, ◌*◌, ◌≢◌, ◌⊎◌, ◌%◌, ◌^◌, ◌<◌, ◌≤◌, List, [], ◌∷◌, ◌++◌, length, slice_index, nat_lt, if◌then◌else◌}
+use Rattle.std.specs.Prelude.{◌≡◌, ℕ, zero, suc, ◌+◌, ◌-◌, ◌*◌, ◌≢◌, ◌⊎◌, ◌%◌, ◌^◌, ◌<◌, ◌≤◌, List, [], ◌∷◌, ◌++◌}
+use Rattle.std.specs.Prelude.{length, slice_index, nat_lt, if◌then◌else◌}
 use Rattle.std.specs.Int.{w64, to_be_bytes}
 
 -- every item is an octet
@@ -166,7 +167,8 @@ Both G H bytes x y = (rest : List ℕ) × Front G bytes x rest × H rest y
 -- the values before
 abbrev pub EachFrom : {S X : Type 0} → (S → X → S) → (S → List ℕ → X → Type 0) → S → List ℕ → List X → Type 0
 EachFrom next G state bytes [] = bytes ≡ []
-EachFrom next G state bytes (x ∷ xs) = (rest : List ℕ) × Front (G state) bytes x rest × EachFrom next G (next state x) rest xs
+EachFrom next G state bytes (x ∷ xs) =
+    (rest : List ℕ) × Front (G state) bytes x rest × EachFrom next G (next state x) rest xs
 
 -- the octets are values of G one after another, and nothing else
 abbrev pub Each : {X : Type 0} → (List ℕ → X → Type 0) → List ℕ → List X → Type 0

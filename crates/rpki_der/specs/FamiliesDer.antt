@@ -50,7 +50,8 @@ AreGathered members fs = (family : AddressFamily) → claims_among family member
 
 -- at least one member, in any order
 abbrev pub SaysFamilies : {X : Type 0} → (AddressFamily → List ℕ → X → Type 0) → List ℕ → ByFamily X → Type 0
-SaysFamilies {X} G content fs = (members : List (AddressFamily × X)) × Each (IsMember G) content members × (members ≢ []) × AreGathered members fs
+SaysFamilies {X} G content fs =
+    (members : List (AddressFamily × X)) × Each (IsMember G) content members × (members ≢ []) × AreGathered members fs
 
 -- a SEQUENCE of families, each with its claim, and nothing else (2.2.3.1)
 abbrev pub IsFamilies : {X : Type 0} → (AddressFamily → List ℕ → X → Type 0) → List ℕ → ByFamily X → Type 0
@@ -91,7 +92,8 @@ abbrev pub AreInOrder : {X : Type 0} → (AddressFamily → List ℕ → X → T
 AreInOrder G content None None = ⊥
 AreInOrder G content (Some x) None = IsMember G content (Ipv4, x)
 AreInOrder G content None (Some y) = IsMember G content (Ipv6, y)
-AreInOrder G content (Some x) (Some y) = Both (λ bytes z. IsMember G bytes (Ipv4, z)) (λ bytes z. IsMember G bytes (Ipv6, z)) content x y
+AreInOrder G content (Some x) (Some y) =
+    Both (λ bytes z. IsMember G bytes (Ipv4, z)) (λ bytes z. IsMember G bytes (Ipv6, z)) content x y
 
 -- a SEQUENCE of such members, and nothing else
 abbrev pub IsFamiliesInOrder : {X : Type 0} → (AddressFamily → List ℕ → X → Type 0) → List ℕ → ByFamily X → Type 0

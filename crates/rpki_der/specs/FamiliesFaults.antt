@@ -14,8 +14,11 @@ any_member_at claim_at = member_at claim_at (false, false)
 
 -- a SEQUENCE that begins with a family of these members
 abbrev pub BeginsAmong : {X : Type 0} → List (AddressFamily × X) → List ℕ → Type 0
-BeginsAmong members = BeginsWithValue 48 (λ content. (family : AddressFamily × List ℕ) × (family_at content ≡ Ok family) × (claims_among family.0 members ≢ []))
+BeginsAmong members =
+    BeginsWithValue 48 (λ content. (family : AddressFamily × List ℕ) × (family_at content ≡ Ok family)
+    × (claims_among family.0 members ≢ []))
 
 -- members that are read, and after them a SEQUENCE that begins with the family of one of them
 abbrev pub BeginsWithRepeat : {X : Type 0} → (AddressFamily → List ℕ → Result (X × List ℕ) DerError) → List ℕ → Type 0
-BeginsWithRepeat {X} claim_at content = (members : List (AddressFamily × X)) × (rest : List ℕ) × BeginsWithAll (any_member_at claim_at) content members rest × BeginsAmong members rest
+BeginsWithRepeat {X} claim_at content = (members : List (AddressFamily × X)) × (rest : List ℕ)
+    × BeginsWithAll (any_member_at claim_at) content members rest × BeginsAmong members rest

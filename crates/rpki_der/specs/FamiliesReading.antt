@@ -1,6 +1,7 @@
 -- Reading families from left to right, with the first fault. A repeated family is a fault before its claim is read.
 -- An empty content is a fault before anything that follows.
-use Rattle.std.specs.Prelude.{◌≡◌, ℕ, zero, suc, Bool, true, not, List, [], ◌∷◌, length, Some, None, is_some, Result, Ok, Err, ◌==◌, if◌then◌else◌}
+use Rattle.std.specs.Prelude.{◌≡◌, ℕ, zero, suc, Bool, true, not, List, [], ◌∷◌, length, Some, None, is_some, Result}
+use Rattle.std.specs.Prelude.{Ok, Err, ◌==◌, if◌then◌else◌}
 use Rattle.rpki_der.specs.declared.error.DerError.{DerError}
 use Rattle.rpki_der.specs.declared.error.DerError.TheVariants.{DuplicateFamily, NoFamily, Truncated}
 use Rattle.rpki_der.specs.Reading.{◌>>=◌, ended, passing, refined, tagged_at}
@@ -28,7 +29,8 @@ unfoldable pub member_in : {X : Type 0} → (AddressFamily → List ℕ → Resu
     → Result (AddressFamily × X) DerError
 member_in claim_at before content = do
   family ← family_at content
-  if was_seen before family.0 then Err DuplicateFamily else claim_at family.0 family.1 >>= λ claim. ended claim.1 >>= λ end. Ok (family.0, claim.0)
+  if was_seen before family.0 then Err DuplicateFamily
+      else claim_at family.0 family.1 >>= λ claim. ended claim.1 >>= λ end. Ok (family.0, claim.0)
 
 -- a SEQUENCE with a member of a family that did not occur before (RFC 3779, 2.2.3.2)
 abbrev pub member_at : {X : Type 0} → (AddressFamily → List ℕ → Result (X × List ℕ) DerError) → Bool × Bool → List ℕ
@@ -57,7 +59,8 @@ none_found = (None, None)
 -- the families in a content, in any order, or NoFamily if the content is empty
 unfoldable pub families_in : {X : Type 0} → (AddressFamily → List ℕ → Result (X × List ℕ) DerError) → List ℕ
     → Result (ByFamily X) DerError
-families_in claim_at content = if length content == 0 then Err NoFamily else members_in claim_at (length content) none_found content
+families_in claim_at content =
+    if length content == 0 then Err NoFamily else members_in claim_at (length content) none_found content
 
 -- a SEQUENCE of families, in any order (RFC 3779, 2.2.3.1)
 abbrev pub families_at : {X : Type 0} → (AddressFamily → List ℕ → Result (X × List ℕ) DerError) → List ℕ
@@ -76,7 +79,9 @@ unfoldable pub member_in_by : {X : Type 0} → Bool → (AddressFamily → List 
     → Bool × Bool → List ℕ → Result (AddressFamily × X) DerError
 member_in_by strict claim_at before content = do
   family ← family_at content
-  if was_seen before family.0 then Err DuplicateFamily else passing strict (is_in_order before) family.0 >>= λ ordered. claim_at family.0 family.1 >>= λ claim. ended claim.1 >>= λ end. Ok (family.0, claim.0)
+  if was_seen before family.0 then Err DuplicateFamily
+      else passing strict (is_in_order before) family.0 >>=
+      λ ordered. claim_at family.0 family.1 >>= λ claim. ended claim.1 >>= λ end. Ok (family.0, claim.0)
 
 -- member_at by the mode
 abbrev pub member_by : {X : Type 0} → Bool → (AddressFamily → List ℕ → Result (X × List ℕ) DerError) → Bool × Bool
@@ -86,7 +91,8 @@ member_by strict claim_at before = refined (tagged_at 48) (member_in_by strict c
 -- families_in by the mode
 unfoldable pub families_in_by : {X : Type 0} → Bool → (AddressFamily → List ℕ → Result (X × List ℕ) DerError) → List ℕ
     → Result (ByFamily X) DerError
-families_in_by strict claim_at content = if length content == 0 then Err NoFamily else members_by (member_by strict claim_at) (length content) none_found content
+families_in_by strict claim_at content = if length content == 0 then Err NoFamily
+    else members_by (member_by strict claim_at) (length content) none_found content
 
 -- families_at by the mode
 abbrev pub families_by : {X : Type 0} → Bool → (AddressFamily → List ℕ → Result (X × List ℕ) DerError) → List ℕ

@@ -1,7 +1,10 @@
 -- The faults of DER that a reader reports: their numbers, names and texts, which are this layer's own.
 use Rattle.std.specs.Prelude.{ℕ, List, ◌++◌, codes, decimal}
 use Rattle.rpki_der.specs.declared.error.DerError.{DerError}
-use Rattle.rpki_der.specs.declared.error.DerError.TheVariants.{Truncated, BadTag, BadLength, BadInteger, BadBitString, BadNull, TrailingData, BadPrefix, BadFamily, ReversedRange, EmptyBlocks, DuplicateFamily, NoFamily, NotCanonical}
+use Rattle.rpki_der.specs.declared.error.DerError.TheVariants.{Truncated, BadTag, BadLength, BadInteger, BadBitString}
+use Rattle.rpki_der.specs.declared.error.DerError.TheVariants.{BadNull, TrailingData, BadPrefix, BadFamily}
+use Rattle.rpki_der.specs.declared.error.DerError.TheVariants.{ReversedRange, EmptyBlocks, DuplicateFamily, NoFamily}
+use Rattle.rpki_der.specs.declared.error.DerError.TheVariants.{NotCanonical}
 
 -- the number that a log shows for a fault
 abbrev pub fault_number : DerError → ℕ

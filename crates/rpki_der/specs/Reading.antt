@@ -1,7 +1,10 @@
 -- Reading octets from left to right: the value at the front and the octets after it, or the first fault.
-use Rattle.std.specs.Prelude.{◌≡◌, ◌⊎◌, ℕ, zero, suc, ◌+◌, ◌-◌, ◌*◌, ◌%◌, ◌^◌, Bool, true, false, not, List, [], ◌∷◌, ◌++◌, length, take, drop, slice_index, ◌&&◌, ◌||◌, Option, Some, None, Result, Ok, Err, nat_lt, nat_le, ◌==◌, if◌then◌else◌}
+use Rattle.std.specs.Prelude.{◌≡◌, ◌⊎◌, ℕ, zero, suc, ◌+◌, ◌-◌, ◌*◌, ◌%◌, ◌^◌, Bool, true, false, not, List, [], ◌∷◌}
+use Rattle.std.specs.Prelude.{◌++◌, length, take, drop, slice_index, ◌&&◌, ◌||◌, Option, Some, None, Result, Ok, Err}
+use Rattle.std.specs.Prelude.{nat_lt, nat_le, ◌==◌, if◌then◌else◌}
 use Rattle.rpki_der.specs.declared.error.DerError.{DerError}
-use Rattle.rpki_der.specs.declared.error.DerError.TheVariants.{Truncated, BadTag, BadLength, BadInteger, BadBitString, BadNull, TrailingData, NotCanonical}
+use Rattle.rpki_der.specs.declared.error.DerError.TheVariants.{Truncated, BadTag, BadLength, BadInteger, BadBitString}
+use Rattle.rpki_der.specs.declared.error.DerError.TheVariants.{BadNull, TrailingData, NotCanonical}
 use Rattle.rpki_der.specs.Der.{Tlv, Bits, IsBytes, Front, big_endian, last_octet}
 
 -- f of the value, or the error if there is no value
@@ -36,7 +39,8 @@ value_at [] = Err Truncated
 value_at (tag ∷ bytes) =
     if tag % 32 == 31 then Err BadTag else do
       len ← length_at bytes
-      if nat_lt (length len.1) len.0 then Err Truncated else Ok (record { tag = tag; content = take len.0 len.1 }, drop len.0 len.1)
+      if nat_lt (length len.1) len.0 then Err Truncated
+          else Ok (record { tag = tag; content = take len.0 len.1 }, drop len.0 len.1)
 
 -- the content of the value at the front, which must have this tag
 unfoldable pub tagged_at : ℕ → List ℕ → Result (List ℕ × List ℕ) DerError
@@ -50,13 +54,15 @@ tagged_at tag bytes = do
 unfoldable pub unsigned : List ℕ → Result ℕ DerError
 unsigned content =
     if (length content == 0) || nat_lt 5 (length content) || nat_le 128 (slice_index content 0) then Err BadInteger else
-    if nat_lt 1 (length content) && (slice_index content 0 == 0) && nat_lt (slice_index content 1) 128 then Err BadInteger else
+    if nat_lt 1 (length content) && (slice_index content 0 == 0) && nat_lt (slice_index content 1) 128
+    then Err BadInteger else
     if nat_lt (big_endian content) (2 ^ 32) then Ok (big_endian content) else Err BadInteger
 
 -- the bit string in the content of a BIT STRING, unused bits as they are
 unfoldable pub bits : List ℕ → Result Bits DerError
 bits [] = Err BadBitString
-bits (unused ∷ octets) = if nat_lt 7 unused || (nat_lt 0 unused && (length octets == 0)) then Err BadBitString else Ok (record { unused = unused; octets = octets })
+bits (unused ∷ octets) = if nat_lt 7 unused || (nat_lt 0 unused && (length octets == 0)) then Err BadBitString
+    else Ok (record { unused = unused; octets = octets })
 
 -- whether a content that may be a bit string has more bits than the limit
 abbrev pub is_longer : ℕ → List ℕ → Bool
@@ -140,7 +146,8 @@ null_at = refined (tagged_at 5) nothing
 -- ---- the values that readings find
 
 -- reading finds the values of a grammar, with any octets after them, and no others
-pub record IsReading {X : Type 0} (G : List ℕ → X → Type 0) (reading : List ℕ → Result (X × List ℕ) DerError) : Type 0 where
+pub record IsReading {X : Type 0} (G : List ℕ → X → Type 0) (reading : List ℕ → Result (X × List ℕ) DerError)
+    : Type 0 where
   pub takes : (bytes : List ℕ) (x : X) (rest : List ℕ) → IsBytes bytes → reading bytes ≡ Ok (x, rest)
       → Front G bytes x rest
   pub again : (front : List ℕ) (x : X) (rest : List ℕ) → G front x → reading (front ++ rest) ≡ Ok (x, rest)
@@ -150,6 +157,7 @@ abbrev pub Tightens : {X : Type 0} → Bool → Result X DerError → Result X D
 Tightens strict by found = (by ≡ found) ⊎ ((strict ≡ true) × (by ≡ Err NotCanonical))
 
 -- Tightens holds for all octets, and the strict reading finds the values of S
-pub record IsModal {X : Type 0} (S : List ℕ → X → Type 0) (reading : List ℕ → Result (X × List ℕ) DerError) (by : Bool → List ℕ → Result (X × List ℕ) DerError) : Type 0 where
+pub record IsModal {X : Type 0} (S : List ℕ → X → Type 0) (reading : List ℕ → Result (X × List ℕ) DerError)
+    (by : Bool → List ℕ → Result (X × List ℕ) DerError) : Type 0 where
   pub tight : IsReading S (by true)
   pub tightens : (strict : Bool) (bytes : List ℕ) → Tightens strict (by strict bytes) (reading bytes)

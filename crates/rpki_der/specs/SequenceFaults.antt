@@ -5,7 +5,8 @@ use Rattle.rpki_der.specs.Reading.{tagged_at}
 
 -- reading finds two values first, and C holds for them
 abbrev pub BeginsWithTwo : {X : Type 0} → (List ℕ → Result (X × List ℕ) DerError) → (X → X → Type 0) → List ℕ → Type 0
-BeginsWithTwo {X} reading C bytes = (first second : X × List ℕ) × (reading bytes ≡ Ok first) × (reading first.1 ≡ Ok second) × C first.0 second.0
+BeginsWithTwo {X} reading C bytes =
+    (first second : X × List ℕ) × (reading bytes ≡ Ok first) × (reading first.1 ≡ Ok second) × C first.0 second.0
 
 -- the octets begin with a value of the tag, and P holds for its content
 abbrev pub BeginsWithValue : ℕ → (List ℕ → Type 0) → List ℕ → Type 0
@@ -18,4 +19,5 @@ BeginsEmpty = BeginsWithValue 48 (λ content. content ≡ [])
 -- reading finds these values first, one after another, and rest follows them
 abbrev pub BeginsWithAll : {X : Type 0} → (List ℕ → Result (X × List ℕ) DerError) → List ℕ → List X → List ℕ → Type 0
 BeginsWithAll reading bytes [] rest = bytes ≡ rest
-BeginsWithAll reading bytes (x ∷ xs) rest = (behind : List ℕ) × (reading bytes ≡ Ok (x, behind)) × BeginsWithAll reading behind xs rest
+BeginsWithAll reading bytes (x ∷ xs) rest =
+    (behind : List ℕ) × (reading bytes ≡ Ok (x, behind)) × BeginsWithAll reading behind xs rest

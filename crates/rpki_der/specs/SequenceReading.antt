@@ -1,7 +1,8 @@
 -- Readings that blocks and other values share: values of one of two tags, one or two values in a content, optional
 -- values, skipped values, and a SEQUENCE of values (X.690, 8.9 and 8.10). An optional value is present if and only if
 -- the next octet is its tag.
-use Rattle.std.specs.Prelude.{◌≡◌, ◌⊎◌, ℕ, Bool, false, List, [], ◌∷◌, length, Option, Some, None, Result, Ok, Err, ◌==◌, if◌then◌else◌}
+use Rattle.std.specs.Prelude.{◌≡◌, ◌⊎◌, ℕ, Bool, false, List, [], ◌∷◌, length, Option, Some, None, Result, Ok, Err}
+use Rattle.std.specs.Prelude.{◌==◌, if◌then◌else◌}
 use Rattle.rpki_der.specs.declared.error.DerError.{DerError}
 use Rattle.rpki_der.specs.declared.error.DerError.TheVariants.{BadTag, EmptyBlocks}
 use Rattle.rpki_der.specs.Der.{Tlv, Both, Each, EachFrom, IsSequence, IsValue, Refines}

@@ -55,4 +55,5 @@ ReadsTagged tag G old new (Err e) = (begins_with tag (left old) ≡ true) × NoF
 abbrev pub NotCanonicalOrMemory : {X Y : Type 0} → (List ℕ → Y → Type 0) → Cursor → Result X (OrMemory DerError)
     → Type 0
 NotCanonicalOrMemory G old (Ok x) = Unit {0}
-NotCanonicalOrMemory G old (Err e) = IfRefused (λ fault. ((is_strict old ≡ true) × (fault ≡ NotCanonical)) ⊎ NoFront G (left old)) e
+NotCanonicalOrMemory G old (Err e) =
+    IfRefused (λ fault. ((is_strict old ≡ true) × (fault ≡ NotCanonical)) ⊎ NoFront G (left old)) e

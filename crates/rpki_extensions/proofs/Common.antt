@@ -1,5 +1,7 @@
 -- What the proofs of this crate use of std, of the crates below and of its own definitions, passed on by one name.
-pub use Rattle.std.proofs.Common.{Bool, Err, IfOk, IsErr, List, MatchResult, None, Ok, Option, Result, Some, [], ap, arith, get_or, inr, length, option_map, refl, rules, subst, sym, take, ℕ, ◌++◌, ◌+◌, ◌<◌, ◌∙◌, ◌∷◌, ◌≡◌, ◌≢◌}
+pub use Rattle.std.proofs.Common.{Bool, Err, IfOk, IsErr, List, MatchResult, None, Ok, Option, Result, Some, [], ap}
+pub use Rattle.std.proofs.Common.{arith, get_or, inr, length, option_map, refl, rules, subst, sym, take, ℕ, ◌++◌, ◌+◌}
+pub use Rattle.std.proofs.Common.{◌<◌, ◌∙◌, ◌∷◌, ◌≡◌, ◌≢◌}
 pub use Rattle.std.proofs.lemmas.List.{append-nil, get_or_default, take_all}
 pub use Rattle.std.specs.Prelude.{IfSome, ◌^◌}
 pub use Rattle.rpki_der.specs.FamiliesDer.{ByFamily, families_der}

@@ -1,5 +1,10 @@
 -- What a take in either mode, and then the end of the octets, tell of all of them.
-use Rattle.rpki_extensions.proofs.Common.{Bool, Err, List, None, Ok, arith, Option, Result, [], ap, refl, subst, sym, ℕ, ◌++◌, ◌∙◌, ◌≡◌, ◌≢◌, append-nil, IfSome, ByFamily, families_der, AddressFamily, Ipv4, Ipv6, Claim, Missing, ended, DerError, ArePresentClaims, IsFamilyClaim, IsPresentFamilyClaim, if_present, ip_families_der, ip_resources_der, IfRefused, OrMemory, Memory, Refused, claim_or_missing, IsSaidIn, is_canonical, Encoding, Any, Canonical}
+use Rattle.rpki_extensions.proofs.Common.{Bool, Err, List, None, Ok, arith, Option, Result, [], ap, refl, subst, sym, ℕ}
+use Rattle.rpki_extensions.proofs.Common.{◌++◌, ◌∙◌, ◌≡◌, ◌≢◌, append-nil, IfSome, ByFamily, families_der}
+use Rattle.rpki_extensions.proofs.Common.{AddressFamily, Ipv4, Ipv6, Claim, Missing, ended, DerError, ArePresentClaims}
+use Rattle.rpki_extensions.proofs.Common.{IsFamilyClaim, IsPresentFamilyClaim, if_present, ip_families_der}
+use Rattle.rpki_extensions.proofs.Common.{ip_resources_der, IfRefused, OrMemory, Memory, Refused, claim_or_missing}
+use Rattle.rpki_extensions.proofs.Common.{IsSaidIn, is_canonical, Encoding, Any, Canonical}
 use Rattle.rpki_der.specs.declared.cursor.Cursor.{Cursor}
 use Rattle.rpki_der.specs.Der.{Front, HasNone, OneFront, Spells}
 use Rattle.rpki_der.specs.FrontLaws.{none_where_more, none_where_no_front, whole_value}
@@ -20,7 +25,8 @@ only_more : {X : Type 0} (reading : List ℕ → Result (X × List ℕ) DerError
 unfolding only
 only_more reading octets rest x fault e f = rw (e, f) refl
 
-module _ {X Y : Type 0} (encoding : Encoding) (G : List ℕ → X → Type 0) (P : X → Type 0) (written : X → List ℕ) (C : Y → X → Type 0) (by : Bool → List ℕ → Result (Y × List ℕ) DerError)
+module _ {X Y : Type 0} (encoding : Encoding) (G : List ℕ → X → Type 0) (P : X → Type 0) (written : X → List ℕ)
+    (C : Y → X → Type 0) (by : Bool → List ℕ → Result (Y × List ℕ) DerError)
     (old new : Cursor) (mode : is_strict old ≡ is_canonical encoding) where
   -- what a call promises in each mode, in the one that it is in
   reads_in : (result : Result X (OrMemory DerError)) → Lenient old (ReadsOrMemory G (λ x. x) old new result)
@@ -43,7 +49,8 @@ module _ {X Y : Type 0} (encoding : Encoding) (G : List ℕ → X → Type 0) (P
   refused_in (Refused fault) lenient strict took =
       let none = (reads_in (Err (Refused fault)) lenient strict).0 in (
         none_where_no_front (IsSaidIn encoding G P written) (left old) none,
-        only_refused (by (is_canonical encoding)) (left old) fault (subst (λ m. by m (left old) ≡ Err fault) mode took.0),
+        only_refused (by (is_canonical encoding)) (left old) fault
+            (subst (λ m. by m (left old) ≡ Err fault) mode took.0),
       )
   refused_in (Memory e) lenient strict took = tt
 
@@ -56,7 +63,8 @@ module _ {X Y : Type 0} (encoding : Encoding) (G : List ℕ → X → Type 0) (P
       → HasNone (IsSaidIn encoding G P written) (left old) × (only (by (is_canonical encoding)) (left old) ≡ Err fault)
   more_in x fault one back lenient strict took e = (
     none encoding (reads_in (Ok x) lenient strict),
-    only_more (by (is_canonical encoding)) (left old) (left new) took.0 fault (subst (λ m. by m (left old) ≡ Ok (took.0, left new)) mode took.1) e,
+    only_more (by (is_canonical encoding)) (left old) (left new) took.0 fault
+        (subst (λ m. by m (left old) ≡ Ok (took.0, left new)) mode took.1) e,
   )
     where
       some : left new ≢ []
@@ -72,7 +80,9 @@ module _ {X Y : Type 0} (encoding : Encoding) (G : List ℕ → X → Type 0) (P
       → Strict old (ReadsOrMemory (Spells P written) (λ x. x) old new (Ok x)) → ended (left new) ≡ Ok u
       → IsSaidIn encoding G P written (left old) x
   all_in x u lenient strict e =
-      whole_value (IsSaidIn encoding G P written) (left old) x (subst (λ rest. Front (IsSaidIn encoding G P written) (left old) x rest) (nothing_left (left new) u e) (reads_in (Ok x) lenient strict))
+      whole_value (IsSaidIn encoding G P written) (left old) x
+      (subst (λ rest. Front (IsSaidIn encoding G P written) (left old) x rest) (nothing_left (left new) u e)
+      (reads_in (Ok x) lenient strict))
 
 -- ---- families
 
@@ -98,6 +108,10 @@ pub families_again : (old new : Cursor) (x : ByFamily Claim)
 families_again old new x back (a, b) rest (first, second, some) at =
     let v4 = claim_or_missing a in
     let v6 = claim_or_missing b in
-    let same : (if_present v4, if_present v6) ≡ (a, b) = λ i. (present_again Ipv4 a first i, present_again Ipv6 b second i) in
-    let ensured = back v4 v6 rest (of_family Ipv4 a first) (of_family Ipv6 b second) (λ no also. some (none_of Ipv4 a first no) (none_of Ipv6 b second also)) (at ∙ ap (λ (fs : ByFamily Claim). families_der ip_resources_der fs ++ rest) (sym same)) in
+    let same : (if_present v4, if_present v6) ≡ (a, b) =
+    λ i. (present_again Ipv4 a first i, present_again Ipv6 b second i) in
+    let ensured =
+    back v4 v6 rest (of_family Ipv4 a first) (of_family Ipv6 b second)
+    (λ no also. some (none_of Ipv4 a first no) (none_of Ipv6 b second also))
+    (at ∙ ap (λ (fs : ByFamily Claim). families_der ip_resources_der fs ++ rest) (sym same)) in
     (ensured.0 ∙ same, ensured.1)

@@ -1,5 +1,7 @@
 -- What claims leave of an issuer's resources, and that it lies in them.
-use Rattle.rpki_extensions.proofs.Common.{Ok, Err, MatchResult, Result, arith, ℕ, Claim, Holds, Runs, HasEachOf, Triple, IfRefused, OrMemory, AreClaims, IsIssuedOfEach, IsNotIssuedOfEach, HasVerifyError, IsVerified, Extensions}
+use Rattle.rpki_extensions.proofs.Common.{Ok, Err, MatchResult, Result, arith, ℕ, Claim, Holds, Runs, HasEachOf, Triple}
+use Rattle.rpki_extensions.proofs.Common.{IfRefused, OrMemory, AreClaims, IsIssuedOfEach, IsNotIssuedOfEach}
+use Rattle.rpki_extensions.proofs.Common.{HasVerifyError, IsVerified, Extensions}
 use Rattle.rpki_chain.specs.Paths.{IsIssued}
 use Rattle.rpki_chain.specs.declared.path.Overclaim.{Overclaim}
 use Rattle.rpki_extensions.specs.declared.error.VerifyError.{VerifyError}

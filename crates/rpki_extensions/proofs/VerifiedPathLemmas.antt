@@ -1,5 +1,7 @@
 -- One certificate of a path after another.
-use Rattle.rpki_extensions.proofs.Common.{List, [], arith, get_or, get_or_default, length, refl, take, ℕ, ◌++◌, ◌+◌, ◌<◌, ◌∷◌, ◌≡◌, HasEachOf, Triple, IfRefused, OrMemory, Memory, Refused, HasVerifyError, IsVerified, IsVerifiedPath, Extensions}
+use Rattle.rpki_extensions.proofs.Common.{List, [], arith, get_or, get_or_default, length, refl, take, ℕ, ◌++◌, ◌+◌}
+use Rattle.rpki_extensions.proofs.Common.{◌<◌, ◌∷◌, ◌≡◌, HasEachOf, Triple, IfRefused, OrMemory, Memory, Refused}
+use Rattle.rpki_extensions.proofs.Common.{HasVerifyError, IsVerified, IsVerifiedPath, Extensions}
 use Rattle.std.proofs.lemmas.List.{take_more}
 use Rattle.rpki_extensions.specs.Paths.{IsFirstVerifyError}
 use Rattle.rpki_extensions.specs.declared.error.VerifyPathError.{VerifyPathError}

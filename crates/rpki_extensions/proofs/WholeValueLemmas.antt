@@ -1,5 +1,6 @@
 -- What a take at the front of octets, and then their end, tell of all of them.
-use Rattle.rpki_extensions.proofs.Common.{Err, IsErr, List, MatchResult, Ok, Result, [], arith, refl, ℕ, ◌∷◌, ◌≡◌, ◌≢◌, ended, DerError, IfRefused, OrMemory}
+use Rattle.rpki_extensions.proofs.Common.{Err, IsErr, List, MatchResult, Ok, Result, [], arith, refl, ℕ, ◌∷◌, ◌≡◌, ◌≢◌}
+use Rattle.rpki_extensions.proofs.Common.{ended, DerError, IfRefused, OrMemory}
 use Rattle.std.specs.Result.{IsErrAnd}
 
 -- the end was seen

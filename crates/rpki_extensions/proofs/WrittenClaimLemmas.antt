@@ -1,5 +1,7 @@
 -- What is written of claims is read as them.
-use Rattle.rpki_extensions.proofs.Common.{List, Some, [], arith, length, ℕ, ◌++◌, ◌<◌, ◌≡◌, ◌≢◌, ◌^◌, Ipv4, Ipv6, Claim, Missing, IsFamilyClaim, if_present, IsIpFamilies, ip_families_der, AreAddressClaims, claim_or_missing, IsAddressValue, Encoding}
+use Rattle.rpki_extensions.proofs.Common.{List, Some, [], arith, length, ℕ, ◌++◌, ◌<◌, ◌≡◌, ◌≢◌, ◌^◌, Ipv4, Ipv6, Claim}
+use Rattle.rpki_extensions.proofs.Common.{Missing, IsFamilyClaim, if_present, IsIpFamilies, ip_families_der}
+use Rattle.rpki_extensions.proofs.Common.{AreAddressClaims, claim_or_missing, IsAddressValue, Encoding}
 use Rattle.rpki_ipres.proofs.IpResourcesWritten.{claims_written}
 use Rattle.rpki_extensions.specs.Written.{claimed_addresses}
 

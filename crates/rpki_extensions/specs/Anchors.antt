@@ -4,7 +4,8 @@ use Rattle.rpki_chain.specs.Claims.{Claim}
 use Rattle.rpki_resources.specs.Triples.{AreListed, IsOneInherited, Triple}
 use Rattle.rpki_extensions.specs.Claims.{AreClaims, AreNoClaims}
 use Rattle.rpki_extensions.specs.declared.error.VerifyError.{VerifyError}
-use Rattle.rpki_extensions.specs.declared.error.VerifyError.TheVariants.{Absent, AsOctets, AddressOctets, Inherited, Asn, Ipv4, Ipv6}
+use Rattle.rpki_extensions.specs.declared.error.VerifyError.TheVariants.{Absent, AsOctets, AddressOctets, Inherited}
+use Rattle.rpki_extensions.specs.declared.error.VerifyError.TheVariants.{Asn, Ipv4, Ipv6}
 use Rattle.rpki_extensions.specs.declared.extensions.Extensions.{Extensions}
 
 -- the extensions claim resources, and list this set

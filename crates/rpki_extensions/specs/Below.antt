@@ -23,4 +23,5 @@ IsVerifyBelowErrorOfRoot root certificates (Certificate refusal) = IsFirstVerify
 -- the anchor lists no set for the reason, or else the certificate is the first that isn't verified
 abbrev pub IsVerifyBelowError : {A : Type 0} → Extensions → List Extensions → VerifyBelowError A → Type 0
 IsVerifyBelowError anchor certificates (Anchor reason) = IsNoAnchor anchor reason
-IsVerifyBelowError anchor certificates (Certificate refusal) = (root : Triple) × IsAnchorSet anchor root × IsFirstVerifyError root certificates refusal
+IsVerifyBelowError anchor certificates (Certificate refusal) =
+    (root : Triple) × IsAnchorSet anchor root × IsFirstVerifyError root certificates refusal

@@ -7,7 +7,8 @@ use Rattle.rpki_der.specs.FamiliesDer.{ByFamily}
 use Rattle.rpki_extensions.specs.Encodings.{HasAddressValueFault, HasAsFault, IsAddressValue, IsAsValue}
 use Rattle.rpki_extensions.specs.declared.encoding.Encoding.{Encoding}
 use Rattle.rpki_extensions.specs.declared.error.VerifyError.{VerifyError}
-use Rattle.rpki_extensions.specs.declared.error.VerifyError.TheVariants.{Absent, AsOctets, AddressOctets, Inherited, Asn, Ipv4, Ipv6}
+use Rattle.rpki_extensions.specs.declared.error.VerifyError.TheVariants.{Absent, AsOctets, AddressOctets, Inherited}
+use Rattle.rpki_extensions.specs.declared.error.VerifyError.TheVariants.{Asn, Ipv4, Ipv6}
 use Rattle.rpki_extensions.specs.declared.extensions.Extensions.{Extensions}
 
 -- the claim of a family, or a missing claim if the value has no such family
@@ -17,7 +18,8 @@ claim_or_missing (Some claim) = claim
 
 -- the octets of IP address blocks make these claims on IPv4 and on IPv6
 abbrev pub AreClaimed : Encoding → List ℕ → Claim × Claim → Type 0
-AreClaimed encoding octets claims = (families : ByFamily Claim) × IsAddressValue encoding octets families × (claims ≡ (claim_or_missing families.0, claim_or_missing families.1))
+AreClaimed encoding octets claims = (families : ByFamily Claim) × IsAddressValue encoding octets families
+    × (claims ≡ (claim_or_missing families.0, claim_or_missing families.1))
 
 -- ---- an extension that may be absent
 

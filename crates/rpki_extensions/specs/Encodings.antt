@@ -35,8 +35,10 @@ IsAddressValue encoding = IsSaidIn encoding IsIpFamilies ArePresentClaims (famil
 
 -- the octets are no accepted encoding of AS identifiers, and this is their first fault
 abbrev pub HasAsFault : Encoding → List ℕ → DerError → Type 0
-HasAsFault encoding octets fault = HasNone (IsAsValue encoding) octets × (only (as_choice_by (is_canonical encoding)) octets ≡ Err fault)
+HasAsFault encoding octets fault =
+    HasNone (IsAsValue encoding) octets × (only (as_choice_by (is_canonical encoding)) octets ≡ Err fault)
 
 -- the octets are no accepted encoding of IP address blocks, and this is their first fault
 abbrev pub HasAddressValueFault : Encoding → List ℕ → DerError → Type 0
-HasAddressValueFault encoding octets fault = HasNone (IsAddressValue encoding) octets × (only (ip_families_by (is_canonical encoding)) octets ≡ Err fault)
+HasAddressValueFault encoding octets fault =
+    HasNone (IsAddressValue encoding) octets × (only (ip_families_by (is_canonical encoding)) octets ≡ Err fault)

@@ -7,7 +7,8 @@ use Rattle.rpki_chain.specs.declared.path.Overclaim.{Overclaim}
 use Rattle.rpki_resources.specs.Triples.{Triple}
 use Rattle.rpki_extensions.specs.Claims.{AreClaims, AreNoClaims}
 use Rattle.rpki_extensions.specs.declared.error.VerifyError.{VerifyError}
-use Rattle.rpki_extensions.specs.declared.error.VerifyError.TheVariants.{Absent, AsOctets, AddressOctets, Inherited, Asn, Ipv4, Ipv6}
+use Rattle.rpki_extensions.specs.declared.error.VerifyError.TheVariants.{Absent, AsOctets, AddressOctets, Inherited}
+use Rattle.rpki_extensions.specs.declared.error.VerifyError.TheVariants.{Asn, Ipv4, Ipv6}
 use Rattle.rpki_extensions.specs.declared.extensions.Extensions.{Extensions}
 
 -- the reason is the overclaimed AS numbers
@@ -44,7 +45,8 @@ IsV6Excess issuer claim mode (Ipv4 excess) = ⊥
 
 -- the sets are the parts of the issuer's that the claims on addresses leave
 abbrev pub AreIssued : Triple → Claim → Claim → Overclaim → Runs × Runs → Type 0
-AreIssued issuer v4 v6 mode sets = IsIssued (Holds issuer.ipv4) v4 mode sets.0 × IsIssued (Holds issuer.ipv6) v6 mode sets.1
+AreIssued issuer v4 v6 mode sets =
+    IsIssued (Holds issuer.ipv4) v4 mode sets.0 × IsIssued (Holds issuer.ipv6) v6 mode sets.1
 
 -- the claim on IPv4 is refused, or else the claim on IPv6
 abbrev pub AreNotIssued : {A : Type 0} → Triple → Claim → Claim → Overclaim → VerifyError A → Type 0
@@ -68,10 +70,12 @@ IsNotIssuedOfEach issuer asn v4 v6 mode reason =
 -- the set is the part of the issuer's that the extensions claim
 abbrev pub IsVerified : Triple → Extensions → Triple → Type 0
 IsVerified issuer certificate set =
-    (asn : Claim) × (v4 : Claim) × (v6 : Claim) × AreClaims certificate asn v4 v6 × IsIssuedOfEach issuer asn v4 v6 certificate.mode set
+    (asn : Claim) × (v4 : Claim) × (v6 : Claim) × AreClaims certificate asn v4 v6
+    × IsIssuedOfEach issuer asn v4 v6 certificate.mode set
 
 -- the reason is that there are no claims, or that a claim is refused
 abbrev pub HasVerifyError : {A : Type 0} → Triple → Extensions → VerifyError A → Type 0
 HasVerifyError issuer certificate reason =
     AreNoClaims certificate reason
-    ⊎ ((asn : Claim) × (v4 : Claim) × (v6 : Claim) × AreClaims certificate asn v4 v6 × IsNotIssuedOfEach issuer asn v4 v6 certificate.mode reason)
+    ⊎ ((asn : Claim) × (v4 : Claim) × (v6 : Claim) × AreClaims certificate asn v4 v6
+    × IsNotIssuedOfEach issuer asn v4 v6 certificate.mode reason)

@@ -10,10 +10,13 @@ use Rattle.rpki_extensions.specs.declared.extensions.Extensions.{Extensions}
 -- before it leave.
 abbrev pub IsVerifiedPath : Triple → List Extensions → Triple → Type 0
 IsVerifiedPath anchor [] set = set ≡ anchor
-IsVerifiedPath anchor (certificate ∷ certificates) set = (next : Triple) × IsVerified anchor certificate next × IsVerifiedPath next certificates set
+IsVerifiedPath anchor (certificate ∷ certificates) set =
+    (next : Triple) × IsVerified anchor certificate next × IsVerifiedPath next certificates set
 
 -- the certificate at the index isn't verified, for the reason, by the part that the certificates before it leave
 abbrev pub IsFirstVerifyError : {A : Type 0} → Triple → List Extensions → VerifyPathError A → Type 0
 IsFirstVerifyError anchor certificates refusal =
-    (certificate : Extensions) × (refusal.step < length certificates) × (slice_index_or certificates refusal.step certificate ≡ certificate)
-    × ((issuer : Triple) × IsVerifiedPath anchor (take refusal.step certificates) issuer × HasVerifyError issuer certificate refusal.reason)
+    (certificate : Extensions) × (refusal.step < length certificates)
+    × (slice_index_or certificates refusal.step certificate ≡ certificate)
+    × ((issuer : Triple) × IsVerifiedPath anchor (take refusal.step certificates) issuer
+    × HasVerifyError issuer certificate refusal.reason)

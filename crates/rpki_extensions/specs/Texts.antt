@@ -7,7 +7,8 @@ use Rattle.rpki_ipres.specs.SetText.{overclaimed_ip_text}
 use Rattle.rpki_extensions.specs.declared.error.VerifyBelowError.{VerifyBelowError}
 use Rattle.rpki_extensions.specs.declared.error.VerifyBelowError.TheVariants.{Anchor, Certificate}
 use Rattle.rpki_extensions.specs.declared.error.VerifyError.{VerifyError}
-use Rattle.rpki_extensions.specs.declared.error.VerifyError.TheVariants.{Absent, AsOctets, AddressOctets, Inherited, Asn, Ipv4, Ipv6}
+use Rattle.rpki_extensions.specs.declared.error.VerifyError.TheVariants.{Absent, AsOctets, AddressOctets, Inherited}
+use Rattle.rpki_extensions.specs.declared.error.VerifyError.TheVariants.{Asn, Ipv4, Ipv6}
 use Rattle.rpki_extensions.specs.declared.error.VerifyPathError.{VerifyPathError}
 
 -- the printed text of a reason: the extension and the first fault of its octets, or the kind and its overclaimed
@@ -23,7 +24,8 @@ verify_error_text (Ipv6 excess) = overclaimed_ip_text v6 excess
 
 -- the printed text of an error on a path: the index of the certificate, and the reason
 abbrev pub certificate_text : {A : Type 0} → VerifyPathError A → List ℕ
-certificate_text refusal = codes "certificate " ++ decimal refusal.step ++ codes ": " ++ verify_error_text refusal.reason
+certificate_text refusal =
+    codes "certificate " ++ decimal refusal.step ++ codes ": " ++ verify_error_text refusal.reason
 
 -- the printed text of an error below an anchor: the reason of the anchor, or the certificate with its reason
 abbrev pub below_text : {A : Type 0} → VerifyBelowError A → List ℕ

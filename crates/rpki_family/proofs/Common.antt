@@ -1,5 +1,6 @@
 -- What the proofs of this crate use of std, of the crates below and of its own definitions, passed on by one name.
-pub use Rattle.std.proofs.Common.{List, Option, [], ap, arith, inl, inr, map, refl, subst, sym, take, ℕ, ◌*◌, ◌++◌, ◌-◌, ◌/◌, ◌<◌, ◌^◌, ◌↔◌, ◌∙◌, ◌∷◌, ◌≡◌, ◌≤◌, ◌⊎◌}
+pub use Rattle.std.proofs.Common.{List, Option, [], ap, arith, inl, inr, map, refl, subst, sym, take, ℕ, ◌*◌, ◌++◌, ◌-◌}
+pub use Rattle.std.proofs.Common.{◌/◌, ◌<◌, ◌^◌, ◌↔◌, ◌∙◌, ◌∷◌, ◌≡◌, ◌≤◌, ◌⊎◌}
 pub use Rattle.std.proofs.lemmas.List.{map-append, take_more}
 pub use Rattle.std.proofs.lemmas.List.Elements.{All-head, All-map, All-push, All-tail}
 pub use Rattle.std.specs.List.{All}

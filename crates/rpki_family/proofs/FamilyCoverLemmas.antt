@@ -1,5 +1,8 @@
 -- Covers of sets of whole IPv4 addresses: those of their IPv4 addresses.
-use Rattle.rpki_family.proofs.Common.{[], arith, map, refl, sym, ℕ, ◌*◌, ◌/◌, ◌<◌, ◌^◌, ◌↔◌, ◌∙◌, ◌∷◌, ◌≡◌, ◌≤◌, map-append, All-head, All-map, All-tail, All, Holds, Runs, IsWithin, IsShortestCover, IsV4CoverList, widened, HasWholeBounds, IsWhole, IsIpSet, Ipv4Of, runs_cover}
+use Rattle.rpki_family.proofs.Common.{[], arith, map, refl, sym, ℕ, ◌*◌, ◌/◌, ◌<◌, ◌^◌, ◌↔◌, ◌∙◌, ◌∷◌, ◌≡◌, ◌≤◌}
+use Rattle.rpki_family.proofs.Common.{map-append, All-head, All-map, All-tail, All, Holds, Runs, IsWithin}
+use Rattle.rpki_family.proofs.Common.{IsShortestCover, IsV4CoverList, widened, HasWholeBounds, IsWhole, IsIpSet, Ipv4Of}
+use Rattle.rpki_family.proofs.Common.{runs_cover}
 use Rattle.std.specs.Prelude.{List}
 use Rattle.std.proofs.lemmas.List.{get_or-map, length-map}
 use Rattle.rpki_cover.specs.Prefixes.{PrefixValue}

@@ -1,5 +1,7 @@
 -- What is of a family: by cases, IPv4 where addresses are whole, and IPv6 where there is nothing to show.
-use Rattle.rpki_family.proofs.Common.{List, map, ◌≡◌, All, arith, family_of, Holds, IsRunsOfBlocks, Runs, ip_bounds, new_ip_block, prefix_bounds, IpBlock, IsFamilySet, IsIpSet, HasBoundsIn, IsCoverListIn, IsShortestCover}
+use Rattle.rpki_family.proofs.Common.{List, map, ◌≡◌, All, arith, family_of, Holds, IsRunsOfBlocks, Runs, ip_bounds}
+use Rattle.rpki_family.proofs.Common.{new_ip_block, prefix_bounds, IpBlock, IsFamilySet, IsIpSet, HasBoundsIn}
+use Rattle.rpki_family.proofs.Common.{IsCoverListIn, IsShortestCover}
 use Rattle.rpki_der.specs.declared.family.AddressFamily.{AddressFamily}
 use Rattle.rpki_der.specs.declared.family.AddressFamily.TheVariants.{Ipv4, Ipv6}
 use Rattle.rpki_chain.specs.Claims.{Claim}

@@ -10,4 +10,5 @@ use Rattle.rpki_prefix.specs.Values.{FamilyPrefix}
 -- the result is the block of the prefix's addresses if the prefix is of the family, and None if it isn't
 abbrev pub IsPrefixBlock : AddressFamily → FamilyPrefix → Option IpBlock → Type 0
 IsPrefixBlock family p r =
-    MatchOption r (family_of p.addr ≢ family) (λ block. (family_of p.addr ≡ family) × (block ≡ Prefix (record { first = first_of p.addr; len = p.len })))
+    MatchOption r (family_of p.addr ≢ family)
+    (λ block. (family_of p.addr ≡ family) × (block ≡ Prefix (record { first = first_of p.addr; len = p.len })))

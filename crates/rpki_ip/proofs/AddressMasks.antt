@@ -1,5 +1,6 @@
 -- On the masks by which an address of 128 bits keeps its first ones.
-use Rattle.rpki_ip.proofs.Common.{arith, bit_and, bit_or, cleared, ℕ, ◌+◌, ◌-◌, ◌/◌, ◌<◌, ◌^◌, ◌≡◌, clear_host, host_ones, or_lt, set_host, shr_le}
+use Rattle.rpki_ip.proofs.Common.{arith, bit_and, bit_or, cleared, ℕ, ◌+◌, ◌-◌, ◌/◌, ◌<◌, ◌^◌, ◌≡◌, clear_host}
+use Rattle.rpki_ip.proofs.Common.{host_ones, or_lt, set_host, shr_le}
 
 -- the first `len` of 128 bits, with the others cleared, and set
 pub least_by : (n len : ℕ) → n < 2 ^ 128 → len < 128

@@ -1,5 +1,10 @@
 -- The bits of a prefix, as octets and as a number.
-use Rattle.rpki_ip.proofs.Common.{subst, mul-mod_left, List, [], ap, arith, drop, length, refl, replicate, suc, take, zero, ℕ, ◌%◌, ◌*◌, ◌++◌, ◌+◌, ◌-◌, ◌/◌, ◌<◌, ◌^◌, ◌∙◌, ◌∷◌, ◌≡◌, ◌≤◌, div-div-eq-div-mul, pow-suc, drop-replicate, length-take, div-add-mod', pow-add, shl-shr, shl_below, shr-shr, shr_below, shr_split, byte_at, bytes_high_first, from_be_bytes, to_be_bytes, w128, IsPrefix, PrefixValue, IsBytes-rest, Bits, IsBits, IsBytes, big_endian, big_endian_after, SaysPrefix, octet_count, prefix_bits}
+use Rattle.rpki_ip.proofs.Common.{subst, mul-mod_left, List, [], ap, arith, drop, length, refl, replicate, suc, take}
+use Rattle.rpki_ip.proofs.Common.{zero, ℕ, ◌%◌, ◌*◌, ◌++◌, ◌+◌, ◌-◌, ◌/◌, ◌<◌, ◌^◌, ◌∙◌, ◌∷◌, ◌≡◌, ◌≤◌}
+use Rattle.rpki_ip.proofs.Common.{div-div-eq-div-mul, pow-suc, drop-replicate, length-take, div-add-mod', pow-add}
+use Rattle.rpki_ip.proofs.Common.{shl-shr, shl_below, shr-shr, shr_below, shr_split, byte_at, bytes_high_first}
+use Rattle.rpki_ip.proofs.Common.{from_be_bytes, to_be_bytes, w128, IsPrefix, PrefixValue, IsBytes-rest, Bits, IsBits}
+use Rattle.rpki_ip.proofs.Common.{IsBytes, big_endian, big_endian_after, SaysPrefix, octet_count, prefix_bits}
 use borrow.Rule.Slice.PartMut.{put_mid}
 
 -- ---- the number that octets spell

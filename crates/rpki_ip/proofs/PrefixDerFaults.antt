@@ -1,7 +1,11 @@
 -- Where a range of addresses is reversed, and which faults families, prefixes and ranges have.
-use Rattle.rpki_ip.proofs.Common.{Err, List, arith, is_ok, true, ℕ, ◌<◌, ◌↔◌, ◌≡◌, lt-ltb, ltb-true, last_of, ok_or_err, Bits, bits, refined, tagged_at, NotCanonical, ReversedRange, prefix_at, prefix_by, prefix_in, prefix_in_by, prefix_of, prefix_of_by, range_in, span_of}
+use Rattle.rpki_ip.proofs.Common.{Err, List, arith, is_ok, true, ℕ, ◌<◌, ◌↔◌, ◌≡◌, lt-ltb, ltb-true, last_of, ok_or_err}
+use Rattle.rpki_ip.proofs.Common.{Bits, bits, refined, tagged_at, NotCanonical, ReversedRange, prefix_at, prefix_by}
+use Rattle.rpki_ip.proofs.Common.{prefix_in, prefix_in_by, prefix_of, prefix_of_by, range_in, span_of}
 use Rattle.rpki_der.specs.SequenceFaults.{BeginsWithTwo}
-use Rattle.rpki_der.proofs.SequenceFaults.{NamesTo, bind_names, bits_names, cond_fails, cond_names, header_names, names_more, not_named, pair_fails, pair_names, refined_names, tagged_names, bind_fails, first_fails}
+use Rattle.rpki_der.proofs.SequenceFaults.{NamesTo, bind_names, bits_names, cond_fails, cond_names, header_names}
+use Rattle.rpki_der.proofs.SequenceFaults.{names_more, not_named, pair_fails, pair_names, refined_names, tagged_names}
+use Rattle.rpki_der.proofs.SequenceFaults.{bind_fails, first_fails}
 
 -- ---- which faults are named
 

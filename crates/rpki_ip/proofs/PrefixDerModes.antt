@@ -1,5 +1,22 @@
 -- Prefixes in either mode: strictly, the octets are those that are written of them.
-use Rattle.rpki_ip.proofs.Common.{Bool, Err, List, Ok, Result, [], ap, arith, cond, drop, false, get_or, length, refl, subst, suc, sym, true, zero, ℕ, ◌%◌, ◌*◌, ◌++◌, ◌+◌, ◌-◌, ◌/◌, ◌<◌, ◌^◌, ◌∙◌, ◌∷◌, ◌≡◌, ◌≤◌, mul-div_cancel, mul_assoc, and_parts, eqb-true, le-leb, le-ltb, leb-true, lt-ltb, ltb-false, ltb-true, or_from, or_parts, take-append-drop, pow-add, pow_pos, shr_split, bytes_high_first, to_be_bytes, w128, IsPrefix, PrefixValue, bits_of, mod_multiple, multiple_gap, multiple_mod, multiple_self, multiple_smaller, multiple_sum, bits_check, bind_tightens, is_padded_of, looked_tightens, padded_is, passed_is, passes, then_passing, IsTagged, content_reading, fits_content, on_bytes, same_reading, IsBytes-rest, IsCheck, bind_ok, fits_front, value_is, Bits, IsBits, IsBytes, IsPadded, Refines, Spells, big_endian, big_endian_after, bit_content, bit_string_value, last_octet, IsModal, IsReading, Tightens, bits, bits_by, is_padded, passing, ◌>>=◌, Takes, is_strict, left, DerError, BadPrefix, IsPrefixWithin, IsStrictContent, SaysPrefix, is_longer, octet_count, prefix_at, prefix_bits, prefix_by, prefix_der, prefix_in, prefix_in_by, prefix_of, prefix_of_by, IsRangeWithin, IsSpan, RangeValue, exact_by, parses_by, reads_by, refused_by, refused_in, same_found, Gives, content_octets, is_strict_in, IsPrefixContent, IsPrefixDer, Lenient, LenientIn, NotCanonicalInOr, NotCanonicalOr, Parses, ReadsValue, Strict, StrictIn, mul-add-mod_self_right, zero-div, field_of}
+use Rattle.rpki_ip.proofs.Common.{Bool, Err, List, Ok, Result, [], ap, arith, cond, drop, false, get_or, length, refl}
+use Rattle.rpki_ip.proofs.Common.{subst, suc, sym, true, zero, ℕ, ◌%◌, ◌*◌, ◌++◌, ◌+◌, ◌-◌, ◌/◌, ◌<◌, ◌^◌, ◌∙◌, ◌∷◌}
+use Rattle.rpki_ip.proofs.Common.{◌≡◌, ◌≤◌, mul-div_cancel, mul_assoc, and_parts, eqb-true, le-leb, le-ltb, leb-true}
+use Rattle.rpki_ip.proofs.Common.{lt-ltb, ltb-false, ltb-true, or_from, or_parts, take-append-drop, pow-add, pow_pos}
+use Rattle.rpki_ip.proofs.Common.{shr_split, bytes_high_first, to_be_bytes, w128, IsPrefix, PrefixValue, bits_of}
+use Rattle.rpki_ip.proofs.Common.{mod_multiple, multiple_gap, multiple_mod, multiple_self, multiple_smaller}
+use Rattle.rpki_ip.proofs.Common.{multiple_sum, bits_check, bind_tightens, is_padded_of, looked_tightens, padded_is}
+use Rattle.rpki_ip.proofs.Common.{passed_is, passes, then_passing, IsTagged, content_reading, fits_content, on_bytes}
+use Rattle.rpki_ip.proofs.Common.{same_reading, IsBytes-rest, IsCheck, bind_ok, fits_front, value_is, Bits, IsBits}
+use Rattle.rpki_ip.proofs.Common.{IsBytes, IsPadded, Refines, Spells, big_endian, big_endian_after, bit_content}
+use Rattle.rpki_ip.proofs.Common.{bit_string_value, last_octet, IsModal, IsReading, Tightens, bits, bits_by, is_padded}
+use Rattle.rpki_ip.proofs.Common.{passing, ◌>>=◌, Takes, is_strict, left, DerError, BadPrefix, IsPrefixWithin}
+use Rattle.rpki_ip.proofs.Common.{IsStrictContent, SaysPrefix, is_longer, octet_count, prefix_at, prefix_bits}
+use Rattle.rpki_ip.proofs.Common.{prefix_by, prefix_der, prefix_in, prefix_in_by, prefix_of, prefix_of_by}
+use Rattle.rpki_ip.proofs.Common.{IsRangeWithin, IsSpan, RangeValue, exact_by, parses_by, reads_by, refused_by}
+use Rattle.rpki_ip.proofs.Common.{refused_in, same_found, Gives, content_octets, is_strict_in, IsPrefixContent}
+use Rattle.rpki_ip.proofs.Common.{IsPrefixDer, Lenient, LenientIn, NotCanonicalInOr, NotCanonicalOr, Parses, ReadsValue}
+use Rattle.rpki_ip.proofs.Common.{Strict, StrictIn, mul-add-mod_self_right, zero-div, field_of}
 use Rattle.rpki_der.specs.declared.cursor.Cursor.{Cursor}
 use Rattle.rpki_der.specs.declared.family.AddressFamily.{AddressFamily}
 use Rattle.rpki_der.proofs.SequenceModes.{value_back_by}

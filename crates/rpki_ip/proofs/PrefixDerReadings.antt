@@ -1,5 +1,8 @@
 -- The readings find the families, prefixes and ranges of the grammars, whatever follows them, and no others.
-use Rattle.rpki_ip.proofs.Common.{Ok, arith, ℕ, ◌≡◌, PrefixValue, bits_check, IsTagged, content_reading, on_bytes, same_reading, IsCheck, bind_ok, IsBits, IsBytes, Refines, IsReading, refined, tagged_at, IsPrefixContent, IsPrefixDer, SaysPrefix, prefix_at, prefix_in, prefix_of, IsRangeDer, IsSpan, SaysRange, range_in, span_of, RangeValue}
+use Rattle.rpki_ip.proofs.Common.{Ok, arith, ℕ, ◌≡◌, PrefixValue, bits_check, IsTagged, content_reading, on_bytes}
+use Rattle.rpki_ip.proofs.Common.{same_reading, IsCheck, bind_ok, IsBits, IsBytes, Refines, IsReading, refined}
+use Rattle.rpki_ip.proofs.Common.{tagged_at, IsPrefixContent, IsPrefixDer, SaysPrefix, prefix_at, prefix_in, prefix_of}
+use Rattle.rpki_ip.proofs.Common.{IsRangeDer, IsSpan, SaysRange, range_in, span_of, RangeValue}
 use Rattle.rpki_der.proofs.SequenceReadings.{pair_check}
 
 -- ---- prefixes

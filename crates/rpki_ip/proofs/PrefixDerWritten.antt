@@ -1,5 +1,10 @@
 -- What is written is in the grammars, and how long it is.
-use Rattle.rpki_ip.proofs.Common.{List, append_assoc, arith, length, refl, sym, ℕ, ◌%◌, ◌++◌, ◌+◌, ◌-◌, ◌<◌, ◌^◌, ◌≡◌, ◌≤◌, cases_lt, lt-ltb, length-append, pow_below, pow_pos, IsPrefix, PrefixValue, mod_multiple, multiple_diff, multiple_gap, multiple_least, multiple_mod, multiple_self, value_is, header, length_octets, IsPrefixDer, prefix_bits, prefix_der, IsRangeDer, IsRangeWithin, range_content, range_der, without_end_ones, without_end_zeros, RangeValue, IsSequence, Refines, IsSpan, IsPrefixWithin}
+use Rattle.rpki_ip.proofs.Common.{List, append_assoc, arith, length, refl, sym, ℕ, ◌%◌, ◌++◌, ◌+◌, ◌-◌, ◌<◌, ◌^◌, ◌≡◌}
+use Rattle.rpki_ip.proofs.Common.{◌≤◌, cases_lt, lt-ltb, length-append, pow_below, pow_pos, IsPrefix, PrefixValue}
+use Rattle.rpki_ip.proofs.Common.{mod_multiple, multiple_diff, multiple_gap, multiple_least, multiple_mod}
+use Rattle.rpki_ip.proofs.Common.{multiple_self, value_is, header, length_octets, IsPrefixDer, prefix_bits, prefix_der}
+use Rattle.rpki_ip.proofs.Common.{IsRangeDer, IsRangeWithin, range_content, range_der, without_end_ones}
+use Rattle.rpki_ip.proofs.Common.{without_end_zeros, RangeValue, IsSequence, Refines, IsSpan, IsPrefixWithin}
 use Rattle.rpki_der.specs.SequenceReading.{SaysPair}
 use Rattle.rpki_ip.proofs.PrefixBits.{bits_few, bits_fit, bits_say}
 use Rattle.rpki_ip.proofs.ShortestPrefixes.{shortest_from_is, shortest_to_is}

@@ -1,5 +1,6 @@
 -- A length in digits at the front of a text.
-use Rattle.rpki_ip.proofs.Common.{List, arith, drop, length, length-drop, refl, take, ℕ, ◌-◌, ◌<◌, ◌≡◌, ◌≤◌, length-take, take-append-drop, cleared, PrefixValue, width, width_small, IsPrefixAt}
+use Rattle.rpki_ip.proofs.Common.{List, arith, drop, length, length-drop, refl, take, ℕ, ◌-◌, ◌<◌, ◌≡◌, ◌≤◌}
+use Rattle.rpki_ip.proofs.Common.{length-take, take-append-drop, cleared, PrefixValue, width, width_small, IsPrefixAt}
 use Rattle.std.specs.Str.Parse.{AllDigits, digits_value}
 use Rattle.std.proofs.lemmas.Str.Parse.{without_leading_plus_none, digit_at}
 use Rattle.rpki_text.specs.Numbers.{IsNumberText, AreDigitsFrom}

@@ -1,5 +1,6 @@
 -- Covers of ranges of addresses.
-use Rattle.rpki_ip.proofs.Common.{List, arith, ℕ, ◌%◌, ◌*◌, ◌^◌, ◌≡◌, cleared_first, cleared, IsPrefix, PrefixValue, IsWithin, widened_prefix, IsShortestCover, widened}
+use Rattle.rpki_ip.proofs.Common.{List, arith, ℕ, ◌%◌, ◌*◌, ◌^◌, ◌≡◌, cleared_first, cleared, IsPrefix, PrefixValue}
+use Rattle.rpki_ip.proofs.Common.{IsWithin, widened_prefix, IsShortestCover, widened}
 use Rattle.rpki_cover.proofs.NestedPrefixes.{InRange}
 
 -- the cover of a range of other numbers that are the same

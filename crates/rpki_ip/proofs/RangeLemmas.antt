@@ -1,5 +1,8 @@
 -- On the prefix of a range's addresses.
-use Rattle.rpki_ip.proofs.Common.{ap, arith, bit_and, inl, inr, suc, zero, ℕ, ◌%◌, ◌*◌, ◌+◌, ◌-◌, ◌<◌, ◌^◌, ◌∙◌, ◌≡◌, ◌≤◌, mod-eq_of_lt, mod_self, pow-le-pow_right, two-pow-succ, cases_order, and_block, and_comm, and_mask, leading_length, pow_below, pow_pos, count_leading_zeros, power_is, IsPrefix, PrefixValue, IsRangeOf, RangeValue}
+use Rattle.rpki_ip.proofs.Common.{ap, arith, bit_and, inl, inr, suc, zero, ℕ, ◌%◌, ◌*◌, ◌+◌, ◌-◌, ◌<◌, ◌^◌, ◌∙◌, ◌≡◌}
+use Rattle.rpki_ip.proofs.Common.{◌≤◌, mod-eq_of_lt, mod_self, pow-le-pow_right, two-pow-succ, cases_order, and_block}
+use Rattle.rpki_ip.proofs.Common.{and_comm, and_mask, leading_length, pow_below, pow_pos, count_leading_zeros, power_is}
+use Rattle.rpki_ip.proofs.Common.{IsPrefix, PrefixValue, IsRangeOf, RangeValue}
 use Rattle.std.specs.Int.Bits.{and_zero_r}
 
 -- ---- the bits behind a prefix

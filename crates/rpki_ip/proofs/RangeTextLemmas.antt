@@ -14,7 +14,9 @@ use Rattle.rpki_text.proofs.CutLemmas.{HasNo-no_cut, around_at, none_around}
 use Rattle.rpki_text.proofs.NumberLemmas.{number_answers}
 pub use Rattle.rpki_text.proofs.ReadingLemmas.{answers_by_one}
 use Rattle.rpki_ip.specs.AddrText.{first_of, greatest_of}
-use Rattle.rpki_ip.specs.BlockText.{IsAddressText, HasAddressFault, IsPrefixBetween, HasPrefixFault, IsRangeFrom, IsIpRangeBetween, HasRangeFault, IsSingleText, IsIpPrefixText, HasIpPrefixTextFault, IsRangeText, HasRangeTextFault, HasFaultAround}
+use Rattle.rpki_ip.specs.BlockText.{IsAddressText, HasAddressFault, IsPrefixBetween, HasPrefixFault, IsRangeFrom}
+use Rattle.rpki_ip.specs.BlockText.{IsIpRangeBetween, HasRangeFault, IsSingleText, IsIpPrefixText, HasIpPrefixTextFault}
+use Rattle.rpki_ip.specs.BlockText.{IsRangeText, HasRangeTextFault, HasFaultAround}
 use Rattle.rpki_ip.specs.Ranges.{RangeValue}
 use Rattle.rpki_ip.specs.declared.error.FromStrError.{FromStrError}
 use Rattle.rpki_ip.specs.declared.error.FromStrError.TheVariants as Fault

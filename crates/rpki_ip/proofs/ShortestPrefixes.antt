@@ -1,5 +1,10 @@
 -- The shortest prefixes that begin or end with an address.
-use Rattle.rpki_ip.proofs.Common.{cleared_first, IsPrefix, PrefixValue, last_of, ap, arith, refl, sym, ℕ, ◌+◌, ◌-◌, ◌<◌, ◌^◌, ◌∙◌, ◌≡◌, ◌≤◌, div-mul-add, pow_pos, trailing_le, bit_not, trailing_ones, trailing_zeros, w128, count_trailing_zeros, cleared, IsMultiple, mod_multiple, multiple_diff, multiple_least, multiple_mod, multiple_self, multiple_smaller, multiple_sum, zeros_divide, zeros_greatest, IsShortestFrom, IsShortestTo, without_end_ones, without_end_zeros}
+use Rattle.rpki_ip.proofs.Common.{cleared_first, IsPrefix, PrefixValue, last_of, ap, arith, refl, sym, ℕ, ◌+◌, ◌-◌, ◌<◌}
+use Rattle.rpki_ip.proofs.Common.{◌^◌, ◌∙◌, ◌≡◌, ◌≤◌, div-mul-add, pow_pos, trailing_le, bit_not, trailing_ones}
+use Rattle.rpki_ip.proofs.Common.{trailing_zeros, w128, count_trailing_zeros, cleared, IsMultiple, mod_multiple}
+use Rattle.rpki_ip.proofs.Common.{multiple_diff, multiple_least, multiple_mod, multiple_self, multiple_smaller}
+use Rattle.rpki_ip.proofs.Common.{multiple_sum, zeros_divide, zeros_greatest, IsShortestFrom, IsShortestTo}
+use Rattle.rpki_ip.proofs.Common.{without_end_ones, without_end_zeros}
 
 -- ---- a first address
 

@@ -103,7 +103,8 @@ IsRangeText wanted text r = Around dash text (λ left right. IsIpRangeBetween wa
 
 -- the separator b is missing, or the parts before and after the first b have the fault
 abbrev pub HasFaultAround : ℕ → List ℕ → (List ℕ → List ℕ → FromStrError → Type 0) → FromStrError → Type 0
-HasFaultAround b text Fails e = (HasNo b text × (e ≡ Fault.MissingSeparator)) ⊎ Around b text (λ left right. Fails left right e)
+HasFaultAround b text Fails e =
+    (HasNo b text × (e ≡ Fault.MissingSeparator)) ⊎ Around b text (λ left right. Fails left right e)
 
 -- e is the first fault of a text that denotes no prefix
 abbrev pub HasIpPrefixTextFault : Option AddressFamily → List ℕ → FromStrError → Type 0

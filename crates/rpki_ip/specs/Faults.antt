@@ -3,7 +3,8 @@ use Rattle.std.specs.Prelude.{ℕ, List, ◌++◌, codes}
 use Rattle.rpki_text.specs.Numbers.{number_fault_text}
 use Rattle.rpki_addr.specs.FromStrResults.{address_fault_text}
 use Rattle.rpki_ip.specs.declared.error.FromStrError.{FromStrError}
-use Rattle.rpki_ip.specs.declared.error.FromStrError.TheVariants.{Addr, PrefixLen, MissingSeparator, FamilyMismatch, BadBlocks, BadRange}
+use Rattle.rpki_ip.specs.declared.error.FromStrError.TheVariants.{Addr, PrefixLen, MissingSeparator, FamilyMismatch}
+use Rattle.rpki_ip.specs.declared.error.FromStrError.TheVariants.{BadBlocks, BadRange}
 
 -- the text of each fault
 abbrev pub ip_from_str_error_text : FromStrError → List ℕ

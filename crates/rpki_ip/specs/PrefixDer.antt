@@ -1,10 +1,12 @@
 -- A prefix in DER (RFC 3779, 2.2.3.8; X.690, 8.6 and 11.2).
-use Rattle.std.specs.Prelude.{◌≡◌, ℕ, ◌+◌, ◌-◌, ◌*◌, ◌/◌, ◌^◌, ◌≤◌, Bool, List, ◌||◌, length, take, Result, Ok, Err, nat_lt, if◌then◌else◌}
+use Rattle.std.specs.Prelude.{◌≡◌, ℕ, ◌+◌, ◌-◌, ◌*◌, ◌/◌, ◌^◌, ◌≤◌, Bool, List, ◌||◌, length, take, Result, Ok, Err}
+use Rattle.std.specs.Prelude.{nat_lt, if◌then◌else◌}
 use Rattle.std.specs.Int.{w128, to_be_bytes}
 use Rattle.rpki_cover.specs.Prefixes.{PrefixValue, IsPrefix}
 use Rattle.rpki_der.specs.declared.error.DerError.{DerError}
 use Rattle.rpki_der.specs.declared.error.DerError.TheVariants.{BadPrefix}
-use Rattle.rpki_der.specs.Der.{Bits, IsBitContent, IsBitString, IsPadded, Refines, Where, big_endian, bit_count, bit_string_value}
+use Rattle.rpki_der.specs.Der.{Bits, IsBitContent, IsBitString, IsPadded, Refines, Where, big_endian, bit_count}
+use Rattle.rpki_der.specs.Der.{bit_string_value}
 use Rattle.rpki_der.specs.Reading.{◌>>=◌, bits, is_padded, passing, refined, tagged_at}
 
 -- A bit string of at most 16 octets denotes the prefix of its used bits, followed by zeros up to 128 bits. The unused
@@ -31,7 +33,8 @@ octet_count len = (len + 7) / 8
 
 -- the bits of a prefix, in the fewest octets; the unused bits are zero, as they are in its first address
 abbrev pub prefix_bits : PrefixValue → Bits
-prefix_bits p = record { unused = 8 * octet_count p.len - p.len; octets = take (octet_count p.len) (to_be_bytes w128 p.first) }
+prefix_bits p =
+    record { unused = 8 * octet_count p.len - p.len; octets = take (octet_count p.len) (to_be_bytes w128 p.first) }
 
 -- the encoding of a prefix as a BIT STRING (RFC 3779, 2.2.3.8; X.690, 11.2)
 abbrev pub prefix_der : PrefixValue → List ℕ

@@ -26,7 +26,8 @@ addr_text family n = ip_text (as_ip family (shown_bits family n))
 
 -- the printed text of a prefix: its address and its length; the length is left out if it is the family's maximum
 abbrev pub ip_prefix_text : AddressFamily → PrefixValue → List ℕ
-ip_prefix_text family p = if p.len == bits_of family then addr_text family p.first else addr_text family p.first ++ slash ∷ decimal p.len
+ip_prefix_text family p =
+    if p.len == bits_of family then addr_text family p.first else addr_text family p.first ++ slash ∷ decimal p.len
 
 -- the printed text of a range: its least and its greatest address, or one of them if both are printed alike
 abbrev pub ip_range_text : AddressFamily → RangeValue → List ℕ

@@ -1,5 +1,6 @@
 -- A range of addresses in DER (RFC 3779, 2.2.3.9).
-use Rattle.std.specs.Prelude.{◌≡◌, ℕ, ◌+◌, ◌-◌, ◌%◌, ◌^◌, ◌≤◌, Bool, ◌==◌, ◌&&◌, List, ◌++◌, Result, Ok, Err, nat_lt, if◌then◌else◌}
+use Rattle.std.specs.Prelude.{◌≡◌, ℕ, ◌+◌, ◌-◌, ◌%◌, ◌^◌, ◌≤◌, Bool, ◌==◌, ◌&&◌, List, ◌++◌, Result, Ok, Err, nat_lt}
+use Rattle.std.specs.Prelude.{if◌then◌else◌}
 use Rattle.std.specs.Int.{w128, trailing_zeros, trailing_ones}
 use Rattle.rpki_cover.specs.Prefixes.{PrefixValue, IsPrefix, last_of}
 use Rattle.rpki_der.specs.SequenceReading.{SaysPair, pair_in}
@@ -73,7 +74,8 @@ pub record IsRangeWithin (limit : ℕ) (r : RangeValue) : Type 0 where
 -- reads two prefixes as the range from the first to the second: ReversedRange if the second ends before the first
 -- begins
 unfoldable pub span_of : PrefixValue → PrefixValue → Result RangeValue DerError
-span_of p q = if nat_lt (last_of 128 q) p.first then Err ReversedRange else Ok (record { min = p.first; max = last_of 128 q })
+span_of p q =
+    if nat_lt (last_of 128 q) p.first then Err ReversedRange else Ok (record { min = p.first; max = last_of 128 q })
 
 -- reads the content of the SEQUENCE of a range
 abbrev pub range_in : ℕ → List ℕ → Result RangeValue DerError

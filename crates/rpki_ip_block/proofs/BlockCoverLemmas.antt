@@ -1,5 +1,6 @@
 -- Covers of blocks: those of their bounds, one after the other.
-use Rattle.rpki_ip_block.proofs.Common.{List, Option, arith, ℕ, ◌++◌, ◌-◌, ◌<◌, ◌^◌, ◌≡◌, ◌≤◌, pow_pos, PrefixValue, ip_bounds, IpBlock, IsBlock, Prefix, Range}
+use Rattle.rpki_ip_block.proofs.Common.{List, Option, arith, ℕ, ◌++◌, ◌-◌, ◌<◌, ◌^◌, ◌≡◌, ◌≤◌, pow_pos, PrefixValue}
+use Rattle.rpki_ip_block.proofs.Common.{ip_bounds, IpBlock, IsBlock, Prefix, Range}
 use Rattle.std.specs.Iterator.{YieldsFirst}
 use Rattle.rpki_block.specs.Bounds.{IsWithin}
 use Rattle.rpki_cover.proofs.Multiples.{mod_multiple, multiple_gap, multiple_self, multiple_smaller}

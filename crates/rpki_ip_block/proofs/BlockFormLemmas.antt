@@ -1,5 +1,9 @@
 -- Which blocks are in new form, and prefixes of a family as prefixes of 128 bits.
-use Rattle.rpki_ip_block.proofs.Common.{V4, V6, None, Option, Some, arith, refl, suc, true, zero, ℕ, ◌<◌, ◌^◌, ◌≡◌, ◌≤◌, cases_order, eq-eqb, pow_below, pow_pos, cleared_first, first_of, cleared, IsPrefix, PrefixValue, IpAddr, IsRangeOf, RangeValue, range_bounds, FamilyPrefix, IsFamilyPrefix, block_from, has_length, length_of, length_upto, new_ip_block, prefix_bounds, IsBlock, Prefix, Range}
+use Rattle.rpki_ip_block.proofs.Common.{V4, V6, None, Option, Some, arith, refl, suc, true, zero, ℕ, ◌<◌, ◌^◌, ◌≡◌, ◌≤◌}
+use Rattle.rpki_ip_block.proofs.Common.{cases_order, eq-eqb, pow_below, pow_pos, cleared_first, first_of, cleared}
+use Rattle.rpki_ip_block.proofs.Common.{IsPrefix, PrefixValue, IpAddr, IsRangeOf, RangeValue, range_bounds}
+use Rattle.rpki_ip_block.proofs.Common.{FamilyPrefix, IsFamilyPrefix, block_from, has_length, length_of, length_upto}
+use Rattle.rpki_ip_block.proofs.Common.{new_ip_block, prefix_bounds, IsBlock, Prefix, Range}
 use Rattle.rpki_ip.proofs.Common.{widened_prefix}
 use Rattle.rpki_ip_block.specs.BlockFormLaws.{bounds_of_length, found_length}
 

@@ -1,5 +1,12 @@
 -- Blocks at the front of a text: the addresses that write one, and what stands round them.
-use Rattle.rpki_ip_block.proofs.Common.{List, Some, [], append_assoc, arith, inl, length, length-append, lit<, lit≤, refl, subst, ℕ, ◌++◌, ◌<◌, ◌∷◌, ◌≡◌, ◌≢◌, ◌≤◌, All-append, All-cons, All-contains, All-from_recursion, All-weaker, Contains-append_left, recursion_from_All, digit_from_value, IsDigitOrDot, IsInRange, AllByRecursion, PrefixValue, IpAddr, V4, V6, AddressFamily, Ipv4, Ipv6, IsAddressText, IsIpBlockText, IsPrefixAt, IsRangeFrom, RangeValue, HasNo, dash, slash, no_dash, no_slash, not_slash, IsBlockAtFront, IsPrefixAfterSlash, IsRangeAfterDash, IsForeign, IpBlock, Prefix, Range, Around, IsCutAt, All, Contains}
+use Rattle.rpki_ip_block.proofs.Common.{List, Some, [], append_assoc, arith, inl, length, length-append, lit<, lit≤}
+use Rattle.rpki_ip_block.proofs.Common.{refl, subst, ℕ, ◌++◌, ◌<◌, ◌∷◌, ◌≡◌, ◌≢◌, ◌≤◌, All-append, All-cons}
+use Rattle.rpki_ip_block.proofs.Common.{All-contains, All-from_recursion, All-weaker, Contains-append_left}
+use Rattle.rpki_ip_block.proofs.Common.{recursion_from_All, digit_from_value, IsDigitOrDot, IsInRange, AllByRecursion}
+use Rattle.rpki_ip_block.proofs.Common.{PrefixValue, IpAddr, V4, V6, AddressFamily, Ipv4, Ipv6, IsAddressText}
+use Rattle.rpki_ip_block.proofs.Common.{IsIpBlockText, IsPrefixAt, IsRangeFrom, RangeValue, HasNo, dash, slash, no_dash}
+use Rattle.rpki_ip_block.proofs.Common.{no_slash, not_slash, IsBlockAtFront, IsPrefixAfterSlash, IsRangeAfterDash}
+use Rattle.rpki_ip_block.proofs.Common.{IsForeign, IpBlock, Prefix, Range, Around, IsCutAt, All, Contains}
 use Rattle.std.specs.Str.Parse.{AllDigits}
 use Rattle.rpki_addr.specs.AddressFronts.{IsAtFront}
 use Rattle.rpki_addr.proofs.WrittenBytes.{IsWrittenByte, ipv4_written, ipv4_some, ipv6_written, ipv6_colon, wider}

@@ -1,15 +1,20 @@
 -- Lists of blocks, read element by element from the front of what is left.
-use Rattle.rpki_ip_block.proofs.Common.{List, [], ap, append-nil, append_assoc, arith, inl, inr, length, length-append, refl, subst, sym, ℕ, ◌++◌, ◌<◌, ◌∙◌, ◌∷◌, ◌≡◌, AddressFamily, IsElement, HaveValues, elements, IsAfterOptionalSpace, IsBlockAtFront, HasBlocks, IsElementText, IpBlock}
+use Rattle.rpki_ip_block.proofs.Common.{List, [], ap, append-nil, append_assoc, arith, inl, inr, length, length-append}
+use Rattle.rpki_ip_block.proofs.Common.{refl, subst, sym, ℕ, ◌++◌, ◌<◌, ◌∙◌, ◌∷◌, ◌≡◌, AddressFamily, IsElement}
+use Rattle.rpki_ip_block.proofs.Common.{HaveValues, elements, IsAfterOptionalSpace, IsBlockAtFront, HasBlocks}
+use Rattle.rpki_ip_block.proofs.Common.{IsElementText, IpBlock}
 use Rattle.std.proofs.Common.{◌⊎◌}
 use Rattle.rpki_text.proofs.PrintedListLemmas.{IsPartOf, elements_first, elements_last}
 use Rattle.rpki_ip_block.specs.BlockFronts.{IsSpaceOrNothing}
 
 -- blocks that what is left has complete those of the text
 abbrev pub IsSoFar : AddressFamily → List ℕ → List ℕ → List IpBlock → Type 0
-IsSoFar family text left blocks = (more : List IpBlock) → HasBlocks family left more → HasBlocks family text (blocks ++ more)
+IsSoFar family text left blocks =
+    (more : List IpBlock) → HasBlocks family left more → HasBlocks family text (blocks ++ more)
 
 -- the block's text, which is an element
-module _ (family : AddressFamily) (left start : List ℕ) (b : IpBlock) (rest : List ℕ) (before : IsAfterOptionalSpace left start) (h : IsBlockAtFront family start b rest) where
+module _ (family : AddressFamily) (left start : List ℕ) (b : IpBlock) (rest : List ℕ)
+    (before : IsAfterOptionalSpace left start) (h : IsBlockAtFront family start b rest) where
   is_element : IsElement h.front
   is_element = record { shown = h.shown; some = h.some }
 
@@ -25,8 +30,11 @@ module _ (family : AddressFamily) (left start : List ℕ) (b : IpBlock) (rest : 
       → rest ≡ 44 ∷ more → IsSoFar family text more (blocks ++ b ∷ [])
   one_more text blocks more so_far comma others has =
       let shape : left ≡ part.0 ++ 44 ∷ more = part.2 ∙ ap (λ t. part.0 ++ t) comma in
-      let these : elements left ≡ h.front ∷ elements more = ap elements shape ∙ elements_first part.0 h.front more part.1 is_element in
-      subst (HasBlocks family text) (sym (append_assoc blocks (b ∷ []) others)) (so_far (b ∷ others) (subst (λ t. HaveValues (IsElementText family) t (b ∷ others)) (sym these) (h.block, has)))
+      let these : elements left ≡ h.front ∷ elements more =
+      ap elements shape ∙ elements_first part.0 h.front more part.1 is_element in
+      subst (HasBlocks family text) (sym (append_assoc blocks (b ∷ []) others))
+      (so_far (b ∷ others)
+      (subst (λ t. HaveValues (IsElementText family) t (b ∷ others)) (sym these) (h.block, has)))
 
   -- which is less
   pub less_left : (more : List ℕ) → rest ≡ 44 ∷ more → length more < length left

@@ -1,6 +1,12 @@
 -- A text of a list of blocks has one list of values or one first fault.
-use Rattle.rpki_ip_block.proofs.Common.{Bool, Err, IsTrue, List, MatchResult, Ok, Option, Result, Some, false, inl, inr, sym, true, ℕ, ◌↔◌, ◌∙◌, ◌≡◌, AddressFamily, FromStrError, HasFirstFault, HaveValues, elements, IfRefused, AnswersOrMemory, OrMemory, HasIpBlockFault, IsIpBlockText, HasBlocks, HasBlocksFault, HasElementFault, HasIpBlocks, HasIpBlocksFault, HasMismatch, IsElementText, IsFamilyOf, IsForeign, IpBlock, arith}
-use Rattle.rpki_text.proofs.TextListLemmas.{AnswersOrMemory-from_found, HaveValues-one, first_fault_apart, same_first_fault}
+use Rattle.rpki_ip_block.proofs.Common.{Bool, Err, IsTrue, List, MatchResult, Ok, Option, Result, Some, false, inl, inr}
+use Rattle.rpki_ip_block.proofs.Common.{sym, true, ℕ, ◌↔◌, ◌∙◌, ◌≡◌, AddressFamily, FromStrError, HasFirstFault}
+use Rattle.rpki_ip_block.proofs.Common.{HaveValues, elements, IfRefused, AnswersOrMemory, OrMemory, HasIpBlockFault}
+use Rattle.rpki_ip_block.proofs.Common.{IsIpBlockText, HasBlocks, HasBlocksFault, HasElementFault, HasIpBlocks}
+use Rattle.rpki_ip_block.proofs.Common.{HasIpBlocksFault, HasMismatch, IsElementText, IsFamilyOf, IsForeign, IpBlock}
+use Rattle.rpki_ip_block.proofs.Common.{arith}
+use Rattle.rpki_text.proofs.TextListLemmas.{AnswersOrMemory-from_found, HaveValues-one, first_fault_apart}
+use Rattle.rpki_text.proofs.TextListLemmas.{same_first_fault}
 use Rattle.rpki_ip_block.proofs.BlockTextLemmas.{block_one}
 
 -- an element that isn't taken for one of the other family is read as a block

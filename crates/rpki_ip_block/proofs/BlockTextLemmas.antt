@@ -1,5 +1,9 @@
 -- A text of a block has one value or one fault at most, and each form is found by the byte that cuts the text.
-use Rattle.rpki_ip_block.proofs.Common.{Err, List, MatchResult, Ok, Option, Result, inl, inr, refl, ℕ, ◌≡◌, PrefixValue, AddressFamily, answers_by_one, prefix_one, range_one, single_one, HasAddressFault, HasIpPrefixTextFault, HasRangeTextFault, IsIpPrefixText, IsRangeText, IsSingleText, RangeValue, FromStrError, HasNo, dash, slash, Answers, HasIpBlockFault, IsIpBlockText, IpBlock, Prefix, Range, arith}
+use Rattle.rpki_ip_block.proofs.Common.{Err, List, MatchResult, Ok, Option, Result, inl, inr, refl, ℕ, ◌≡◌, PrefixValue}
+use Rattle.rpki_ip_block.proofs.Common.{AddressFamily, answers_by_one, prefix_one, range_one, single_one}
+use Rattle.rpki_ip_block.proofs.Common.{HasAddressFault, HasIpPrefixTextFault, HasRangeTextFault, IsIpPrefixText}
+use Rattle.rpki_ip_block.proofs.Common.{IsRangeText, IsSingleText, RangeValue, FromStrError, HasNo, dash, slash}
+use Rattle.rpki_ip_block.proofs.Common.{Answers, HasIpBlockFault, IsIpBlockText, IpBlock, Prefix, Range, arith}
 use Rattle.rpki_text.proofs.CutLemmas.{none_around}
 
 -- the block of a prefix, and of a range

@@ -1,5 +1,11 @@
 -- Strictly, the octets of a block are those that are written of it.
-use Rattle.rpki_ip_block.proofs.Common.{List, ap, arith, eqb, refl, subst, true, ℕ, ◌++◌, ◌∙◌, ◌≡◌, ◌≤◌, and_parts, eq-eqb, eqb-true, pow_pos, last_of, fits_content, same_reading, IsBytes, Spells, IsReading, IsStrictPrefix, prefix_is_spelled, spelled_is_prefix, within, prefix_der, is_written_as, range_content, without_end_ones, without_end_zeros, RangeValue, range_bounds, IsSetIpBlock, ip_block_der, ip_block_modal, IsStrictIpBlock, ip_block_by, is_range, is_set_range, span, new_ip_block, IpBlock, Prefix, Range, range_spelled, IsSpan, and_from}
+use Rattle.rpki_ip_block.proofs.Common.{List, ap, arith, eqb, refl, subst, true, ℕ, ◌++◌, ◌∙◌, ◌≡◌, ◌≤◌, and_parts}
+use Rattle.rpki_ip_block.proofs.Common.{eq-eqb, eqb-true, pow_pos, last_of, fits_content, same_reading, IsBytes, Spells}
+use Rattle.rpki_ip_block.proofs.Common.{IsReading, IsStrictPrefix, prefix_is_spelled, spelled_is_prefix, within}
+use Rattle.rpki_ip_block.proofs.Common.{prefix_der, is_written_as, range_content, without_end_ones, without_end_zeros}
+use Rattle.rpki_ip_block.proofs.Common.{RangeValue, range_bounds, IsSetIpBlock, ip_block_der, ip_block_modal}
+use Rattle.rpki_ip_block.proofs.Common.{IsStrictIpBlock, ip_block_by, is_range, is_set_range, span, new_ip_block}
+use Rattle.rpki_ip_block.proofs.Common.{IpBlock, Prefix, Range, range_spelled, IsSpan, and_from}
 use Rattle.rpki_der.proofs.ReadingSteps.{fits_back, fits_front}
 use Rattle.rpki_ip.proofs.ShortestPrefixes.{shortest_to_is}
 use Rattle.rpki_ip_block.proofs.BlockFormLemmas.{new_prefix}

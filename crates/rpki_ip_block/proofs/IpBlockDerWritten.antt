@@ -1,5 +1,11 @@
 -- What is written of a block is the block.
-use Rattle.rpki_ip_block.proofs.Common.{exact_optional_by, refused_optional_by, reads_optional_value_by, Spells, IsSetIpBlock, subst, List, Ok, Option, Result, Some, arith, refl, true, ℕ, ◌++◌, ◌-◌, ◌<◌, ◌^◌, ◌≡◌, ◌≤◌, pow_pos, bits_of, AddressFamily, Ipv4, Ipv6, optional, Takes, is_strict, left, few_bits, prefix_written, range_written, IsBlockWithin, IsIpBlockDer, ip_block_der, ip_block_modal, ip_block_at, ip_block_by, ip_block_has_octets, ip_block_reading, ip_bounds, new_ip_block, IsBlockOf, IpBlock, Prefix, Range, Lenient, NotCanonicalOr, ReadsOptional, Strict}
+use Rattle.rpki_ip_block.proofs.Common.{exact_optional_by, refused_optional_by, reads_optional_value_by, Spells}
+use Rattle.rpki_ip_block.proofs.Common.{IsSetIpBlock, subst, List, Ok, Option, Result, Some, arith, refl, true, ℕ, ◌++◌}
+use Rattle.rpki_ip_block.proofs.Common.{◌-◌, ◌<◌, ◌^◌, ◌≡◌, ◌≤◌, pow_pos, bits_of, AddressFamily, Ipv4, Ipv6, optional}
+use Rattle.rpki_ip_block.proofs.Common.{Takes, is_strict, left, few_bits, prefix_written, range_written, IsBlockWithin}
+use Rattle.rpki_ip_block.proofs.Common.{IsIpBlockDer, ip_block_der, ip_block_modal, ip_block_at, ip_block_by}
+use Rattle.rpki_ip_block.proofs.Common.{ip_block_has_octets, ip_block_reading, ip_bounds, new_ip_block, IsBlockOf}
+use Rattle.rpki_ip_block.proofs.Common.{IpBlock, Prefix, Range, Lenient, NotCanonicalOr, ReadsOptional, Strict}
 use Rattle.rpki_der.proofs.SequenceModes.{optional_back_by}
 use Rattle.rpki_block.specs.Bounds.{IsNew}
 use Rattle.rpki_der.specs.declared.cursor.Cursor.{Cursor}

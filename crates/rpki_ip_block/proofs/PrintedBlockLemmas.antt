@@ -1,5 +1,10 @@
 -- What is printed of a block is a text of a block with its bounds.
-use Rattle.rpki_ip_block.proofs.Common.{List, MatchResult, None, Result, Some, ap, arith, decimal, inl, inr, refl, sym, ℕ, ◌∙◌, ◌≡◌, ◌≤◌, cases_eq, eq-eqb, ne_eqb, IsIpText-ip_text, cleared_first, first_of, greatest_of, cleared, ip_text, bits_of, family_of, AddressFamily, single_of, IsAddressText, as_ip, shown_bits, FromStrError, Answers, HasIpBlockFault, IsIpBlockText, ip_bounds, IsBlockOf, ReadsIpBlock, ip_block_text, IpBlock, Prefix, Range}
+use Rattle.rpki_ip_block.proofs.Common.{List, MatchResult, None, Result, Some, ap, arith, decimal, inl, inr, refl, sym}
+use Rattle.rpki_ip_block.proofs.Common.{ℕ, ◌∙◌, ◌≡◌, ◌≤◌, cases_eq, eq-eqb, ne_eqb, IsIpText-ip_text, cleared_first}
+use Rattle.rpki_ip_block.proofs.Common.{first_of, greatest_of, cleared, ip_text, bits_of, family_of, AddressFamily}
+use Rattle.rpki_ip_block.proofs.Common.{single_of, IsAddressText, as_ip, shown_bits, FromStrError, Answers}
+use Rattle.rpki_ip_block.proofs.Common.{HasIpBlockFault, IsIpBlockText, ip_bounds, IsBlockOf, ReadsIpBlock}
+use Rattle.rpki_ip_block.proofs.Common.{ip_block_text, IpBlock, Prefix, Range}
 use Rattle.rpki_addr.specs.Widths.{width}
 use Rattle.rpki_addr.specs.FromStrResults.{IsAddress}
 use Rattle.rpki_text.proofs.NumberTexts.{IsNumberText-decimal}

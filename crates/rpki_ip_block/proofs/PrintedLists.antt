@@ -1,5 +1,11 @@
 -- What is printed of a list of blocks is read as blocks of their bounds.
-use Rattle.rpki_ip_block.proofs.Common.{All, List, MatchResult, Result, Some, [], arith, codes, inl, inr, lit<, map, refl, ℕ, ◌++◌, ◌<◌, ◌∷◌, ◌≡◌, All-append, All-cons, All-head, All-nil, All-tail, Contains-append_left, AllByRecursion, flat_map, AddressFamily, Ipv4, Ipv6, FromStrError, IsElement, elements-joined, HaveValues, elements, IsMemory, AnswersOrMemory, OrMemory, IsIpBlockText, ip_bounds, HasBlocks, HasBlocksFault, HasIpBlocks, HasIpBlocksFault, IsElementText, IsFamilyOf, colon, IsBlockOf, block_list_text, ip_block_text, IpBlock}
+use Rattle.rpki_ip_block.proofs.Common.{All, List, MatchResult, Result, Some, [], arith, codes, inl, inr, lit<, map}
+use Rattle.rpki_ip_block.proofs.Common.{refl, ℕ, ◌++◌, ◌<◌, ◌∷◌, ◌≡◌, All-append, All-cons, All-head, All-nil, All-tail}
+use Rattle.rpki_ip_block.proofs.Common.{Contains-append_left, AllByRecursion, flat_map, AddressFamily, Ipv4, Ipv6}
+use Rattle.rpki_ip_block.proofs.Common.{FromStrError, IsElement, elements-joined, HaveValues, elements, IsMemory}
+use Rattle.rpki_ip_block.proofs.Common.{AnswersOrMemory, OrMemory, IsIpBlockText, ip_bounds, HasBlocks, HasBlocksFault}
+use Rattle.rpki_ip_block.proofs.Common.{HasIpBlocks, HasIpBlocksFault, IsElementText, IsFamilyOf, colon, IsBlockOf}
+use Rattle.rpki_ip_block.proofs.Common.{block_list_text, ip_block_text, IpBlock}
 use Rattle.rpki_ip_block.proofs.BlockFrontLemmas.{IsPlainBlock, not_foreign}
 use Rattle.rpki_ip_block.proofs.PrintedBlockLemmas.{written_of}
 

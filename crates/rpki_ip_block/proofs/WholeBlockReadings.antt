@@ -1,5 +1,11 @@
 -- What is read as blocks of IPv4, from texts and from octets, begins and ends with whole IPv4 addresses.
-use Rattle.rpki_ip_block.proofs.Common.{Err, List, Ok, Result, Some, [], arith, sym, ℕ, ◌*◌, ◌+◌, ◌-◌, ◌/◌, ◌^◌, ◌∷◌, ◌≡◌, ◌≤◌, add-mul, mul-mod_left, mul_assoc, All-cons, All-nil, pow-add, pow_pos, IfOk, first_of, cleared, PrefixValue, family_of, AddressFamily, Ipv4, Each, FromStrError, FamilyPrefix, IsFamilyPrefix, HaveValues, elements, AnswersOrMemory, OrMemory, IsIpBlockDer, IsIpBlockText, ip_bounds, prefix_bounds, HasBlocks, HasBlocksFault, HasIpBlocks, IsElementText, IsFamilyOf, IpBlock, All}
+use Rattle.rpki_ip_block.proofs.Common.{Err, List, Ok, Result, Some, [], arith, sym, ℕ, ◌*◌, ◌+◌, ◌-◌, ◌/◌, ◌^◌, ◌∷◌}
+use Rattle.rpki_ip_block.proofs.Common.{◌≡◌, ◌≤◌, add-mul, mul-mod_left, mul_assoc, All-cons, All-nil, pow-add, pow_pos}
+use Rattle.rpki_ip_block.proofs.Common.{IfOk, first_of, cleared, PrefixValue, family_of, AddressFamily, Ipv4, Each}
+use Rattle.rpki_ip_block.proofs.Common.{FromStrError, FamilyPrefix, IsFamilyPrefix, HaveValues, elements}
+use Rattle.rpki_ip_block.proofs.Common.{AnswersOrMemory, OrMemory, IsIpBlockDer, IsIpBlockText, ip_bounds}
+use Rattle.rpki_ip_block.proofs.Common.{prefix_bounds, HasBlocks, HasBlocksFault, HasIpBlocks, IsElementText}
+use Rattle.rpki_ip_block.proofs.Common.{IsFamilyOf, IpBlock, All}
 use Rattle.rpki_ip.specs.Whole.{HasWholeBounds}
 use Rattle.rpki_ip_block.proofs.BlockFormLemmas.{family_prefix}
 use Rattle.rpki_ip_block.proofs.BlockListLemmas.{same_family}

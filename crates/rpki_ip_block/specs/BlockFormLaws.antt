@@ -1,8 +1,10 @@
 -- The block of given bounds has these bounds.
-use Rattle.std.proofs.Common.{◌≡◌, ℕ, zero, suc, ◌+◌, ◌-◌, ◌^◌, ◌≤◌, Bool, true, false, ◌&&◌, refl, ap, sym, ◌∙◌, arith, Option, Some, None}
+use Rattle.std.proofs.Common.{◌≡◌, ℕ, zero, suc, ◌+◌, ◌-◌, ◌^◌, ◌≤◌, Bool, true, false, ◌&&◌, refl, ap, sym, ◌∙◌, arith}
+use Rattle.std.proofs.Common.{Option, Some, None}
 use Rattle.std.specs.Prelude.{◌%◌, ◌==◌, if◌then◌else◌}
 use Rattle.std.proofs.lemmas.Bool.{eqb-true}
-use Rattle.rpki_ip_block.specs.Blocks.{prefix_bounds, ip_bounds, has_length, length_upto, length_of, block_from, new_ip_block}
+use Rattle.rpki_ip_block.specs.Blocks.{prefix_bounds, ip_bounds, has_length, length_upto, length_of, block_from}
+use Rattle.rpki_ip_block.specs.Blocks.{new_ip_block}
 
 -- both parts of a test that succeeds
 pub both_pass : (a b : Bool) → (a && b) ≡ true → (a ≡ true) × (b ≡ true)
@@ -14,7 +16,8 @@ pub bounds_of_length : (b : ℕ × ℕ) (len : ℕ) → has_length b len ≡ tru
     → prefix_bounds (record { first = b.0; len = len }) ≡ b
 unfolding has_length
 bounds_of_length b len has =
-    let count : b.0 + 2 ^ (128 - len) ≡ b.1 + 1 = eqb-true _ _ (both_pass (b.0 % 2 ^ (128 - len) == 0) (b.0 + 2 ^ (128 - len) == b.1 + 1) has).1 in
+    let count : b.0 + 2 ^ (128 - len) ≡ b.1 + 1 =
+    eqb-true _ _ (both_pass (b.0 % 2 ^ (128 - len) == 0) (b.0 + 2 ^ (128 - len) == b.1 + 1) has).1 in
     let last : b.0 + 2 ^ (128 - len) - 1 ≡ b.1 = omega (arith, count) in
     λ i. (b.0, last i)
 
@@ -37,7 +40,8 @@ found_length (suc n) b len found = by_test (has_length b (suc n)) refl (found_le
         → (length_upto n b ≡ Some len → (len ≤ n) × (has_length b len ≡ true))
         → (len ≤ suc n) × (has_length b len ≡ true)
     by_test true here before =
-        let same : Some (suc n) ≡ Some len = ap (λ (t : Bool). if t then Some (suc n) else length_upto n b) (sym here) ∙ found in
+        let same : Some (suc n) ≡ Some len =
+        ap (λ (t : Bool). if t then Some (suc n) else length_upto n b) (sym here) ∙ found in
         let is : suc n ≡ len = cc in
         (omega (arith, is), ap (has_length b) (sym is) ∙ here)
     by_test false here before =

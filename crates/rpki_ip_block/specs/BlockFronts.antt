@@ -22,7 +22,8 @@ pub record IsBlockAtFront (family : AddressFamily) (text : List ℕ) (b : IpBloc
 
 -- the block is the range from an address to an address of the family at the front of the text, and rest is after it
 abbrev pub IsRangeAfterDash : AddressFamily → IpAddr → List ℕ → IpBlock → List ℕ → Type 0
-IsRangeAfterDash family first text (Range r) rest = IsAtFront (λ t r. WithAddress (Some family) t (λ last. IsRangeFrom first last r)) text r rest
+IsRangeAfterDash family first text (Range r) rest =
+    IsAtFront (λ t r. WithAddress (Some family) t (λ last. IsRangeFrom first last r)) text r rest
 IsRangeAfterDash family first text (Prefix p) rest = ⊥
 
 -- the block is the prefix at an address; its length in digits is at the front of the text, and rest is after it

@@ -70,4 +70,5 @@ ip_block_by strict limit = refined value_at (ip_block_of_by strict limit)
 
 -- reads the next block: in strict mode it also begins more than one above the greatest address of the block before
 abbrev pub next_ip_block_by : Bool → ℕ → Option ℕ → List ℕ → Result (IpBlock × List ℕ) DerError
-next_ip_block_by strict limit before = refined (ip_block_by strict limit) (passing strict (λ block. is_beyond before (ip_bounds block).0))
+next_ip_block_by strict limit before =
+    refined (ip_block_by strict limit) (passing strict (λ block. is_beyond before (ip_bounds block).0))

@@ -2,7 +2,8 @@
 -- with None.
 use Rattle.std.specs.Prelude.{◌⊎◌, List, ℕ, Option}
 use Rattle.rpki_text.specs.Cuts.{HasNo, Around, slash, dash}
-use Rattle.rpki_ip.specs.BlockText.{IsIpPrefixText, IsRangeText, IsSingleText, HasAddressFault, HasPrefixFault, HasRangeFault}
+use Rattle.rpki_ip.specs.BlockText.{IsIpPrefixText, IsRangeText, IsSingleText, HasAddressFault, HasPrefixFault}
+use Rattle.rpki_ip.specs.BlockText.{HasRangeFault}
 use Rattle.rpki_ip.specs.declared.error.FromStrError.{FromStrError}
 use Rattle.rpki_der.specs.declared.family.AddressFamily.{AddressFamily}
 use Rattle.rpki_ip_block.specs.declared.block.IpBlock.{IpBlock}
@@ -12,7 +13,8 @@ use Rattle.rpki_ip_block.specs.declared.block.IpBlock.TheVariants.{Prefix, Range
 -- with a dash is a range, separated by the first dash. Any other text is one address.
 abbrev pub IsIpBlockText : Option AddressFamily → List ℕ → IpBlock → Type 0
 IsIpBlockText wanted text (Prefix p) = IsIpPrefixText wanted text p
-IsIpBlockText wanted text (Range r) = HasNo slash text × (IsRangeText wanted text r ⊎ (HasNo dash text × IsSingleText wanted text r))
+IsIpBlockText wanted text (Range r) =
+    HasNo slash text × (IsRangeText wanted text r ⊎ (HasNo dash text × IsSingleText wanted text r))
 
 -- e is the first fault of a text that denotes no block
 abbrev pub HasIpBlockFault : Option AddressFamily → List ℕ → FromStrError → Type 0

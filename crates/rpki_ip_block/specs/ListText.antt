@@ -50,8 +50,10 @@ HasMismatch family text e = ((block : IpBlock) → ¬ IsIpBlockText (Some family
 
 -- the text is a list without a given family, and denotes these blocks in its order
 abbrev pub HasIpBlocks : List ℕ → List IpBlock → Type 0
-HasIpBlocks text blocks = (family : AddressFamily) × IsFamilyOf text family × HaveValues (IsIpBlockText (Some family)) (elements text) blocks
+HasIpBlocks text blocks =
+    (family : AddressFamily) × IsFamilyOf text family × HaveValues (IsIpBlockText (Some family)) (elements text) blocks
 
 -- e is the fault of a list without a given family
 abbrev pub HasIpBlocksFault : List ℕ → FromStrError → Type 0
-HasIpBlocksFault text e = (family : AddressFamily) × IsFamilyOf text family × HasFirstFault (IsIpBlockText (Some family)) (HasMismatch family) (elements text) e
+HasIpBlocksFault text e = (family : AddressFamily) × IsFamilyOf text family
+    × HasFirstFault (IsIpBlockText (Some family)) (HasMismatch family) (elements text) e

@@ -1,5 +1,7 @@
 -- What the proofs of this crate use of std, of the crates below and of its own definitions, passed on by one name.
-pub use Rattle.std.proofs.Common.{Err, List, None, Ok, Option, Result, Some, [], ap, arith, eqb, false, get_or, inl, inr, length, map, refl, subst, sym, take, true, ℕ, ⊎_elim, ◌%◌, ◌++◌, ◌+◌, ◌-◌, ◌<◌, ◌^◌, ◌↔◌, ◌∙◌, ◌∷◌, ◌≡◌, ◌≢◌, ◌≤◌}
+pub use Rattle.std.proofs.Common.{Err, List, None, Ok, Option, Result, Some, [], ap, arith, eqb, false, get_or, inl}
+pub use Rattle.std.proofs.Common.{inr, length, map, refl, subst, sym, take, true, ℕ, ⊎_elim, ◌%◌, ◌++◌, ◌+◌, ◌-◌, ◌<◌}
+pub use Rattle.std.proofs.Common.{◌^◌, ◌↔◌, ◌∙◌, ◌∷◌, ◌≡◌, ◌≢◌, ◌≤◌}
 pub use Rattle.std.proofs.lemmas.Bool.{cases_order}
 pub use Rattle.std.proofs.lemmas.List.{append_cancel_left, get_or-map, length-append, length-map}
 pub use Rattle.std.proofs.lemmas.List.Elements.{All-from_recursion, All-map, All-take, recursion_from_All}
@@ -57,9 +59,11 @@ pub use Rattle.rpki_ip_block.specs.declared.block.IpBlock.TheVariants.{Prefix, R
 pub use Rattle.rpki_text.specs.declared.memory.OrMemory.{OrMemory}
 pub use Rattle.rpki_text.specs.declared.memory.OrMemory.TheVariants.{Memory, Refused}
 pub use Rattle.rpki_ipres.specs.Modes.{greatest_of_ip_block, ip_blocks_by, ip_families_by, ip_resources_by}
-pub use Rattle.rpki_ipres.specs.Resources.{ArePresentClaims, IsFamilyClaim, IsIpClaim, IsPresentFamilyClaim, IsWholeClaim}
+pub use Rattle.rpki_ipres.specs.Resources.{ArePresentClaims, IsFamilyClaim, IsIpClaim, IsPresentFamilyClaim}
+pub use Rattle.rpki_ipres.specs.Resources.{IsWholeClaim}
 pub use Rattle.rpki_chain.specs.Choices.{if_present}
-pub use Rattle.rpki_ipres.specs.ResourcesDer.{IsIpFamilies, IsIpResources, SaysClaimOf, SaysClaims, ip_families_at, ip_families_der, ip_member_der, ip_resources_at, ip_resources_der}
+pub use Rattle.rpki_ipres.specs.ResourcesDer.{IsIpFamilies, IsIpResources, SaysClaimOf, SaysClaims, ip_families_at}
+pub use Rattle.rpki_ipres.specs.ResourcesDer.{ip_families_der, ip_member_der, ip_resources_at, ip_resources_der}
 pub use Rattle.rpki_ipres.specs.ResourcesReadingLaws.{resources_reading}
 pub use Rattle.rpki_ipres.specs.SetDer.{IsIpBlockSequence, IsIpFamily, ip_family_der, ip_run_der, ip_set_der}
 pub use Rattle.rpki_ipres.specs.SetText.{IsFamilySet, IsIpSet, IsSetOf, set_text}

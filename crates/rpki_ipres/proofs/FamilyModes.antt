@@ -1,5 +1,11 @@
 -- Families of resources in either mode: strictly, the octets are those that are written of them.
-use Rattle.rpki_ipres.proofs.Common.{Err, List, None, Ok, Result, arith, inl, inr, ℕ, ◌≡◌, ◌≢◌, IsSaidInModes, IsSequenceFrom, IsSequenceOf, stood_for, NotCanonicalOrMemory, bits_of, ByFamily, IsFamilies, IsFamiliesInOrder, families_der, AddressFamily, Ipv4, Ipv6, IsChoiceOf, Claim, ResourcesChoice, Missing, Refines, Cursor, DerError, IsIpBlockDer, IpBlock, OrMemory, Memory, Refused, greatest_of_ip_block, ip_families_by, ip_resources_by, ArePresentClaims, IsFamilyClaim, IsPresentFamilyClaim, if_present, IsIpFamilies, SaysClaimOf, SaysClaims, ip_families_at, ip_resources_at, ip_resources_der}
+use Rattle.rpki_ipres.proofs.Common.{Err, List, None, Ok, Result, arith, inl, inr, ℕ, ◌≡◌, ◌≢◌, IsSaidInModes}
+use Rattle.rpki_ipres.proofs.Common.{IsSequenceFrom, IsSequenceOf, stood_for, NotCanonicalOrMemory, bits_of, ByFamily}
+use Rattle.rpki_ipres.proofs.Common.{IsFamilies, IsFamiliesInOrder, families_der, AddressFamily, Ipv4, Ipv6, IsChoiceOf}
+use Rattle.rpki_ipres.proofs.Common.{Claim, ResourcesChoice, Missing, Refines, Cursor, DerError, IsIpBlockDer, IpBlock}
+use Rattle.rpki_ipres.proofs.Common.{OrMemory, Memory, Refused, greatest_of_ip_block, ip_families_by, ip_resources_by}
+use Rattle.rpki_ipres.proofs.Common.{ArePresentClaims, IsFamilyClaim, IsPresentFamilyClaim, if_present, IsIpFamilies}
+use Rattle.rpki_ipres.proofs.Common.{SaysClaimOf, SaysClaims, ip_families_at, ip_resources_at, ip_resources_der}
 use Rattle.rpki_der.proofs.FamiliesInModes.{families_said}
 use Rattle.rpki_ipres.proofs.IpSetDerModes.{IsNextWritten, claim_in_modes}
 

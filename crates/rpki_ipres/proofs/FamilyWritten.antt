@@ -1,5 +1,11 @@
 -- What is written of sets, alone and behind their family, stands for them, and octets stand for one set at most.
-use Rattle.rpki_ipres.proofs.Common.{List, [], ap, arith, length, refl, subst, sym, ℕ, ◌++◌, ◌<◌, ◌^◌, ◌↔◌, ◌∙◌, ◌∷◌, ◌≡◌, ◌≢◌, append_cancel_left, length-append, one_content, written_said, family_reading, family_written, IsSequenceOf, bits_of, IsFamilyDer, family_at, family_der, AddressFamily, Holds, IsRunsOfBlocks, Runs, value_is, OneFront, header, tagged_at, IsIpBlockDer, ip_blocks_at, blocks_reading, ip_bounds, IsIpBlockSequence, IsIpFamily, ip_family_der, ip_set_der, IsFamilySet, IsIpSet, one_front_said, content_shorter}
+use Rattle.rpki_ipres.proofs.Common.{List, [], ap, arith, length, refl, subst, sym, ℕ, ◌++◌, ◌<◌, ◌^◌, ◌↔◌, ◌∙◌, ◌∷◌}
+use Rattle.rpki_ipres.proofs.Common.{◌≡◌, ◌≢◌, append_cancel_left, length-append, one_content, written_said}
+use Rattle.rpki_ipres.proofs.Common.{family_reading, family_written, IsSequenceOf, bits_of, IsFamilyDer, family_at}
+use Rattle.rpki_ipres.proofs.Common.{family_der, AddressFamily, Holds, IsRunsOfBlocks, Runs, value_is, OneFront, header}
+use Rattle.rpki_ipres.proofs.Common.{tagged_at, IsIpBlockDer, ip_blocks_at, blocks_reading, ip_bounds}
+use Rattle.rpki_ipres.proofs.Common.{IsIpBlockSequence, IsIpFamily, ip_family_der, ip_set_der, IsFamilySet, IsIpSet}
+use Rattle.rpki_ipres.proofs.Common.{one_front_said, content_shorter}
 use Rattle.rpki_der.proofs.ValueReadings.{IsTagged, one_front, tagged_reading}
 use Rattle.rpki_ipres.proofs.IpSetDerModes.{set_in_modes}
 use Rattle.rpki_ipres.proofs.SetTextLemmas.{alike_as_numbers, is_ip_set}

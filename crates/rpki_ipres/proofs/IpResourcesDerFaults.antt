@@ -1,5 +1,6 @@
 -- Where resources of addresses are refused for a list of no blocks, for no family, for one that is there twice.
-use Rattle.rpki_ipres.proofs.Common.{Err, List, arith, ℕ, ◌↔◌, ◌≡◌, values_of, bits_of, tagged_at, ip_block_at, ip_blocks_at, IpBlock, ip_families_at, ip_resources_at}
+use Rattle.rpki_ipres.proofs.Common.{Err, List, arith, ℕ, ◌↔◌, ◌≡◌, values_of, bits_of, tagged_at, ip_block_at}
+use Rattle.rpki_ipres.proofs.Common.{ip_blocks_at, IpBlock, ip_families_at, ip_resources_at}
 use Rattle.rpki_der.specs.declared.error.DerError.TheVariants.{DuplicateFamily, EmptyBlocks, NoFamily}
 use Rattle.rpki_der.specs.SequenceFaults.{BeginsEmpty, BeginsWithValue}
 use Rattle.rpki_der.proofs.SequenceFaults.{NamesTo, header_names, no_values, refined_names, values_names}

@@ -1,6 +1,13 @@
 -- What is written of resources, alone and by families, stands for them, and octets stand for one
 -- claim at most.
-use Rattle.rpki_ipres.proofs.Common.{IfSome, Blocks, Inherit, List, None, Option, Some, [], ap, arith, length, refl, ℕ, ◌++◌, ◌<◌, ◌^◌, ◌↔◌, ◌≡◌, ◌≢◌, append_cancel_left, one_content, one_families, stands_for, written_said, IsSequenceOf, bits_of, ByFamily, option_der, AddressFamily, Ipv4, Ipv6, lists_one, IsChoiceOf, Claim, claim_of, IsRunsOfBlocks, Runs, ResourcesChoice, Missing, OneFront, header, IsIpBlockDer, ip_bounds, IpBlock, IsFamilyClaim, IsIpClaim, if_present, IsIpFamilies, IsIpResources, SaysClaimOf, ip_families_der, ip_member_der, ip_resources_at, ip_resources_der, resources_reading, ip_family_der, one_front_said}
+use Rattle.rpki_ipres.proofs.Common.{IfSome, Blocks, Inherit, List, None, Option, Some, [], ap, arith, length, refl, ℕ}
+use Rattle.rpki_ipres.proofs.Common.{◌++◌, ◌<◌, ◌^◌, ◌↔◌, ◌≡◌, ◌≢◌, append_cancel_left, one_content, one_families}
+use Rattle.rpki_ipres.proofs.Common.{stands_for, written_said, IsSequenceOf, bits_of, ByFamily, option_der}
+use Rattle.rpki_ipres.proofs.Common.{AddressFamily, Ipv4, Ipv6, lists_one, IsChoiceOf, Claim, claim_of, IsRunsOfBlocks}
+use Rattle.rpki_ipres.proofs.Common.{Runs, ResourcesChoice, Missing, OneFront, header, IsIpBlockDer, ip_bounds, IpBlock}
+use Rattle.rpki_ipres.proofs.Common.{IsFamilyClaim, IsIpClaim, if_present, IsIpFamilies, IsIpResources, SaysClaimOf}
+use Rattle.rpki_ipres.proofs.Common.{ip_families_der, ip_member_der, ip_resources_at, ip_resources_der}
+use Rattle.rpki_ipres.proofs.Common.{resources_reading, ip_family_der, one_front_said}
 use Rattle.rpki_ipres.proofs.FamilyModes.{G, are_present, families_in_modes}
 use Rattle.rpki_ipres.proofs.IpSetDerModes.{claim_in_modes}
 use Rattle.rpki_ipres.proofs.IpSetWritten.{one_set, set_alike}

@@ -1,5 +1,13 @@
 -- Sets and resources of addresses in either mode: strictly, the octets are those that are written of them.
-use Rattle.rpki_ipres.proofs.Common.{List, None, Option, arith, refl, ℕ, ◌-◌, ◌<◌, ◌^◌, ◌≤◌, All-from_recursion, pow_pos, IsSaidInModes, IsSequenceFrom, IsSequenceOf, bits_of, AddressFamily, IsChoiceOf, IsRunsOfBlocks, tested_modal, Spells, Where, bits_few_enough, within, new_block_fits, IsBlockWithin, IsIpBlockDer, IsSetIpBlock, ip_block_der, new_ip_block_bounds, ip_block_at, ip_block_by, ip_blocks_at, next_ip_block_by, ip_block_has_octets, ip_block_reading, ip_bounds, new_ip_block, IpBlock, Prefix, Range, greatest_of_ip_block, ip_blocks_by, ip_resources_by, IsPresentFamilyClaim, SaysClaimOf, ip_resources_at, ip_resources_der, ip_set_der, IsFamilySet, block_written}
+use Rattle.rpki_ipres.proofs.Common.{List, None, Option, arith, refl, ℕ, ◌-◌, ◌<◌, ◌^◌, ◌≤◌, All-from_recursion}
+use Rattle.rpki_ipres.proofs.Common.{pow_pos, IsSaidInModes, IsSequenceFrom, IsSequenceOf, bits_of, AddressFamily}
+use Rattle.rpki_ipres.proofs.Common.{IsChoiceOf, IsRunsOfBlocks, tested_modal, Spells, Where, bits_few_enough, within}
+use Rattle.rpki_ipres.proofs.Common.{new_block_fits, IsBlockWithin, IsIpBlockDer, IsSetIpBlock, ip_block_der}
+use Rattle.rpki_ipres.proofs.Common.{new_ip_block_bounds, ip_block_at, ip_block_by, ip_blocks_at, next_ip_block_by}
+use Rattle.rpki_ipres.proofs.Common.{ip_block_has_octets, ip_block_reading, ip_bounds, new_ip_block, IpBlock, Prefix}
+use Rattle.rpki_ipres.proofs.Common.{Range, greatest_of_ip_block, ip_blocks_by, ip_resources_by, IsPresentFamilyClaim}
+use Rattle.rpki_ipres.proofs.Common.{SaysClaimOf, ip_resources_at, ip_resources_der, ip_set_der, IsFamilySet}
+use Rattle.rpki_ipres.proofs.Common.{block_written}
 use Rattle.rpki_block.specs.Beyond.{IsBeyond, is_beyond}
 use Rattle.rpki_block.proofs.BlockStartTest.{beyond_is, is_beyond_of}
 use Rattle.rpki_chain.proofs.BlocksInModes.{AreBlocksInModes, choice_said, set_said}

@@ -1,5 +1,12 @@
 -- What is written of sets of addresses, and that it is read back.
-use Rattle.rpki_ipres.proofs.Common.{List, [], ap, arith, eqb, false, length, map, refl, sym, ℕ, ◌++◌, ◌↔◌, ◌∙◌, ◌∷◌, ◌≡◌, ◌≤◌, recursion_from_All, pow_pos, AllByRecursion, one_content, written_alike, octets_of_all, sequence_octets, bits_of, family_der, AddressFamily, Ipv4, Ipv6, IsRunsOf-unique, Holds, IsRunsOfBlocks, Runs, Covers, sequence_value, new_block_fits, IsBlockWithin, IsIpBlockDer, ip_block_der, new_ip_block_bounds, ip_block_at, ip_block_has_octets, ip_block_reading, ip_bounds, new_ip_block, IsBlock, IpBlock, ip_family_der, ip_run_der, ip_set_der, IsFamilySet, IsIpSet, block_written}
+use Rattle.rpki_ipres.proofs.Common.{List, [], ap, arith, eqb, false, length, map, refl, sym, ℕ, ◌++◌, ◌↔◌, ◌∙◌, ◌∷◌}
+use Rattle.rpki_ipres.proofs.Common.{◌≡◌, ◌≤◌, recursion_from_All, pow_pos, AllByRecursion, one_content, written_alike}
+use Rattle.rpki_ipres.proofs.Common.{octets_of_all, sequence_octets, bits_of, family_der, AddressFamily, Ipv4, Ipv6}
+use Rattle.rpki_ipres.proofs.Common.{IsRunsOf-unique, Holds, IsRunsOfBlocks, Runs, Covers, sequence_value}
+use Rattle.rpki_ipres.proofs.Common.{new_block_fits, IsBlockWithin, IsIpBlockDer, ip_block_der, new_ip_block_bounds}
+use Rattle.rpki_ipres.proofs.Common.{ip_block_at, ip_block_has_octets, ip_block_reading, ip_bounds, new_ip_block}
+use Rattle.rpki_ipres.proofs.Common.{IsBlock, IpBlock, ip_family_der, ip_run_der, ip_set_der, IsFamilySet, IsIpSet}
+use Rattle.rpki_ipres.proofs.Common.{block_written}
 use Rattle.std.proofs.lemmas.List.Folds.{flat_map-map}
 use Rattle.rpki_ip.specs.RangeDer.{IsRangeWithin}
 use Rattle.rpki_ip.proofs.PrefixDerWritten.{few_bits}

@@ -1,6 +1,8 @@
 -- What is printed of a set is a list text with that set, a list text has one set at most, and so sets of the same
 -- addresses alone print alike.
-use Rattle.rpki_ipres.proofs.Common.{List, map, refl, subst, ℕ, ◌↔◌, ◌∙◌, ◌≡◌, AddressFamily, IsRunsOf-unique, IsRunsOfBlocks-bounds, Holds, Runs, Covers, ip_bounds, new_ip_block, HasBlocks, HasIpBlocks, IpBlock, IsFamilySet, IsIpSet, IsSetOf, set_text, same_blocks}
+use Rattle.rpki_ipres.proofs.Common.{List, map, refl, subst, ℕ, ◌↔◌, ◌∙◌, ◌≡◌, AddressFamily, IsRunsOf-unique}
+use Rattle.rpki_ipres.proofs.Common.{IsRunsOfBlocks-bounds, Holds, Runs, Covers, ip_bounds, new_ip_block, HasBlocks}
+use Rattle.rpki_ipres.proofs.Common.{HasIpBlocks, IpBlock, IsFamilySet, IsIpSet, IsSetOf, set_text, same_blocks}
 use Rattle.rpki_ip_block.proofs.PrintedLists.{family_list, list_with_its_family}
 use Rattle.rpki_ipres.proofs.SetTextLemmas.{alike_as_numbers, blocks_bounds, blocks_of_family, is_ip_set}
 
@@ -30,7 +32,9 @@ family_written family set is =
 pub either_written : (family : AddressFamily) (set : Runs) → IsFamilySet family set
     → IsSetOf (HasIpBlocks (set_text family set)) set
 either_written family set is =
-    let ensured = list_with_its_family family (set_text family set) (map new_ip_block set) (blocks_of_family family set is) refl in
+    let ensured =
+    list_with_its_family family (set_text family set) (map new_ip_block set) (blocks_of_family family set is)
+    refl in
     let all = ensured.writes in
     set_of (HasIpBlocks _) set all.values (is_ip_set family set is) (ensured.family, ensured.is, all.have) all.bounds
 

@@ -1,5 +1,9 @@
 -- A list writes one set at most, or has one fault, and what is printed of a set is read as that set.
-use Rattle.rpki_ipres.proofs.Common.{ap, ℕ, ◌↔◌, same_numbers, Holds, Err, List, Ok, arith, get_or, map, subst, sym, ◌∙◌, ◌≡◌, ◌≤◌, All-map, All, AddressFamily, Ipv4, Ipv6, IsRunsOf-unique, IsRunsOfBlocks-bounds, bounds_made, IsRunsOfBlocks, Runs, Covers, HasWholeBounds, new_block_fits, new_ip_block_bounds, ip_bounds, new_ip_block, IsBlockOf, IpBlock, OrMemory, IsFamilySet, IsIpSet, IsSetOf}
+use Rattle.rpki_ipres.proofs.Common.{ap, ℕ, ◌↔◌, same_numbers, Holds, Err, List, Ok, arith, get_or, map, subst, sym}
+use Rattle.rpki_ipres.proofs.Common.{◌∙◌, ◌≡◌, ◌≤◌, All-map, All, AddressFamily, Ipv4, Ipv6, IsRunsOf-unique}
+use Rattle.rpki_ipres.proofs.Common.{IsRunsOfBlocks-bounds, bounds_made, IsRunsOfBlocks, Runs, Covers, HasWholeBounds}
+use Rattle.rpki_ipres.proofs.Common.{new_block_fits, new_ip_block_bounds, ip_bounds, new_ip_block, IsBlockOf, IpBlock}
+use Rattle.rpki_ipres.proofs.Common.{OrMemory, IsFamilySet, IsIpSet, IsSetOf}
 use Rattle.rpki_text.specs.Reading.{AnswersOrMemory}
 use Rattle.rpki_ipres.proofs.WholeRunLemmas.{whole_runs}
 
@@ -11,18 +15,23 @@ module _ {V E : Type 0} (view : V → List IpBlock) (Has : List IpBlock → Type
     found = record { blocks = view v; are_written = h.found; covered = covered };
     each_value = λ other is. (
         let same : view v ≡ is.blocks = h.each_value is.blocks is.are_written in
-        IsRunsOf-unique (Covers ip_bounds is.blocks) set other (subst (λ blocks. IsRunsOfBlocks ip_bounds blocks set) same covered) is.covered);
+        IsRunsOf-unique (Covers ip_bounds is.blocks) set other
+        (subst (λ blocks. IsRunsOfBlocks ip_bounds blocks set) same covered) is.covered);
     each_fault = h.each_fault;
   }
 
   -- a refusal is that of the list
   pub set_refused : (e : OrMemory E) → AnswersOrMemory view Has Fails (Err e)
       → AnswersOrMemory (λ (s : Runs). s) (IsSetOf Has) Fails (Err e)
-  set_refused e h = record { found = h.found; each_value = λ set is. h.each_value is.blocks is.are_written; each_fault = h.each_fault }
+  set_refused e h =
+      record
+      { found = h.found; each_value = λ set is. h.each_value is.blocks is.are_written; each_fault = h.each_fault }
 
 -- the blocks that are made of runs have their bounds
 pub blocks_bounds : (set : Runs) → IsIpSet set → map ip_bounds (map new_ip_block set) ≡ set
-blocks_bounds = bounds_made ip_bounds new_ip_block 0 340282366920938463463374607431768211455 (λ b from ordered to. new_ip_block_bounds b)
+blocks_bounds =
+    bounds_made ip_bounds new_ip_block 0 340282366920938463463374607431768211455
+    (λ b from ordered to. new_ip_block_bounds b)
 
 -- the blocks of a set of addresses are blocks of addresses
 blocks_fit : (set : Runs) → IsIpSet set → All (IsBlockOf Ipv6) (map new_ip_block set)

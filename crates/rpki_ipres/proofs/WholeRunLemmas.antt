@@ -1,5 +1,8 @@
 -- Which sets consist of whole IPv4 addresses, by their runs.
-use Rattle.rpki_ipres.proofs.Common.{take, List, ap, arith, get_or, length, map, refl, subst, sym, ℕ, ◌%◌, ◌+◌, ◌-◌, ◌<◌, ◌^◌, ◌∙◌, ◌≡◌, ◌≤◌, cases_order, get_or-map, length-map, All-map, Holds, IsRunsOf, Runs, IsChainOf, IsRun, whole_set, HasWholeBounds, IsWhole, ip_bounds, IpBlock}
+use Rattle.rpki_ipres.proofs.Common.{take, List, ap, arith, get_or, length, map, refl, subst, sym, ℕ, ◌%◌, ◌+◌, ◌-◌}
+use Rattle.rpki_ipres.proofs.Common.{◌<◌, ◌^◌, ◌∙◌, ◌≡◌, ◌≤◌, cases_order, get_or-map, length-map, All-map, Holds}
+use Rattle.rpki_ipres.proofs.Common.{IsRunsOf, Runs, IsChainOf, IsRun, whole_set, HasWholeBounds, IsWhole, ip_bounds}
+use Rattle.rpki_ipres.proofs.Common.{IpBlock}
 use Rattle.std.proofs.lemmas.List.{take_all}
 use Rattle.std.specs.Prelude.{All}
 use Rattle.rpki_chain_core.proofs.Chains.{IsChainOf-from}
@@ -23,7 +26,9 @@ whole_run S b run whole =
 pub whole_runs : (runs : Runs) → IsRunsOf (Holds runs) runs → IsWhole (Holds runs) → All HasWholeBounds runs
 whole_runs runs h whole k d small =
     let chain : IsChainOf (λ (b : ℕ × ℕ). b) (λ b. b) (Holds runs) runs =
-    IsChainOf-from (λ (b : ℕ × ℕ). b) (λ b. b) runs (Holds runs) (record { ordered = h.ordered; apart = h.apart; new_form = λ k d small. refl }) (λ n. (λ held. held, λ held. held)) in
+    IsChainOf-from (λ (b : ℕ × ℕ). b) (λ b. b) runs (Holds runs)
+    (record { ordered = h.ordered; apart = h.apart; new_form = λ k d small. refl })
+    (λ n. (λ held. held, λ held. held)) in
     whole_run (Holds runs) _ (chain.runs k d small) whole
 
 -- and runs with whole bounds are a whole set
@@ -36,9 +41,11 @@ pub whole_block : (blocks : List IpBlock) (runs : Runs) (i : ℕ) (x : IpBlock) 
     → IsRunsOf (Holds runs) runs → i < length blocks → x ≡ get_or blocks i x → IsWhole (Holds runs)
     → HasWholeBounds (ip_bounds x)
 whole_block blocks runs i x bounds h small here whole =
-    let all : All HasWholeBounds (map ip_bounds blocks) = subst (All HasWholeBounds) (sym bounds) (whole_runs runs h whole) in
+    let all : All HasWholeBounds (map ip_bounds blocks) =
+    subst (All HasWholeBounds) (sym bounds) (whole_runs runs h whole) in
     let long = length-map blocks ip_bounds in
-    let at : get_or (map ip_bounds blocks) i (ip_bounds x) ≡ ip_bounds (get_or blocks i x) = get_or-map ip_bounds blocks i x (ip_bounds x) small in
+    let at : get_or (map ip_bounds blocks) i (ip_bounds x) ≡ ip_bounds (get_or blocks i x) =
+    get_or-map ip_bounds blocks i x (ip_bounds x) small in
     subst HasWholeBounds (at ∙ ap ip_bounds (sym here)) (all i (ip_bounds x) (omega (arith, long, small)))
 
 -- and blocks that all have are a whole set

@@ -1,12 +1,23 @@
 -- The sets and claims that are read as IPv4 consist of whole IPv4 addresses.
-use Rattle.rpki_ipres.proofs.Common.{List, None, Option, Some, refl, subst, sym, ℕ, ◌≡◌, All, IfSome, IsThere, each_there, bits_of, ByFamily, AddressFamily, Ipv4, Ipv6, Claim, Holds, IsRunsOfBlocks, Runs, Blocks, Inherit, Missing, whole_set, HasWholeBounds, IsWhole, whole_each, ip_bounds, IpBlock, IsWholeClaim, IsIpFamilies, IsIpResources, IsIpBlockSequence}
+use Rattle.rpki_ipres.proofs.Common.{List, None, Option, Some, refl, subst, sym, ℕ, ◌≡◌, All, IfSome, IsThere}
+use Rattle.rpki_ipres.proofs.Common.{each_there, bits_of, ByFamily, AddressFamily, Ipv4, Ipv6, Claim, Holds}
+use Rattle.rpki_ipres.proofs.Common.{IsRunsOfBlocks, Runs, Blocks, Inherit, Missing, whole_set, HasWholeBounds, IsWhole}
+use Rattle.rpki_ipres.proofs.Common.{whole_each, ip_bounds, IpBlock, IsWholeClaim, IsIpFamilies, IsIpResources}
+use Rattle.rpki_ipres.proofs.Common.{IsIpBlockSequence}
 
 -- the set of blocks with whole bounds is whole
 pub whole_cover : (blocks : List IpBlock) (set : Runs) → All (λ b. HasWholeBounds (ip_bounds b)) blocks
     → IsRunsOfBlocks ip_bounds blocks set → IsWhole (Holds set)
 whole_cover blocks set all is m n same held =
     let (k, b, small, here, within) = (is.members m).0 held in
-    (is.members n).1 (k, b, small, here, whole_set (ip_bounds b) (subst (λ x. HasWholeBounds (ip_bounds x)) here (all k b small)) m n same within)
+    (is.members n).1 (
+      k,
+      b,
+      small,
+      here,
+      whole_set (ip_bounds b)
+          (subst (λ x. HasWholeBounds (ip_bounds x)) here (all k b small)) m n same within,
+    )
 
 -- and so is the set that a SEQUENCE of blocks of IPv4 stands for
 pub whole_sequence : (family : AddressFamily) (bytes : List ℕ) (set : Runs)

@@ -30,4 +30,5 @@ IsPresentFamilyClaim family claim = IsFamilyClaim family claim × (claim ≢ Mis
 
 -- claims that have an encoding, each of its family if it is present; at least one is present
 abbrev pub ArePresentClaims : ByFamily Claim → Type 0
-ArePresentClaims fs = IfSome fs.0 (IsPresentFamilyClaim Ipv4) × IfSome fs.1 (IsPresentFamilyClaim Ipv6) × (fs.0 ≡ None → fs.1 ≢ None)
+ArePresentClaims fs =
+    IfSome fs.0 (IsPresentFamilyClaim Ipv4) × IfSome fs.1 (IsPresentFamilyClaim Ipv6) × (fs.0 ≡ None → fs.1 ≢ None)

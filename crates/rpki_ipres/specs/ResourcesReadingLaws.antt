@@ -21,7 +21,8 @@ use Rattle.rpki_ipres.specs.ResourcesDer.{ip_resources_at}
 pub resources_reading : (limit : ℕ) → IsReading (IsChoiceOf (IsSequenceOf (IsIpBlockDer limit))) (ip_resources_at limit)
 resources_reading limit =
     choice_reading (Each (IsIpBlockDer limit)) (values_of (ip_block_at limit))
-    (values_check (λ (state : Unit {0}) (x : IpBlock). state) (λ state. IsIpBlockDer limit) (λ state. ip_block_at limit) (λ state. ip_block_reading limit) (λ state. ip_block_has_octets limit) tt)
+    (values_check (λ (state : Unit {0}) (x : IpBlock). state) (λ state. IsIpBlockDer limit) (λ state. ip_block_at limit)
+    (λ state. ip_block_reading limit) (λ state. ip_block_has_octets limit) tt)
 
 -- the reading in either mode, if the reading of the next block is one in either mode
 pub resources_modal_of : (limit : ℕ) (S : Option ℕ → List ℕ → IpBlock → Type 0)
@@ -29,10 +30,17 @@ pub resources_modal_of : (limit : ℕ) (S : Option ℕ → List ℕ → IpBlock 
     → IsModal (IsChoiceOf (IsSequenceFrom greatest_of_ip_block S None)) (ip_resources_at limit)
     (λ strict. ip_resources_by strict limit)
 resources_modal_of limit S next =
-    subst (λ values. IsModal (IsChoiceOf (IsSequenceFrom greatest_of_ip_block S None)) (choice_at values) (λ strict. ip_resources_by strict limit)) (values_stateless greatest_of_ip_block (ip_block_at limit) None)
-    (choice_modal (EachFrom greatest_of_ip_block S None) (values_from greatest_of_ip_block (λ before. ip_block_at limit) None) (λ strict. values_from greatest_of_ip_block (next_ip_block_by strict limit) None)
-    (strict_values_check greatest_of_ip_block (λ before. IsIpBlockDer limit) S (λ before. ip_block_at limit) (λ strict. next_ip_block_by strict limit) (λ before. ip_block_reading limit) (λ before. ip_block_has_octets limit) next None)
-    (λ strict. values_tighten strict greatest_of_ip_block (next_ip_block_by strict limit) (λ before. ip_block_at limit) (λ before. (next before).tightens strict) None))
+    subst
+    (λ values. IsModal (IsChoiceOf (IsSequenceFrom greatest_of_ip_block S None)) (choice_at values)
+    (λ strict. ip_resources_by strict limit)) (values_stateless greatest_of_ip_block (ip_block_at limit) None)
+    (choice_modal (EachFrom greatest_of_ip_block S None)
+    (values_from greatest_of_ip_block (λ before. ip_block_at limit) None)
+    (λ strict. values_from greatest_of_ip_block (next_ip_block_by strict limit) None)
+    (strict_values_check greatest_of_ip_block (λ before. IsIpBlockDer limit) S (λ before. ip_block_at limit)
+    (λ strict. next_ip_block_by strict limit) (λ before. ip_block_reading limit)
+    (λ before. ip_block_has_octets limit) next None)
+    (λ strict. values_tighten strict greatest_of_ip_block (next_ip_block_by strict limit) (λ before. ip_block_at limit)
+    (λ before. (next before).tightens strict) None))
 
 -- the reading in either mode
 pub resources_modal : (limit : ℕ)

@@ -17,7 +17,8 @@ IsIpBlockSequence limit = Refines (IsSequenceOf (IsIpBlockDer limit)) (IsRunsOfB
 
 -- the octets are one SEQUENCE of a family and of the SEQUENCE of its blocks, which denotes a set (2.2.3.2)
 abbrev pub IsIpFamily : List ℕ → AddressFamily × Runs → Type 0
-IsIpFamily bytes f = (content : List ℕ) × IsSequence bytes content × Both IsFamilyDer (IsIpBlockSequence (bits_of f.0)) content f.0 f.1
+IsIpFamily bytes f =
+    (content : List ℕ) × IsSequence bytes content × Both IsFamilyDer (IsIpBlockSequence (bits_of f.0)) content f.0 f.1
 
 -- ---- encodings
 

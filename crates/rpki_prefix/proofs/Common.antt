@@ -1,5 +1,7 @@
 -- What the proofs of this crate use of std, of the crates below and of its own definitions, passed on by one name.
-pub use Rattle.std.proofs.Common.{Bool, Err, List, MatchResult, None, Ok, Option, Result, Some, [], ap, append-nil, arith, bit_and, bit_or, decimal, eqb, false, inl, inr, length, lit<, refl, rules, subst, sym, true, ℕ, ◌&&◌, ◌++◌, ◌+◌, ◌-◌, ◌<◌, ◌^◌, ◌↔◌, ◌∙◌, ◌≡◌, ◌≤◌}
+pub use Rattle.std.proofs.Common.{Bool, Err, List, MatchResult, None, Ok, Option, Result, Some, [], ap, append-nil}
+pub use Rattle.std.proofs.Common.{arith, bit_and, bit_or, decimal, eqb, false, inl, inr, length, lit<, refl, rules}
+pub use Rattle.std.proofs.Common.{subst, sym, true, ℕ, ◌&&◌, ◌++◌, ◌+◌, ◌-◌, ◌<◌, ◌^◌, ◌↔◌, ◌∙◌, ◌≡◌, ◌≤◌}
 pub use Rattle.std.proofs.lemmas.Bool.{eqb-false, le-leb, leb-true}
 pub use Rattle.std.proofs.lemmas.Result.{err_from_is_err_and}
 pub use Rattle.std.proofs.lemmas.Str.Pattern.{split_parts}
@@ -14,9 +16,14 @@ pub use Rattle.rpki_text.proofs.NumberTexts.{IsNumberText-decimal, IsNumberText-
 pub use Rattle.rpki_text.proofs.ReadingLemmas.{Answers-from_found}
 pub use Rattle.rpki_text.specs.Cuts.{Around, HasNo, dash, slash}
 pub use Rattle.rpki_text.specs.Numbers.{HasNumberFault, IsNumberText}
-pub use Rattle.rpki_prefix.specs.MaxLen.{ArePrefixAndMax, HasMaxLen, HasMaxLenError, HasMaxLenTextFault, IsMaxLenOf, IsMaxLenText, IsMaxLenTextOf, MaxLenValue, ReadsMaxLen, max_len_cmp, max_text}
+pub use Rattle.rpki_prefix.specs.MaxLen.{ArePrefixAndMax, HasMaxLen, HasMaxLenError, HasMaxLenTextFault, IsMaxLenOf}
+pub use Rattle.rpki_prefix.specs.MaxLen.{IsMaxLenText, IsMaxLenTextOf, MaxLenValue, ReadsMaxLen, max_len_cmp, max_text}
 pub use Rattle.rpki_prefix.specs.Nesting.{LiesRound}
 pub use Rattle.rpki_prefix.specs.Order.{last_bits, prefix_cmp}
-pub use Rattle.rpki_prefix.specs.PrefixText.{HasNoParts, HasParts, HasPrefixTextFault, HasRelaxedPrefixTextFault, HasTextFaultBy, IsPrefixText, IsRelaxedPrefixText, IsTextBy, ReadsPrefix, prefix_text}
-pub use Rattle.rpki_prefix.specs.Values.{CoversPrefix, FamilyPrefix, HasPrefixError, HasRelaxedPrefixError, IsFamilyPrefix, IsPrefixOf, IsRelaxedPrefixOf, address_number, cleared_addr, last_addr, width}
+pub use Rattle.rpki_prefix.specs.PrefixText.{HasNoParts, HasParts, HasPrefixTextFault, HasRelaxedPrefixTextFault}
+pub use Rattle.rpki_prefix.specs.PrefixText.{HasTextFaultBy, IsPrefixText, IsRelaxedPrefixText, IsTextBy, ReadsPrefix}
+pub use Rattle.rpki_prefix.specs.PrefixText.{prefix_text}
+pub use Rattle.rpki_prefix.specs.Values.{CoversPrefix, FamilyPrefix, HasPrefixError, HasRelaxedPrefixError}
+pub use Rattle.rpki_prefix.specs.Values.{IsFamilyPrefix, IsPrefixOf, IsRelaxedPrefixOf, address_number, cleared_addr}
+pub use Rattle.rpki_prefix.specs.Values.{last_addr, width}
 pub use Rattle.rpki_prefix.specs.declared.error.ParsePrefixError.{ParsePrefixError}

@@ -1,5 +1,6 @@
 -- On the host bits of addresses: the bits after a prefix's length.
-use Rattle.rpki_prefix.proofs.Common.{arith, bit_and, bit_or, ℕ, ◌+◌, ◌-◌, ◌<◌, ◌^◌, ◌∙◌, ◌≡◌, ◌≤◌, clear_host, set_host, IpAddr, IsRelaxedPrefixOf, address_number, cleared_addr, width}
+use Rattle.rpki_prefix.proofs.Common.{arith, bit_and, bit_or, ℕ, ◌+◌, ◌-◌, ◌<◌, ◌^◌, ◌∙◌, ◌≡◌, ◌≤◌, clear_host}
+use Rattle.rpki_prefix.proofs.Common.{set_host, IpAddr, IsRelaxedPrefixOf, address_number, cleared_addr, width}
 use Rattle.rpki_cover.specs.Bits.{cleared}
 use Rattle.rpki_cover.proofs.PrefixNumbers.{cleared_prefix, cleared_holds}
 

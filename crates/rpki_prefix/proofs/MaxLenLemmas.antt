@@ -1,15 +1,22 @@
 -- A text writes one prefix with a maximum length or without, or has one fault; and what is printed writes what it was
 -- printed of.
-use Rattle.rpki_prefix.proofs.Common.{List, MatchResult, None, Option, Result, Some, ap, append-nil, arith, decimal, inl, inr, length, refl, subst, ℕ, ◌++◌, ◌-◌, ◌^◌, ◌≡◌, ip_bytes, not_dash, none_around, IsNumberText-decimal, IsNumberText-one, Answers-from_found, Around, HasNo, dash, HasMaxLen, HasMaxLenError, HasMaxLenTextFault, IsMaxLenOf, IsMaxLenText, IsMaxLenTextOf, MaxLenValue, ReadsMaxLen, max_text, IsPrefixText, prefix_text, FamilyPrefix, IsFamilyPrefix, ParsePrefixError}
+use Rattle.rpki_prefix.proofs.Common.{List, MatchResult, None, Option, Result, Some, ap, append-nil, arith, decimal}
+use Rattle.rpki_prefix.proofs.Common.{inl, inr, length, refl, subst, ℕ, ◌++◌, ◌-◌, ◌^◌, ◌≡◌, ip_bytes, not_dash}
+use Rattle.rpki_prefix.proofs.Common.{none_around, IsNumberText-decimal, IsNumberText-one, Answers-from_found, Around}
+use Rattle.rpki_prefix.proofs.Common.{HasNo, dash, HasMaxLen, HasMaxLenError, HasMaxLenTextFault, IsMaxLenOf}
+use Rattle.rpki_prefix.proofs.Common.{IsMaxLenText, IsMaxLenTextOf, MaxLenValue, ReadsMaxLen, max_text, IsPrefixText}
+use Rattle.rpki_prefix.proofs.Common.{prefix_text, FamilyPrefix, IsFamilyPrefix, ParsePrefixError}
 use Rattle.std.proofs.lemmas.Fmt.{decimal_is_IsNumeral}
 use Rattle.std.proofs.lemmas.Grind.{common_steps}
 use Rattle.std.proofs.lemmas.Str.Parse.{digit_at}
 use Rattle.rpki_addr.specs.PrintedAddress.{ip_text}
 use Rattle.rpki_prefix.specs.declared.error.MaxLenError.{MaxLenError}
 use Rattle.rpki_prefix.specs.declared.error.ParseMaxLenPrefixError.{ParseMaxLenPrefixError}
-use Rattle.rpki_prefix.specs.declared.error.ParseMaxLenPrefixError.TheVariants.{InvalidPrefix, InvalidMaxLenFormat, InvalidMaxLenValue}
+use Rattle.rpki_prefix.specs.declared.error.ParseMaxLenPrefixError.TheVariants.{InvalidPrefix, InvalidMaxLenFormat}
+use Rattle.rpki_prefix.specs.declared.error.ParseMaxLenPrefixError.TheVariants.{InvalidMaxLenValue}
 use Rattle.rpki_addr.proofs.WidthLemmas.{width_small}
-use Rattle.rpki_prefix.proofs.PrefixTextLemmas.{both_around, number_apart, same_number_fault, IsPrefixText-one, IsPrefixText-no_fault, HasPrefixTextFault-one, IsPrefixText-prefix_text}
+use Rattle.rpki_prefix.proofs.PrefixTextLemmas.{both_around, number_apart, same_number_fault, IsPrefixText-one}
+use Rattle.rpki_prefix.proofs.PrefixTextLemmas.{IsPrefixText-no_fault, HasPrefixTextFault-one, IsPrefixText-prefix_text}
 
 -- a text has one prefix and one maximum length round its first dash: what holds of some holds of others
 both_carry : (text : List ℕ) (P : FamilyPrefix → ℕ → Type 0) (p q : FamilyPrefix) (m n : ℕ) → HasMaxLen text p m

@@ -1,5 +1,7 @@
 -- A prefix covers another exactly where its bounds lie round the other's, and then it isn't before it.
-use Rattle.rpki_prefix.proofs.Common.{Bool, arith, false, true, ◌-◌, ◌≡◌, ◌≤◌, le-leb, leb-true, is_lt, LiesRound, last_bits, prefix_cmp, CoversPrefix, FamilyPrefix, address_number, last_addr, width}
+use Rattle.rpki_prefix.proofs.Common.{Bool, arith, false, true, ◌-◌, ◌≡◌, ◌≤◌, le-leb, leb-true, is_lt, LiesRound}
+use Rattle.rpki_prefix.proofs.Common.{last_bits, prefix_cmp, CoversPrefix, FamilyPrefix, address_number, last_addr}
+use Rattle.rpki_prefix.proofs.Common.{width}
 use Rattle.std.proofs.lemmas.Nat.{pow_pos, pow_below}
 use Rattle.std.proofs.lemmas.Bool.Decides.{nat_tests}
 use mathlib.Core.Bool.{beq}

@@ -1,6 +1,7 @@
 -- The orders of prefixes, without and with maximum lengths, are total, and what stands at one place in them is the
 -- same.
-use Rattle.rpki_prefix.proofs.Common.{Bool, arith, eqb, false, rules, true, ◌&&◌, ◌↔◌, ◌∙◌, ◌≡◌, Equal, IpAddr, V4, V6, MaxLenValue, max_len_cmp, prefix_cmp}
+use Rattle.rpki_prefix.proofs.Common.{Bool, arith, eqb, false, rules, true, ◌&&◌, ◌↔◌, ◌∙◌, ◌≡◌, Equal, IpAddr, V4, V6}
+use Rattle.rpki_prefix.proofs.Common.{MaxLenValue, max_len_cmp, prefix_cmp}
 use Rattle.std.proofs.lemmas.Bool.Decides.{nat_tests}
 use Rattle.std.proofs.lemmas.Cmp.{tied_itself}
 use Rattle.std.specs.Cmp.{Equal-is, IsTotalOrder}

@@ -1,5 +1,12 @@
 -- A text writes one prefix, or has one fault; and what is printed of a prefix writes it.
-use Rattle.rpki_prefix.proofs.Common.{Err, Some, List, MatchResult, Result, [], ap, arith, inl, inr, subst, sym, ℕ, ◌-◌, ◌<◌, ◌^◌, ◌∙◌, ◌≡◌, ip_bytes, no_slash, IpAddr, around_at, none_around, IsNumberText-decimal, IsNumberText-one, Answers-from_found, Around, slash, HasNumberFault, IsNumberText, HasNoParts, HasParts, HasPrefixTextFault, HasRelaxedPrefixTextFault, HasTextFaultBy, IsPrefixText, IsRelaxedPrefixText, IsTextBy, ReadsPrefix, prefix_text, FamilyPrefix, HasPrefixError, HasRelaxedPrefixError, IsFamilyPrefix, IsPrefixOf, IsRelaxedPrefixOf, ParsePrefixError, err_from_is_err_and}
+use Rattle.rpki_prefix.proofs.Common.{Err, Some, List, MatchResult, Result, [], ap, arith, inl, inr, subst, sym, ℕ, ◌-◌}
+use Rattle.rpki_prefix.proofs.Common.{◌<◌, ◌^◌, ◌∙◌, ◌≡◌, ip_bytes, no_slash, IpAddr, around_at, none_around}
+use Rattle.rpki_prefix.proofs.Common.{IsNumberText-decimal, IsNumberText-one, Answers-from_found, Around, slash}
+use Rattle.rpki_prefix.proofs.Common.{HasNumberFault, IsNumberText, HasNoParts, HasParts, HasPrefixTextFault}
+use Rattle.rpki_prefix.proofs.Common.{HasRelaxedPrefixTextFault, HasTextFaultBy, IsPrefixText, IsRelaxedPrefixText}
+use Rattle.rpki_prefix.proofs.Common.{IsTextBy, ReadsPrefix, prefix_text, FamilyPrefix, HasPrefixError}
+use Rattle.rpki_prefix.proofs.Common.{HasRelaxedPrefixError, IsFamilyPrefix, IsPrefixOf, IsRelaxedPrefixOf}
+use Rattle.rpki_prefix.proofs.Common.{ParsePrefixError, err_from_is_err_and}
 use Rattle.std.proofs.Common.{Bor}
 use Rattle.std.proofs.lemmas.Str.Pattern.{IsSplitOnceResult, split_parts}
 use Rattle.std.specs.Result.{IsErrAnd}
@@ -8,7 +15,8 @@ use Rattle.rpki_text.specs.declared.number.ParseIntError.{ParseIntError}
 use Rattle.rpki_addr.proofs.AddressTextLemmas.{IsIpText-one, IsIpText-ip_text}
 use Rattle.rpki_text.proofs.NumberLemmas.{number_answers}
 use Rattle.rpki_addr.proofs.WidthLemmas.{width_small}
-use Rattle.rpki_prefix.specs.declared.error.ParsePrefixError.TheVariants.{Empty, MissingLen, InvalidAddr, InvalidLen, InvalidPrefix}
+use Rattle.rpki_prefix.specs.declared.error.ParsePrefixError.TheVariants.{Empty, MissingLen, InvalidAddr, InvalidLen}
+use Rattle.rpki_prefix.specs.declared.error.ParsePrefixError.TheVariants.{InvalidPrefix}
 use Rattle.rpki_prefix.specs.declared.error.PrefixError.{PrefixError}
 
 -- what std's `split_once` found stands round the first of a byte

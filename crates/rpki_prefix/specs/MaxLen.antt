@@ -1,5 +1,6 @@
 -- Prefixes with an optional maximum length, as in route origin authorizations (RFC 9582, 4.3.2), and their texts.
-use Rattle.std.specs.Prelude.{◌≡◌, ℕ, ◌-◌, ◌^◌, ◌≤◌, ◌<◌, ◌⊎◌, List, [], ◌∷◌, ◌++◌, codes, decimal, min, max, Option, Some, None, Result, Ok}
+use Rattle.std.specs.Prelude.{◌≡◌, ℕ, ◌-◌, ◌^◌, ◌≤◌, ◌<◌, ◌⊎◌, List, [], ◌∷◌, ◌++◌, codes, decimal, min, max, Option}
+use Rattle.std.specs.Prelude.{Some, None, Result, Ok}
 use Rattle.std.specs.declared.cmp.Ordering.{Ordering}
 use Rattle.std.specs.Option.{option_cmp}
 use Rattle.std.specs.Ordering.{on, then_cmp, flip_args, nat_cmp}
@@ -12,7 +13,8 @@ use Rattle.rpki_prefix.specs.Values.{FamilyPrefix, IsFamilyPrefix, width}
 use Rattle.rpki_prefix.specs.declared.error.MaxLenError.{MaxLenError}
 use Rattle.rpki_prefix.specs.declared.error.MaxLenError.TheVariants.{Overflow, Underflow}
 use Rattle.rpki_prefix.specs.declared.error.ParseMaxLenPrefixError.{ParseMaxLenPrefixError}
-use Rattle.rpki_prefix.specs.declared.error.ParseMaxLenPrefixError.TheVariants.{InvalidPrefix, InvalidMaxLenFormat, InvalidMaxLenValue}
+use Rattle.rpki_prefix.specs.declared.error.ParseMaxLenPrefixError.TheVariants.{InvalidPrefix, InvalidMaxLenFormat}
+use Rattle.rpki_prefix.specs.declared.error.ParseMaxLenPrefixError.TheVariants.{InvalidMaxLenValue}
 
 -- the model of a prefix with an optional maximum length
 pub record MaxLenValue : Type 0 where
@@ -74,9 +76,12 @@ IsMaxLenText text m = IsMaxLenTextOf text m.prefix m.max_len
 
 -- this is the first fault of the text: of the prefix, then of the text of the number, then of the number
 abbrev pub HasMaxLenTextFault : List ℕ → ParseMaxLenPrefixError → Type 0
-HasMaxLenTextFault text (InvalidPrefix f) = (HasNo dash text × HasPrefixTextFault text f) ⊎ Around dash text (λ left right. HasPrefixTextFault left f)
-HasMaxLenTextFault text (InvalidMaxLenFormat f) = Around dash text (λ left right. (p : FamilyPrefix) × IsPrefixText left p × HasNumberFault (2 ^ 8 - 1) right f)
-HasMaxLenTextFault text (InvalidMaxLenValue f) = (p : FamilyPrefix) × (n : ℕ) × HasMaxLen text p n × HasMaxLenError p (Some n) f
+HasMaxLenTextFault text (InvalidPrefix f) =
+    (HasNo dash text × HasPrefixTextFault text f) ⊎ Around dash text (λ left right. HasPrefixTextFault left f)
+HasMaxLenTextFault text (InvalidMaxLenFormat f) =
+    Around dash text (λ left right. (p : FamilyPrefix) × IsPrefixText left p × HasNumberFault (2 ^ 8 - 1) right f)
+HasMaxLenTextFault text (InvalidMaxLenValue f) =
+    (p : FamilyPrefix) × (n : ℕ) × HasMaxLen text p n × HasMaxLenError p (Some n) f
 
 -- the printed text of an optional maximum length: a dash and the number, or nothing
 abbrev pub max_text : Option ℕ → List ℕ

@@ -12,4 +12,5 @@ last_bits p = last_of (width p.addr) (interval p)
 
 -- the order of prefixes: IPv4 before IPv6, then by the highest address, then the longer prefix first
 abbrev pub prefix_cmp : FamilyPrefix → FamilyPrefix → Ordering
-prefix_cmp = then_cmp (on (λ p. is_v6 p.addr) bool_cmp) (then_cmp (on last_bits nat_cmp) (flip_args (on (λ p. p.len) nat_cmp)))
+prefix_cmp =
+    then_cmp (on (λ p. is_v6 p.addr) bool_cmp) (then_cmp (on last_bits nat_cmp) (flip_args (on (λ p. p.len) nat_cmp)))

@@ -1,5 +1,6 @@
 -- Lemmas: prefixes tie in the order if and only if they are equal.
-use Rattle.std.proofs.Common.{◌≡◌, ℕ, ◌+◌, ◌-◌, ◌^◌, ◌<◌, Bool, false, ◌&&◌, eqb, sym, ◌∙◌, ap, refl, arith, inl, inr, Option, Some, None}
+use Rattle.std.proofs.Common.{◌≡◌, ℕ, ◌+◌, ◌-◌, ◌^◌, ◌<◌, Bool, false, ◌&&◌, eqb, sym, ◌∙◌, ap, refl, arith, inl, inr}
+use Rattle.std.proofs.Common.{Option, Some, None}
 use Rattle.std.proofs.lemmas.Bool.{cases_eq, cases_order, eq-eqb, ne_eqb, lt-ltb, le-ltb, and_right}
 use Rattle.std.proofs.lemmas.Nat.{pow_pos}
 use Rattle.std.specs.declared.cmp.Ordering.{Ordering}
@@ -35,17 +36,29 @@ is_eq_nat x y = elim (cases_order x y) [
 
 -- the test of equality with its arguments exchanged
 eq_turned : (x y : ℕ) → eqb x y ≡ eqb y x
-eq_turned x y = elim (cases_eq x y) [ inl e ↦ rw (eq-eqb x y e, eq-eqb y x (sym e)) refl | inr n ↦ rw (ne_eqb x y n, ne_eqb y x (λ e. n (sym e))) refl ]
+eq_turned x y =
+    elim (cases_eq x y) [
+      | inl e ↦ rw (eq-eqb x y e, eq-eqb y x (sym e)) refl
+      | inr n ↦ rw
+          (ne_eqb x y n, ne_eqb y x (λ e. n (sym e))) refl
+    ]
 
 -- with equal lengths, the first numbers are equal if and only if the last ones are
 same_ends : (w a b k l : ℕ) → (eqb a b && eqb k l) ≡ (eqb (a + 2 ^ (w - k) - 1) (b + 2 ^ (w - l) - 1) && eqb l k)
 same_ends w a b k l = elim (cases_eq k l) [
-  | inr n ↦ rw (ne_eqb k l n, ne_eqb l k (λ e. n (sym e))) (and_right (eqb a b) false refl ∙ sym (and_right (eqb (a + 2 ^ (w - k) - 1) (b + 2 ^ (w - l) - 1)) false refl))
+  | inr n ↦ rw (ne_eqb k l n, ne_eqb l k (λ e. n (sym e)))
+      (and_right (eqb a b) false refl ∙ sym (and_right (eqb (a + 2 ^ (w - k) - 1) (b + 2 ^ (w - l) - 1)) false refl))
   | inl e ↦ (
       let p : 2 ^ (w - k) ≡ 2 ^ (w - l) = ap (λ x. 2 ^ (w - x)) e in
       let q : 0 < 2 ^ (w - l) = pow_pos (w - l) in
       elim (cases_eq a b) [
-        | inl f ↦ rw (eq-eqb a b f, eq-eqb k l e, eq-eqb l k (sym e), eq-eqb (a + 2 ^ (w - k) - 1) (b + 2 ^ (w - l) - 1) (omega arith)) refl
+        | inl f ↦ rw (
+          eq-eqb a b f,
+          eq-eqb k l e,
+          eq-eqb l k (sym e),
+          eq-eqb (a + 2 ^ (w - k) - 1) (b + 2 ^ (w - l) - 1)
+              (omega arith),
+        ) refl
         | inr n ↦ rw (ne_eqb a b n, ne_eqb (a + 2 ^ (w - k) - 1) (b + 2 ^ (w - l) - 1) (λ g. n (omega arith))) refl
       ])
 ]
@@ -83,4 +96,10 @@ module _ (test : IpAddr → IpAddr → Bool) (is : IsSameAddress test) where
   pub max_len_ties : (x y : MaxLenValue)
       → ((test x.prefix.addr y.prefix.addr && eqb x.prefix.len y.prefix.len) && option_eq eqb x.max_len y.max_len)
       ≡ is_eq (max_len_cmp x y)
-  max_len_ties x y = rw (is_eq_then (prefix_cmp x.prefix y.prefix) (option_cmp nat_cmp y.max_len x.max_len), prefix_ties test is x.prefix y.prefix, option_ties x.max_len y.max_len) refl
+  max_len_ties x y =
+      rw (
+        is_eq_then (prefix_cmp x.prefix y.prefix) (option_cmp nat_cmp y.max_len x.max_len),
+        prefix_ties test is
+            x.prefix y.prefix,
+        option_ties x.max_len y.max_len,
+      ) refl

@@ -8,10 +8,12 @@ use Rattle.rpki_addr.specs.FromStrResults.{address_fault_text}
 use Rattle.rpki_text.specs.Reading.{Answers}
 use Rattle.rpki_addr.specs.declared.addr.AddrParseError.TheVariants.{Ip}
 use Rattle.rpki_addr.specs.declared.addr.IpAddr.{IpAddr}
-use Rattle.rpki_prefix.specs.Values.{FamilyPrefix, IsFamilyPrefix, IsPrefixOf, IsRelaxedPrefixOf, HasPrefixError, HasRelaxedPrefixError, prefix_error_text}
+use Rattle.rpki_prefix.specs.Values.{FamilyPrefix, IsFamilyPrefix, IsPrefixOf, IsRelaxedPrefixOf, HasPrefixError}
+use Rattle.rpki_prefix.specs.Values.{HasRelaxedPrefixError, prefix_error_text}
 use Rattle.rpki_prefix.specs.declared.error.PrefixError.{PrefixError}
 use Rattle.rpki_prefix.specs.declared.error.ParsePrefixError.{ParsePrefixError}
-use Rattle.rpki_prefix.specs.declared.error.ParsePrefixError.TheVariants.{Empty, MissingLen, InvalidAddr, InvalidLen, InvalidPrefix}
+use Rattle.rpki_prefix.specs.declared.error.ParsePrefixError.TheVariants.{Empty, MissingLen, InvalidAddr, InvalidLen}
+use Rattle.rpki_prefix.specs.declared.error.ParsePrefixError.TheVariants.{InvalidPrefix}
 
 -- the texts are an address and a number of 8 bits
 pub record AreParts (left right : List ℕ) (a : IpAddr) (len : ℕ) : Type 0 where
@@ -27,7 +29,8 @@ abbrev pub HasNoParts : List ℕ → ParsePrefixError → Type 0
 HasNoParts text Empty = text ≡ []
 HasNoParts text MissingLen = (text ≢ []) × HasNo slash text
 HasNoParts text (InvalidAddr f) = Around slash text (λ left right. ((a : IpAddr) → ¬ IsIpText left a) × (f ≡ Ip))
-HasNoParts text (InvalidLen f) = Around slash text (λ left right. (a : IpAddr) × IsIpText left a × HasNumberFault (2 ^ 8 - 1) right f)
+HasNoParts text (InvalidLen f) =
+    Around slash text (λ left right. (a : IpAddr) × IsIpText left a × HasNumberFault (2 ^ 8 - 1) right f)
 HasNoParts text (InvalidPrefix f) = ⊥
 
 -- the parts are found, or the text has no such parts
@@ -44,7 +47,8 @@ pub record IsTextBy (Rule : IpAddr → ℕ → FamilyPrefix → Type 0) (text : 
 -- this is the first fault of the text: of its parts, or, by Fails, of the address and the length
 abbrev pub HasTextFaultBy : (IpAddr → ℕ → PrefixError → Type 0) → List ℕ → ParsePrefixError → Type 0
 HasTextFaultBy Fails text e =
-    HasNoParts text e ⊎ ((a : IpAddr) × (len : ℕ) × (f : PrefixError) × HasParts text a len × Fails a len f × (e ≡ InvalidPrefix f))
+    HasNoParts text e
+    ⊎ ((a : IpAddr) × (len : ℕ) × (f : PrefixError) × HasParts text a len × Fails a len f × (e ≡ InvalidPrefix f))
 
 -- the text is that of a prefix whose host bits are zero
 abbrev pub IsPrefixText : List ℕ → FamilyPrefix → Type 0

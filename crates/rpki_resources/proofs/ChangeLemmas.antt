@@ -1,5 +1,6 @@
 -- What differs between two sets leads from the one to the other.
-use Rattle.rpki_resources.proofs.Common.{[], arith, ℕ, ◌↔◌, ◌≡◌, IsDifference, IsUnion, Holds, IsRunsOf, Runs, Covers-nil, IsDifferenceOf, Triple}
+use Rattle.rpki_resources.proofs.Common.{[], arith, ℕ, ◌↔◌, ◌≡◌, IsDifference, IsUnion, Holds, IsRunsOf, Runs}
+use Rattle.rpki_resources.proofs.Common.{Covers-nil, IsDifferenceOf, Triple}
 use Rattle.rpki_resources.specs.Triples.{no_resources}
 use Rattle.rpki_chain.proofs.RunLists.{Holds-decided, IsRunsOf-same, IsRunsOf-unique}
 

@@ -1,5 +1,6 @@
 -- What is printed of a kind, by whether its list is empty.
-use Rattle.rpki_resources.proofs.Common.{Bool, IsTrue, List, [], arith, refl, ℕ, ◌++◌, ◌↔◌, ◌≡◌, if◌then◌else◌, Runs, kind_text, is_none}
+use Rattle.rpki_resources.proofs.Common.{Bool, IsTrue, List, [], arith, refl, ℕ, ◌++◌, ◌↔◌, ◌≡◌, if◌then◌else◌, Runs}
+use Rattle.rpki_resources.proofs.Common.{kind_text, is_none}
 
 -- whether a set is empty is what its list tells
 none_is : (b : Bool) (set : Runs) → IsTrue b ↔ (set ≡ []) → b ≡ is_none set

@@ -1,5 +1,6 @@
 -- Three lists that are read one after another.
-use Rattle.rpki_resources.proofs.Common.{Err, List, Ok, Result, arith, ℕ, IsAsListText, Runs, IsMemory, OrMemory, IsIpv4ListText, IsIpv6ListText, IsTripleText, Triple, Asn, Ipv4, Ipv6}
+use Rattle.rpki_resources.proofs.Common.{Err, List, Ok, Result, arith, ℕ, IsAsListText, Runs, IsMemory, OrMemory}
+use Rattle.rpki_resources.proofs.Common.{IsIpv4ListText, IsIpv6ListText, IsTripleText, Triple, Asn, Ipv4, Ipv6}
 use Rattle.rpki_text.specs.Reading.{AnswersOrMemory}
 use Rattle.rpki_as_block.specs.declared.error.FromStrError as as_fault
 use Rattle.rpki_ip.specs.declared.error.FromStrError as ip_fault

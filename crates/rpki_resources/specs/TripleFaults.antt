@@ -14,7 +14,8 @@ use Rattle.rpki_resources.specs.declared.error.FromStrError.TheVariants.{Asn, Ip
 abbrev pub HasTripleFault : List ℕ → List ℕ → List ℕ → FromStrError → Type 0
 HasTripleFault asn ipv4 ipv6 (Asn fault) = HasAsListFault asn fault
 HasTripleFault asn ipv4 ipv6 (Ipv4 fault) = ((set : Runs) × IsAsListText asn set) × HasIpv4ListFault ipv4 fault
-HasTripleFault asn ipv4 ipv6 (Ipv6 fault) = ((set : Runs) × IsAsListText asn set) × ((set : Runs) × IsIpv4ListText ipv4 set) × HasIpv6ListFault ipv6 fault
+HasTripleFault asn ipv4 ipv6 (Ipv6 fault) =
+    ((set : Runs) × IsAsListText asn set) × ((set : Runs) × IsIpv4ListText ipv4 set) × HasIpv6ListFault ipv6 fault
 
 -- the refusal of one of the lists as that of three lists; an out-of-memory error stays the same
 abbrev pub refusal_of : {E : Type 0} → (E → FromStrError) → OrMemory E → OrMemory FromStrError

@@ -42,7 +42,8 @@ ipv6_list_text = set_text Ipv6
 
 -- the printed text of a set: each kind with its list in quotes
 abbrev pub triple_text : Triple → List ℕ
-triple_text t = codes "asn: '" ++ as_list_text t.asn ++ codes "', ipv4: '" ++ ipv4_list_text t.ipv4 ++ codes "', ipv6: '" ++ ipv6_list_text t.ipv6 ++ codes "'"
+triple_text t = codes "asn: '" ++ as_list_text t.asn ++ codes "', ipv4: '" ++ ipv4_list_text t.ipv4
+    ++ codes "', ipv6: '" ++ ipv6_list_text t.ipv6 ++ codes "'"
 
 -- a kind and its list, or nothing if the list is empty
 abbrev pub kind_text : List ℕ → (Runs → List ℕ) → Runs → List ℕ
@@ -50,11 +51,14 @@ kind_text kind text set = if is_none set then [] else kind ++ text set
 
 -- a word, and then each kind that is not empty with its list
 abbrev pub change_text : List ℕ → Triple → List ℕ
-change_text word t = word ++ kind_text (codes " asn: ") as_list_text t.asn ++ kind_text (codes " ipv4: ") ipv4_list_text t.ipv4 ++ kind_text (codes " ipv6: ") ipv6_list_text t.ipv6
+change_text word t = word ++ kind_text (codes " asn: ") as_list_text t.asn
+    ++ kind_text (codes " ipv4: ") ipv4_list_text t.ipv4 ++ kind_text (codes " ipv6: ") ipv6_list_text t.ipv6
 
 -- the printed text of changes: the added and the removed resources, each if there are any, with a space between them
 abbrev pub changes_text : Changes → List ℕ
 changes_text d =
     if is_no_triple d.added
-    then (if is_no_triple d.removed then codes "<no changes in resources>" else change_text (codes "Removed:") d.removed)
-    else (if is_no_triple d.removed then change_text (codes "Added:") d.added else change_text (codes "Added:") d.added ++ codes " " ++ change_text (codes "Removed:") d.removed)
+    then
+    (if is_no_triple d.removed then codes "<no changes in resources>" else change_text (codes "Removed:") d.removed)
+    else (if is_no_triple d.removed then change_text (codes "Added:") d.added
+    else change_text (codes "Added:") d.added ++ codes " " ++ change_text (codes "Removed:") d.removed)

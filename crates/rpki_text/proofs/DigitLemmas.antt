@@ -1,5 +1,7 @@
 -- On numbers as digits.
-use Rattle.rpki_text.proofs.Common.{List, [], add-one, arith, get_or, length, length-append, refl, suc, zero, ℕ, ◌%◌, ◌*◌, ◌++◌, ◌+◌, ◌/◌, ◌<◌, ◌^◌, ◌∷◌, ◌≡◌, ◌≤◌, div-add-mod, mul_comm, pow-le-pow_right, pow-suc, pow-succ', pow-zero, number_push, AllByRecursion}
+use Rattle.rpki_text.proofs.Common.{List, [], add-one, arith, get_or, length, length-append, refl, suc, zero, ℕ, ◌%◌}
+use Rattle.rpki_text.proofs.Common.{◌*◌, ◌++◌, ◌+◌, ◌/◌, ◌<◌, ◌^◌, ◌∷◌, ◌≡◌, ◌≤◌, div-add-mod, mul_comm}
+use Rattle.rpki_text.proofs.Common.{pow-le-pow_right, pow-suc, pow-succ', pow-zero, number_push, AllByRecursion}
 use Rattle.std.specs.Int.Digits.{number_from_digits}
 use Rattle.std.proofs.lemmas.Nat.{div_below, mod_below, mul-add-lt}
 use Rattle.rpki_text.specs.Digits.{last_digits}

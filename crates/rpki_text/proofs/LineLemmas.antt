@@ -1,5 +1,7 @@
 -- The first line of a text.
-use Rattle.rpki_text.proofs.Common.{get_or, zero, List, None, Option, Some, [], arith, drop, false, length, refl, suc, take, true, ℕ, ◌+◌, ◌-◌, ◌<◌, ◌∷◌, ◌≡◌, false_from_ne_true, le-ltb, lt-ltb, position}
+use Rattle.rpki_text.proofs.Common.{get_or, zero, List, None, Option, Some, [], arith, drop, false, length, refl, suc}
+use Rattle.rpki_text.proofs.Common.{take, true, ℕ, ◌+◌, ◌-◌, ◌<◌, ◌∷◌, ◌≡◌, false_from_ne_true, le-ltb, lt-ltb}
+use Rattle.rpki_text.proofs.Common.{position}
 use Rattle.std.proofs.lemmas.List.{take_rest}
 use Rattle.std.proofs.lemmas.List.Quantifiers.{position-Some}
 use Rattle.std.proofs.lemmas.List.Sums.{fails_before_first, position_or_len_is}

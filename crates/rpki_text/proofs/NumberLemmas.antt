@@ -1,5 +1,11 @@
 -- Number texts: each has one value or one fault, and a scan from the left finds it.
-use Rattle.rpki_text.proofs.Common.{Err, append-nil, length-append, map-append, List, MatchResult, Result, [], ap, arith, drop, get_or, length, length-drop, refl, sym, take, ℕ, ◌*◌, ◌++◌, ◌+◌, ◌-◌, ◌<◌, ◌^◌, ◌∙◌, ◌∷◌, ◌≡◌, ◌≢◌, ◌≤◌, ◌⊎◌, pow-le-pow_right, cases_lt, digits_value-lt, digits_value_more, get_or-drop, length-take, take-append-drop, digit_value_digit, digit_from_value, digit_value, IsInRange, AllDigits, digits_value, without_leading_plus, AreDigitsBetween, DigitsFail, HasNumberFault, IsNumberText, IsValueUpTo, PassesLimit, StopsBelow, Answers}
+use Rattle.rpki_text.proofs.Common.{Err, append-nil, length-append, map-append, List, MatchResult, Result, [], ap}
+use Rattle.rpki_text.proofs.Common.{arith, drop, get_or, length, length-drop, refl, sym, take, ℕ, ◌*◌, ◌++◌, ◌+◌, ◌-◌}
+use Rattle.rpki_text.proofs.Common.{◌<◌, ◌^◌, ◌∙◌, ◌∷◌, ◌≡◌, ◌≢◌, ◌≤◌, ◌⊎◌, pow-le-pow_right, cases_lt, digits_value-lt}
+use Rattle.rpki_text.proofs.Common.{digits_value_more, get_or-drop, length-take, take-append-drop, digit_value_digit}
+use Rattle.rpki_text.proofs.Common.{digit_from_value, digit_value, IsInRange, AllDigits, digits_value}
+use Rattle.rpki_text.proofs.Common.{without_leading_plus, AreDigitsBetween, DigitsFail, HasNumberFault, IsNumberText}
+use Rattle.rpki_text.proofs.Common.{IsValueUpTo, PassesLimit, StopsBelow, Answers}
 use Rattle.std.proofs.lemmas.Int.Digits.{digits_more, digits_value_is, number_after_append, number_after_ge}
 use Rattle.std.proofs.lemmas.List.{nil_from_length}
 use Rattle.rpki_text.specs.declared.number.ParseIntError.{ParseIntError}

@@ -1,5 +1,6 @@
 -- A number text writes one number, and what is printed of a number writes it.
-use Rattle.rpki_text.proofs.Common.{List, arith, decimal, sym, ℕ, ◌<◌, ◌^◌, ◌∙◌, ◌≡◌, ◌≤◌, digit_at, without_leading_plus_none, IsNumberText}
+use Rattle.rpki_text.proofs.Common.{List, arith, decimal, sym, ℕ, ◌<◌, ◌^◌, ◌∙◌, ◌≡◌, ◌≤◌, digit_at}
+use Rattle.rpki_text.proofs.Common.{without_leading_plus_none, IsNumberText}
 use Rattle.std.proofs.lemmas.Fmt.{decimal_is_IsNumeral}
 
 -- a number text writes one number

@@ -1,5 +1,9 @@
 -- The elements of a printed list are the texts that were joined.
-use Rattle.rpki_text.proofs.Common.{suc, zero, List, [], ap, arith, codes, drop, eqb, false, get_or, length, lit<, map, refl, take, ℕ, ◌++◌, ◌+◌, ◌-◌, ◌<◌, ◌∙◌, ◌∷◌, ◌≡◌, ◌≤◌, ◌⊎◌, nat_tests, append-nil, take_all, take_more, All-from_recursion, slice_split_at, slice_split_none, is_whitespace, IsInRange, AllByRecursion, flat_map, drop_trailing_whitespace, skip_leading_whitespace, trim, trim_end, trim_start, comma, elements, joined}
+use Rattle.rpki_text.proofs.Common.{suc, zero, List, [], ap, arith, codes, drop, eqb, false, get_or, length, lit<, map}
+use Rattle.rpki_text.proofs.Common.{refl, take, ℕ, ◌++◌, ◌+◌, ◌-◌, ◌<◌, ◌∙◌, ◌∷◌, ◌≡◌, ◌≤◌, ◌⊎◌, nat_tests, append-nil}
+use Rattle.rpki_text.proofs.Common.{take_all, take_more, All-from_recursion, slice_split_at, slice_split_none}
+use Rattle.rpki_text.proofs.Common.{is_whitespace, IsInRange, AllByRecursion, flat_map, drop_trailing_whitespace}
+use Rattle.rpki_text.proofs.Common.{skip_leading_whitespace, trim, trim_end, trim_start, comma, elements, joined}
 use Rattle.std.proofs.Common.{inl, inr, replicate}
 use Rattle.std.proofs.lemmas.List.{flat_map_more}
 use Rattle.std.proofs.lemmas.List.Elements.{All-push}

@@ -1,5 +1,8 @@
 -- Texts of lists: their elements one by one, and their one list of values or first fault.
-use Rattle.rpki_text.proofs.Common.{map, map-append, List, MatchResult, Result, [], ap, arith, drop, eqb, get_or, length, refl, sym, take, ℕ, ◌++◌, ◌+◌, ◌<◌, ◌∙◌, ◌∷◌, ◌≡◌, lt-ltb, take-append-drop, slice_split, trim, HasFirstFault, HaveValues, comma, elements, kept, AnswersOrMemory}
+use Rattle.rpki_text.proofs.Common.{map, map-append, List, MatchResult, Result, [], ap, arith, drop, eqb, get_or}
+use Rattle.rpki_text.proofs.Common.{length, refl, sym, take, ℕ, ◌++◌, ◌+◌, ◌<◌, ◌∙◌, ◌∷◌, ◌≡◌, lt-ltb, take-append-drop}
+use Rattle.rpki_text.proofs.Common.{slice_split, trim, HasFirstFault, HaveValues, comma, elements, kept}
+use Rattle.rpki_text.proofs.Common.{AnswersOrMemory}
 use Rattle.std.proofs.Common.{inl, inr, ◌⊎◌}
 use Rattle.std.proofs.lemmas.List.{drop_more}
 use Rattle.std.proofs.lemmas.List.Elements.{filter-append}

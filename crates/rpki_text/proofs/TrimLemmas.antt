@@ -1,5 +1,10 @@
 -- A text between visible ASCII has no white space at its ends.
-use Rattle.rpki_text.proofs.Common.{Bool, List, [], ap, arith, cond, eqb, false, get_or, length, length-append, refl, sym, ℕ, ◌&&◌, ◌++◌, ◌+◌, ◌-◌, ◌<◌, ◌∙◌, ◌∷◌, ◌≡◌, get_or-append-add, nat_tests, append-nil, char_from_byte, chars-encodes, inside_one, len_utf8_bounds, length-encode, encode_utf8, is_whitespace, IsInRange, IsUtf8, chars, drop_trailing_whitespace, encode_utf8_all, skip_leading_whitespace, trim, trim_end, trim_start}
+use Rattle.rpki_text.proofs.Common.{Bool, List, [], ap, arith, cond, eqb, false, get_or, length, length-append, refl}
+use Rattle.rpki_text.proofs.Common.{sym, ℕ, ◌&&◌, ◌++◌, ◌+◌, ◌-◌, ◌<◌, ◌∙◌, ◌∷◌, ◌≡◌, get_or-append-add, nat_tests}
+use Rattle.rpki_text.proofs.Common.{append-nil, char_from_byte, chars-encodes, inside_one, len_utf8_bounds}
+use Rattle.rpki_text.proofs.Common.{length-encode, encode_utf8, is_whitespace, IsInRange, IsUtf8, chars}
+use Rattle.rpki_text.proofs.Common.{drop_trailing_whitespace, encode_utf8_all, skip_leading_whitespace, trim, trim_end}
+use Rattle.rpki_text.proofs.Common.{trim_start}
 
 -- a visible byte is no white space
 dark : (c : ℕ) → IsInRange 33 126 c → is_whitespace c ≡ false

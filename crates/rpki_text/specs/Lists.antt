@@ -35,7 +35,8 @@ HaveValues Has [] (value ∷ values) = ⊥
 HaveValues Has (text ∷ texts) [] = ⊥
 
 -- the first text that has no value has this fault
-pub record HasFirstFault {A E : Type 0} (Has : List ℕ → A → Type 0) (Fails : List ℕ → E → Type 0) (texts : List (List ℕ)) (e : E) : Type 0 where
+pub record HasFirstFault {A E : Type 0} (Has : List ℕ → A → Type 0) (Fails : List ℕ → E → Type 0)
+    (texts : List (List ℕ)) (e : E) : Type 0 where
   pub front : List (List ℕ)
   pub bad : List ℕ
   pub rest : List (List ℕ)

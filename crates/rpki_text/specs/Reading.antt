@@ -12,7 +12,8 @@ pub record Answers {A E : Type 0} (Has : A → Type 0) (Fails : E → Type 0) (r
 
 -- Answers for a reader that also allocates: the same holds, unless the error is out of memory. view gives the model of
 -- a value.
-pub record AnswersOrMemory {A V E : Type 0} (view : V → A) (Has : A → Type 0) (Fails : E → Type 0) (r : Result V (OrMemory E)) : Type 0 where
+pub record AnswersOrMemory {A V E : Type 0} (view : V → A) (Has : A → Type 0) (Fails : E → Type 0)
+    (r : Result V (OrMemory E)) : Type 0 where
   pub found : MatchResult r (λ v. Has (view v)) (IfRefused Fails)
   pub each_value : (a : A) → Has a → MatchResult r (λ v. view v ≡ a) IsMemory
   pub each_fault : (e : E) → Fails e → MatchResult r (λ _. ⊥) (IfRefused (λ d. d ≡ e))

@@ -11,7 +11,8 @@ MayEnd A = Refusing A → Outcome → Type 0
 
 -- A run has this outcome under an allocator that refuses the request with this number and no other.
 abbrev pub SomeRunEndsIn : {A : Type 0} → MayEnd A → Outcome → ℕ → Type 0
-SomeRunEndsIn {A} may_end outcome number = (refusing : Refusing A) × (plan_of refusing ≡ RefuseOnly number) × may_end refusing outcome
+SomeRunEndsIn {A} may_end outcome number =
+    (refusing : Refusing A) × (plan_of refusing ≡ RefuseOnly number) × may_end refusing outcome
 
 -- A run under such an allocator has some outcome.
 abbrev pub SomeRunEnds : {A : Type 0} → MayEnd A → ℕ → Type 0

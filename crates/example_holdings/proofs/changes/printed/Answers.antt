@@ -7,4 +7,6 @@ use Rattle.example_holdings.proofs.changes.printed.Goals as goal
 pub returns : goal.returns
 returns g c =
     let changes = c.in_ok-between.field-0 in
-    IfOk-weaker c.text.result _ _ (λ text is. (changes, c.in_ok-between.ensures.changes, c.in_ok-between.ensures.leads, is)) (c.text.ensures (changes_text changes) refl)
+    IfOk-weaker c.text.result _ _
+    (λ text is. (changes, c.in_ok-between.ensures.changes, c.in_ok-between.ensures.leads, is))
+    (c.text.ensures (changes_text changes) refl)

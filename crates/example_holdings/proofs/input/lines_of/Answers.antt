@@ -4,4 +4,5 @@ use Rattle.std.proofs.lemmas.Iterator.Splits.{YieldsList-from_lines}
 use Rattle.example_holdings.proofs.input.lines_of.Goals as goal
 
 pub returns : goal.returns
-returns g c = map_from_collect c.collect.result c.collect.ensures.ran (YieldsList-from_lines c.args.text.now c.lines.ensures.rest)
+returns g c =
+    map_from_collect c.collect.result c.collect.ensures.ran (YieldsList-from_lines c.args.text.now c.lines.ensures.rest)

@@ -5,4 +5,7 @@ use Rattle.std.proofs.lemmas.Iterator.Splits.{YieldsList-from_str_split}
 use Rattle.example_holdings.proofs.input.parts_of.Goals as goal
 
 pub returns : goal.returns
-returns g c = map_from_collect c.collect.result c.collect.ensures.ran (YieldsList-from_str_split 59 c.args.line.now (lit< tt) c.split.ensures.text c.split.ensures.has_more c.split.ensures.pattern)
+returns g c =
+    map_from_collect c.collect.result c.collect.ensures.ran
+    (YieldsList-from_str_split 59 c.args.line.now (lit< tt) c.split.ensures.text c.split.ensures.has_more
+    c.split.ensures.pattern)

@@ -9,7 +9,8 @@ returns-then-not-why g c =
     let lookup = c.ended_lookup-lookup.ensures in
     let is = rw (lookup.route, lookup.asn, lookup.vrps) at said.ensures in
     let alone = sym (append-nil (outcome_text said.result)) in
-    rw c.if-not-why.true (said.result, is, [], refl, rw (c.in_ok-push_str.ensures.bytes, c.requires, c.word_for.ensures) alone)
+    rw c.if-not-why.true
+    (said.result, is, [], refl, rw (c.in_ok-push_str.ensures.bytes, c.requires, c.word_for.ensures) alone)
 
 pub returns : goal.returns
 returns g c =
@@ -18,5 +19,6 @@ returns g c =
     let is = rw (lookup.route, lookup.asn, lookup.vrps) at said.ensures in
     let word = c.in_ok-push_str.ensures.bytes in
     on_ok_weaker c.push_why.result
-    (λ (why, texts, more). rw c.if-not-why.false (said.result, is, why, rw lookup.vrps at texts, rw (word, c.requires, c.word_for.ensures) at more))
+    (λ (why, texts, more). rw c.if-not-why.false
+    (said.result, is, why, rw lookup.vrps at texts, rw (word, c.requires, c.word_for.ensures) at more))
     c.push_why.ensures

@@ -7,7 +7,8 @@ pub returns-clause-slurm : goal.returns-clause-slurm
 returns-clause-slurm g c =
     let found = rw c.deref.ensures.value at c.read_slurm.ensures in
     rw c.slurm_result.ensures
-    (slurm_result_found (g.P.Source.left c.args.file.now) c.in-Ok.text.items (λ text v. IsSlurmFile text (slurm_value v))
+    (slurm_result_found (g.P.Source.left c.args.file.now) c.in-Ok.text.items
+    (λ text v. IsSlurmFile text (slurm_value v))
     HasSlurmFault c.read_slurm.result c.in-Ok.ensures.bytes found)
 
 pub returns-clause-wrong : goal.returns-clause-wrong

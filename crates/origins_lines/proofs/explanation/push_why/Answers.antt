@@ -1,11 +1,13 @@
 -- The VRPs that cover the route are those that were given, and then those that are left.
-use Rattle.origins_lines.proofs.Common.{List, [], ap, append_assoc, subst, sym, ◌++◌, ◌∙◌, ◌∷◌, ◌≡◌, append-nil, string_bytes, Vrp}
+use Rattle.origins_lines.proofs.Common.{List, [], ap, append_assoc, subst, sym, ◌++◌, ◌∙◌, ◌∷◌, ◌≡◌, append-nil}
+use Rattle.origins_lines.proofs.Common.{string_bytes, Vrp}
 use Rattle.origins_lines.proofs.Members.{walked}
 use Rattle.origins_lines.proofs.WhyLemmas.{IsExplainedSo, all_explained, explained_next, explained_none}
 use Rattle.origins_lines.proofs.explanation.push_why.Goals as goal
 
 pub loop-vrp-init : goal.loop-vrp-init
-loop-vrp-init g c = ([], explained_none c.args.form c.args.route c.args.asn, sym (append-nil (string_bytes c.args.text.now)))
+loop-vrp-init g c =
+    ([], explained_none c.args.form c.args.route c.args.asn, sym (append-nil (string_bytes c.args.text.now)))
 
 pub loop-vrp-preserved : goal.loop-vrp-preserved
 loop-vrp-preserved g c =
@@ -22,8 +24,10 @@ loop-vrp-preserved g c =
     sym c.into_iter-vrp-iterator.ensures.into_iter_gives ∙ given
     ∙ ap (λ left. done ++ left) c.in-Some.ensures.steps in (
       had.0 ++ next.0,
-      explained_next c.args.form c.args.route c.recall_invariant.ensures c.args.asn c.args.lookup.now.vrps all done rest x
-          (record { prefix = c.recall_invariant-in-loop-vrp.ensures; number = c.recall_invariant-in-loop-vrp-2.ensures })
+      explained_next c.args.form c.args.route c.recall_invariant.ensures c.args.asn c.args.lookup.now.vrps all done rest
+          x
+          (record
+          { prefix = c.recall_invariant-in-loop-vrp.ensures; number = c.recall_invariant-in-loop-vrp-2.ensures })
           those covering.longest_first covering.order cut c.loop-vrp.last had.0 next.0 had.1 next.1,
       next.2 ∙ ap (λ t. t ++ next.0) had.2 ∙ append_assoc _ had.0 next.0,
     )
@@ -37,7 +41,10 @@ returns g c =
     let whole : done ≡ all =
     sym (ap (λ left. done ++ left) c.in-None.ensures.steps.0 ∙ append-nil done) ∙ sym given
     ∙ c.into_iter-vrp-iterator.ensures.into_iter_gives in
-    let explained = subst (λ ys. IsExplainedSo c.args.form c.args.route c.args.asn ys c.loop-vrp.last had.0) whole had.1 in
+    let explained =
+    subst (λ ys. IsExplainedSo c.args.form c.args.route c.args.asn ys c.loop-vrp.last had.0) whole had.1 in
     let those = rw c.requires at c.covering-vrp-items.ensures.covering in
-    let explains = all_explained c.args.form c.args.route c.args.asn c.args.lookup.now.vrps all c.loop-vrp.last had.0 those explained in
+    let explains =
+    all_explained c.args.form c.args.route c.args.asn c.args.lookup.now.vrps all c.loop-vrp.last had.0 those
+    explained in
     (had.0, (explained.explained, explains, explained.texts), had.2)

@@ -13,4 +13,5 @@ returns-in-Ok g c =
 
 pub returns-in-Err : goal.returns-in-Err
 returns-in-Err g c =
-    on_ok_weaker c.write.result (λ whole. (codes "null", inr (c.in-Err.ensures.cases.0, refl), whole)) c.write.ensures.bytes
+    on_ok_weaker c.write.result (λ whole. (codes "null", inr (c.in-Err.ensures.cases.0, refl), whole))
+    c.write.ensures.bytes

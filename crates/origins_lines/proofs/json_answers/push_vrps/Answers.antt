@@ -1,5 +1,6 @@
 -- The member is empty, or it has the objects of the VRPs between brackets.
-use Rattle.origins_lines.proofs.Common.{[], append-nil, append_assoc, arith, common_steps, refl, string_bytes, sym, ◌++◌}
+use Rattle.origins_lines.proofs.Common.{[], append-nil, append_assoc, arith, common_steps, refl, string_bytes, sym}
+use Rattle.origins_lines.proofs.Common.{◌++◌}
 use Rattle.std.specs.Prelude.{codes}
 use Rattle.origins_lines.proofs.json_answers.push_vrps.Goals as goal
 

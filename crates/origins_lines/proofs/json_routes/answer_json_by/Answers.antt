@@ -4,7 +4,8 @@ use Rattle.origins_lines.proofs.json_routes.answer_json_by.Goals as goal
 
 pub returns-clause-answered : goal.returns-clause-answered
 returns-clause-answered g c =
-    all_turned _ _ (object_by_list c.args.why c.args.listed.now _ c.in_ok-table.ensures.vrps) c.answer_as_read.result _ _ _
+    all_turned _ _ (object_by_list c.args.why c.args.listed.now _ c.in_ok-table.ensures.vrps) c.answer_as_read.result _
+    _ _
     c.answer_as_read.ensures.answered
 
 pub returns-clause-ended_answered : goal.returns-clause-ended_answered

@@ -13,5 +13,6 @@ returns-in-Some-W c =
 pub returns-in-Some-W-2 : goal.returns-in-Some-W-2
 returns-in-Some-W-2 c =
     let (name, at, update) = c.requires in
-    let third : IsFieldAt 2 c.args.line.now (codes "STATE") = grind (arith, c.in-Some-W.ensures, c.in-Some-W.is-STATE) in
+    let third : IsFieldAt 2 c.args.line.now (codes "STATE") =
+    grind (arith, c.in-Some-W.ensures, c.in-Some-W.is-STATE) in
     (c.args.place, inr (update_is c.args.line.now name at c.args.place _ update third))

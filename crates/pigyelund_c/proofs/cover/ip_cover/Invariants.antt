@@ -4,4 +4,5 @@ use Rattle.pigyelund_c.proofs.cover.ip_cover.Given as given
 
 -- the octets so far, with those of the prefixes that are left, are all of them
 abbrev pub invariant-loop-prefix : given.invariant-loop-prefix
-invariant-loop-prefix g l = l.octets.items ++ cover_octets g.F.Family.FAMILY l.prefix-iterator ≡ cover_octets g.F.Family.FAMILY l.initial.prefix-iterator
+invariant-loop-prefix g l = l.octets.items ++ cover_octets g.F.Family.FAMILY l.prefix-iterator
+    ≡ cover_octets g.F.Family.FAMILY l.initial.prefix-iterator

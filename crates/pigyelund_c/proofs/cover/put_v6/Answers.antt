@@ -6,4 +6,6 @@ use Rattle.pigyelund_c.proofs.cover.put_v6.Goals as goal
 
 pub returns : goal.returns
 returns c =
-    behind _ (to_be_bytes w128 c.args.prefix.first) _ _ _ c.args.prefix.len _ (c.to_bytes.ensures ∙ ap (to_be_bytes w128) c.addr.ensures.value) c.addr_len.ensures.value c.in_ok-extend_from_slice.ensures.items c.in_ok-push.ensures.items
+    behind _ (to_be_bytes w128 c.args.prefix.first) _ _ _ c.args.prefix.len _
+    (c.to_bytes.ensures ∙ ap (to_be_bytes w128) c.addr.ensures.value) c.addr_len.ensures.value
+    c.in_ok-extend_from_slice.ensures.items c.in_ok-push.ensures.items

@@ -24,5 +24,9 @@ returns-in-Err-Refused c =
     let all = c.args.certificates.now in
     let at = c.loop-at.at in
     let small = c.loop-at-test.true in
-    rw c.in-Err-Refused.reason-is
-    (get_or all at nothing, small, get_or_default all at _ nothing small, (c.loop-at.issuer, c.loop-at.invariant, refused))
+    rw c.in-Err-Refused.reason-is (
+      get_or all at nothing,
+      small,
+      get_or_default all at _ nothing small,
+      (c.loop-at.issuer, c.loop-at.invariant, refused),
+    )

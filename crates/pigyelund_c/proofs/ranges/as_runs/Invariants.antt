@@ -7,4 +7,5 @@ use Rattle.pigyelund_c.proofs.ranges.as_runs.Given as given
 -- the runs so far, with those of the blocks that are left, are all of them
 abbrev pub invariant-loop-block : given.invariant-loop-block
 invariant-loop-block l =
-    l.list.items ++ map as_range (map as_bounds (iter_rest l.block-iterator)) ≡ map as_range (map as_bounds (iter_rest l.initial.block-iterator))
+    l.list.items ++ map as_range (map as_bounds (iter_rest l.block-iterator))
+    ≡ map as_range (map as_bounds (iter_rest l.initial.block-iterator))

@@ -11,6 +11,7 @@ pub returns : goal.returns
 returns c =
     let rest = iter_rest c.loop-block.block-iterator in
     let empty : rest ≡ [] = nil_from_length rest c.in-None.ensures.steps.0 in
-    let done = all_done ip_bounds (ip_range c.args.family) c.loop-block.list.items rest _ empty c.loop-block.invariant in
+    let done =
+    all_done ip_bounds (ip_range c.args.family) c.loop-block.list.items rest _ empty c.loop-block.invariant in
     let begun = c.into_iter-block-iterator.ensures.into_iter_gives in
     cc (done, begun, c.iter-block-items.ensures.blocks)

@@ -10,5 +10,9 @@ returns-in-Err-Refused-from_resources c = record {
   ip = c.in-Ok-read_optional_ip_claims.claims;
   are_numbers = rw c.some_octets.ensures at c.in-Ok.ensures;
   are_addresses = rw c.some_octets-2.ensures at c.in-Ok-read_optional_ip_claims.ensures.claims;
-  inherited = subst (IfRefused (λ _. IsOneInherited c.in-Ok.asn c.in-Ok-read_optional_ip_claims.claims.0 c.in-Ok-read_optional_ip_claims.claims.1)) c.in-Err-Refused-from_resources.field-0-is c.in-Err-Refused-from_resources.ensures.found;
+  inherited =
+      subst
+      (IfRefused (λ _. IsOneInherited c.in-Ok.asn c.in-Ok-read_optional_ip_claims.claims.0
+      c.in-Ok-read_optional_ip_claims.claims.1)) c.in-Err-Refused-from_resources.field-0-is
+      c.in-Err-Refused-from_resources.ensures.found;
 }

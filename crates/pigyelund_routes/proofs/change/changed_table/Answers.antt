@@ -25,5 +25,6 @@ returns-in-Ok-new c =
       (c.in_ok-announced.announced.items, c.in_ok-withdrawn.withdrawn.items),
       record { announced_are = announced; withdrawn_are = withdrawn },
       fresh,
-      subst (IsUpdated c.args.table.now c.in_ok-announced.announced.items c.in_ok-withdrawn.withdrawn.items) (sym (c.of.ensures ∙ c.in-Ok-new.ensures.ok)) next,
+      subst (IsUpdated c.args.table.now c.in_ok-announced.announced.items c.in_ok-withdrawn.withdrawn.items)
+          (sym (c.of.ensures ∙ c.in-Ok-new.ensures.ok)) next,
     )

@@ -15,8 +15,15 @@ pub loop-route-preserved : goal.loop-route-preserved
 loop-route-preserved c =
     let (as_many, each) = c.loop-route.invariant in
     let route : Route = get_or c.args.routes.now c.loop-route.route-index nothing in (
-      omega (arith, ap length c.in_ok-push-in-Ok.ensures.items, length-append c.loop-route.lookups.items (c.lookup.result ∷ []), as_many),
-      one_more (IsLookupIn c.args.table.now) c.args.routes.now c.loop-route.lookups.items _ c.loop-route.route-index nothing c.lookup.result c.loop-route-test.true c.in_ok-push-in-Ok.ensures.items each
+      omega (
+        arith,
+        ap length c.in_ok-push-in-Ok.ensures.items,
+        length-append c.loop-route.lookups.items
+            (c.lookup.result ∷ []),
+        as_many,
+      ),
+      one_more (IsLookupIn c.args.table.now) c.args.routes.now c.loop-route.lookups.items _ c.loop-route.route-index
+          nothing c.lookup.result c.loop-route-test.true c.in_ok-push-in-Ok.ensures.items each
           (record {
             vrps_are = c.lookup.ensures.vrps;
             is_route = subst (λ (p : FamilyPrefix). IsRoute route p) (sym c.lookup.ensures.route) c.in-Ok.ensures;
@@ -28,4 +35,11 @@ pub returns-in-Err : goal.returns-in-Err
 returns-in-Err c =
     let (as_many, each) = c.loop-route.invariant in
     let route : Route = get_or c.args.routes.now c.loop-route.route-index nothing in
-    rw as_many (route, c.loop-route-test.true, get_or_default c.args.routes.now c.loop-route.route-index route nothing c.loop-route-test.true, each, c.in-Err.ensures)
+    rw as_many (
+      route,
+      c.loop-route-test.true,
+      get_or_default c.args.routes.now c.loop-route.route-index route nothing
+          c.loop-route-test.true,
+      each,
+      c.in-Err.ensures,
+    )

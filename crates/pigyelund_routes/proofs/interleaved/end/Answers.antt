@@ -11,7 +11,10 @@ loop-one-preserved c =
     let octet = c.number_of.result in
     let one = c.one-item.result in (
       written ++ octet ∷ [],
-      c.in_ok-push.ensures.items ∙ ap (λ (ys : List ℕ). ys ++ octet ∷ []) put ∙ append_assoc c.args.octets.now.items written (octet ∷ []),
-      one_more IsLookupValidity c.args.lookups.now written _ c.loop-one.one-index one octet c.loop-one-test.true refl each
-          (subst (λ (s : RouteLookup). IsLookupValidity s octet) c.one-item.is (c.validity.result, c.validity.ensures, c.number_of.ensures)),
+      c.in_ok-push.ensures.items ∙ ap (λ (ys : List ℕ). ys ++ octet ∷ []) put
+          ∙ append_assoc c.args.octets.now.items written (octet ∷ []),
+      one_more IsLookupValidity c.args.lookups.now written _ c.loop-one.one-index one octet c.loop-one-test.true refl
+          each
+          (subst (λ (s : RouteLookup). IsLookupValidity s octet) c.one-item.is
+          (c.validity.result, c.validity.ensures, c.number_of.ensures)),
     )

@@ -5,4 +5,5 @@ use Rattle.pigyelund_routes.proofs.interleaved.end.Given as goal
 
 abbrev pub invariant-loop-one : goal.invariant-loop-one
 invariant-loop-one l =
-    (written : List ℕ) × (l.octets.items ≡ l.fn.octets.items ++ written) × AreEach IsLookupValidity (take l.one-index l.fn.lookups) written
+    (written : List ℕ) × (l.octets.items ≡ l.fn.octets.items ++ written)
+    × AreEach IsLookupValidity (take l.one-index l.fn.lookups) written

@@ -10,7 +10,8 @@ loop-at-preserved c =
     let same : c.as_slice.result.now ≡ c.begin.new.lookups.items = c.as_slice.ensures.value ∙ c.advance.ensures in
     let begun = rw c.in_default.is at c.in_ok-route_error.ensures in (
       (let least = c.min-in-loop-at.ensures in omega (arith, least, within)),
-      rw put (all_written c.args.table.now c.args.routes.now c.loop-at.at c.min-in-loop-at.result c.loop-at.octets.items so_far _ written begun (rw same at each)),
+      rw put (all_written c.args.table.now c.args.routes.now c.loop-at.at c.min-in-loop-at.result c.loop-at.octets.items
+          so_far _ written begun (rw same at each)),
     )
 
 pub returns-in-Some : goal.returns-in-Some
@@ -19,5 +20,7 @@ returns-in-Some c =
     let (written, put, each) = c.in_ok-end.ensures in
     let same : c.as_slice.result.now ≡ c.begin.new.lookups.items = c.as_slice.ensures.value ∙ c.advance.ensures in
     let begun = rw c.in-Some.is at c.in_ok-route_error.ensures in
-    let many : c.len.result ≡ length c.begin.new.lookups.items = omega (arith, c.len.ensures, c.as_slice.ensures.len, ap length same) in
-    rw many (first_element_error c.args.table.now c.args.routes.now c.loop-at.at c.min-in-loop-at.result c.loop-at.octets.items so_far _ written c.in-Some.reason begun (rw same at each))
+    let many : c.len.result ≡ length c.begin.new.lookups.items =
+    omega (arith, c.len.ensures, c.as_slice.ensures.len, ap length same) in
+    rw many (first_element_error c.args.table.now c.args.routes.now c.loop-at.at c.min-in-loop-at.result
+    c.loop-at.octets.items so_far _ written c.in-Some.reason begun (rw same at each))

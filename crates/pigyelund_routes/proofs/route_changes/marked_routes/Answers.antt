@@ -10,7 +10,8 @@ returns-in_err-before c =
 
 pub returns-in_err-after : goal.returns-in_err-after
 returns-in_err-after c =
-    passed_on _ _ _ _ c.from_residual-in_err-after.ensures (first_refused c.args.new.now c.args.routes.now _ c.in_err-after.ensures)
+    passed_on _ _ _ _ c.from_residual-in_err-after.ensures
+    (first_refused c.args.new.now c.args.routes.now _ c.in_err-after.ensures)
 
 pub marks-requires : goal.marks-requires
 marks-requires c =

@@ -5,4 +5,5 @@ use Rattle.pigyelund_routes.proofs.table.coverings_to.Goals as goal
 
 pub loop-vrp-preserved : goal.loop-vrp-preserved
 loop-vrp-preserved c =
-    one_written (IsCovering c.args.route c.args.asn) _ _ _ _ _ _ _ c.in-Some.ensures.steps c.in_ok-push.ensures.items c.of.ensures c.loop-vrp.invariant
+    one_written (IsCovering c.args.route c.args.asn) _ _ _ _ _ _ _ c.in-Some.ensures.steps c.in_ok-push.ensures.items
+    c.of.ensures c.loop-vrp.invariant

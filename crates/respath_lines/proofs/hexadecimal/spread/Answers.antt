@@ -11,7 +11,11 @@ loop-left-init c =
 pub loop-left-preserved : goal.loop-left-preserved
 loop-left-preserved c =
     let len = length-take-le c.args.count c.args.bytes.now (omega (arith, c.requires)) in
-    let more = spread_more c.loop-left.bytes (take c.args.count c.args.bytes.now) (c.loop-left.left - 1) c.loop-left.left _ _ _ (omega arith) (omega (arith, c.requires, c.loop-left.auto.bytes)) (omega (arith, len)) c.loop-left.invariant.front c.loop-left.invariant.behind refl c.digit_of-in-loop-left.ensures c.digit_of.ensures in
+    let more =
+    spread_more c.loop-left.bytes (take c.args.count c.args.bytes.now) (c.loop-left.left - 1) c.loop-left.left _ _ _
+    (omega arith) (omega (arith, c.requires, c.loop-left.auto.bytes)) (omega (arith, len))
+    c.loop-left.invariant.front c.loop-left.invariant.behind refl c.digit_of-in-loop-left.ensures
+    c.digit_of.ensures in
     record { few = omega arith; front = more.0; behind = more.1 }
 
 pub returns : goal.returns

@@ -8,5 +8,6 @@ returns-in-Ok g c = grind (arith, shows_path, c.as_slice.ensures.value, c.write_
 pub returns-in-Err-Refused : goal.returns-in-Err-Refused
 returns-in-Err-Refused g c =
     let fails = rw c.in-Err-Refused.field-0-is at c.in-Err-Refused.ensures in
-    let fault_written = rw c.in-Err-Refused.field-0-is at (c.write_part_fault.ensures as_from_str_error_text (λ fault. refl)) in
+    let fault_written =
+    rw c.in-Err-Refused.field-0-is at (c.write_part_fault.ensures as_from_str_error_text (λ fault. refl)) in
     on_ok_weaker c.write_part_fault.result (λ is. inr (c.in-Err-Refused.fault, fails, is)) fault_written

@@ -1,4 +1,5 @@
-use Rattle.respath_lines.proofs.Common.{inl, inr, refl, on_ok_weaker, string_bytes, ip_from_str_error_text, overclaimed_ip_text, set_text}
+use Rattle.respath_lines.proofs.Common.{inl, inr, refl, on_ok_weaker, string_bytes, ip_from_str_error_text}
+use Rattle.respath_lines.proofs.Common.{overclaimed_ip_text, set_text}
 use Rattle.respath_lines.proofs.PathCommandLemmas.{shows_path}
 use Rattle.respath_lines.proofs.path.path_ip.Goals as goal
 
@@ -21,5 +22,6 @@ returns-in-Ok g c =
 pub returns-in-Err-Refused : goal.returns-in-Err-Refused
 returns-in-Err-Refused g c =
     let fails = rw c.in-Err-Refused.field-0-is at c.in-Err-Refused.ensures in
-    let fault_written = rw c.in-Err-Refused.field-0-is at (c.write_part_fault.ensures ip_from_str_error_text (λ fault. refl)) in
+    let fault_written =
+    rw c.in-Err-Refused.field-0-is at (c.write_part_fault.ensures ip_from_str_error_text (λ fault. refl)) in
     on_ok_weaker c.write_part_fault.result (λ is. inr (c.in-Err-Refused.fault, fails, is)) fault_written

@@ -7,5 +7,7 @@ pub returns : goal.returns
 returns g c =
     let shows = c.family_in.ensures in
     on_ok_weaker c.family_in.result
-    (λ is. shows_text IsIpFamilies ip_families_at (λ found. family_text c.args.family (of_family c.args.family found)) c.args.text.now c.in-Some.octets.items (string_bytes c.family_in.new.answer) (rw c.in-Some.is at c.in_ok-octets.ensures) is)
+    (λ is. shows_text IsIpFamilies ip_families_at (λ found. family_text c.args.family (of_family c.args.family found))
+    c.args.text.now c.in-Some.octets.items (string_bytes c.family_in.new.answer)
+    (rw c.in-Some.is at c.in_ok-octets.ensures) is)
     shows

@@ -8,7 +8,8 @@ returns-in-Some g c =
     let place = c.as_str-in-Some.result.now in
     let is = rw (c.in-Some.is, c.as_str.ensures.value) at c.in_ok-place.ensures in
     let here : IsPlace c.args.line.now answer place = rw c.as_str-in-Some.ensures.value is in
-    on_ok_weaker c.append_place.result (λ wrote. (answer, c.in_ok-put_answer.ensures, inr (place, here, wrote))) c.append_place.ensures
+    on_ok_weaker c.append_place.result (λ wrote. (answer, c.in_ok-put_answer.ensures, inr (place, here, wrote)))
+    c.append_place.ensures
 
 pub returns-in-None : goal.returns-in-None
 returns-in-None g c =

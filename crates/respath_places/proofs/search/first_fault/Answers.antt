@@ -8,7 +8,8 @@ pub loop-at-preserved : goal.loop-at-preserved
 loop-at-preserved g c =
     let (low, inside, is_cut) = c.in-Some.ensures in
     let so_far = c.loop-at.invariant in
-    let faultless : IsFaultless c.args.fault (take c.in-Some.at c.args.question.now) = grind (arith, c.in_ok-is_faulty.ensures) in
+    let faultless : IsFaultless c.args.fault (take c.in-Some.at c.args.question.now) =
+    grind (arith, c.in_ok-is_faulty.ensures) in
     record {
       after_head = omega (arith, so_far.after_head, low);
       ordered = omega (arith, inside);

@@ -12,6 +12,7 @@ returns-in-None g c = (c.in-Ok.text.now, grind (arith, view-Object), c.in-None.e
 pub returns-in-Err : goal.returns-in-Err
 returns-in-Err g c =
     let named :
-    named_values expires_name (value_view c.args.item.now) ≡ values_in expires_name (members_view c.in-Object.members.items) =
+    named_values expires_name (value_view c.args.item.now)
+    ≡ values_in expires_name (members_view c.in-Object.members.items) =
     grind (arith, view-Object) in
     (grind arith, rw named c.in-Err.ensures)

@@ -8,7 +8,8 @@ use Rattle.roa_expiry.proofs.row.read_csv.Goals as goal
 pub returns-in-Err-expiry_of : goal.returns-in-Err-expiry_of
 returns-in-Err-expiry_of g c = (
   c.loop-rest.number + 1,
-  line_wrong _ _ c.cut_at_line_end.result.1.now c.cut_at_line_end.result.0.now _ _ _ _ c.loop-rest.invariant.read c.cut_at_line_end.ensures.first
+  line_wrong _ _ c.cut_at_line_end.result.1.now c.cut_at_line_end.result.0.now _ _ _ _ c.loop-rest.invariant.read
+      c.cut_at_line_end.ensures.first
       c.in-Ok-Vrp.field-0-0 (rw c.in-Ok-Vrp.field-0-is at c.in-Ok-Vrp.ensures.found) c.in-Err-expiry_of.ensures,
   refl,
 )

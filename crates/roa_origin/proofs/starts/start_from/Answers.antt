@@ -13,4 +13,5 @@ returns-else-first_bits-number c =
     let ensured = c.first_bits.ensures.value in
     let there = c.loop-at-test.true in
     let key = c.route_key.ensures.route in
-    grind (arith, x.is, key, ensured, c.loop-at.invariant, get_or_default xs at x.result, r.few, r.ordered at, r.prefixes)
+    grind
+    (arith, x.is, key, ensured, c.loop-at.invariant, get_or_default xs at x.result, r.few, r.ordered at, r.prefixes)

@@ -1,5 +1,6 @@
 -- What comes no later than the prefix is what stands before the first place, and what the search parts behind it.
-use Rattle.roa_origin.proofs.Common.{arith, rules, ◌+◌, ◌-◌, cases_lt, IsNonDecreasingBy-drop, IsNonDecreasingBy-take, slice_range, place, vrp_place, IsSearched}
+use Rattle.roa_origin.proofs.Common.{arith, rules, ◌+◌, ◌-◌, cases_lt, IsNonDecreasingBy-drop, IsNonDecreasingBy-take}
+use Rattle.roa_origin.proofs.Common.{slice_range, place, vrp_place, IsSearched}
 use Rattle.roa_origin.proofs.SortedSearch.{counted_to}
 use Rattle.roa_origin.proofs.PrefixGroups.{piece_at, piece_length}
 use Rattle.roa_origin.proofs.table.count_between.Goals as goal

@@ -1,5 +1,6 @@
 -- Sorted changes are in order.
-use Rattle.roa_origin.proofs.Common.{rules, All-permutation, IsNonDecreasingBy-from_sort_by, IsLawfulChange, change_place}
+use Rattle.roa_origin.proofs.Common.{rules, All-permutation, IsNonDecreasingBy-from_sort_by, IsLawfulChange}
+use Rattle.roa_origin.proofs.Common.{change_place}
 use Rattle.roa_origin.proofs.updates.sort_changes.Goals as goal
 
 pub returns-clause-in_order : goal.returns-clause-in_order

@@ -11,7 +11,8 @@ pub returns-in_err-filters : goal.returns-in_err-filters
 returns-in_err-filters g c =
     let p = err_from_is_err_and c.from_residual.result c.from_residual.ensures.1 in
     rw (p.1, p.2)
-    (refused_then (HasListFault IsPrefixFilter HasPrefixFilterFault PrefixFilters (members_view c.in-Ok.inner.now.items))
+    (refused_then
+    (HasListFault IsPrefixFilter HasPrefixFilterFault PrefixFilters (members_view c.in-Ok.inner.now.items))
     (HasFiltersFault (members_view c.args.members.now.items))
     (λ fault wrong. inr (members_view c.in-Ok.inner.now.items, c.in-Ok.ensures, inl wrong))
     c.in_err-filters.field-0.0 c.in_err-filters.ensures)

@@ -11,7 +11,8 @@ loop-rest-preserved-in_ok-push-in-Ok-Vrp g c =
     record {
       within = omega arith;
       read = rw (c.in_ok-push-in-Ok-Vrp.ensures.items)
-          (read_more _ _ _ c.cut_at_line_end.result.0.now _ _ _ c.loop-rest.invariant.read c.cut_at_line_end.ensures.first
+          (read_more _ _ _ c.cut_at_line_end.result.0.now _ _ _ c.loop-rest.invariant.read
+          c.cut_at_line_end.ensures.first
           (Vrp c.in-Ok-Vrp.vrp) (rw c.in-Ok-Vrp.field-0-is at c.in-Ok-Vrp.ensures.found));
     }
 
@@ -22,7 +23,9 @@ loop-rest-preserved-in-Ok-Header g c =
     let shorter = c.cut_at_line_end.ensures.shorter in
     record {
       within = omega arith;
-      read = read_over _ _ _ c.cut_at_line_end.result.0.now _ _ _ c.loop-rest.invariant.read c.cut_at_line_end.ensures.first
+      read =
+          read_over _ _ _ c.cut_at_line_end.result.0.now _ _ _ c.loop-rest.invariant.read
+          c.cut_at_line_end.ensures.first
           (Header c.in-Ok-Header.next) refl (rw c.in-Ok-Header.field-0-is at c.in-Ok-Header.ensures.found);
     }
 

@@ -20,7 +20,8 @@ pub returns-in-Err-clause-outcome : goal.returns-in-Err-clause-outcome
 returns-in-Err-clause-outcome g c =
     let len : c.len-place.result ≡ length c.loop-alloc.vrps.items = grind arith in
     rw len
-    (read_wrong _ _ _ _ _ _ _ c.loop-alloc.invariant.read c.in_ok-item.ensures.ok c.loop-alloc-test.ensures g.row.A.Denot
+    (read_wrong _ _ _ _ _ _ _ c.loop-alloc.invariant.read c.in_ok-item.ensures.ok c.loop-alloc-test.ensures
+    g.row.A.Denot
     c.in-Err.fault c.skip_items.new.reader c.in-Err.ensures c.in_ok-skip_items-in-Err.ensures.read)
 
 -- a VRP more

@@ -7,4 +7,5 @@ returns-then-ne-clause-reads g c values reads =
 
 pub returns-clause-reads : goal.returns-clause-reads
 returns-clause-reads g c values reads =
-    member_duplicate _ _ _ c.args.key.now _ _ reads c.in_ok-skip_value-2.ensures.value c.if-ne.ensures c.if-is_missing.ensures
+    member_duplicate _ _ _ c.args.key.now _ _ reads c.in_ok-skip_value-2.ensures.value c.if-ne.ensures
+    c.if-is_missing.ensures

@@ -8,7 +8,9 @@ returns c = record {
   written = λ claim is. printed_resources (as_resources_text claim) claim is refl;
   one_claim = one_claim;
   alike = λ a b is also. (
-    λ e. one_claim (as_resources_text a) a b (printed_resources (as_resources_text a) a is refl) (printed_resources (as_resources_text a) b also e),
+    λ e.
+        one_claim (as_resources_text a) a b (printed_resources (as_resources_text a) a is refl)
+        (printed_resources (as_resources_text a) b also e),
     λ e. ap as_resources_text e,
   );
 }

@@ -5,7 +5,8 @@ use Rattle.rpki_chain.proofs.verify.verify_path_matched.Goals as goal
 pub returns-in-Err-Refused : goal.returns-in-Err-Refused
 returns-in-Err-Refused g c =
     let ensured = rw c.in-Err-Refused.field-0-is at c.in-Err-Refused.ensures in
-    rw c.in-Err-Refused.fault-is (step_refused g.R.BlockClaim.claim _ c.args.steps.now c.loop-at.at _ c.loop-at.invariant
+    rw c.in-Err-Refused.fault-is
+    (step_refused g.R.BlockClaim.claim _ c.args.steps.now c.loop-at.at _ c.loop-at.invariant
     c.index-steps-at.result c.loop-at-test.true c.index-steps-at.is _ c.claimed.ensures _ ensured)
 
 pub loop-at-init : goal.loop-at-init

@@ -1,6 +1,8 @@
 -- The first block is the run at hand; each turn takes in the next one; and the last run is closed in the end.
-use Rattle.rpki_chain_core.proofs.Common.{arith, le_refl, length, numbers, refl, ◌<◌, ◌∙◌, ◌≤◌, get_or-set_other, length-set, take_all, take_more_set}
-use Rattle.rpki_chain_core.proofs.RunJoining.{Joined-first, Joined-rises, Joined-next, Joined-covers, closed_run, longer_turn, closed_turn}
+use Rattle.rpki_chain_core.proofs.Common.{arith, le_refl, length, numbers, refl, ◌<◌, ◌∙◌, ◌≤◌, get_or-set_other}
+use Rattle.rpki_chain_core.proofs.Common.{length-set, take_all, take_more_set}
+use Rattle.rpki_chain_core.proofs.RunJoining.{Joined-first, Joined-rises, Joined-next, Joined-covers, closed_run}
+use Rattle.rpki_chain_core.proofs.RunJoining.{longer_turn, closed_turn}
 use Rattle.rpki_chain_core.proofs.build.join_ascending.Goals as goal
 
 pub loop-at-init : goal.loop-at-init
@@ -36,7 +38,8 @@ loop-at-preserved-in-Some-run_over g c =
       as_many = inv.as_many;
       to_come = λ k d above. inv.to_come k d (omega arith);
       joined = Joined-next inv.joined here is _ (numbers number next) _ bounds.min bounds.max bounds.from_first
-          bounds.to_last (longer_turn number _ c.in-Some-run_over.longer c.loop-at.run next inv.joined.at_hand rises bounds.to_last
+          bounds.to_last
+          (longer_turn number _ c.in-Some-run_over.longer c.loop-at.run next inv.joined.at_hand rises bounds.to_last
           over.from over.to over.over);
     }
 

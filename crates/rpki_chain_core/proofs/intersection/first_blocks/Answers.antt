@@ -1,5 +1,6 @@
 -- A block in new form, made anew from its bounds, is the same.
-use Rattle.rpki_chain_core.proofs.Common.{List, Some, [], arith, take, ℕ, ◌++◌, ◌+◌, ◌∙◌, ◌∷◌, ◌≡◌, take_more, IsChain, numbers}
+use Rattle.rpki_chain_core.proofs.Common.{List, Some, [], arith, take, ℕ, ◌++◌, ◌+◌, ◌∙◌, ◌∷◌, ◌≡◌, take_more, IsChain}
+use Rattle.rpki_chain_core.proofs.Common.{numbers}
 use Rattle.rpki_chain_core.proofs.Chains.{element_at}
 use Rattle.rpki_chain_core.proofs.WalkSides.{IsAt, ordered_at}
 use Rattle.rpki_chain_core.proofs.intersection.first_blocks.Goals as goal

@@ -1,7 +1,8 @@
 -- Each turn is done with one block and keeps the walk; at its end one chain has no block any more.
 use Rattle.rpki_chain_core.proofs.Common.{None, Some, arith, inl, inr, refl, le_refl, nat_tests, ◌≤◌}
 use Rattle.rpki_chain_core.proofs.ReadCounts.{reader_next}
-use Rattle.rpki_chain_core.proofs.IntersectionWalk.{meet_ended, meet_ordered, meet_other_ends, meet_own_ends, meet_start, meet_swap}
+use Rattle.rpki_chain_core.proofs.IntersectionWalk.{meet_ended, meet_ordered, meet_other_ends, meet_own_ends}
+use Rattle.rpki_chain_core.proofs.IntersectionWalk.{meet_start, meet_swap}
 use Rattle.rpki_chain_core.proofs.intersection.push_behind.Goals as goal
 
 pub loop-chain-init : goal.loop-chain-init

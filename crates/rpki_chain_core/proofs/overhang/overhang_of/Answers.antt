@@ -1,7 +1,8 @@
 -- Each turn passes a block of the one chain that the held block of the other has, or holds the next one.
 use Rattle.rpki_chain_core.proofs.Common.{Some, arith, sym, ◌∙◌, nat_tests}
 use Rattle.std.proofs.lemmas.List.{nil_from_length}
-use Rattle.rpki_chain_core.proofs.OverhangWalk.{held_at, leaves, passed_all, passing_end, passing_fit, passing_skip, passing_start}
+use Rattle.rpki_chain_core.proofs.OverhangWalk.{held_at, leaves, passed_all, passing_end, passing_fit, passing_skip}
+use Rattle.rpki_chain_core.proofs.OverhangWalk.{passing_start}
 use Rattle.rpki_chain_core.proofs.overhang.overhang_of.Goals as goal
 
 pub returns-in_default : goal.returns-in_default

@@ -1,6 +1,8 @@
 -- Each grammar has a reading.
-use Rattle.rpki_der.proofs.Common.{IsBitString, IsNull, IsOctetString, IsSequence, IsTlv, IsU32, bit_string_at, null_at, tagged_at, u32_at, value_at}
-use Rattle.rpki_der.proofs.ValueReadings.{one_front, value_reading, tagged_reading, u32_reading, bit_string_reading, null_reading}
+use Rattle.rpki_der.proofs.Common.{IsBitString, IsNull, IsOctetString, IsSequence, IsTlv, IsU32, bit_string_at, null_at}
+use Rattle.rpki_der.proofs.Common.{tagged_at, u32_at, value_at}
+use Rattle.rpki_der.proofs.ValueReadings.{one_front, value_reading, tagged_reading, u32_reading, bit_string_reading}
+use Rattle.rpki_der.proofs.ValueReadings.{null_reading}
 use Rattle.rpki_der.proofs.laws.one_value.Goals as goal
 
 pub returns : goal.returns

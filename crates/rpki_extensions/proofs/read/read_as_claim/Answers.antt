@@ -13,16 +13,25 @@ pub returns-in_err-resources : goal.returns-in_err-resources
 returns-in_err-resources g c =
     let ensured = c.in_err-resources.ensures in
     passed_on _ _ _ _ c.from_residual.ensures
-    (rw c.cursor-cursor.ensures.octets at (refused_in c.args.encoding IsAsResources IsPresentAsClaim as_resources_octets (ListsBy (IsRunsOfBlocks as_bounds)) as_choice_by c.cursor-cursor.result c.take_from.new.cursor c.cursor-cursor.ensures.mode _ ensured.reads ensured.strict ensured.by_mode))
+    (rw c.cursor-cursor.ensures.octets at
+    (refused_in c.args.encoding IsAsResources IsPresentAsClaim as_resources_octets
+    (ListsBy (IsRunsOfBlocks as_bounds)) as_choice_by c.cursor-cursor.result c.take_from.new.cursor
+    c.cursor-cursor.ensures.mode _ ensured.reads ensured.strict ensured.by_mode))
 
 pub returns-in_err-finish : goal.returns-in_err-finish
 returns-in_err-finish g c =
     let ensured = c.in_ok-resources.ensures in
     passed_on _ _ _ _ c.from_residual-in_err-finish.ensures
-    (rw c.cursor-cursor.ensures.octets at (more_in c.args.encoding IsAsResources IsPresentAsClaim as_resources_octets (ListsBy (IsRunsOfBlocks as_bounds)) as_choice_by c.cursor-cursor.result c.take_from.new.cursor c.cursor-cursor.ensures.mode _ _
-    one_resources (λ y rest p at. ensured.reads_back y rest p.0 p.1 at) ensured.reads ensured.strict ensured.by_mode c.in_err-finish.ensures.exact))
+    (rw c.cursor-cursor.ensures.octets at
+    (more_in c.args.encoding IsAsResources IsPresentAsClaim as_resources_octets (ListsBy (IsRunsOfBlocks as_bounds))
+    as_choice_by c.cursor-cursor.result c.take_from.new.cursor c.cursor-cursor.ensures.mode _ _
+    one_resources (λ y rest p at. ensured.reads_back y rest p.0 p.1 at) ensured.reads ensured.strict ensured.by_mode
+    c.in_err-finish.ensures.exact))
 
 pub returns : goal.returns
 returns g c =
     let ensured = c.in_ok-resources.ensures in
-    rw c.cursor-cursor.ensures.octets at (all_in c.args.encoding IsAsResources IsPresentAsClaim as_resources_octets (ListsBy (IsRunsOfBlocks as_bounds)) as_choice_by c.cursor-cursor.result c.take_from.new.cursor c.cursor-cursor.ensures.mode _ _ ensured.reads ensured.strict c.in_ok-finish.ensures.exact)
+    rw c.cursor-cursor.ensures.octets at
+    (all_in c.args.encoding IsAsResources IsPresentAsClaim as_resources_octets (ListsBy (IsRunsOfBlocks as_bounds))
+    as_choice_by c.cursor-cursor.result c.take_from.new.cursor c.cursor-cursor.ensures.mode _ _ ensured.reads
+    ensured.strict c.in_ok-finish.ensures.exact)

@@ -9,4 +9,5 @@ returns-clause-reads_back g c = λ whole.
     let short : length c.encode_families.new.out.items < 2 ^ 64 = search rules in
     let first : IsFamilyClaim Ipv4 c.args.v4.now = grind arith in
     let second : IsFamilyClaim Ipv6 c.args.v6.now = grind arith in
-    is_read_back c.args.v4.now c.args.v6.now c.encode_families.new.out.items c.new-octets.result.items some c.in_ok-encode_families.ensures.ok c.new-octets.ensures.items first second short
+    is_read_back c.args.v4.now c.args.v6.now c.encode_families.new.out.items c.new-octets.result.items some
+    c.in_ok-encode_families.ensures.ok c.new-octets.ensures.items first second short

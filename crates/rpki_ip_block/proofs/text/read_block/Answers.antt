@@ -20,7 +20,9 @@ returns-in-Some c =
 
 pub returns-in_err-range_between : goal.returns-in_err-range_between
 returns-in_err-range_between c =
-    let p = err_from_is_err_and c.from_residual-in_err-range_between.result c.from_residual-in_err-range_between.ensures.1 in
+    let p =
+    err_from_is_err_and c.from_residual-in_err-range_between.result
+    c.from_residual-in_err-range_between.ensures.1 in
     let none = split_parts slash c.args.text.now None c.in_default.ensures.cases (lit< tt) in
     rw (p.1, p.2) (block_answers c.args.wanted c.args.text.now (Err _) (inr (
       none,
@@ -41,7 +43,8 @@ returns-in-Some-split_once c =
 
 pub returns-in_err-read_single : goal.returns-in_err-read_single
 returns-in_err-read_single c =
-    let p = err_from_is_err_and c.from_residual-in_err-read_single.result c.from_residual-in_err-read_single.ensures.1 in
+    let p =
+    err_from_is_err_and c.from_residual-in_err-read_single.result c.from_residual-in_err-read_single.ensures.1 in
     let none = split_parts slash c.args.text.now None c.in_default.ensures.cases (lit< tt) in
     let apart = split_parts dash c.args.text.now None c.in_default-split_once.ensures.cases (lit< tt) in
     rw (p.1, p.2) (block_answers c.args.wanted c.args.text.now (Err _)

@@ -14,5 +14,6 @@ returns-in-Ok-Some g c =
 pub returns-in-Err : goal.returns-in-Err
 returns-in-Err g c =
     on_ok_weaker c.write.result
-    (λ whole. fault_answered c.args.self.now.why c.args.self.now.table.now c.args.line.now (string_bytes c.write.new.self)
+    (λ whole. fault_answered c.args.self.now.why c.args.self.now.table.now c.args.line.now
+    (string_bytes c.write.new.self)
     c.in-Err.fault c.in-Err.ensures.found (rw c.clear.ensures.bytes at whole)) c.write.ensures.bytes

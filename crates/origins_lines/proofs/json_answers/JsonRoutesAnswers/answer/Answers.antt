@@ -13,5 +13,6 @@ returns-in-Ok-Some g c =
 pub returns-in-Err : goal.returns-in-Err
 returns-in-Err g c =
     on_ok_weaker c.write_fault.result
-    (fault_object_answered c.args.self.now.why c.args.self.now.table.now c.args.line.now (string_bytes c.write_fault.new.text)
+    (fault_object_answered c.args.self.now.why c.args.self.now.table.now c.args.line.now
+    (string_bytes c.write_fault.new.text)
     c.in-Err.fault c.in-Err.ensures.found) c.write_fault.ensures

@@ -1,5 +1,10 @@
 -- An output without a table.
-use Rattle.pigyelund_routes.proofs.Common.{List, [], lit<, refl, ◌∷◌, ◌≡◌, leaves, proved_at, None, ftrue, SProp, emp, fact, fact_i, tables, RawPtr, Valss, owns, null_ptr, types_at, nothing, shape, within, alive, Stays, walk_of, Val, vcons, vnil, vnull, vstruct, alloc_all, free_all, look_at, pass_all, sets, !, by, drop, feq_i, fjoin, fpack, keep, move, qed, raw, split, use0, ‵, ◌$◌, ◌∵◌, ◌⊛◌, agg, and_then, enter, lit, no_more, returns}
+use Rattle.pigyelund_routes.proofs.Common.{List, [], lit<, refl, ◌∷◌, ◌≡◌, leaves, proved_at, None, ftrue, SProp, emp}
+use Rattle.pigyelund_routes.proofs.Common.{fact, fact_i, tables, RawPtr, Valss, owns, null_ptr, types_at, nothing}
+use Rattle.pigyelund_routes.proofs.Common.{shape, within, alive, Stays, walk_of, Val, vcons, vnil, vnull, vstruct}
+use Rattle.pigyelund_routes.proofs.Common.{alloc_all, free_all, look_at, pass_all, sets, !, by, drop, feq_i, fjoin}
+use Rattle.pigyelund_routes.proofs.Common.{fpack, keep, move, qed, raw, split, use0, ‵, ◌$◌, ◌∵◌, ◌⊛◌, agg, and_then}
+use Rattle.pigyelund_routes.proofs.Common.{enter, lit, no_more, returns}
 use Rattle.pigyelund_routes.specs.contracts.table_handle.TableOutput as output_struct
 use Rattle.pigyelund_routes.specs.contracts.table_handle.TableOutput.null.{ended, clauses}
 use Rattle.pigyelund_routes.specs.contracts.table_handle.TableOutput.null.Key.{name as #self}
@@ -12,11 +17,17 @@ null_spec 𝓤 𝓛 𝓜 𝓡 wired =
     let hs : Stays En.signature.params En.kept = tt in
     proved_at 𝓛 En hs c 𝓜 𝓡 tt #self code.function (code.unfolded 𝓤 H 𝓜 𝓡 wired) (λ z are.
     let Post : Val → SProp 𝓤 = (walk_of 𝓛 En hs c).post z in
-    qed 𝓛 ((raw (alive 𝓛 En.signature z.0.0 z.0.1) ⊛ ‵ (owns (types_at En.signature.params z.0.0) z.0.3 z.0.4)) ∷ ‵ ftrue ∷ []) ∵ move ! (1 ∷ []) $ drop ! $ split ! $
+    qed 𝓛
+    ((raw (alive 𝓛 En.signature z.0.0 z.0.1) ⊛ ‵ (owns (types_at En.signature.params z.0.0) z.0.3 z.0.4))
+    ∷ ‵ ftrue ∷ []) ∵ move ! (1 ∷ []) $ drop ! $ split ! $
     enter ! 𝓣.C 𝓣.Λ code.function [] Post $ alloc_all ! (λ l. pass_all ! refl tt $
     let out : Val = vstruct (vcons vnull vnil) in
-    sets ! (agg ! (and_then ! (lit ! tt) (no_more !))) refl (tt, (record { fits = lit< tt }, tt)) $ returns ! (look_at ! 0 refl) $ free_all ! refl $
-    nothing ! $ nothing ! $ feq_i ! (List Val) (vnull ∷ []) (vnull ∷ []) refl $ fjoin ! $ feq_i ! (List Val) (out ∷ []) (out ∷ []) refl $ fjoin ! $
-    fpack ! (Valss (RawPtr ∷ [])) (within (shape output_struct.the_type) (null_ptr, tt) (out ∷ [])) (vnull ∷ [], tt) $ fjoin ! $
-    use0 𝓛 (raw (fact 𝓤 ((None ≡ None) × (null_ptr ≡ null_ptr)))) (fact_i 𝓤 ((None ≡ None) × (null_ptr ≡ null_ptr)) (emp 𝓤) (refl, refl)) $
+    sets ! (agg ! (and_then ! (lit ! tt) (no_more !))) refl (tt, (record { fits = lit< tt }, tt)) $
+    returns ! (look_at ! 0 refl) $ free_all ! refl $
+    nothing ! $ nothing ! $ feq_i ! (List Val) (vnull ∷ []) (vnull ∷ []) refl $ fjoin ! $
+    feq_i ! (List Val) (out ∷ []) (out ∷ []) refl $ fjoin ! $
+    fpack ! (Valss (RawPtr ∷ [])) (within (shape output_struct.the_type) (null_ptr, tt) (out ∷ [])) (vnull ∷ [], tt) $
+    fjoin ! $
+    use0 𝓛 (raw (fact 𝓤 ((None ≡ None) × (null_ptr ≡ null_ptr))))
+    (fact_i 𝓤 ((None ≡ None) × (null_ptr ≡ null_ptr)) (emp 𝓤) (refl, refl)) $
     keep ! (2 ∷ 3 ∷ 1 ∷ 0 ∷ []) $ by ! (leaves 𝓛 En hs c z out (record { at = null_ptr; given = None }) tt tt)))

@@ -1,5 +1,15 @@
 -- The box that a handle owns, as its parts.
-use Rattle.pigyelund_routes.proofs.Common.{List, [], lit<, refl, subst, sym, ◌++◌, ◌∷◌, ◌≡◌, after, Goes-blank, handle_tells, Some-of, none_of, leaves, proved_at, box_owns, None, Some, if_non_null, ftrue, SProp, emp, ent, id⊢, sep, Fun, fact, fact_i, tables, RattleType, owns, Ptr, Testable, block_ptr, null_ptr, ptr_val, tests_null, plain, types_at, nothing, alive, Stays, stay_dropped, walk_of, Val, of_list, vcons, vnil, vstruct, Memory, Routine, Calls, Loops, WpFn, Ura, alloc_all, env, free_all, get, get_in, look_at, pass_all, sets, at_ret, !, by, drop, feq_l, fjoin, fpick, fsplit, keep, move, qed, raw, split, use0, use1, ‵, ◌$◌, ◌∵◌, ◌⊛◌, Logic, sem, live, agg, sub, whole, and_then, bin, branches, enter, exec, first, fld, lit, no_more, of_opd, returns, returns_within, skips, stop, fit, together, words, boxed_table, table_row}
+use Rattle.pigyelund_routes.proofs.Common.{List, [], lit<, refl, subst, sym, ◌++◌, ◌∷◌, ◌≡◌, after, Goes-blank}
+use Rattle.pigyelund_routes.proofs.Common.{handle_tells, Some-of, none_of, leaves, proved_at, box_owns, None, Some}
+use Rattle.pigyelund_routes.proofs.Common.{if_non_null, ftrue, SProp, emp, ent, id⊢, sep, Fun, fact, fact_i, tables}
+use Rattle.pigyelund_routes.proofs.Common.{RattleType, owns, Ptr, Testable, block_ptr, null_ptr, ptr_val, tests_null}
+use Rattle.pigyelund_routes.proofs.Common.{plain, types_at, nothing, alive, Stays, stay_dropped, walk_of, Val, of_list}
+use Rattle.pigyelund_routes.proofs.Common.{vcons, vnil, vstruct, Memory, Routine, Calls, Loops, WpFn, Ura, alloc_all}
+use Rattle.pigyelund_routes.proofs.Common.{env, free_all, get, get_in, look_at, pass_all, sets, at_ret, !, by, drop}
+use Rattle.pigyelund_routes.proofs.Common.{feq_l, fjoin, fpick, fsplit, keep, move, qed, raw, split, use0, use1, ‵, ◌$◌}
+use Rattle.pigyelund_routes.proofs.Common.{◌∵◌, ◌⊛◌, Logic, sem, live, agg, sub, whole, and_then, bin, branches, enter}
+use Rattle.pigyelund_routes.proofs.Common.{exec, first, fld, lit, no_more, of_opd, returns, returns_within, skips, stop}
+use Rattle.pigyelund_routes.proofs.Common.{fit, together, words, boxed_table, table_row}
 use denote.Param.{layout}
 use Rattle.std.specs.contracts.alloc.Global as heap
 use Rattle.std.proofs.alloc.Global.TheLaws as heap_laws
@@ -22,12 +32,14 @@ abbrev P : RattleType
 P = pointer.the_row table_row Z ghosts
 
 abbrev stayed : Stays ended.signature.params ended.kept
-stayed = (stay_dropped (plain (λ _. owner_struct.the_row)) ended.kept.0, (stay_dropped (plain (λ _. Z)) ended.kept.1.0, tt))
+stayed =
+    (stay_dropped (plain (λ _. owner_struct.the_row)) ended.kept.0, (stay_dropped (plain (λ _. Z)) ended.kept.1.0, tt))
 
 abbrev word : Ptr → Val
 word p = vstruct (vcons (ptr_val p) vnil)
 
-module _ {M : Type 1} {𝓤 : Ura M} (𝓛 : Logic 𝓤) (at_mem : Memory → SProp 𝓤) (run : Routine → Fun 𝓤) (C : Calls 𝓤 𝓛.H) (Λ : Loops 𝓤 𝓛.H)
+module _ {M : Type 1} {𝓤 : Ura M} (𝓛 : Logic 𝓤) (at_mem : Memory → SProp 𝓤) (run : Routine → Fun 𝓤) (C : Calls 𝓤 𝓛.H)
+    (Λ : Loops 𝓤 𝓛.H)
     (z : (walk_of 𝓛 ended stayed (clauses 𝓛 at_mem run)).Ghost) where
   open 𝓛 use {H}
 
@@ -51,45 +63,69 @@ module _ {M : Type 1} {𝓤 : Ura M} (𝓛 : Logic 𝓤) (at_mem : Memory → SP
       (Run (word s ∷ h ∷ []))
   at null_ptr e h fits may =
       qed 𝓛 (‵ ftrue ∷ ‵ (Z.own_val a (h ∷ [])) ∷ raw toks ∷ []) ∵ keep ! (2 ∷ []) $
-      enter ! C Λ code.function (word null_ptr ∷ h ∷ []) _ $ alloc_all ! (λ l. pass_all ! refl ((tt, (record { fits = lit< tt }, tt)), (fits, tt)) $
+      enter ! C Λ code.function (word null_ptr ∷ h ∷ []) _ $
+      alloc_all ! (λ l. pass_all ! refl ((tt, (record { fits = lit< tt }, tt)), (fits, tt)) $
       sets ! (of_opd ! (get_in ! (fld ! refl (stop !)) (sub ! 0 refl (whole !)))) refl (tt, record { fits = lit< tt }) $
-      sets ! (of_opd ! (get ! refl)) refl (tt, record { fits = lit< tt }) $ sets ! (bin ! (get ! refl) (lit ! tt) (tests_null null_ptr may)) refl (tt, tt) $
+      sets ! (of_opd ! (get ! refl)) refl (tt, record { fits = lit< tt }) $
+      sets ! (bin ! (get ! refl) (lit ! tt) (tests_null null_ptr may)) refl (tt, tt) $
       first ! $ branches ! (get ! refl)
       (λ t. sets ! (agg ! (and_then ! (lit ! tt) (no_more !))) refl (tt, (record { fits = lit< tt }, tt)) $
       returns_within ! Post refl (look_at ! 0 refl) $ free_all ! refl $
       use0 𝓛 (‵ ((option.the_row P).own_val None (live 0 (of_list []) ∷ []))) (none_of 𝓛 P) $
-      use0 𝓛 (raw (fact 𝓤 (d.at ≡ null_ptr))) (fact_i 𝓤 (d.at ≡ null_ptr) (emp 𝓤) e) $ nothing ! $ nothing ! $ fjoin ! $ nothing ! $ fjoin ! $
-      keep ! (3 ∷ 0 ∷ 2 ∷ 1 ∷ []) $ by ! (leaves 𝓛 ended stayed (clauses 𝓛 at_mem run) z (live 0 (of_list [])) None (tt, (tt, tt)) (tt, (tt, tt))))
+      use0 𝓛 (raw (fact 𝓤 (d.at ≡ null_ptr))) (fact_i 𝓤 (d.at ≡ null_ptr) (emp 𝓤) e) $ nothing ! $ nothing ! $ fjoin ! $
+      nothing ! $ fjoin ! $
+      keep ! (3 ∷ 0 ∷ 2 ∷ 1 ∷ []) $
+      by !
+      (leaves 𝓛 ended stayed (clauses 𝓛 at_mem run) z (live 0 (of_list [])) None (tt, (tt, tt)) (tt, (tt, tt))))
       (λ t. absurd t))
   at (block_ptr b o) e h fits may =
       qed 𝓛 (‵ (boxed_table (block_ptr b o) d.vrps) ∷ ‵ (Z.own_val a (h ∷ [])) ∷ raw toks ∷ []) ∵
-      enter ! C Λ code.function (word (block_ptr b o) ∷ h ∷ []) _ $ alloc_all ! (λ l. pass_all ! refl ((tt, (tt, tt)), (fits, tt)) $
-      let Ev = env (code.function).locals l in let good = fit table_row Z heap_laws.the_row_laws ghosts b o h fits in let w : Val = words b o h in
+      enter ! C Λ code.function (word (block_ptr b o) ∷ h ∷ []) _ $
+      alloc_all ! (λ l. pass_all ! refl ((tt, (tt, tt)), (fits, tt)) $
+      let Ev =
+      env (code.function).locals l in let good = fit table_row Z heap_laws.the_row_laws ghosts b o h fits in let w :
+      Val = words b o h in
       let made : P.Denot = record { at = block_ptr b o; alloc = a; value = d.vrps } in
       sets ! (of_opd ! (get_in ! (fld ! refl (stop !)) (sub ! 0 refl (whole !)))) refl (tt, tt) $
-      sets ! (of_opd ! (get ! refl)) refl (tt, tt) $ sets ! (bin ! (get ! refl) (lit ! tt) (tests_null (block_ptr b o) may)) refl (tt, tt) $
+      sets ! (of_opd ! (get ! refl)) refl (tt, tt) $
+      sets ! (bin ! (get ! refl) (lit ! tt) (tests_null (block_ptr b o) may)) refl (tt, tt) $
       first ! $ branches ! (get ! refl) (λ t. absurd t)
       (λ t. skips ! $ exec ! C Λ Ev (after 4 (code.function).body) (at_ret Ev Post) $
       sets ! (agg ! (and_then ! (get ! refl) (and_then ! (get ! refl) (no_more !)))) refl good $
-      sets ! (agg ! (and_then ! (lit ! tt) (and_then ! (get ! refl) (no_more !)))) refl (and_tt _ good.0, (record { fits = lit< tt }, (good.1, tt))) $
+      sets ! (agg ! (and_then ! (lit ! tt) (and_then ! (get ! refl) (no_more !)))) refl
+      (and_tt _ good.0, (record { fits = lit< tt }, (good.1, tt))) $
       returns ! (look_at ! 0 refl) $ free_all ! refl $ fpick ! (λ heap'.
-      use1 𝓛 (‵ (box_owns (ghosts.dealloc_token a) table_row (block_ptr b o) d.vrps)) (id⊢ 𝓤 _) $ together table_row Z heap_laws.the_row_laws ghosts ! b o h a d.vrps $
+      use1 𝓛 (‵ (box_owns (ghosts.dealloc_token a) table_row (block_ptr b o) d.vrps)) (id⊢ 𝓤 _) $
+      together table_row Z heap_laws.the_row_laws ghosts ! b o h a d.vrps $
       use1 𝓛 (‵ ((option.the_row P).own_val (Some made) (live 1 (of_list (w ∷ [])) ∷ []))) (Some-of 𝓛 P made w) $
-      use0 𝓛 (raw (fact 𝓤 (d.vrps ≡ d.vrps))) (fact_i 𝓤 (d.vrps ≡ d.vrps) (emp 𝓤) refl) $ nothing ! $ nothing ! $ fjoin ! $ nothing ! $ fjoin ! $
-      keep ! (3 ∷ 0 ∷ 2 ∷ 1 ∷ []) $ by ! (leaves 𝓛 ended stayed (clauses 𝓛 at_mem run) z (live 1 (of_list (w ∷ []))) (Some made) (tt, (tt, tt)) (tt, (tt, tt))))))
+      use0 𝓛 (raw (fact 𝓤 (d.vrps ≡ d.vrps))) (fact_i 𝓤 (d.vrps ≡ d.vrps) (emp 𝓤) refl) $ nothing ! $ nothing ! $
+      fjoin ! $ nothing ! $ fjoin ! $
+      keep ! (3 ∷ 0 ∷ 2 ∷ 1 ∷ []) $
+      by ! (leaves 𝓛 ended stayed (clauses 𝓛 at_mem run) z (live 1 (of_list (w ∷ []))) (Some made) (tt, (tt, tt))
+      (tt, (tt, tt))))))
 
 pub into_parts_spec : {M : Type 1} → statement M
 into_parts_spec 𝓤 𝓛 𝓜 𝓡 wired =
     let H = 𝓛.H in let 𝓣 = tables 𝓤 H 𝓜 𝓡 𝓡.env in let LZ = heap_laws.the_row_laws in
-    proved_at 𝓛 ended stayed (clauses 𝓛 𝓜.mem 𝓡.returns) 𝓜 𝓡
-    (Goes-blank 𝓛 0 (plain (λ _. owner_struct.the_row)) ended.kept.0 (λ κs x f. tt), (Goes-blank 𝓛 0 (plain (λ _. Z)) ended.kept.1.0 (λ κs x f. tt), tt))
+    proved_at 𝓛 ended stayed (clauses 𝓛 𝓜.mem 𝓡.returns) 𝓜 𝓡 (
+      Goes-blank 𝓛 0 (plain (λ _. owner_struct.the_row)) ended.kept.0 (λ κs x f. tt),
+      (Goes-blank 𝓛 0 (plain (λ _. Z)) ended.kept.1.0 (λ κs x f. tt), tt),
+    )
     #self code.function (code.unfolded 𝓤 H 𝓜 𝓡 wired) (λ z are.
-    let d : owner_struct.the_row.Denot = z.0.3.0 in let a : Z.Denot = z.0.3.1.0 in let On : SProp 𝓤 = alive 𝓛 ended.signature z.0.0 z.0.1 in
-    let Run' : List Val → SProp 𝓤 = λ ws. WpFn 𝓤 H 𝓣.C 𝓣.Λ code.function ws ((walk_of 𝓛 ended stayed (clauses 𝓛 𝓜.mem 𝓡.returns)).post z) in
-    qed 𝓛 ((raw On ⊛ ‵ (owns (types_at ended.signature.params z.0.0) z.0.3 z.0.4)) ∷ ‵ ftrue ∷ []) ∵ move ! (1 ∷ []) $ drop ! $ split ! $ move ! (1 ∷ []) $
-    fsplit ! $ fsplit ! $ fpick ! (λ vss. fsplit ! $ feq_l ! (λ ev. fsplit ! $ feq_l ! (λ ep. drop ! $ fsplit ! $ fpick ! (λ may. drop ! $
+    let d : owner_struct.the_row.Denot =
+    z.0.3.0 in let a : Z.Denot = z.0.3.1.0 in let On : SProp 𝓤 = alive 𝓛 ended.signature z.0.0 z.0.1 in
+    let Run' : List Val → SProp 𝓤 =
+    λ ws. WpFn 𝓤 H 𝓣.C 𝓣.Λ code.function ws ((walk_of 𝓛 ended stayed (clauses 𝓛 𝓜.mem 𝓡.returns)).post z) in
+    qed 𝓛 ((raw On ⊛ ‵ (owns (types_at ended.signature.params z.0.0) z.0.3 z.0.4)) ∷ ‵ ftrue ∷ []) ∵ move ! (1 ∷ []) $
+    drop ! $ split ! $ move ! (1 ∷ []) $
+    fsplit ! $ fsplit ! $
+    fpick ! (λ vss. fsplit ! $ feq_l ! (λ ev. fsplit ! $ feq_l ! (λ ep. drop ! $ fsplit ! $ fpick ! (λ may. drop ! $
     -- [what lies there, if anything; the allocator; the tokens]
-    move ! (1 ∷ []) $ fsplit ! $ handle_tells (words_heap table_row Z LZ ghosts) ! a z.0.4.1.0 (λ h ea fits. keep ! (2 ∷ 0 ∷ 3 ∷ []) $
+    move ! (1 ∷ []) $ fsplit ! $
+    handle_tells (words_heap table_row Z LZ ghosts) ! a z.0.4.1.0 (λ h ea fits. keep ! (2 ∷ 0 ∷ 3 ∷ []) $
     let is : z.0.4.0 ≡ word d.at ∷ [] = subst (λ (ps : List Val). z.0.4.0 ≡ vstruct (of_list (ps ++ [])) ∷ []) ep ev in
-    by ! (subst (λ (us : List Val). ent 𝓤 (sep 𝓤 (sem 𝓛 (if_non_null d.at (boxed_table d.at d.vrps))) (sep 𝓤 (sem 𝓛 (Z.own_val a (h ∷ []))) On)) (Run' us)) (sym (λ i. is i ++ (ea i ++ [])))
+    by ! (subst
+    (λ (us : List Val). ent 𝓤
+    (sep 𝓤 (sem 𝓛 (if_non_null d.at (boxed_table d.at d.vrps))) (sep 𝓤 (sem 𝓛 (Z.own_val a (h ∷ []))) On))
+    (Run' us)) (sym (λ i. is i ++ (ea i ++ [])))
     (at 𝓛 𝓜.mem 𝓡.returns 𝓣.C 𝓣.Λ z d.at refl h fits may))))))))

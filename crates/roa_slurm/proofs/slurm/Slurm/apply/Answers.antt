@@ -17,6 +17,7 @@ loop-vrp-preserved g c =
 
 pub returns : goal.returns
 returns g c =
-    applied_all c.args.self.now.filters.items c.args.self.now.assertions.items c.args.vrps.now c.loop-vrp.changed.items _
+    applied_all c.args.self.now.filters.items c.args.self.now.assertions.items c.args.vrps.now c.loop-vrp.changed.items
+    _
     c.loop-vrp.vrp-index (omega (arith, c.loop-vrp-test.false)) c.loop-vrp.invariant
     (rw c.as_slice.ensures.value at c.in_ok-extend_from_slice.ensures.items)

@@ -1,5 +1,6 @@
 -- The groups before and behind two colons, or the eight groups, are the address that std's reader finds.
-use Rattle.rpki_addr.proofs.Common.{List, ap, arith, drop, get_or, length, sym, take, ℕ, ◌+◌, ◌-◌, ◌<◌, ◌∙◌, ◌∷◌, ◌≡◌, ◌≤◌}
+use Rattle.rpki_addr.proofs.Common.{List, ap, arith, drop, get_or, length, sym, take, ℕ, ◌+◌, ◌-◌, ◌<◌, ◌∙◌, ◌∷◌, ◌≡◌}
+use Rattle.rpki_addr.proofs.Common.{◌≤◌}
 use Rattle.std.proofs.Common.{rules}
 use Rattle.std.proofs.lemmas.List.{take_rest}
 use Rattle.rpki_addr.specs.GroupProgress.{EndsGroupAt}
@@ -30,7 +31,8 @@ returns c =
     let rest : behind ≡ drop (front.end + 2) text = take_rest text (front.end + 2) in
     let colons = colons_at text front.end within one two ∙ ap (λ (l : List ℕ). 58 ∷ 58 ∷ l) (sym rest) in
     let ends : EndsGroupAt behind back.end =
-    first_of (search (rules, c.ends_group-2.ensures), grind (arith, c.ends_group-2.ensures, c.if-not-ends_group-2.false)) in
+    first_of
+    (search (rules, c.ends_group-2.ensures), grind (arith, c.ends_group-2.ensures, c.if-not-ends_group-2.false)) in
     let first = c.usual_groups-front.ensures.value (ends_at_colon text front.end one) in
     let second = c.usual_groups-back.ensures.value ends in
     rw (take_rest behind back.end, c.with_zeros.ensures)

@@ -5,7 +5,8 @@ use Rattle.rpki_as.proofs.resources.AsResources.take_from.Goals as goal
 
 pub returns : goal.returns
 returns g c =
-    let taken = taken_said resources_in_modes c.args.cursor.now c.take_from_by_mode.new.cursor c.take_from_by_mode.result
+    let taken =
+    taken_said resources_in_modes c.args.cursor.now c.take_from_by_mode.new.cursor c.take_from_by_mode.result
     c.take_from_by_mode.ensures.by_mode in
     let back = λ (claim : Claim) (rest : List ℕ) (is : IsClaim IsAsSet claim) (some : claim ≢ Missing).
     taken.reads_back claim rest (is, some) in

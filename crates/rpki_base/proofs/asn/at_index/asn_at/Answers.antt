@@ -2,7 +2,8 @@
 use Rattle.rpki_base.proofs.Common.{arith, refl}
 use Rattle.rpki_base.proofs.AsnIndexLemmas.{asn_between, digits_of}
 use Rattle.rpki_base.proofs.asn.at_index.asn_at.Goals as goal
-use Rattle.rpki_base.proofs.asn.at_index.asn_at.Goals.{then-end-first-via-then-end-first, then-end-first-via-else-end-first+then-value-from}
+use Rattle.rpki_base.proofs.asn.at_index.asn_at.Goals.{then-end-first-via-then-end-first}
+use Rattle.rpki_base.proofs.asn.at_index.asn_at.Goals.{then-end-first-via-else-end-first+then-value-from}
 
 pub returns-then-end-first-clause-each : goal.returns-then-end-first-clause-each
 returns-then-end-first-clause-each c n end h =

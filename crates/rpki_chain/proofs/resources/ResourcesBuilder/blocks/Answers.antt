@@ -9,6 +9,7 @@ returns g c =
     let so_far : Option (g.row.B.Denot) → List (ℕ × ℕ) = λ o. blocks_so_far (option_map blocks o) in
     let begins : blocks c.match-take.listed ≡ blocks_so_far c.args.self.now = elim c.match-take.branch [
       | in-Some w ↦ ap blocks w.listed-is ∙ ap so_far w.in-Some.ensures.value ∙ ap blocks_so_far c.self.view_is
-      | in-None w ↦ ap blocks w.listed-is ∙ w.start-listed.ensures ∙ ap so_far w.in-None.ensures.value ∙ ap blocks_so_far c.self.view_is
+      | in-None w ↦ ap blocks w.listed-is ∙ w.start-listed.ensures ∙ ap so_far w.in-None.ensures.value
+          ∙ ap blocks_so_far c.self.view_is
     ] in
     (c.match-take.listed, c.build-answer.new.arg2, begins, search rules, refl)

@@ -14,5 +14,6 @@ returns-clause-ok g c =
 
 pub returns-clause-refused : goal.returns-clause-refused
 returns-clause-refused g c =
-    let made = rw (c.new-own.ensures.blocks, c.new-others.ensures.blocks) at c.difference_from-chain.ensures.difference in
+    let made =
+    rw (c.new-own.ensures.blocks, c.new-others.ensures.blocks) at c.difference_from-chain.ensures.difference in
     refused_is _ _ _ c.refused_with.ensures (rw (c.as_chain-own.ensures, c.as_chain-others.ensures) at made)

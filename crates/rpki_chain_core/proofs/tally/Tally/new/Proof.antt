@@ -1,5 +1,8 @@
 -- A value of no bytes, whose number is 0. Assumes `Logic`.
-use Rattle.rpki_chain_core.proofs.CountSteps.{[], ◌∷◌, refl, proved, ftrue, vstruct, vnil, ‵, raw, ◌$◌, ◌∵◌, !, qed, drop, suffices, done, agg, enter, no_more, returns, alloc_all, pass_all, free_all, look_at, sets, pure_i, nothing, on_entry, Stays, walk_of, says, ends_at}
+use Rattle.rpki_chain_core.proofs.CountSteps.{[], ◌∷◌, refl, proved, ftrue, vstruct, vnil, ‵, raw, ◌$◌, ◌∵◌, !, qed}
+use Rattle.rpki_chain_core.proofs.CountSteps.{drop, suffices, done, agg, enter, no_more, returns, alloc_all, pass_all}
+use Rattle.rpki_chain_core.proofs.CountSteps.{free_all, look_at, sets, pure_i, nothing, on_entry, Stays, walk_of, says}
+use Rattle.rpki_chain_core.proofs.CountSteps.{ends_at}
 use Rattle.rpki_chain_core.specs.contracts.tally.Tally.{the_row as row}
 use Rattle.rpki_chain_core.specs.contracts.tally.Tally.new as f
 use Rattle.rpki_chain_core.proofs.tally.Tally.new.Statement.{statement}

@@ -1,6 +1,7 @@
 -- Each turn takes a member of a family that wasn't found before, or is at the end, or meets the
 -- first fault.
-use Rattle.rpki_der.proofs.Common.{[], arith, length, refl, ◌∙◌, ◌≡◌, ◌≢◌, nil_from_length, err_from_is_err_and, left, none_found}
+use Rattle.rpki_der.proofs.Common.{[], arith, length, refl, ◌∙◌, ◌≡◌, ◌≢◌, nil_from_length, err_from_is_err_and, left}
+use Rattle.rpki_der.proofs.Common.{none_found}
 use Rattle.rpki_der.proofs.FamiliesLoops.{loop_ends, loop_fails_or_memory, loop_more}
 use Rattle.rpki_der.proofs.SequenceFaults.{looked_shorter}
 use Rattle.rpki_der.proofs.sequences.families.members_within.Goals as goal

@@ -1,6 +1,8 @@
 -- Each turn reads the next value, or is at the end, or meets the first fault.
-use Rattle.rpki_der.proofs.Common.{Bool, List, Ok, Some, length, ℕ, ◌<◌, ◌∙◌, ◌≡◌, err_from_is_err_and, IsBytes, IsModal, IsReading, optional, values_from, Grammar, Reading}
-use Rattle.rpki_der.proofs.ValueProofs.{HasOctets, loop_ends, loop_fails, loop_more, optional_err, optional_none, optional_some, shorter, found_is}
+use Rattle.rpki_der.proofs.Common.{Bool, List, Ok, Some, length, ℕ, ◌<◌, ◌∙◌, ◌≡◌, err_from_is_err_and, IsBytes}
+use Rattle.rpki_der.proofs.Common.{IsModal, IsReading, optional, values_from, Grammar, Reading}
+use Rattle.rpki_der.proofs.ValueProofs.{HasOctets, loop_ends, loop_fails, loop_more, optional_err, optional_none}
+use Rattle.rpki_der.proofs.ValueProofs.{optional_some, shorter, found_is}
 use Rattle.rpki_der.proofs.sequences.read.read_values_by_mode.Goals as goal
 
 -- behind a value that is taken fewer octets are left

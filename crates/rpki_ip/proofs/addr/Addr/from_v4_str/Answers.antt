@@ -8,4 +8,5 @@ returns-in_err-from_str c =
     rw (p.1, p.2) (first_of_err (λ n. n * 2 ^ 96) (IsIpv4Text c.args.text.now) _ _ c.in_err-from_str.ensures.exact)
 
 pub returns : goal.returns
-returns c = rw c.from_v4.ensures (first_of_ok (λ n. n * 2 ^ 96) (IsIpv4Text c.args.text.now) _ _ c.in_ok-from_str.ensures.exact)
+returns c =
+    rw c.from_v4.ensures (first_of_ok (λ n. n * 2 ^ 96) (IsIpv4Text c.args.text.now) _ _ c.in_ok-from_str.ensures.exact)

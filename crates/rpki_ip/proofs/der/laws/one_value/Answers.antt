@@ -1,5 +1,6 @@
 -- Each grammar has a reading.
-use Rattle.rpki_ip.proofs.Common.{family_reading, one_front, refined, tagged_at, IsPrefixDer, prefix_at, IsRangeDer, range_in}
+use Rattle.rpki_ip.proofs.Common.{family_reading, one_front, refined, tagged_at, IsPrefixDer, prefix_at, IsRangeDer}
+use Rattle.rpki_ip.proofs.Common.{range_in}
 use Rattle.rpki_der.specs.FamilyDer.{IsFamilyDer, family_at}
 use Rattle.rpki_ip.proofs.PrefixDerReadings.{prefix_reading, range_reading}
 use Rattle.rpki_ip.proofs.der.laws.one_value.Goals as goal

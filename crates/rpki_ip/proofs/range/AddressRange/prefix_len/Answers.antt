@@ -6,4 +6,6 @@ pub returns-then-min-host_bits-eq0-clause-some : goal.returns-then-min-host_bits
 returns-then-min-host_bits-eq0-clause-some c =
     let ones = rw (c.to_bits-min.ensures, c.to_bits.ensures) at c.if-host_bits-eq0.true in
     let clear = rw (c.to_bits-min.ensures, c.to_bits.ensures) at c.if-min-host_bits-eq0.true in
-    rw (c.to_bits-min.ensures, c.to_bits.ensures, ← c.self.view_is) (prefix_of_bits (record { min = c.self.inside.min; max = c.self.inside.max }) c.self.invariant.ordered c.self.invariant.below ones clear)
+    rw (c.to_bits-min.ensures, c.to_bits.ensures, ← c.self.view_is)
+    (prefix_of_bits (record { min = c.self.inside.min; max = c.self.inside.max }) c.self.invariant.ordered
+    c.self.invariant.below ones clear)

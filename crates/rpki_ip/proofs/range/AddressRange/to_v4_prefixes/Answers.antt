@@ -1,4 +1,5 @@
-use Rattle.rpki_ip.proofs.Common.{ap, arith, refl, ◌/◌, ◌^◌, ◌∙◌, ◌≡◌, IsWithin, cover_prefixes, whole_cover, IsShortestCover}
+use Rattle.rpki_ip.proofs.Common.{ap, arith, refl, ◌/◌, ◌^◌, ◌∙◌, ◌≡◌, IsWithin, cover_prefixes, whole_cover}
+use Rattle.rpki_ip.proofs.Common.{IsShortestCover}
 use Rattle.rpki_ip.proofs.RangeCoverLemmas.{range_of}
 use Rattle.rpki_ip.proofs.range.AddressRange.to_v4_prefixes.Goals as goal
 
@@ -15,7 +16,9 @@ pub returns-clause-cover : goal.returns-clause-cover
 returns-clause-cover c = record { short = c.new.result; lists = (short c).list; widens = refl }
 
 pub returns-clause-whole : goal.returns-clause-whole
-returns-clause-whole c whole = whole_cover c.args.self.min c.args.self.max c.new.result whole.begins whole.ends (omega (arith, last c, c.from-2.ensures, c.to_bits-2.type_inv)) (short c).list
+returns-clause-whole c whole =
+    whole_cover c.args.self.min c.args.self.max c.new.result whole.begins whole.ends
+    (omega (arith, last c, c.from-2.ensures, c.to_bits-2.type_inv)) (short c).list
 
 pub invariant_of-result : goal.invariant_of-result
 invariant_of-result c = cover_prefixes 32 _ c.new.result c.new.ensures.cover.list

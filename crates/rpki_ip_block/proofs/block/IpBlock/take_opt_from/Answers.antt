@@ -5,5 +5,6 @@ use Rattle.rpki_ip_block.proofs.block.IpBlock.take_opt_from.Goals as goal
 
 pub returns-clause-reads_back : goal.returns-clause-reads_back
 returns-clause-reads_back c = λ block rest is.
-    taken_back 128 (omega arith) c.args.cursor.now c.take_opt_from_with_family_by_mode.new.cursor c.take_opt_from_with_family_by_mode.result c.take_opt_from_with_family_by_mode.ensures.by_mode
+    taken_back 128 (omega arith) c.args.cursor.now c.take_opt_from_with_family_by_mode.new.cursor
+    c.take_opt_from_with_family_by_mode.result c.take_opt_from_with_family_by_mode.ensures.by_mode
     block rest (family_within Ipv6 block is)

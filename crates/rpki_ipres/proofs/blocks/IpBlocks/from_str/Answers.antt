@@ -19,5 +19,6 @@ returns g c = record {
   reads_back = λ family set is printed.
       let read = c.in_ok-blocks.ensures.reads_back family _ (blocks_of_family family set is) printed in
       read_as family _ set _ is read c.in_ok-set.ensures;
-  whole = λ v4. whole_cover _ _ (whole_list_without_family _ _ v4 c.in_ok-blocks.ensures.exact.found) c.in_ok-set.ensures;
+  whole =
+      λ v4. whole_cover _ _ (whole_list_without_family _ _ v4 c.in_ok-blocks.ensures.exact.found) c.in_ok-set.ensures;
 }

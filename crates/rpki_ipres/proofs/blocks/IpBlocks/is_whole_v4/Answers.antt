@@ -15,10 +15,16 @@ returns-then-not-is_whole_v4 g c =
     let runs = rw c.self.view_is at c.as_slice-blocks.ensures.set.are_runs in
     let no = c.if-not-is_whole_v4.true in (
       λ t. absurd (let z : false ≡ true = t in cc),
-      λ whole. sym no ∙ c.is_whole_v4.ensures.1 (whole_block _ _ c.loop-block.block-index c.block-item.result bounds runs c.loop-block-test.true c.block-item.is whole),
+      λ whole.
+          sym no
+          ∙ c.is_whole_v4.ensures.1 (whole_block _ _ c.loop-block.block-index c.block-item.result bounds runs
+          c.loop-block-test.true c.block-item.is whole),
     )
 
 pub returns : goal.returns
 returns g c =
-    let bounds = rw c.self.view_is at c.as_slice-blocks.ensures.blocks in
-    (λ t. blocks_whole _ _ c.loop-block.block-index bounds (omega (arith, c.loop-block-test.false)) c.loop-block.invariant, λ whole. refl)
+    let bounds = rw c.self.view_is at c.as_slice-blocks.ensures.blocks in (
+      λ t. blocks_whole _ _ c.loop-block.block-index bounds (omega (arith, c.loop-block-test.false))
+          c.loop-block.invariant,
+      λ whole. refl,
+    )

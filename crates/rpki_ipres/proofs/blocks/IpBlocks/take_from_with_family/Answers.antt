@@ -6,8 +6,11 @@ use Rattle.rpki_ipres.proofs.blocks.IpBlocks.take_from_with_family.Goals as goal
 
 pub returns : goal.returns
 returns g c =
-    let taken = taken_said (set_in_modes c.args.family) c.args.cursor.now c.take_from_with_family_by_mode.new.cursor c.take_from_with_family_by_mode.result
+    let taken =
+    taken_said (set_in_modes c.args.family) c.args.cursor.now c.take_from_with_family_by_mode.new.cursor
+    c.take_from_with_family_by_mode.result
     c.take_from_with_family_by_mode.ensures.by_mode in
     let whole : IfOk c.take_from_with_family_by_mode.result (λ set. c.args.family ≡ Ipv4 → IsWhole (Holds set)) =
-    IfOk-weaker c.take_from_with_family_by_mode.result _ _ (λ set (front, says, split). whole_sequence _ front set says) taken.stands in
+    IfOk-weaker c.take_from_with_family_by_mode.result _ _ (λ set (front, says, split). whole_sequence _ front set says)
+    taken.stands in
     assumption (taken, whole)

@@ -6,12 +6,16 @@ use Rattle.rpki_ipres.proofs.resources.IpResources.take_from.Goals as goal
 
 pub returns : goal.returns
 returns g c =
-    let taken = taken_said (claim_in_modes c.args.family) c.args.cursor.now c.take_from_by_mode.new.cursor c.take_from_by_mode.result
+    let taken =
+    taken_said (claim_in_modes c.args.family) c.args.cursor.now c.take_from_by_mode.new.cursor
+    c.take_from_by_mode.result
     c.take_from_by_mode.ensures.by_mode in
     record {
       reads = taken.reads;
       exact = taken.exact;
-      whole = IfOk-weaker c.take_from_by_mode.result _ _ (λ claim (front, says, split). whole_claim c.args.family front claim says)
+      whole =
+          IfOk-weaker c.take_from_by_mode.result _ _
+          (λ claim (front, says, split). whole_claim c.args.family front claim says)
           taken.stands;
       reads_back = λ claim rest is some. taken.reads_back claim rest (is, some);
       strict = taken.strict;

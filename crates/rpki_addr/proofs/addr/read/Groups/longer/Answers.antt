@@ -4,7 +4,8 @@ use Rattle.rpki_addr.proofs.DigitGroupLemmas.{no_group}
 use Rattle.rpki_addr.proofs.addr.read.Groups.longer.Goals as goal
 
 pub returns-then-self-max_count-clause-so_far : goal.returns-then-self-max_count-clause-so_far
-returns-then-self-max_count-clause-so_far c text so_far = all_read _ text _ c.if-self.false so_far c.if-self-max_count.true
+returns-then-self-max_count-clause-so_far c text so_far =
+    all_read _ text _ c.if-self.false so_far c.if-self-max_count.true
 
 pub returns-in_default-clause-so_far : goal.returns-in_default-clause-so_far
 returns-in_default-clause-so_far c text so_far =

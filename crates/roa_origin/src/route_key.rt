@@ -20,7 +20,7 @@ pub(crate) struct RouteKey {
 }
 
 impl Model for RouteKey {
-    ghost use Rattle.std.specs.Prelude.{ℕ};
+    ghost use Rattle.std.specs.Prelude.{ℕ, ◌^◌, ◌<◌};
     ghost use Rattle.rpki_prefix.specs.Values.{FamilyPrefix, IsFamilyPrefix};
     ghost use Rattle.roa_origin.specs.PackedVrps.{address_bits, is_of_v6, route_of};
 
@@ -28,7 +28,7 @@ impl Model for RouteKey {
 
     ghost view = { λ e. route_of e.is_v6 e.bits e.len e.asn };
 
-    ghost invariant = { λ e. IsFamilyPrefix (route_of e.is_v6 e.bits e.len e.asn).0 };
+    ghost invariant = { λ e. IsFamilyPrefix (route_of e.is_v6 e.bits e.len e.asn).0 × (e.asn < 2 ^ 32) };
 
     ghost inverse = { λ r. record {
       bits = address_bits r.0;
@@ -46,6 +46,7 @@ impl RouteKey {
         ensures prefix { IsFamilyPrefix route }
     {
         route.recall_invariant();
+        asn.recall_invariant();
         let len = route.len();
         match route.addr() {
             IpAddr::V4(addr) => RouteKey {

@@ -13,7 +13,7 @@ returns c =
     rw (← c.self.view_is, ← c.route.view_is) at (c.has_family_of.ensures.0 c.if-not-has_family_of.false) in
     let behind = c.addresses_after in
     let reach : behind.result + 1 ≡ 2 ^ (width p.addr - p.len) = rw (← c.self.view_is) at behind.ensures in
-    let both = by_distance p q behind.result c.self.invariant.0 c.route.invariant family c.if-route-self.false in
+    let both = by_distance p q behind.result c.self.invariant.0 c.route.invariant.0 family c.if-route-self.false in
     let numbers = number_of f.is_v6 f.bits in
     rw (← c.self.view_is, ← c.route.view_is)
     (grind (arith, both, reach, c.if-route-self-2.false, le-leb, leb-true, number_of e.is_v6 e.bits))

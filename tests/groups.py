@@ -52,6 +52,13 @@ def stands_on() -> dict[str, tuple[str, ...]]:
 
 
 @cache
+def below(name: str) -> frozenset[str]:
+    """Returns all crates that a crate depends on, also indirectly."""
+    own = stands_on()[name]
+    return frozenset(own).union(*(below(it) for it in own))
+
+
+@cache
 def group_of(crate: str) -> Group:
     """Returns the group of a crate."""
     for group in GROUPS:

@@ -13,7 +13,7 @@ from functools import cache
 from itertools import pairwise
 from pathlib import Path
 
-from groups import GROUPS, Group, crates_of, group_of, stands_on
+from groups import GROUPS, Group, below, crates_of, group_of, stands_on
 
 TOP = Path(__file__).resolve().parent.parent
 PICTURE = TOP / "docs" / "layers.svg"
@@ -62,13 +62,6 @@ ROADS = (
 def drawn() -> list[str]:
     """Returns the crates of the product."""
     return [name for name in stands_on() if group_of(name).column is not None]
-
-
-@cache
-def below(name: str) -> frozenset[str]:
-    """Returns all crates that a crate depends on, also indirectly."""
-    own = stands_on()[name]
-    return frozenset(own).union(*(below(it) for it in own))
 
 
 def near(name: str) -> list[str]:

@@ -430,12 +430,12 @@ def members_of_others(library: Pigyelund) -> Iterator[Callable[[], object]]:
     yield lambda: library.verify_path(ISSUER, [Certificate(extensions)], Mode.TRIM)
     yield lambda: library.verify_path(ISSUER, [Certificate(extensions, Encoding.STRICT)])
     yield lambda: library.cover(ISSUER.ip, Encoding.STRICT)
-    yield lambda: library.cover(ISSUER.ip, Family.IPV4, Mode.TRIM)
+    yield lambda: library.cover(ISSUER.ip, Family.V4, Mode.TRIM)
     yield lambda: library.union(ISSUER, ISSUER, Mode.TRIM)
     yield lambda: library.equal(ISSUER, ISSUER, Mode.TRIM)
     yield lambda: library.as_ranges(ISSUER, Mode.TRIM)
     yield lambda: library.ip_ranges(ISSUER, Encoding.STRICT)
-    yield lambda: library.ip_ranges(ISSUER, Family.IPV4, Mode.TRIM)
+    yield lambda: library.ip_ranges(ISSUER, Family.V4, Mode.TRIM)
 
 
 def no_other_enumeration(library: Pigyelund, _: Path) -> Iterator[str]:

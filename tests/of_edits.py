@@ -22,14 +22,14 @@ from copies import TOP, said_by, written  # noqa: E402
 # Each call adds a line to the file `calls`: the crate, and all mutations that the copy has.
 STUB = r"""#!/bin/sh
 echo "$2: $(echo crates/*/edits/* crates/*/must-fail/* crates/*/out)" >>"${0%/*}/calls"
-if [ -n "$WAITS" ]; then
+if [ -n "$STUB_WAITS" ]; then
     trap '' INT
     touch "$TMPDIR/rt-copy-1"
     echo $$ >"${0%/*}/child"
     exec sleep 60
 fi
-if [ -n "$UNPROVED" ]; then
-    printf 'rt: %s NOT PROVED\nrt: small NOT PROVED: its library low failed\n' "$UNPROVED"
+if [ -n "$STUB_UNPROVED" ]; then
+    printf 'rt: %s NOT PROVED\nrt: small NOT PROVED: its library low failed\n' "$STUB_UNPROVED"
     exit 1
 fi
 echo "rt: $2 is kept: an earlier run on this machine proved the same files over the same libraries"
@@ -156,7 +156,7 @@ def of_runs(copy: Path) -> Iterator[tuple[str, str | None]]:
     for words, file, unproved, crates, part, last in RUNS:
         if file:
             written(copy, {file: f"{REFUSED}: {GOAL}; the facts known there\n"})
-        status, said, called = run(copy, *words, UNPROVED=unproved)
+        status, said, called = run(copy, *words, STUB_UNPROVED=unproved)
         git(copy, "checkout", "-q", "--", "crates")
         git(copy, "clean", "-fdq", "crates")
         right = (0 if last.endswith(" 0 not") else 1, crates, True)
@@ -183,7 +183,7 @@ def of_write(copy: Path) -> Iterator[tuple[str, str | None]]:
 def of_signals(copy: Path) -> Iterator[tuple[str, str | None]]:
     """Yields each signal, and what the script leaves after it. rt ignores an interrupt."""
     child, room = copy.parent / "bin" / "child", copy.parent / "tmp"
-    env = os.environ | {"PATH": f"{child.parent}:{os.environ['PATH']}", "TMPDIR": str(room), "WAITS": "1"}
+    env = os.environ | {"PATH": f"{child.parent}:{os.environ['PATH']}", "TMPDIR": str(room), "STUB_WAITS": "1"}
     for it in (signal.SIGINT, signal.SIGTERM):
         room.mkdir(exist_ok=True)
         child.unlink(missing_ok=True)

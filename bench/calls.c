@@ -1,7 +1,9 @@
-/* One of the calls on two sets, made so many times: its arguments are `verify`, `union`, `intersection`, `difference` or
-   `contains`, how often, a file of octets, and how long the first three of the values in it are: those of AS identifiers
-   and of IP address blocks of an issuer or first set, then of a certificate or second set. What is printed is how many
-   octets all calls together write; of `contains`, how many hold. */
+/* calls CALL COUNT FILE LENGTH LENGTH LENGTH: makes a call on two sets COUNT times.
+ *
+ * CALL is `verify`, `union`, `intersection`, `difference` or `contains`. FILE has four DER values: the AS
+ * identifiers and the IP address blocks of the issuer or first set, then those of the certificate or second set.
+ * Each LENGTH is the number of octets of one of the first three values. The program prints the number of octets that
+ * all calls together write. For `contains` it prints how often the result was true. */
 #include "../foreign/pigyelund.h"
 #include <stdio.h>
 #include <stdlib.h>
@@ -31,7 +33,7 @@ static pigy_operation *operation_of(const char *call) {
   exit(2);
 }
 
-/* how many octets one call writes, or whether its test holds */
+/* Returns the number of octets that one call writes, or 1 if the result of its test is true. */
 static size_t octets_of_call(const char *call, pigy_set one, pigy_set other, pigy_buffers *out) {
   uint32_t status;
   if (!strcmp(call, "contains")) return pigy_compare(pigy_contains, one, other, PIGY_LENIENT) == PIGY_OK;

@@ -3,7 +3,7 @@
 #include <time.h>
 #include <unistd.h>
 
-/* Each clock tells the processor's time, so that what else runs counts for nothing. */
+/* Each clock returns the processor time of the process. So other processes do not count. */
 int clock_gettime(clockid_t clock, struct timespec *now)
 {
 	(void)clock;

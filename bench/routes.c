@@ -1,7 +1,8 @@
-/* routes HOW VRPS ROUTES: makes a table of so many VRPs and asks it for the validity of so many routes, HOW is
- * `together` (all routes in one call), `alone` (one route a call) or `changed` (one call, of a table after changes). It
- * prints how many routes are valid. Most VRPs are of 24 bits, half of the routes are VRPs. The status is 0 if each call
- * succeeded. */
+/* routes HOW VRPS ROUTES: makes a table of VRPS VRPs, and validates ROUTES routes by it.
+ *
+ * HOW is `together` (all routes in one call), `alone` (one route a call) or `changed` (all routes in one call, by a
+ * table after changes). The program prints the number of valid routes. Most VRPs have 24 bits, and half of the
+ * routes are VRPs. The status is 0 if each call succeeded. */
 #include "../foreign/pigyelund.h"
 #include <stdio.h>
 #include <stdlib.h>
@@ -33,7 +34,8 @@ static void *allocate(size_t count, size_t size) {
   return made;
 }
 
-/* the table with 300 VRPs announced, of AS numbers that it has not, and the first 300 of its VRPs withdrawn */
+/* Returns the table after changes: 300 VRPs are announced, whose AS numbers it does not have, and its first 300 VRPs
+ * are withdrawn. */
 static pigy_table *changed(pigy_table *table, const pigy_vrp *vrps) {
   pigy_vrp fresh[CHANGES];
   pigy_table *next = 0;

@@ -1,7 +1,8 @@
-/* What rtrlib's table says of routes: its seconds of the processor alone, and how many are valid, invalid and not found.
+/* rtrlib_origins VRPS ROUTES ANSWERS: validates routes by a table of rtrlib.
  *
- * rtrlib_origins VRPS ROUTES ANSWERS: a VRP a line, `ADDRESS LENGTH MAX ASN`; a route a line, `ADDRESS LENGTH
- * ASN`. All is read first; the first time told is that of adding the VRPs, the second that of the lookups. */
+ * A line of VRPS is `ADDRESS LENGTH MAX ASN`, and a line of ROUTES is `ADDRESS LENGTH ASN`. The program reads both
+ * files first. It writes one line for each route to ANSWERS: `valid`, `invalid` or `not-found`. It prints two times in
+ * seconds of the processor: the first is that of adding the VRPs, the second that of the lookups. */
 #include <rtrlib/rtrlib.h>
 #include <stdio.h>
 #include <stdlib.h>

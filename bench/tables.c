@@ -1,6 +1,8 @@
-/* tables [VRPS ROUTES]: a table of VRPs of pigyelund beside rtrlib's, in one run: how long it takes to make, to
- * ask for all routes, one route a call, and after 300 changes; and how many routes have each validity by both. Most
- * VRPs are of 24 bits, half of the routes are VRPs. Times are the least of ROUNDS. */
+/* tables [VRPS ROUTES]: measures a table of VRPs of Pigyelund and one of rtrlib in one run.
+ *
+ * The program prints how long these take: making the table, all routes in one call, one route a call, and making the
+ * table after 300 changes. It also prints how many routes have each validity by both tables. Most VRPs have 24 bits,
+ * and half of the routes are VRPs. Times are the least of ROUNDS. */
 #include "../foreign/pigyelund.h"
 #include <arpa/inet.h>
 #include <rtrlib/rtrlib.h>
@@ -47,7 +49,7 @@ static struct pfx_record record_of(const pigy_vrp *vrp) {
   return record;
 }
 
-/* the same as pigyelund numbers it */
+/* Returns the same validity by the number that Pigyelund gives it. */
 static uint8_t number_of(enum pfxv_state found) {
   return found == BGP_PFXV_STATE_VALID ? PIGY_VALID : found == BGP_PFXV_STATE_INVALID ? PIGY_INVALID : PIGY_NOT_FOUND;
 }
@@ -75,7 +77,7 @@ int main(int count, char **words) {
   for (size_t i = 0; i < vrps; i++) all[i] = made_vrp();
   for (size_t i = 0; i < CHANGES; i++) {
     fresh[i] = made_vrp();
-    fresh[i].asn += 1000000; /* so that none is there */
+    fresh[i].asn += 1000000; /* so that the table has none of them */
   }
   for (size_t i = 0; i < routes; i++) {
     pigy_vrp one = i % 2 ? all[next_number() % vrps] : made_vrp();

@@ -1,8 +1,8 @@
 #!/usr/bin/env bash
-# foreign.sh [LIBRARY]: builds the static library by rt lib, or takes that file in its place, and tests it from C, Rust
-# and Python: by the rows of foreign/rows.txt, by names, numbers and texts, by the programs of docs/FOREIGN.md, and by
-# packages that are installed. What isn't there to test with is named, and what needs it left out. Status 0 where
-# nothing failed.
+# foreign.sh [LIBRARY]: tests the static library from C, Rust and Python. It builds the library by rt lib, or takes the
+# file LIBRARY. The tests are the rows of foreign/rows.txt, names, numbers and texts, the programs of docs/FOREIGN.md,
+# and packages that are installed. The script names the tools that are missing, and leaves out the tests that need them.
+# The status is 0 if nothing failed.
 cd "$(dirname "$0")/.." || exit 1
 export KIT=${KIT:-$(dirname "$(dirname "$(readlink -f "$(command -v rt)")")")}
 export LIB=${1:-$PWD/crates/pigyelund_c/out/libpigyelund_c.a}
@@ -201,7 +201,7 @@ of_openssl() {
 # by_pkg_config FOLDER: the example is built by the pigyelund.pc of that folder, and runs with the shared library
 by_pkg_config() {
     flags=$(PKG_CONFIG_PATH="$1" pkg-config --cflags --libs pigyelund) || fail "pkg-config $1"
-    # What pkg-config prints has a backslash before each space.
+    # pkg-config prints a backslash before each space.
     eval "gcc foreign/c/example.c -o '$out/by_pkg_config' $flags" || fail "the example by pkg-config $1"
     LD_LIBRARY_PATH="${1%/pkgconfig}" same "the example by pkg-config $1" "$out/by_pkg_config"
 }
@@ -307,7 +307,7 @@ names() {
     "$@" "$out/there/bin/python" "$out/finds.py" 2>&1 | tail -n 1 | grep -qF "$text" || fail "Python names: $*: $text"
 }
 
-# Which library Python takes: that in the folder PIGYELUND_LIB, else that of the package, else that of the loader.
+# Python takes the library in the folder PIGYELUND_LIB, else that of the package, else that of the loader.
 of_python_search() {
     cat >"$out/finds.py" <<'END'
 import pigyelund
@@ -339,8 +339,9 @@ of_python_types() {
     foreign/python/test_types.py "$out/there/bin/python" || fail "the type hints of the installed package"
 }
 
-# What the backend makes has the right metadata, sums and tags, and the same octets each time. pip installs the package
-# in place, the source archive, and a wheel with the library inside, which finds the library by itself.
+# The files that the backend makes have the right metadata, sums and tags, and are the same octets each time. pip
+# installs the package in place, the source archive, and a wheel with the library inside. This wheel finds the library
+# by itself.
 of_python_wheels() {
     PYTHONDONTWRITEBYTECODE=1 python3 foreign/python/test_wheel.py "$prefix/lib/libpigyelund.so" || fail "the wheels"
     cp -rL foreign/python "$out/package" || { fail "a copy of the package"; return; }

@@ -1,10 +1,10 @@
 #!/usr/bin/env bash
-# fresh_machine.sh FOLDER [CPUS ..]: times the first commands of a new user in a clean Debian system. It makes the system
-# in FOLDER with debootstrap, with the tools that the README names, and mounts the Rattle kit there read-only. For each
-# CPUS, a list as taskset takes it (0-3 and then 0,1 if none is given), it clones the repository anew, removes what rt ci
-# stored in the system, and runs ./respath --try, ./origins --try, ./check --quick and ./respath. It prints the wall time
-# of each command.
-# COMMANDS in the environment names other commands, one a line. Run by hand, as root: it takes an hour and more.
+# fresh_machine.sh FOLDER [CPUS ..]: times the first commands of a new user in a clean Debian system. It makes the
+# system in FOLDER with debootstrap, with the tools that the README names, and mounts the Rattle kit there read-only.
+# CPUS is a list of processors as taskset takes it. Without CPUS there are two lists: 0-3 and then 0,1. For each list
+# the script clones the repository anew, and removes what rt ci stored in the system. Then it runs ./respath --try,
+# ./origins --try, ./check --quick and ./respath. It prints the wall time of each command. COMMANDS in the environment
+# names other commands, one a line. Run by hand, as root: it takes an hour and more.
 set -u
 folder=${1:?usage: fresh_machine.sh FOLDER [CPUS ..]}
 shift

@@ -140,7 +140,7 @@ expect "respath: names with a space and a star" 0 "ran
 [$files/a file]
 [$files/*]" $? "$said"
 said=$(cd "$files" && run "$files/respath.link" --where -- "a file" --check)
-expect "respath: options, and a name behind them that is none" 0 "ran
+expect "respath: options, and then a file name that begins like one" 0 "ran
 [--where]
 [a file]
 [--check]" $? "$said"
@@ -193,7 +193,7 @@ else
 fi
 chmod u+w "$copy/crates/respath_files/out"
 
-# Proving: what fails is shown, and nothing behind it.
+# A proof fails: the lines about the failure are shown, and no later line.
 # shellcheck disable=SC2016 # the prover's own words
 prover "a-kit logic 12" 'for at in 1 2 3 4 5 6 7 8 9 10 11 12 13 14 15 16 17 18 19 20; do echo "proving $at"; done
 echo "rt: rpki_text NOT PROVED"; echo "0 passed, 1 failed"; exit 1'
@@ -329,7 +329,7 @@ interrupt "an interrupt that the prover doesn't heed" INT 130 "trap '' INT TERM;
 interrupt "a killed build" TERM 143 '' --check
 interrupt "an interrupt of --try" INT 130 '' --try
 
-# What two runners say of sources that aren't proved
+# The lines about sources that are not proved, by two runners.
 tried="respath: these answers come from sources that were not proved here"
 prover "a-kit logic 12" 'cat; echo "run=ended status=0 runners=2 proved=no" >&2'
 said=$({ echo one; sleep 3; echo two; } | PATH=$copy/bin:$copy/tools "$copy/respath" --try 2>&1)

@@ -1,6 +1,6 @@
 #!/bin/sh
-# What no contract can say of the program example_holdings: its status and its line on standard error where the input
-# isn't two lines of three lists each. Ends with status 0 where each case is as it must be.
+# Tests what no contract says about the program example_holdings: its status and its line on standard error if the input
+# is not two lines of three lists each. The status is 0 if each case is as it must be.
 top=$(CDPATH='' cd -- "$(dirname -- "$0")/.." && pwd) || exit 1
 program=$top/crates/example_holdings/out/example_holdings
 if ! [ -x "$program" ]; then

@@ -1,6 +1,6 @@
 #!/bin/sh
-# What no contract can say of the program origins: its options, its statuses, its lines on standard error where a file
-# or a stream fails; and that ./origins starts it. Ends with status 0 where each case is as it must be.
+# Tests what no contract says about the program origins: its options, its statuses, its lines on standard error if a
+# file or a stream fails, and that ./origins starts it. The status is 0 if each case is as it must be.
 top=$(CDPATH='' cd -- "$(dirname -- "$0")/.." && pwd) || exit 1
 program=$top/crates/origins/out/origins
 

@@ -11,7 +11,7 @@ program=$top/crates/respath_files/out/respath_files
 # shellcheck source=tests/expect.sh
 . "$top/tests/expect.sh"
 
-# What a program does if a stream or an allocation fails: of_streams COMMAND PREFIX
+# of_streams COMMAND PREFIX: tests what a program does if a stream or an allocation fails.
 of_streams() {
     said=$(printf 'norm as 1\n' | "$1" 2>&1 >/dev/null)
     expect "$2all is answered" 0 "" $? "$said"

@@ -3,8 +3,8 @@
 # release refuses, and that the same commit makes the same archive and the same Debian packages. The second part makes a
 # release and the packages of this tree, if its programs are built and it has no changes: the sums hold, each line of
 # the manual's examples gives the output that the page shows, a program in C builds by what is unpacked. In both parts
-# each package installs below a clean root, and lintian finds no error and no warning. What isn't there to test with is
-# named. The status is 0 if nothing failed. tests/debian_packages.sh installs the packages in a Debian system.
+# each package installs below a clean root, and lintian finds no error and no warning. The script names the tools that
+# are missing. The status is 0 if nothing failed. tests/debian_packages.sh installs the packages in a Debian system.
 cd "$(dirname "$0")/.." || exit 1
 unset LIB KIT MAINTAINER
 top=$PWD
@@ -110,7 +110,7 @@ refuses() {
     [ -z "$(ls "$out/made" 2>/dev/null)" ] || fail "$1: $(ls "$out/made") is made"
 }
 
-# What is no proved program: another file in its place, no note, another file with a note of its own.
+# Refuses a program that is not proved: another file in its place, no note, another file with a note of its own.
 refuses_what_is_not_proved() {
     local program crate verb verdict
     for program in respath origins; do
@@ -147,7 +147,8 @@ refuses_what_is_not_proved() {
     make_kit
 }
 
-# What isn't committed: changed, new, staged or hidden files, a change meanwhile, and what is no repository.
+# Refuses what is not committed: changed, new, staged or hidden files, a change meanwhile, and a folder without a
+# repository.
 refuses_what_is_not_committed() {
     changed="files were changed since the last commit"
     refuses "a changed file" "$changed" 'echo >>README.md'
@@ -181,7 +182,7 @@ END
     chmod +x "$kit/tools/$1"
 }
 
-# What changes after its sum was noted: a program as it is installed, the library, and the archive.
+# Refuses a file that changes after its sum was noted: a program as it is installed, the library, and the archive.
 refuses_other_sums() {
     local program
     for program in respath origins; do

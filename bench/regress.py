@@ -112,7 +112,7 @@ def of_vrps(folder: Path, kind: str) -> Iterator[Input]:
     """Yields the inputs of one kind of VRPs.
 
     They are files of 20,000 VRPs in both forms, in random order and in the order of the table, and 50,000 routes by
-    2,000 VRPs.
+    2,000 VRPs. A file is listed, and without a route it is only made into the table that answers routes.
     """
     vrps = list(getattr(origins, kind)(random.Random(kind), 20_000))
     few = vrps[:2_000]
@@ -124,10 +124,12 @@ def of_vrps(folder: Path, kind: str) -> Iterator[Input]:
         if listed is not few:
             for form in ("csv", "json"):
                 yield Input(f"table-{kind}-{form}{order}", (ORIGINS, "--table", files / form))
+            yield Input(f"no-routes-{kind}{order}", (ORIGINS, files / "csv"))
     asked = (files / "routes").read_text()
     yield Input(f"routes-{kind}", (ORIGINS, files / "csv"), asked)
     first = "".join(asked.splitlines(keepends=True)[:2_000])
-    yield Input(f"why-{kind}", (ORIGINS, "--why", files / "csv"), first)
+    for option in ("why", "json"):
+        yield Input(f"{option}-{kind}", (ORIGINS, f"--{option}", files / "csv"), first)
 
 
 def of_origins(folder: Path) -> Iterator[Input]:
@@ -185,7 +187,7 @@ def parts_left_out() -> dict[str, str]:
     """
     absent = {}
     if not ORIGINS.exists():
-        absent["table- routes- why- diff-"] = "origins is not built"
+        absent["table- no-routes- routes- why- json- diff-"] = "origins is not built"
     if not LIBRARY.exists():
         absent["call-"] = f"{LIBRARY.name} is not built (rt lib in crates/pigyelund_c)"
     elif shutil.which("gcc") is None:

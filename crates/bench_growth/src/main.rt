@@ -12,6 +12,8 @@
 //! up the origin. VRPs are made like those of a full table: four of five are of IPv4, most of them of 24 bits. Half of
 //! the routes are those of VRPs, some of them longer or by another AS. The same numbers give the same VRPs and routes.
 //!
+//! After the word `path` each number is how many blocks the sets on a path have. The path has ten steps.
+//!
 //! After the words `one` and `chain` each number is how many VRPs a table has. With `one` they have one prefix, each
 //! with another AS. With `chain` they have prefixes of all lengths, each inside the next shorter one. The program looks
 //! up three routes, a thousand times each.
@@ -22,6 +24,7 @@ mod ip;
 mod made_routes;
 mod measure;
 mod origins;
+mod paths;
 mod worst;
 
 use measure::{Measured, measure_der, measure_modes, measure_operations};
@@ -55,6 +58,8 @@ enum Asked {
     Origins,
     /// The number of routes, for a table with this many VRPs.
     Routes(usize),
+    /// The number of blocks of each set on a path.
+    Paths,
     /// The number of VRPs, with prefixes of these lengths.
     Worst(Lengths),
 }
@@ -63,6 +68,7 @@ impl Asked {
     /// Returns the meaning of the numbers after a word.
     fn named(word: &str) -> Asked {
         match word {
+            "path" => Asked::Paths,
             "one" => Asked::Worst(Lengths::ONE),
             "chain" => Asked::Worst(Lengths::ALL),
             _ => Asked::Origins,
@@ -81,6 +87,10 @@ fn measure_asked(rt: &HostRuntime, asked: Asked, count: usize) -> io::Result<Ask
         Asked::Routes(vrps) => {
             origins::measure(rt, vrps, count)?;
             Ok(Asked::Origins)
+        }
+        Asked::Paths => {
+            paths::measure(rt, count)?;
+            Ok(asked)
         }
         Asked::Worst(lengths) => {
             worst::measure(rt, lengths, count)?;

@@ -48,7 +48,7 @@ pub struct Measured<'a> {
 
 impl Measured<'_> {
     /// Prints the time of a call since the start, and the size of its result.
-    fn report(self, name: &str, start: Instant, given: usize, unit: &str) -> io::Result<()> {
+    pub fn report(self, name: &str, start: Instant, given: usize, unit: &str) -> io::Result<()> {
         self.report_time(name, start)?;
         println!(self.rt;
             "{}{name} at {} blocks: {given} {unit}",

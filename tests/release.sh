@@ -28,6 +28,12 @@ kit=$(dirname "$(dirname "$(readlink -f "$0")")")
 crate=${PWD##*/}
 case $1 in
 version) cat "$kit/identity"; exit ;;
+ci)
+    for crate in respath_files origins; do
+        mkdir -p "crates/$crate/out" && cp -p "$kit/proved/$crate" "crates/$crate/out"
+    done
+    exit
+    ;;
 lib) file=out/lib$crate.a ;;
 run) file=out/$crate ;;
 check) file= ;;
@@ -72,7 +78,7 @@ crate_of() {
 make_copy() {
     rm -rf "$copy" "$out/made" "$kit/meanwhile" "$kit/tools"
     mkdir -p "$copy" "$kit/tools"
-    tar -cf - --exclude=out --exclude=rows.txt --exclude=__pycache__ .gitignore release program.sh respath origins \
+    tar -cf - --exclude=out --exclude=rows.txt --exclude=__pycache__ .gitignore HANDLES release program.sh respath origins \
         README.md CHANGELOG.md LICENSE VERSION foreign packaging tests/blocks.py tests/foreign_page.py tests/foreign.sh \
         tests/page_logic.sh tests/source_versions.py tests/release.sh crates/origins/src crates/respath_files \
         docs/PROVED.md docs/FOREIGN.md docs/CONFORMANCE.md docs/respath.1 docs/origins.1 crates/pigyelund_c/src crates/pigyelund_c/specs crates/pigyelund_routes/src \
@@ -202,7 +208,7 @@ refuses_other_sums() {
 }
 
 # The same commit makes the same archive: at another time, in another zone, with another mask, by another owner, with
-# another library in the variables, and after a planted program whose note is right.
+# another library in the variables, and after a planted program whose note is right. A missing program is built first.
 makes_the_same() {
     make_copy
     released env >"$out/said" || { cat "$out/said"; fail "a release in a copy"; return; }
@@ -213,6 +219,7 @@ makes_the_same() {
     sleep 1.1
     printf '#!/bin/sh\necho planted\n' >"$copy/crates/respath_files/out/respath_files"
     (cd "$copy" && PATH=$kit/bin:$PATH ./respath --note-kit)
+    rm -r "$copy/crates/origins/out"
     cp "$out/first/pigyelund-$version/lib/libpigyelund.a" "$out/other.a" && ar r "$out/other.a" LICENSE 2>/dev/null
     find "$copy" -name .git -prune -o -type f -exec touch -d '2001-01-01' {} +
     chmod g+s "$copy" && [ "$(id -u)" -ne 0 ] || chown -R 12345:12345 "$copy"

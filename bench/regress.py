@@ -112,7 +112,7 @@ def of_vrps(folder: Path, kind: str) -> Iterator[Input]:
     """Yields the inputs of one kind of VRPs.
 
     They are files of 20,000 VRPs in both forms, in random order and in the order of the table, and 50,000 routes by
-    2,000 VRPs. A file is listed, and without a route it is only made into the table that answers routes.
+    2,000 VRPs. `--table` lists the VRPs of a file. A run without routes only makes the table of VRPs.
     """
     vrps = list(getattr(origins, kind)(random.Random(kind), 20_000))
     few = vrps[:2_000]

@@ -162,7 +162,7 @@ def compare_verified_set(writes: bool) -> bool:
 
 
 def asked_of_origins(given: list[str]) -> Iterator[tuple[str, list[str]]]:
-    """Yields the questions to `bench_growth` about origins, each with its answers. A path is no such question."""
+    """Yields the questions to `bench_growth` about origins, each with its answers. It skips the paths."""
     word, before = "", None
     for argument in given:
         if not argument.isdigit():

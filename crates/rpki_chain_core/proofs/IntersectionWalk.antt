@@ -1,7 +1,8 @@
 -- A walk over two chains that gathers what they have in common.
-use Rattle.rpki_chain_core.proofs.Common.{List, None, Option, Some, arith, inl, inr, length, take, ℕ, ◌+◌, ◌<◌, ◌↔◌}
-use Rattle.rpki_chain_core.proofs.Common.{◌≡◌, ◌≤◌, ◌⊎◌, cases_lt, get_or-take, length-take-le, length_push, All-take}
-use Rattle.rpki_chain_core.proofs.Common.{Before, Covers, HoldsBlock, IsChain, IsChainOf, IsOverhang, Overhang, numbers}
+use Rattle.rpki_chain_core.proofs.Common.{List, None, Option, Some, arith, inl, inr, length, refl, take, ℕ, ◌+◌, ◌<◌}
+use Rattle.rpki_chain_core.proofs.Common.{◌↔◌, ◌≡◌, ◌≤◌, ◌⊎◌, cases_lt, get_or-take, length-take-le, length_push}
+use Rattle.rpki_chain_core.proofs.Common.{All-take, Before, Covers, HoldsBlock, IsChain, IsChainOf, IsOverhang}
+use Rattle.rpki_chain_core.proofs.Common.{Overhang, numbers}
 use Rattle.rpki_chain_core.specs.Common.{IsCommonPushed}
 use Rattle.rpki_chain_core.proofs.ChainGathering.{IsGathered, gathered_all, gathered_as, gathered_push}
 use Rattle.rpki_chain_core.proofs.WalkSides.{IsAt, IsAt-from, before_next, bounds_of, covers_at, gap_before}
@@ -84,10 +85,12 @@ module _ {B I : Type 0} {f : B → ℕ × ℕ} {form : ℕ × ℕ → B} {number
         grind (arith)
 
     -- the one chain's block ends first: what both have of it is behind the chain, and the next block is at hand
-    pub meet_own_ends : {made : List B} (next : Option (I × I))
-        → IsCommonPushed f form (numbers number b) (numbers number c) out made → number b.1 ≤ number c.1
-        → HoldsBlock f number last xs (i + 1) next → Meet f form number last xs ys (i + 1) next j (Some c) made
-    meet_own_ends {made} next pushed first after =
+    own_ends : {made : List B} (next : Option (I × I))
+        → ((number b.1 < number c.0) × (made ≡ out))
+        ⊎ IsCommonPushed f form (numbers number b) (numbers number c) out made
+        → number b.1 ≤ number c.1 → HoldsBlock f number last xs (i + 1) next
+        → Meet f form number last xs ys (i + 1) next j (Some c) made
+    own_ends {made} next pushed first after =
         let at = IsAt-from f number last xs (i + 1) next after in
         let ordered = meet_ordered in
         let reached = up_to f form xs i (numbers number b) w.own_chain own_is (bounds_of number next) at in
@@ -109,9 +112,27 @@ module _ {B I : Type 0} {f : B → ℕ × ℕ} {form : ℕ × ℕ → B} {number
         ] in
         grind (arith)
 
+    -- both have a part of it
+    pub meet_own_ends : {made : List B} (next : Option (I × I))
+        → IsCommonPushed f form (numbers number b) (numbers number c) out made → number b.1 ≤ number c.1
+        → HoldsBlock f number last xs (i + 1) next → Meet f form number last xs ys (i + 1) next j (Some c) made
+    meet_own_ends next pushed first after = own_ends next (inr pushed) first after
+
+    -- it ends before the other chain's block begins, so both have no part of it
+    pub meet_own_skips : (next : Option (I × I)) → number b.1 < number c.0
+        → HoldsBlock f number last xs (i + 1) next → Meet f form number last xs ys (i + 1) next j (Some c) out
+    meet_own_skips next apart after =
+        let ordered = ordered_at f form ys j (numbers number c) w.other_chain other_is in
+        own_ends next (inl (apart, refl)) (omega arith) after
+
   -- the same, where the other chain's block does
   pub meet_other_ends : {xs ys out made : List B} {i j : ℕ} {b c : I × I} (next : Option (I × I))
       → Meet f form number last xs ys i (Some b) j (Some c) out
       → IsCommonPushed f form (numbers number c) (numbers number b) out made → number c.1 ≤ number b.1
       → HoldsBlock f number last ys (j + 1) next → Meet f form number last xs ys i (Some b) (j + 1) next made
   meet_other_ends next w pushed first after = meet_swap (meet_own_ends (meet_swap w) next pushed first after)
+
+  pub meet_other_skips : {xs ys out : List B} {i j : ℕ} {b c : I × I} (next : Option (I × I))
+      → Meet f form number last xs ys i (Some b) j (Some c) out → number c.1 < number b.0
+      → HoldsBlock f number last ys (j + 1) next → Meet f form number last xs ys i (Some b) (j + 1) next out
+  meet_other_skips next w apart after = meet_swap (meet_own_skips (meet_swap w) next apart after)

@@ -1,8 +1,12 @@
 -- The first block of a chain that doesn't lie in another chain.
-use Rattle.std.specs.Prelude.{ℕ, ◌<◌, ◌≤◌, List, Option, Some, None, ⊤}
+use Rattle.std.specs.Prelude.{ℕ, ◌<◌, ◌≤◌, List, Option, Some, None, ⊤, All, Any}
 use Rattle.std.specs.Option.{option_map}
 use Rattle.rpki_chain_core.specs.Sets.{IsWithin, Covers, HoldsBlock, numbers}
 use Rattle.rpki_chain_core.specs.declared.overhang.Overhang.{Overhang}
+
+-- each block of xs ends no later than some block of ys
+abbrev pub EndsWithin : {B : Type 0} → (B → ℕ × ℕ) → List B → List B → Type 0
+EndsWithin bounds xs ys = All (λ x. Any (λ y. (bounds x).1 ≤ (bounds y).1) ys) xs
 
 -- n comes before the current block, or there is no current block
 abbrev pub Before : Option (ℕ × ℕ) → ℕ → Type 0

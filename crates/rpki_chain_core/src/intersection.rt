@@ -20,9 +20,9 @@ fn later<T: Block>(item: T::Item, other: T::Item) -> T::Item
     if item <= other { other } else { item }
 }
 
-/// Appends the common part of `block` and `other` to a chain, or nothing if they have no common item.
+/// Appends the common part of `block` and `other` to a chain.
 ///
-/// `other` ends no earlier than `block`.
+/// The two have a common item, and `other` ends no earlier than `block`.
 #[inline(always)]
 fn push_common<T: Block, A: Allocator>(
     chain: &mut Vec<T, A>,
@@ -30,14 +30,13 @@ fn push_common<T: Block, A: Allocator>(
     other: (T::Item, T::Item),
 ) -> Result<(), AllocError>
     requires ordered { T.number block.0 ≤ T.number block.1 }
+    requires meets { T.number other.0 ≤ T.number block.1 }
     requires ends_first { T.number block.1 ≤ T.number other.1 }
     ensures { OnOk result (IsCommonPushed T.bounds T.form (numbers T.number block)
         (numbers T.number other) chain.old.items chain.new.items) }
 {
-    if other.0 <= block.1 {
-        let low = later::<T>(block.0, other.0);
-        chain.push(T::new(low, block.1))?;
-    }
+    let low = later::<T>(block.0, other.0);
+    chain.push(T::new(low, block.1))?;
     Ok(())
 }
 
@@ -153,9 +152,22 @@ fn push_behind<T: Block, A: Allocator, X: Reads<T>, Y: Reads<T>>(
     let _other_len = other.len();
     // `chain` has what both chains have before one of the current blocks. Each iteration finishes the block that ends
     // first. It pushes the part that the other block has, and no later block of either chain can reach the finished
-    // one. So each iteration passes a block, and the loop ends when one chain has no block left.
+    // one. So each iteration passes a block, and the loop ends when one chain has no block left. The first two branches
+    // decide nothing new. They are for speed: a block that ends before the other begins is passed after one comparison.
     loop {
-        if own_block.1 <= other_block.1 {
+        if other_block.1 < own_block.0 {
+            other_at += 1;
+            let Some(next) = read_at(other, other_at) else {
+                break;
+            };
+            other_block = next;
+        } else if own_block.1 < other_block.0 {
+            own_at += 1;
+            let Some(next) = read_at(own, own_at) else {
+                break;
+            };
+            own_block = next;
+        } else if own_block.1 <= other_block.1 {
             push_common(chain, own_block, other_block)?;
             own_at += 1;
             let Some(next) = read_at(own, own_at) else {

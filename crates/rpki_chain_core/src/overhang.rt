@@ -1,8 +1,8 @@
 //! The overhang of a chain over another: its first block that doesn't lie in the other chain.
-ghost use Rattle.std.specs.Prelude.{◌≡◌, ◌+◌, ◌-◌, ◌≤◌, [], length, IfSome, MatchOption};
-ghost use Rattle.rpki_chain_core.specs.Sets.{IsInside, IsChain};
+ghost use Rattle.std.specs.Prelude.{◌≡◌, ℕ, ◌+◌, ◌-◌, ◌<◌, ◌≤◌, [], Some, length, slice_index_or, IfSome, IsTrue, MatchOption};
+ghost use Rattle.rpki_chain_core.specs.Sets.{HoldsBlock, IsInside, IsChain};
 ghost use Rattle.rpki_chain_core.specs.Fit.{IsFitIn};
-ghost use Rattle.rpki_chain_core.specs.Overhang.{IsOverhang};
+ghost use Rattle.rpki_chain_core.specs.Overhang.{EndsWithin, IsOverhang};
 
 use crate::reads::{Reads, read_at};
 use rpki_block::block::Block;
@@ -125,6 +125,102 @@ pub fn first_overhang<T: Block, X: Reads<T>, Y: Reads<T>>(
 ///
 /// The reads are not counted.
 pub fn overhang_of<T: Block>(own: &[T], other: &[T]) -> Option<Overhang<T::Item>>
+    requires own_chain { IsChain T.bounds T.form own.now }
+    requires other_chain { IsChain T.bounds T.form other.now }
+    ensures { MatchOption result (IsInside T.bounds own.now other.now)
+        (IsOverhang T.bounds T.number T.first T.last own.now other.now) }
+{
+    if ends_within(own, other) {
+        overhang_within(own, other)
+    } else {
+        overhang_past_end(own, other)
+    }
+}
+
+/// Returns true only if each block of `own` ends no later than some block of `other`.
+fn ends_within<T: Block>(own: &[T], other: &[T]) -> bool
+    requires { IsChain T.bounds T.form own.now }
+    ensures { IsTrue result → EndsWithin T.bounds own.now other.now }
+{
+    if own.is_empty() || other.is_empty() {
+        return false;
+    }
+    let own_last = own.len() - 1;
+    let other_last = other.len() - 1;
+    let own_end = own[own_last].max();
+    let other_end = other[other_last].max();
+    own_end <= other_end
+}
+
+/// Returns the first block of `own` that doesn't lie in `other`, or None if each block does. Each block of `own` ends no
+/// later than some block of `other`.
+fn overhang_within<T: Block>(own: &[T], other: &[T]) -> Option<Overhang<T::Item>>
+    requires own_chain { IsChain T.bounds T.form own.now }
+    requires other_chain { IsChain T.bounds T.form other.now }
+    requires ends { EndsWithin T.bounds own.now other.now }
+    ensures { MatchOption result (IsInside T.bounds own.now other.now)
+        (IsOverhang T.bounds T.number T.first T.last own.now other.now) }
+{
+    let mut others = other.iter();
+    let Some(first) = others.next() else {
+        return None;
+    };
+    let mut held = first.bounds();
+    // The blocks that were passed lie in the other chain. The other's blocks before `held` end before the current block
+    // does. So the first of the other's blocks that doesn't end before the current block does must contain it. There is
+    // such a block, so no iteration tests for the end of the other chain.
+    for (own_at, block) in own.iter().enumerate() {
+        let (min, max) = block.bounds();
+        while held.1 < max {
+            let Some(next) = others.next() else {
+                unreachable!()
+            };
+            held = next.bounds();
+        }
+        if min < held.0 {
+            let end = other.len() - others.as_slice().len() - 1;
+            let (other_at, reached) = reached_back_from(other, end, min);
+            return Some(Overhang {
+                own_at,
+                min,
+                max,
+                other_at,
+                other: Some(reached),
+            });
+        }
+    }
+    None
+}
+
+/// Returns a block no later than the one at index `end`, so that all blocks before it end before `item`. The blocks are
+/// read back from `end` on.
+fn reached_back_from<T: Block>(
+    chain: &[T],
+    end: usize,
+    item: T::Item,
+) -> (usize, (T::Item, T::Item))
+    requires chain { IsChain T.bounds T.form chain.now }
+    requires end { end < length chain.now }
+    ensures block { HoldsBlock T.bounds T.number T.last chain.now result.0 (Some result.1) }
+    ensures passed { (at : ℕ) (d : T) → at < result.0 →
+        (T.bounds (slice_index_or chain.now at d)).1 < T.number item }
+{
+    let mut at = end;
+    let mut reached = chain[end].bounds();
+    while at > 0 {
+        let before = at - 1;
+        let block = chain[before].bounds();
+        if block.1 < item {
+            return (at, reached);
+        }
+        at = before;
+        reached = block;
+    }
+    (at, reached)
+}
+
+/// Returns the first block of `own` that doesn't lie in `other`, or None if each block does.
+fn overhang_past_end<T: Block>(own: &[T], other: &[T]) -> Option<Overhang<T::Item>>
     requires own_chain { IsChain T.bounds T.form own.now }
     requires other_chain { IsChain T.bounds T.form other.now }
     ensures { MatchOption result (IsInside T.bounds own.now other.now)

@@ -4,8 +4,8 @@ use Rattle.rpki_chain_core.proofs.ReadCounts.{IsReader}
 use Rattle.rpki_chain_core.proofs.IntersectionWalk.{Meet}
 use Rattle.rpki_chain_core.proofs.intersection.push_behind.Given as goal
 
-abbrev pub invariant-loop-chain : goal.invariant-loop-chain
-invariant-loop-chain g l =
+abbrev pub invariant-loop-other_block : goal.invariant-loop-other_block
+invariant-loop-other_block g l =
     let xs = g.X.Reads.blocks l.fn.own in
     let ys = g.Y.Reads.blocks l.fn.other in
     record {
@@ -17,6 +17,6 @@ invariant-loop-chain g l =
           l.other_at (Some l.other_block) l.chain.items;
     }
 
-abbrev pub decreases-loop-chain : goal.decreases-loop-chain
-decreases-loop-chain g l =
+abbrev pub decreases-loop-other_block : goal.decreases-loop-other_block
+decreases-loop-other_block g l =
     (length (g.X.Reads.blocks l.fn.own) - l.own_at) + (length (g.Y.Reads.blocks l.fn.other) - l.other_at)

@@ -3,7 +3,7 @@ use Rattle.rpki_chain_core.proofs.Common.{Some, arith, sym, ◌∙◌, nat_tests
 use Rattle.std.proofs.lemmas.List.{nil_from_length}
 use Rattle.rpki_chain_core.proofs.OverhangWalk.{held_at, leaves, passed_all, passing_end, passing_fit, passing_skip}
 use Rattle.rpki_chain_core.proofs.OverhangWalk.{passing_start}
-use Rattle.rpki_chain_core.proofs.overhang.overhang_of.Goals as goal
+use Rattle.rpki_chain_core.proofs.overhang.overhang_past_end.Goals as goal
 
 pub returns-in_default : goal.returns-in_default
 returns-in_default g c =

@@ -8,6 +8,7 @@ pub mod KindLemmas
 pub mod LineLemmas
 pub mod Members
 pub mod OrderLemmas
+pub mod OutcomeLemmas
 pub mod RouteAnswerLemmas
 pub mod RouteLineLemmas
 pub mod UnexpiredLemmas

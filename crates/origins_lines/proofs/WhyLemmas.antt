@@ -4,7 +4,7 @@ use Rattle.origins_lines.proofs.Common.{get_or, inl, inr, length, map, refl, rev
 use Rattle.origins_lines.proofs.Common.{◌≢◌, ◌≤◌, ◌⊎◌, append-nil, length-append, map-append, AllPairs, Contains}
 use Rattle.origins_lines.proofs.Common.{IsNonDecreasingBy, AreThose, CoversRoute, IsLawfulVrp, Vrp, prefix_len, as_sent}
 use Rattle.origins_lines.proofs.Common.{FamilyPrefix, IsFamilyPrefix, IsExplanation, IsReason, IsExplainedBefore}
-use Rattle.origins_lines.proofs.Common.{AreReasonTexts, IsNextReasonText, Form, Reason, is_first, item_text}
+use Rattle.origins_lines.proofs.Common.{AreReasonTexts, IsNextText, Form, Reason, is_first, item_text}
 use Rattle.std.proofs.lemmas.Bool.{cases_lt}
 use Rattle.std.proofs.lemmas.Grind.{reverse_onto}
 use Rattle.std.proofs.lemmas.List.{get_or-append-add, reverse-append}
@@ -229,14 +229,18 @@ module _ (form : Form) (route : FamilyPrefix) (is : IsFamilyPrefix route) (asn :
       let long = adjacent prefix_len all done front rest y x lens cut ends in
       grind (arith, explained_or_same route is y x of_y lawful covers_y covers_x far long)
 
-  pub explained_next : (last : Option Vrp) (why more : List ℕ) → IsExplainedSo form route asn done last why
-      → IsNextReasonText form route asn last x more
+  -- it covers the route
+  pub covers_next : CoversRoute route x
+  covers_next = covers x (Contains-append_right done (x ∷ rest) x (here x rest))
+
+  pub explained_next : (last : Option Vrp) (why more : List ℕ) (reason : Reason) → IsReason route asn x reason
+      → IsExplainedSo form route asn done last why → IsNextText form reason last x more
       → IsExplainedSo form route asn (done ++ x ∷ []) (Some x) (why ++ more)
-  explained_next None why more had (inl (again, e)) = absurd again
-  explained_next None why more had (inr (other, (reason, against, e))) =
+  explained_next None why more reason against had (inl (again, e)) = absurd again
+  explained_next None why more reason against had (inr (other, e)) =
       rw e (explained_more form route asn done x lawful None why reason against (λ z f. grind (arith)) had)
-  explained_next (Some y) why more had (inl (again, e)) =
+  explained_next (Some y) why more reason against had (inl (again, e)) =
       rw (e, append-nil) (explained_same form route asn done x lawful y why again had)
-  explained_next (Some y) why more had (inr (other, (reason, against, e))) =
+  explained_next (Some y) why more reason against had (inr (other, e)) =
       let next = behind y had.at_end other in
       rw e (explained_more form route asn done x lawful (Some y) why reason against (λ z f. grind (arith, next)) had)

@@ -90,12 +90,11 @@ abbrev pub is_first : Option Vrp → Bool
 is_first None = true
 is_first (Some before) = false
 
--- the text printed for a VRP after the one before it; it is empty if both are sent alike
-abbrev pub IsNextReasonText : Form → FamilyPrefix → ℕ → Option Vrp → Vrp → List ℕ → Type 0
-IsNextReasonText form route asn last p text =
+-- the text printed for a VRP and its relation to the route after the VRP before it; it is empty if both are sent alike
+abbrev pub IsNextText : Form → Reason → Option Vrp → Vrp → List ℕ → Type 0
+IsNextText form reason last p text =
     (IsSentAgain last p × (text ≡ []))
-    ⊎ ((¬ IsSentAgain last p)
-    × ((reason : Reason) × IsReason route asn p reason × (text ≡ item_text form (is_first last) reason p)))
+    ⊎ ((¬ IsSentAgain last p) × (text ≡ item_text form (is_first last) reason p))
 
 -- the text is the explanation of a route
 abbrev pub IsExplanationText : Form → FamilyPrefix → ℕ → List Vrp → List ℕ → Type 0

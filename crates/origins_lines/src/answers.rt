@@ -84,11 +84,12 @@ fn write_answer<A: Allocator, B: Allocator>(
     requires { string_bytes text.old ≡ [] }
     ensures { OnOk result (IsRouteAnswer why table.now route asn (string_bytes text.new)) }
 {
-    let lookup = ended_lookup(table, route, asn);
-    let outcome = outcome_of(&lookup);
-    text.push_str(word_for(outcome))?;
     if !why {
+        let lookup = ended_lookup(table, route, asn);
+        text.push_str(word_for(outcome_of(&lookup)))?;
         return Ok(());
     }
-    push_why(text, Form::Words, &lookup, route, asn)
+    let lookup = table.lookup(route, asn);
+    let outcome = push_why(text, Form::Words, &lookup, route, asn)?;
+    text.insert_str(0, word_for(outcome))
 }

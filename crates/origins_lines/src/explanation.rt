@@ -1,14 +1,15 @@
 //! Explains the outcome for a route by the VRPs that cover it.
-ghost use Rattle.std.specs.Prelude.{◌≡◌, ◌↔◌, ◌+◌, ◌≤◌, ◌++◌, ℕ, List, IsTrue, OnOk, codes, length, take};
+ghost use Rattle.std.specs.Prelude.{◌≡◌, ◌↔◌, ◌+◌, ◌≤◌, ◌++◌, ℕ, List, IfOk, IsTrue, OnOk, codes, length, take};
 ghost use Rattle.std.specs.String.{string_bytes};
 ghost use Rattle.roa_origin.specs.Tables.{as_sent};
-ghost use Rattle.origins_lines.specs.Explanations.{IsReason, IsSentAgain, IsNextReasonText, IsExplanationText, asn_key, is_first, item_text, max_length_key, prefix_key, reason_and_vrp_text, reason_key, reason_text, vrp_back, vrp_front, vrp_object};
-ghost use Rattle.origins_lines.specs.declared.explanation.Reason.{Reason};
+ghost use Rattle.roa_origin.specs.Vrps.{IsLawfulVrp};
+ghost use Rattle.origins_lines.specs.Explanations.{IsReason, IsNextText, IsExplanationText, asn_key, item_text, max_length_key, prefix_key, reason_and_vrp_text, reason_key, reason_text, vrp_back, vrp_front, vrp_object};
+ghost use Rattle.origins_lines.specs.Outcomes.{IsOutcomeOf, outcome_with};
 
 use crate::buffer::{
     MAX_ASN, MAX_PREFIX, push_before, put_all, put_asn, put_dash_and_len, put_prefix,
 };
-use crate::outcome::has_as;
+use crate::outcome::Outcome;
 use roa_origin::{Lookup, Vrp};
 use rpki_addr::addr::print::{put, put_octet};
 use rpki_base::Asn;
@@ -64,7 +65,7 @@ pub enum Form {
 fn reason_for(route: Prefix, asn: Asn, vrp: &Vrp) -> Reason
     ensures { IsReason route asn vrp.now result }
 {
-    if !has_as(vrp, asn) {
+    if asn == Asn::MIN || vrp.1 != asn {
         return Reason::As;
     }
     if route.len() <= vrp.0.resolved_max_len() {
@@ -75,6 +76,7 @@ fn reason_for(route: Prefix, asn: Asn, vrp: &Vrp) -> Reason
 }
 
 /// Appends each VRP that covers the route to `route`, once, with its relation to the route that `asn` originates.
+/// Returns the outcome for this route, which these relations decide.
 ///
 /// # Preconditions
 ///
@@ -85,56 +87,60 @@ pub(crate) fn push_why<A: Allocator>(
     lookup: &Lookup<'_>,
     route: Prefix,
     asn: Asn,
-) -> Result<(), AllocError>
+) -> Result<Outcome, AllocError>
     requires { lookup.now.route ≡ route }
-    ensures { OnOk result ((why : List ℕ) × IsExplanationText form route asn lookup.now.vrps why
+    ensures text { OnOk result ((why : List ℕ) × IsExplanationText form route asn lookup.now.vrps why
         × (string_bytes text.new ≡ string_bytes text.old ++ why)) }
+    ensures outcome { IfOk result (IsOutcomeOf route asn lookup.now.vrps) }
 {
     route.recall_invariant();
+    let mut outcome = Outcome::NotFound;
     let mut last = None;
     for vrp in lookup.covering() {
         vrp.0.recall_invariant();
         vrp.1.recall_invariant();
-        push_next(text, form, route, asn, &last, &vrp)?;
+        let reason = reason_for(route, asn, &vrp);
+        outcome = outcome_with(outcome, reason);
+        push_next(text, form, reason, &last, &vrp)?;
         last = Some(vrp);
     }
-    Ok(())
+    Ok(outcome)
 }
 
-/// Appends a VRP that covers a route, with its relation to the route. Appends nothing if the VRP is the same, as it is
-/// sent, as `last`, the VRP before it.
+/// Returns the outcome for a route by some VRPs and one more VRP, which covers the route with the relation `reason`. By
+/// the other VRPs the outcome is `outcome`.
+fn outcome_with(outcome: Outcome, reason: Reason) -> Outcome
+    ensures { result ≡ outcome_with outcome reason }
+{
+    match (reason, outcome) {
+        (Reason::Match, _) => Outcome::Valid,
+        (Reason::Length, Outcome::InvalidAs | Outcome::NotFound) => Outcome::InvalidLength,
+        (Reason::As, Outcome::NotFound) => Outcome::InvalidAs,
+        (Reason::Length | Reason::As, _) => outcome,
+    }
+}
+
+/// Appends a VRP with its relation to a route. Appends nothing if the VRP is the same, as it is sent, as `last`, the
+/// VRP before it.
 fn push_next<A: Allocator>(
     text: &mut String<A>,
     form: Form,
-    route: Prefix,
-    asn: Asn,
+    reason: Reason,
     last: &Option<Vrp>,
     vrp: &Vrp,
 ) -> Result<(), AllocError>
-    ensures { OnOk result ((more : List ℕ) × IsNextReasonText form route asn last.now vrp.now more
+    requires { IsLawfulVrp vrp.now }
+    ensures { OnOk result ((more : List ℕ) × IsNextText form reason last.now vrp.now more
         × (string_bytes text.new ≡ string_bytes text.old ++ more)) }
 {
-    if is_sent_again(last, vrp) {
-        return Ok(());
-    }
-    push_vrp(text, form, is_first(last), route, asn, vrp)
-}
-
-/// Returns whether a VRP is the same, as it is sent, as the one before it.
-fn is_sent_again(last: &Option<Vrp>, vrp: &Vrp) -> bool
-    ensures { IsTrue result ↔ IsSentAgain last.now vrp.now }
-{
     match last {
-        Some(before) => is_same(before, vrp),
-        None => false,
+        Some(before) => if is_same(before, vrp) {
+            Ok(())
+        } else {
+            push_item(text, form, false, reason, vrp)
+        },
+        None => push_item(text, form, true, reason, vrp),
     }
-}
-
-/// Returns whether there is no VRP before.
-fn is_first(last: &Option<Vrp>) -> bool
-    ensures { result ≡ is_first last.now }
-{
-    last.is_none()
 }
 
 /// Returns whether two VRPs are the same, as they are sent.
@@ -146,22 +152,6 @@ fn is_same(one: &Vrp, other: &Vrp) -> bool
         && one.0.resolved_max_len() == other.0.resolved_max_len()
 }
 
-/// Appends a VRP that covers a route, with its relation to the route.
-fn push_vrp<A: Allocator>(
-    text: &mut String<A>,
-    form: Form,
-    is_first: bool,
-    route: Prefix,
-    asn: Asn,
-    vrp: &Vrp,
-) -> Result<(), AllocError>
-    ensures { OnOk result ((reason : Reason) × IsReason route asn vrp.now reason
-        × (string_bytes text.new ≡ string_bytes text.old ++ item_text form is_first reason vrp.now)) }
-{
-    let reason = reason_for(route, asn, vrp);
-    push_item(text, form, is_first, reason, vrp)
-}
-
 /// Appends a VRP with its relation to a route. An object of JSON that is not the first has a comma before it.
 fn push_item<A: Allocator>(
     text: &mut String<A>,
@@ -170,6 +160,7 @@ fn push_item<A: Allocator>(
     reason: Reason,
     vrp: &Vrp,
 ) -> Result<(), AllocError>
+    requires { IsLawfulVrp vrp.now }
     ensures { OnOk result (string_bytes text.new ≡ string_bytes text.old ++ item_text form is_first reason vrp.now) }
 {
     match form {
@@ -193,10 +184,9 @@ fn push_word<A: Allocator>(
     reason: Reason,
     vrp: &Vrp,
 ) -> Result<(), AllocError>
+    requires { IsLawfulVrp vrp.now }
     ensures { OnOk result (string_bytes text.new ≡ string_bytes text.old ++ reason_and_vrp_text reason vrp.now) }
 {
-    vrp.0.recall_invariant();
-    vrp.1.recall_invariant();
     let mut out = [0; MAX_WORD];
     let end = put_word(&mut out, reason, vrp);
     push_before(text, &out, end)
@@ -238,10 +228,9 @@ fn push_object<A: Allocator>(
     reason: Reason,
     vrp: &Vrp,
 ) -> Result<(), AllocError>
+    requires { IsLawfulVrp vrp.now }
     ensures { OnOk result (string_bytes text.new ≡ string_bytes text.old ++ vrp_object reason vrp.now) }
 {
-    vrp.0.recall_invariant();
-    vrp.1.recall_invariant();
     let mut out = [0; MAX_OBJECT];
     let end = put_front(&mut out, reason, vrp);
     let end = put_back(&mut out, end, vrp);

@@ -1,9 +1,8 @@
 //! The outcome for a route: one word.
-ghost use Rattle.std.specs.Prelude.{◌≡◌, ◌↔◌, IsTrue};
-ghost use Rattle.roa_origin.specs.Vrps.{HasAs};
+ghost use Rattle.std.specs.Prelude.{◌≡◌};
 ghost use Rattle.origins_lines.specs.Outcomes.{IsOutcomeOf, asked_asn, outcome_text};
 
-use roa_origin::{Lookup, Validity, Vrp};
+use roa_origin::{Lookup, Validity};
 use rpki_base::Asn;
 use std::fmt;
 
@@ -70,11 +69,4 @@ pub fn outcome_of(lookup: &Lookup<'_>) -> Outcome
             }
         }
     }
-}
-
-/// Returns whether a VRP has the AS number `asn`, which isn't AS0.
-pub(crate) fn has_as(vrp: &Vrp, asn: Asn) -> bool
-    ensures { IsTrue result ↔ HasAs asn vrp.now }
-{
-    asn != Asn::MIN && vrp.1 == asn
 }

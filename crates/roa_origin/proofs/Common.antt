@@ -41,7 +41,7 @@ pub use Rattle.rpki_prefix.proofs.PrefixCovering.{covers_round, round_covers}
 pub use Rattle.rpki_prefix.specs.MaxLen.{MaxLenValue, max_len_cmp}
 pub use Rattle.rpki_prefix.specs.Values.{CoversPrefix, FamilyPrefix, IsFamilyPrefix, address_number, interval, is_v6}
 pub use Rattle.rpki_prefix.specs.Values.{width}
-pub use Rattle.roa_origin.specs.Coverings.{AreThose, IsWalk, covering_before, covers_route}
+pub use Rattle.roa_origin.specs.Coverings.{AreThose, IsCoveringWalk, IsWalk, covering_before, covers_route}
 pub use Rattle.roa_origin.specs.PackedVrps.{addr_of}
 pub use Rattle.roa_origin.specs.Links.{AreLater, AreLinks, AreUpTo, IsGroup, IsInOrder, IsLastOf, IsLink, NoneCovers}
 pub use Rattle.roa_origin.specs.Vrps.{CoversRoute, HasAs, IsLawfulVrp, Matches, Vrp, longest, prefix_len}

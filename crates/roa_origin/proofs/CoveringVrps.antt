@@ -1,13 +1,15 @@
 -- The VRPs that cover a route, among the first of a table.
-use Rattle.roa_origin.proofs.Common.{List, [], ap, arith, false, get_or, length, refl, reverse, suc, true, zero, ℕ, ◌+◌}
-use Rattle.roa_origin.proofs.Common.{◌-◌, ◌<◌, ◌↔◌, ◌∙◌, ◌∷◌, ◌≡◌, ◌≤◌, ◌⊎◌, and_parts, eq-eqb, eqb-true, le-leb}
-use Rattle.roa_origin.proofs.Common.{leb-true, append-nil, reverse-append, reverse-reverse, take_all, All-filter}
+use Rattle.roa_origin.proofs.Common.{List, [], ap, arith, false, get_or, length, refl, reverse, suc, sym, true, zero, ℕ}
+use Rattle.roa_origin.proofs.Common.{◌+◌, ◌-◌, ◌<◌, ◌↔◌, ◌∙◌, ◌∷◌, ◌≡◌, ◌≤◌, ◌⊎◌, and_parts, eq-eqb, eqb-true}
+use Rattle.roa_origin.proofs.Common.{le-leb, leb-true, append-nil, reverse-append, reverse-reverse, take_all}
+use Rattle.roa_origin.proofs.Common.{All-filter}
 use Rattle.roa_origin.proofs.Common.{filter_more, filter_passes, IsNonDecreasingBy-filter, filter, IsNonDecreasingBy}
 use Rattle.roa_origin.proofs.Common.{covers_round, round_covers, FamilyPrefix, IsFamilyPrefix, AreThose, IsWalk}
-use Rattle.roa_origin.proofs.Common.{covering_before, covers_route, AreLater, IsInOrder, IsLink, NoneCovers}
-use Rattle.roa_origin.proofs.Common.{CoversRoute, Vrp, prefix_len, table_place, vrp_place, Link}
+use Rattle.roa_origin.proofs.Common.{IsCoveringWalk, covering_before, covers_route, AreLater, IsInOrder, IsLink}
+use Rattle.roa_origin.proofs.Common.{NoneCovers, CoversRoute, Vrp, prefix_len, table_place, vrp_place, Link}
 use Rattle.roa_origin.proofs.NestedRoutes.{covers_between, same_width}
 use Rattle.roa_origin.proofs.OrderNumbers.{covers_len, covers_place}
+use Rattle.roa_origin.proofs.LinkSteps.{covers_through}
 use Rattle.roa_origin.proofs.LinkWalks.{later_covers_none, no_link, nowhere, passes_none, prefix_of}
 
 -- the test tells whether the VRP covers the route
@@ -70,35 +72,48 @@ pub by_place : (route : FamilyPrefix) (xs : List Vrp) → IsInOrder xs
     → IsNonDecreasingBy table_place (filter (covers_route route) xs)
 by_place route xs is = IsNonDecreasingBy-filter table_place (covers_route route) xs is.ranked
 
--- the walk's next step: the nearest VRP that covers the route; what is left is what its link leaves
-module _ {xs : List Vrp} {links : List Link} {n : ℕ} {route : FamilyPrefix} (walk : IsWalk xs links n route)
-    {at left : ℕ} {l : Link} (some : 0 < at) (back : at ≤ n) (is : l ≡ get_or links (at - 1) no_link)
+-- a pass begins at the nearest VRP that covers the route: the VRPs behind it don't cover the route
+module _ {xs : List Vrp} {links : List Link} {n at : ℕ} {route : FamilyPrefix} (walk : IsWalk xs links n route)
+    (back : at ≤ n) where
+  pub walk_near : ((d : Vrp) → 0 < at → CoversRoute route (get_or xs (at - 1) d)) → IsCoveringWalk xs links at route
+  walk_near found = grind (arith, found, back)
+
+  pub none_passed : NoneCovers xs route at n → covering_before route xs at ≡ covering_before route xs n
+  none_passed none = sym (none_between route xs (n - at) n at (omega (arith, back)) walk.within none)
+
+-- the next step of a pass: what is left is what the link of the VRP leaves
+module _ {xs : List Vrp} {links : List Link} {at : ℕ} {route : FamilyPrefix} (pass : IsCoveringWalk xs links at route)
+    {left : ℕ} {l : Link} (some : 0 < at) (is : l ≡ get_or links (at - 1) no_link)
     (goes : ((left ≡ at - 1) × (l.first < at - 1)) ⊎ ((left ≡ l.back) × (at - 1 ≤ l.first))) where
+  walk : IsWalk xs links at route
+  walk = pass.walk
+
   link : (d : Vrp) → IsLink xs (at - 1) (get_or xs (at - 1) d) l
-  link d = rw is (walk.table.linked (at - 1) d no_link (omega (arith, some, back, walk.within, walk.table.as_many)))
+  link d = rw is (walk.table.linked (at - 1) d no_link (omega (arith, some, walk.within, walk.table.as_many)))
 
   before : left ≤ at - 1
   before = grind (arith, link nowhere)
 
-  pub walk_on : IsWalk xs links left route
-  walk_on = grind (arith, before, some)
+  -- the link leads to a VRP of the same prefix, or to one that covers it
+  next : (d : Vrp) → 0 < left → CoversRoute route (get_or xs (left - 1) d)
+  next d more =
+      let here = link nowhere in
+      let covers = pass.next nowhere some in
+      let through = λ (there : 0 < l.back). covers_through _ _ route (here.covers d there) covers in
+      grind (arith, through, here.one_prefix (left - 1) d)
+
+  pub walk_on : IsCoveringWalk xs links left route
+  walk_on = record { walk = grind (arith, before, some); next = next }
 
   between : NoneCovers xs route left (at - 1)
   between k d from small there =
       let order = walk.table.in_order in
-      let passed = passes_none xs n route order walk.up_to walk.within walk.is_prefix (at - 1) l (omega arith) link in
+      let passed = passes_none xs at route order walk.up_to walk.within walk.is_prefix (at - 1) l (omega arith) link in
       grind (arith, passed k d)
 
-  pub gives : (d : Vrp) → CoversRoute route (get_or xs (at - 1) d) → NoneCovers xs route at n
-      → covering_before route xs n ≡ get_or xs (at - 1) d ∷ covering_before route xs left
-  gives d covers none =
-      let there : at - 1 < length xs = omega (arith, some, back, walk.within) in
+  pub gives : (d : Vrp) → covering_before route xs at ≡ get_or xs (at - 1) d ∷ covering_before route xs left
+  gives d =
+      let there : at - 1 < length xs = omega (arith, some, walk.within) in
       let passed = none_between route xs (at - 1 - left) _ left (omega (arith, before)) (omega arith) between in
-      none_between route xs (n - at) n at (omega arith) walk.within none
-      ∙ ap (covering_before route xs) (let on : at ≡ at - 1 + 1 = omega arith in on)
-      ∙ rw (covers_step route xs (at - 1) d there covers, passed)
-
--- and where there is none, nothing is left
-pub nothing_left : {xs : List Vrp} {links : List Link} {n : ℕ} {route : FamilyPrefix} → IsWalk xs links n route
-    → NoneCovers xs route 0 n → covering_before route xs n ≡ []
-nothing_left {xs} {links} {n} {route} walk none = none_between route xs n n 0 (omega arith) walk.within none
+      ap (covering_before route xs) (let on : at ≡ at - 1 + 1 = omega arith in on)
+      ∙ rw (covers_step route xs (at - 1) d there (pass.next d some), passed)

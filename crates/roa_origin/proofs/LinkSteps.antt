@@ -92,7 +92,7 @@ module _ {r : FamilyPrefix} {asn : ℕ} {xs : List Vrp} {links : List Link} {n :
 -- ---- from group to group of VRPs that cover a route: none of those that the walk has passed has the route's AS
 
 -- what covers a prefix covers what that covers
-covers_through : (p q r : FamilyPrefix) → CoversPrefix p q → CoversPrefix q r → CoversPrefix p r
+pub covers_through : (p q r : FamilyPrefix) → CoversPrefix p q → CoversPrefix q r → CoversPrefix p r
 covers_through p q r c d = record { family = c.family ∙ d.family; inside = λ n is. c.inside n (d.inside n is) }
 
 -- the first n VRPs are left: the last of them covers the route, and none of the others both does and has its AS

@@ -1,10 +1,12 @@
 -- The VRPs of a list that cover a route (RFC 6811, 2).
-use Rattle.std.specs.Prelude.{◌≡◌, ◌&&◌, ◌==◌, ℕ, ◌≤◌, ◌⊎◌, Bool, nat_le, List, [], ◌∷◌, reverse, take, length}
+use Rattle.std.specs.Prelude.{◌≡◌, ◌&&◌, ◌==◌, ℕ, ◌-◌, ◌<◌, ◌≤◌, ◌⊎◌, Bool, nat_le, List, [], ◌∷◌, reverse, take}
+use Rattle.std.specs.Prelude.{length}
+use Rattle.std.specs.Prelude.{slice_index_or}
 use Rattle.std.specs.List.{filter}
 use Rattle.rpki_prefix.specs.Order.{last_bits}
 use Rattle.rpki_prefix.specs.Values.{FamilyPrefix, IsFamilyPrefix, address_number, width}
 use Rattle.roa_origin.specs.Links.{AreUpTo, IsTable}
-use Rattle.roa_origin.specs.Vrps.{Vrp}
+use Rattle.roa_origin.specs.Vrps.{CoversRoute, Vrp}
 use Rattle.roa_origin.specs.declared.links.Link.{Link}
 
 -- ys are the elements of xs for which P holds, in their order, each as often as it is in xs
@@ -29,3 +31,8 @@ pub record IsWalk (xs : List Vrp) (links : List Link) (n : ℕ) (route : FamilyP
   pub within : n ≤ length xs
   pub up_to : AreUpTo xs n route
   pub is_prefix : IsFamilyPrefix route
+
+-- a pass whose next VRP, the last of the first n, covers the route
+pub record IsCoveringWalk (xs : List Vrp) (links : List Link) (n : ℕ) (route : FamilyPrefix) : Type 0 where
+  pub walk : IsWalk xs links n route
+  pub next : (d : Vrp) → 0 < n → CoversRoute route (slice_index_or xs (n - 1) d)

@@ -24,27 +24,32 @@ pub struct Covering<'a> {
 
 impl<'a> Model for Covering<'a> {
     ghost use Rattle.std.specs.Prelude.{List};
-    ghost use Rattle.roa_origin.specs.Coverings.{IsWalk, covering_before};
+    ghost use Rattle.roa_origin.specs.Coverings.{IsCoveringWalk, covering_before};
     ghost use Rattle.roa_origin.specs.Vrps.{Vrp};
 
     ghost Value = { List Vrp };
 
     ghost view = { λ c. covering_before c.route.0 c.vrps.now c.at };
 
-    ghost invariant = { λ c. IsWalk c.vrps.now c.links.now c.at c.route.0 };
+    ghost invariant = { λ c. IsCoveringWalk c.vrps.now c.links.now c.at c.route.0 };
 }
 
 impl<'a> Covering<'a> {
-    /// Returns the iterator over the covering VRPs among the first `at` VRPs of a table.
+    /// Returns the iterator over the covering VRPs among the first `up_to` VRPs of a table.
+    ///
+    /// The nearest one is found here. From it the links lead to all others, since each link leads to a VRP that covers
+    /// what the VRP before covers.
+    #[tactic(auto, using(crate::proofs::CoveringVrps::walk_near))]
     pub(crate) fn from(
         vrps: &'a [PackedVrp],
         links: &'a [Link],
-        at: usize,
+        up_to: usize,
         route: RouteKey,
     ) -> Covering<'a>
-        requires { IsWalk vrps.now links.now at route.0 }
-        ensures { result ≡ covering_before route.0 vrps.now at }
+        requires { IsWalk vrps.now links.now up_to route.0 }
+        ensures { result ≡ covering_before route.0 vrps.now up_to }
     {
+        let at = nearest(vrps, links, up_to, &route);
         Covering {
             vrps,
             links,
@@ -70,14 +75,11 @@ impl Iterator for Covering<'_> {
 
     ghost remaining = { item_count (λ vrps. vrps) };
 
-    #[tactic(auto, using(crate::proofs::CoveringVrps::nothing_left))]
     fn next(&mut self) -> Option<Vrp> {
-        let at = nearest(self.vrps, self.links, self.at, &self.route);
-        if at == 0 {
-            self.at = 0;
+        if self.at == 0 {
             return None;
         }
-        let last = at - 1;
+        let last = self.at - 1;
         self.at = self.links[last].left(last);
         Some(self.vrps[last].vrp())
     }

@@ -8,7 +8,7 @@ ghost use Rattle.roa_origin.specs.Places.{place, vrp_place, rank, sent_place, se
 use crate::route_key::RouteKey;
 use crate::vrp::Vrp;
 use rpki_base::Asn;
-use rpki_prefix::{MaxLenPrefix, Prefix};
+use rpki_prefix::MaxLenPrefix;
 use std::cmp::Ordering;
 use std::marker::Model;
 
@@ -68,17 +68,10 @@ impl PackedVrp {
     pub(crate) fn vrp(&self) -> Vrp
         ensures { result ≡ self.now }
     {
-        match MaxLenPrefix::new(self.prefix(), self.max_len) {
+        match MaxLenPrefix::new(self.route_key().prefix(), self.max_len) {
             Ok(prefix) => (prefix, self.asn),
             Err(_) => unreachable!(),
         }
-    }
-
-    /// Returns the VRP's prefix.
-    pub(crate) fn prefix(&self) -> Prefix
-        ensures { result ≡ self.now.0.prefix }
-    {
-        self.route_key().prefix()
     }
 
     /// Returns the key of the route to the VRP's prefix that the VRP's AS originates.

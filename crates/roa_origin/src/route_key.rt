@@ -45,7 +45,6 @@ impl RouteKey {
         ensures asn { result.1 ≡ asn }
         ensures prefix { IsFamilyPrefix route }
     {
-        route.recall_invariant();
         asn.recall_invariant();
         let len = route.len();
         match route.addr() {

@@ -1,9 +1,9 @@
--- The VRPs so far are explained after the text.
-use Rattle.origins_lines.proofs.Common.{List, ℕ, ◌++◌, ◌≡◌, string_bytes}
+-- The VRPs so far are explained after the text, and they decide the outcome so far.
+use Rattle.origins_lines.proofs.Common.{List, ℕ, ◌++◌, ◌≡◌, string_bytes, IsOutcomeOf}
 use Rattle.origins_lines.proofs.WhyLemmas.{IsExplainedSo}
 use Rattle.origins_lines.proofs.explanation.push_why.Given as goal
 
 abbrev pub invariant-loop-vrp : goal.invariant-loop-vrp
 invariant-loop-vrp g l =
     (why : List ℕ) × IsExplainedSo l.form l.route l.asn l.yielded l.last why
-    × (string_bytes l.text ≡ string_bytes l.fn.text ++ why)
+    × (string_bytes l.text ≡ string_bytes l.fn.text ++ why) × IsOutcomeOf l.route l.asn l.yielded l.outcome

@@ -15,4 +15,7 @@ pub mod answers;
 pub mod device;
 pub mod engine;
 pub mod error;
+mod group;
+mod newline;
+pub mod steps;
 pub mod stream;

@@ -1,7 +1,7 @@
 //! The engine that answers each line as soon as it has read its end.
-ghost use Rattle.std.specs.Prelude.{◌≡◌, ◌<◌, ◌++◌, length, ℕ, List, [], true, false, IfErr, IfOk, IfSome, OnOk, IsErrOf, MatchOption};
+ghost use Rattle.std.specs.Prelude.{◌≡◌, ◌<◌, ◌++◌, length, ℕ, List, [], true, false, IfErr, IfOk, IfSome, OnOk, IsErrOf};
 ghost use Rattle.std.specs.Io.KnownBytes.{IsAtEnd};
-ghost use Rattle.rpki_text.specs.Cuts.{HasNo, IsCutAt};
+ghost use Rattle.rpki_text.specs.Cuts.{HasNo};
 ghost use Rattle.rpki_text.specs.Lines.{lines_of};
 ghost use Rattle.lines_engine.specs.Run.{AnswersAll, AnswersEnded, AnswersFirst, AnswersSomeOf, BeginsAnswers, BeginsAnswersOf, HasAnswered, HasAnsweredLine};
 
@@ -9,6 +9,9 @@ use crate::answers::Answers;
 use crate::device::{DeviceFault, Sink, Source};
 use crate::engine::{answer_line, flush_all, read_buffer};
 use crate::error::RunError;
+use crate::group::answer_groups;
+use crate::newline::split_at_newline;
+use crate::steps::Steps;
 use std::alloc::Allocator;
 
 /// Writes to `writer` the answer of `answers` to each line of `reader`, in order, as one line.
@@ -28,7 +31,7 @@ use std::alloc::Allocator;
 /// - [`RunError::Write`]: a write or the flush failed, or a write took no byte. A beginning of the answers was written.
 /// - [`RunError::Memory`]: an allocation failed, or the input has 2^64 bytes. The answers to some first lines were
 ///   written whole, and nothing else. They are not the answers to all lines, unless the input is empty.
-pub fn answer_as_read<A: Allocator + Copy, L: Answers, R: Source, W: Sink>(
+pub fn answer_as_read<A: Allocator + Copy, L: Steps, R: Source, W: Sink>(
     alloc: A,
     answers: &L,
     reader: &mut R,
@@ -74,7 +77,7 @@ pub fn answer_as_read<A: Allocator + Copy, L: Answers, R: Source, W: Sink>(
 
 /// Reads the input to its end, and answers each line whose end it reads. Returns the bytes after the last end.
 #[tactic(auto, using(crate::proofs::RunLemmas::unanswered))]
-fn answer_ended<A: Allocator + Copy, L: Answers, R: Source, W: Sink>(
+fn answer_ended<A: Allocator + Copy, L: Steps, R: Source, W: Sink>(
     alloc: A,
     answers: &L,
     reader: &mut R,
@@ -107,7 +110,7 @@ fn answer_ended<A: Allocator + Copy, L: Answers, R: Source, W: Sink>(
 
 /// Does what [`answer_ended`] does, with reads into `piece`.
 #[tactic(auto, using(crate::proofs::StreamLemmas::but_begun, crate::proofs::StreamLemmas::but_more, crate::proofs::StreamLemmas::but_none, crate::proofs::StreamLemmas::but_some))]
-fn answer_pieces<A: Allocator + Copy, L: Answers, R: Source, W: Sink>(
+fn answer_pieces<A: Allocator + Copy, L: Steps, R: Source, W: Sink>(
     alloc: A,
     answers: &L,
     piece: &mut [u8],
@@ -165,7 +168,7 @@ fn answer_pieces<A: Allocator + Copy, L: Answers, R: Source, W: Sink>(
 /// Answers each line that ends in `piece`. The first of these lines begins with `part`.
 ///
 /// Afterwards `part` is the start of the line whose end wasn't read.
-fn answer_piece<A: Allocator + Copy, L: Answers, W: Sink>(
+fn answer_piece<A: Allocator + Copy, L: Steps, W: Sink>(
     alloc: A,
     answers: &L,
     part: &mut Vec<u8, A>,
@@ -190,11 +193,43 @@ fn answer_piece<A: Allocator + Copy, L: Answers, W: Sink>(
         (lines_of (part.old.items ++ (piece.now ++ more))) }
     ensures not_read { IsErrOf result RunError.Read → ⊥ }
 {
-    let mut rest = piece;
-    while let Some((line, behind)) = split_at_newline(rest) {
-        answer_joined(alloc, answers, part, line, text, writer)?;
-        rest = behind;
+    if part.as_slice().is_empty() {
+        return answer_unbroken(alloc, answers, part, piece, text, writer);
     }
+    match split_at_newline(piece) {
+        Some((line, behind)) => {
+            answer_joined(alloc, answers, part, line, text, writer)?;
+            answer_unbroken(alloc, answers, part, behind, text, writer)
+        }
+        None => keep(part, piece),
+    }
+}
+
+/// Does what [`answer_piece`] does, if `part` is empty.
+fn answer_unbroken<A: Allocator + Copy, L: Steps, W: Sink>(
+    alloc: A,
+    answers: &L,
+    part: &mut Vec<u8, A>,
+    piece: &[u8],
+    text: &mut String<A>,
+    writer: &mut W,
+) -> Result<(), RunError>
+    requires clear { W.mark writer.old ≡ false }
+    requires empty { part.old.items ≡ [] }
+    ensures unmarked { OnOk result (W.mark writer.new ≡ W.mark writer.old) }
+    ensures unended { OnOk result (HasNo 10 part.new.items) }
+    ensures answered { OnOk result ((more : List ℕ) → HasAnswered (L.is_answer answers.now)
+        (W.written writer.old) (W.written writer.new)
+        (lines_of (piece.now ++ more)) (lines_of (part.new.items ++ more)) []) }
+    ensures memory_unmarked { IsErrOf result RunError.Memory → W.mark writer.new ≡ W.mark writer.old }
+    ensures some_answered { IsErrOf result RunError.Memory → (more : List ℕ) → AnswersSomeOf
+        (L.is_answer answers.now) (W.written writer.old) (W.written writer.new) (lines_of (piece.now ++ more)) }
+    ensures write { IsErrOf result RunError.Write → W.mark writer.new ≡ true }
+    ensures some_written { IsErrOf result RunError.Write → (more : List ℕ) → BeginsAnswersOf
+        (L.is_answer answers.now) (W.written writer.old) (W.written writer.new) (lines_of (piece.now ++ more)) }
+    ensures not_read { IsErrOf result RunError.Read → ⊥ }
+{
+    let rest = answer_groups(alloc, answers, piece, text, writer)?;
     keep(part, rest)
 }
 
@@ -264,12 +299,4 @@ fn answer_last<A: Allocator + Copy, L: Answers, W: Sink>(
     }
     let mut answer = String::new(alloc);
     answer_line(alloc, answers, part, &mut answer, writer)
-}
-
-/// Returns the first line of a text without its end, and the text after that end, if the text has an end of line.
-fn split_at_newline(text: &[u8]) -> Option<(&[u8], &[u8])>
-    ensures { MatchOption result (HasNo 10 text.now) (λ cut. IsCutAt 10 text.now cut.0.now cut.1.now) }
-{
-    let at = text.iter().position(|byte| *byte == b'\n')?;
-    Some((&text[..at], &text[at + 1..]))
 }

@@ -1,0 +1,166 @@
+//! Groups of lines. The answers to the lines of a group are made side by side, and written in order.
+ghost use Rattle.std.specs.Prelude.{◌≡◌, ◌<◌, ◌≤◌, ◌+◌, ◌++◌, length, ℕ, List, [], false, true, vec_len, IfOk, OnErr, OnOk, IsErrOf};
+ghost use Rattle.rpki_text.specs.Cuts.{HasNo};
+ghost use Rattle.rpki_text.specs.Lines.{lines_of};
+ghost use Rattle.lines_engine.specs.Groups.{AreBegun, group_lines};
+ghost use Rattle.lines_engine.specs.Run.{AnswersSomeOf, BeginsAnswersOf, HasAnswered, HasAnsweredLine};
+
+use crate::device::Sink;
+use crate::engine::write_all;
+use crate::error::RunError;
+use crate::newline::split_at_newline;
+use crate::steps::Steps;
+use std::alloc::{AllocError, Allocator};
+
+/// The number of lines in a group at most.
+const GROUP: usize = 12;
+
+/// The number of steps that are taken side by side for each line of a group.
+const ROUNDS: usize = 24;
+
+/// A line, and what is known of its answer.
+#[derive(Drop)]
+struct BegunLine<'t, B> {
+    line: &'t [u8],
+    begun: B,
+}
+
+/// Answers each line that ends in `piece`, in groups. Returns the bytes after the last end.
+pub(crate) fn answer_groups<'t, A: Allocator + Copy, L: Steps, W: Sink>(
+    alloc: A,
+    answers: &L,
+    piece: &'t [u8],
+    text: &mut String<A>,
+    writer: &mut W,
+) -> Result<&'t [u8], RunError>
+    requires clear { W.mark writer.old ≡ false }
+    ensures unmarked { OnOk result (W.mark writer.new ≡ W.mark writer.old) }
+    ensures unended { IfOk result (λ rest. HasNo 10 rest.now) }
+    ensures answered { IfOk result (λ rest. (more : List ℕ) → HasAnswered (L.is_answer answers.now)
+        (W.written writer.old) (W.written writer.new) (lines_of (piece.now ++ more)) (lines_of (rest.now ++ more)) []) }
+    ensures memory_unmarked { IsErrOf result RunError.Memory → W.mark writer.new ≡ W.mark writer.old }
+    ensures some_answered { IsErrOf result RunError.Memory → (more : List ℕ) → AnswersSomeOf
+        (L.is_answer answers.now) (W.written writer.old) (W.written writer.new) (lines_of (piece.now ++ more)) }
+    ensures write { IsErrOf result RunError.Write → W.mark writer.new ≡ true }
+    ensures some_written { IsErrOf result RunError.Write → (more : List ℕ) → BeginsAnswersOf
+        (L.is_answer answers.now) (W.written writer.old) (W.written writer.new) (lines_of (piece.now ++ more)) }
+    ensures not_read { IsErrOf result RunError.Read → ⊥ }
+{
+    if piece.is_empty() {
+        return Ok(piece);
+    }
+    let mut group = Vec::with_capacity(alloc, GROUP)?;
+    let mut rest = piece;
+    loop {
+        let behind = begin_lines(answers, rest, &mut group)?;
+        if group.as_slice().is_empty() {
+            return Ok(behind);
+        }
+        advance_lines(answers, &mut group);
+        end_lines(alloc, answers, &group, text, writer)?;
+        group.clear();
+        rest = behind;
+    }
+}
+
+/// Begins the answers to the first lines that end in `text`, at most [`GROUP`], and appends them to `group`. Returns
+/// the text after these lines.
+fn begin_lines<'t, A: Allocator, L: Steps>(
+    answers: &L,
+    text: &'t [u8],
+    group: &mut Vec<BegunLine<'t, L::Begun>, A>,
+) -> Result<&'t [u8], AllocError>
+    requires { group.old.items ≡ [] }
+    ensures begun { AreBegun (L.is_begun answers.now) group.new.items }
+    ensures lines { IfOk result (λ rest. (more : List ℕ) → lines_of (text.now ++ more) ≡
+        group_lines group.new.items ++ lines_of (rest.now ++ more)) }
+    ensures all { IfOk result (λ rest. group.new.items ≡ [] → HasNo 10 rest.now) }
+    ensures shorter { IfOk result (λ rest. vec_len group.new + length rest.now ≤ length text.now) }
+    ensures some { OnErr result (0 < length text.now) }
+{
+    let mut rest = text;
+    while group.len() < GROUP {
+        let Some((line, behind)) = split_at_newline(rest) else {
+            return Ok(rest);
+        };
+        let begun = answers.begin(line);
+        group.push(BegunLine { line, begun })?;
+        rest = behind;
+    }
+    Ok(rest)
+}
+
+/// Takes the next steps for each line of `group`, side by side.
+fn advance_lines<L: Steps>(answers: &L, group: &mut [BegunLine<'_, L::Begun>])
+    requires { AreBegun (L.is_begun answers.now) group.old }
+    ensures begun { AreBegun (L.is_begun answers.now) group.new }
+    ensures lines { group_lines group.new ≡ group_lines group.old }
+{
+    for _ in 0..ROUNDS {
+        advance_each(answers, group);
+    }
+}
+
+/// Takes the next step for each line of `group`.
+fn advance_each<L: Steps>(answers: &L, group: &mut [BegunLine<'_, L::Begun>])
+    requires { AreBegun (L.is_begun answers.now) group.old }
+    ensures begun { AreBegun (L.is_begun answers.now) group.new }
+    ensures lines { group_lines group.new ≡ group_lines group.old }
+{
+    for asked in group.iter_mut() {
+        answers.advance(&mut asked.begun);
+    }
+}
+
+/// Writes the answers to the lines of `group` to `writer`, in order, each as one line.
+fn end_lines<A: Allocator + Copy, L: Steps, W: Sink>(
+    alloc: A,
+    answers: &L,
+    group: &[BegunLine<'_, L::Begun>],
+    text: &mut String<A>,
+    writer: &mut W,
+) -> Result<(), RunError>
+    requires clear { W.mark writer.old ≡ false }
+    requires begun { AreBegun (L.is_begun answers.now) group.now }
+    ensures unmarked { OnOk result (W.mark writer.new ≡ W.mark writer.old) }
+    ensures answered { OnOk result (HasAnswered (L.is_answer answers.now) (W.written writer.old)
+        (W.written writer.new) (group_lines group.now) [] []) }
+    ensures memory_unmarked { IsErrOf result RunError.Memory → W.mark writer.new ≡ W.mark writer.old }
+    ensures some_answered { IsErrOf result RunError.Memory → AnswersSomeOf (L.is_answer answers.now)
+        (W.written writer.old) (W.written writer.new) (group_lines group.now) }
+    ensures write { IsErrOf result RunError.Write → W.mark writer.new ≡ true }
+    ensures some_written { IsErrOf result RunError.Write → BeginsAnswersOf (L.is_answer answers.now)
+        (W.written writer.old) (W.written writer.new) (group_lines group.now) }
+    ensures not_read { IsErrOf result RunError.Read → ⊥ }
+{
+    for asked in group {
+        end_line(alloc, answers, asked.line, &asked.begun, text, writer)?;
+    }
+    Ok(())
+}
+
+/// Replaces the content of `text` by the answer to `line` and an end of line, and then writes it to `writer`.
+#[tactic(auto, using(crate::proofs::RunLemmas::line_answered))]
+fn end_line<A: Allocator + Copy, L: Steps, W: Sink>(
+    alloc: A,
+    answers: &L,
+    line: &[u8],
+    begun: &L::Begun,
+    text: &mut String<A>,
+    writer: &mut W,
+) -> Result<(), RunError>
+    requires clear { W.mark writer.old ≡ false }
+    requires begun { L.is_begun answers.now begun.now line.now }
+    ensures unmarked { OnOk result (W.mark writer.new ≡ W.mark writer.old) }
+    ensures answered { OnOk result (HasAnsweredLine (L.is_answer answers.now) (W.written writer.old)
+        (W.written writer.new) line.now []) }
+    ensures memory { IsErrOf result RunError.Memory → writer.new ≡ writer.old }
+    ensures write { IsErrOf result RunError.Write → W.mark writer.new ≡ true }
+    ensures some_written { IsErrOf result RunError.Write → (unwritten : List ℕ) × HasAnsweredLine
+        (L.is_answer answers.now) (W.written writer.old) (W.written writer.new) line.now unwritten }
+    ensures not_read { IsErrOf result RunError.Read → ⊥ }
+{
+    answers.end(alloc, line, begun, text)?;
+    text.push('\n')?;
+    write_all(writer, text.as_bytes()).map_err(|_| RunError::Write)
+}

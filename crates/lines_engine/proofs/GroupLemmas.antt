@@ -1,0 +1,115 @@
+-- Steps on groups of lines.
+use Rattle.lines_engine.proofs.Common.{List, Option, [], ap, append_assoc, arith, drop, get_or, length, length-append}
+use Rattle.lines_engine.proofs.Common.{common_steps, refl, set, suc, sym, take, zero, ℕ, ◌++◌, ◌+◌, ◌<◌, ◌∷◌, ◌≡◌, ◌≢◌, add-one, IsCutAt, lines_of}
+use Rattle.lines_engine.proofs.Common.{AnswersSomeOf, BeginsAnswersOf, HasAnswered, HasAnsweredLine, AreBegun}
+use Rattle.lines_engine.proofs.Common.{group_lines}
+use Rattle.std.proofs.lemmas.List.Elements.{All-push, All-set}
+use Rattle.std.proofs.Math.Seq.{drop-cons}
+use Rattle.lines_engine.specs.declared.group.BegunLine.{BegunLine}
+use Rattle.lines_engine.proofs.RunLemmas.{answered_more, answered_then}
+use Rattle.lines_engine.proofs.StreamLemmas.{lines-joined}
+
+-- what is behind the end of a line is shorter
+pub cut_shorter : (piece line behind : List ℕ) → IsCutAt 10 piece line behind → length behind < length piece
+cut_shorter piece line behind cut = omega (arith, ap length cut.split, length-append line (10 ∷ behind))
+
+-- a list that is all of the front of another one
+pub front_taken : {X : Type 0} (seen front tail : List X) (n : ℕ) → seen ≡ take n (front ++ tail) → length front ≡ n
+    → seen ≡ front
+front_taken seen front tail n is len = grind (arith, common_steps)
+
+module _ {B : Type 0} where
+  -- a line behind a group
+  group_lines-push : (group : List (BegunLine B)) (asked : BegunLine B) (others : List (List ℕ))
+      → group_lines (group ++ asked ∷ []) ++ others ≡ group_lines group ++ (asked.line.now ∷ others)
+  group_lines-push [] asked others = refl
+  group_lines-push (x ∷ group) asked others =
+      ap (λ (lines : List (List ℕ)). x.line.now ∷ lines) (group_lines-push group asked others)
+
+  -- a value for one of the lines, in place of another one
+  pub group_lines-set : (group : List (BegunLine B)) (i : ℕ) (d asked : BegunLine B) → i < length group
+      → asked.line.now ≡ (get_or group i d).line.now → group_lines (set group i asked) ≡ group_lines group
+  group_lines-set [] i d asked less same = refl
+  group_lines-set (x ∷ group) zero d asked less same = ap (λ (line : List ℕ). line ∷ group_lines group) same
+  group_lines-set (x ∷ group) (suc i) d asked less same =
+      ap (λ (lines : List (List ℕ)). x.line.now ∷ lines) (group_lines-set group i d asked (omega arith) same)
+
+  -- the lines from one on are that line and the others
+  group_lines-drop : (group : List (BegunLine B)) (i : ℕ) (asked : BegunLine B) → i < length group
+      → asked ≡ get_or group i asked
+      → group_lines (drop i group) ≡ asked.line.now ∷ group_lines (drop (i + 1) group)
+  group_lines-drop group i asked less is =
+      rw (add-one, drop-cons group i asked)
+      (ap (λ (x : BegunLine B). x.line.now ∷ group_lines (drop (suc i) group)) (sym is))
+
+  -- the lines of a group that was lent, written back and lent again are those before
+  pub lines_kept : (all others : List (List ℕ)) (group lent after again : List (BegunLine B))
+      → all ≡ group_lines group ++ others → lent ≡ group → group_lines after ≡ group_lines lent → again ≡ after
+      → all ≡ group_lines again ++ others
+  lines_kept all others group lent after again are is same back = rw (back, same, is) are
+
+  -- one more line was cut off, and its answer begun
+  pub lines_begun : (text rest line behind more : List ℕ) (group others : List (BegunLine B)) (asked : BegunLine B)
+      → IsCutAt 10 rest line behind → asked.line.now ≡ line → others ≡ group ++ asked ∷ []
+      → lines_of (text ++ more) ≡ group_lines group ++ lines_of (rest ++ more)
+      → lines_of (text ++ more) ≡ group_lines others ++ lines_of (behind ++ more)
+  lines_begun text rest line behind more group others asked cut is are had =
+      let joined : lines_of (rest ++ more) ≡ line ∷ lines_of (behind ++ more) =
+      lines-joined [] rest line behind more (λ k small. absurd (omega (arith, small))) cut in
+      rw (are, group_lines-push group asked (lines_of (behind ++ more)), is, ← joined) had
+
+  module _ (Is : B → List ℕ → Type 0) where
+    pub AreBegun-push : (group : List (BegunLine B)) (asked : BegunLine B) → AreBegun Is group
+        → Is asked.begun asked.line.now → AreBegun Is (group ++ asked ∷ [])
+    AreBegun-push group asked all new = All-push (λ (x : BegunLine B). Is x.begun x.line.now) group asked all new
+
+    pub AreBegun-set : (group : List (BegunLine B)) (i : ℕ) (asked : BegunLine B) → Is asked.begun asked.line.now
+        → AreBegun Is group → AreBegun Is (set group i asked)
+    AreBegun-set group i asked new all = All-set (λ (x : BegunLine B). Is x.begun x.line.now) group i asked new all
+
+-- what was written of the answers to some lines was written of those to these lines and others
+answered_before : (Is : List ℕ → List ℕ → Type 0) (a b : Option (List ℕ)) (lines rest others : List (List ℕ))
+    (unwritten : List ℕ) → HasAnswered Is a b lines rest unwritten
+    → HasAnswered Is a b (lines ++ others) (rest ++ others) unwritten
+answered_before Is a b lines rest others unwritten had = grind (arith, append_assoc)
+
+-- a list with an element has one in front of others
+some_before : (rest others : List (List ℕ)) → rest ≢ [] → rest ++ others ≢ []
+some_before [] others some none = some refl
+some_before (x ∷ rest) others some none = cc
+
+module _ (Is : List ℕ → List ℕ → Type 0) where
+  -- a line of a group is answered, or a beginning of its answer was written
+  pub group_more : {B : Type 0} (a b c : Option (List ℕ)) (lines : List (List ℕ)) (group : List (BegunLine B)) (i : ℕ)
+      (asked : BegunLine B) (unwritten : List ℕ) → i < length group → asked ≡ get_or group i asked
+      → HasAnswered Is a b lines (group_lines (drop i group)) [] → HasAnsweredLine Is b c asked.line.now unwritten
+      → HasAnswered Is a c lines (group_lines (drop (i + 1) group)) unwritten
+  group_more a b c lines group i asked unwritten less is had one =
+      answered_more Is a b c lines _ _ unwritten (rw (group_lines-drop group i asked less is) at had) one
+
+  -- lines are answered up to a group: then all of the group, some, or a beginning of its answers is written
+  module _ (a b c : Option (List ℕ)) (lines group others all : List (List ℕ)) (are : all ≡ group ++ others)
+      (had : HasAnswered Is a b lines all []) where
+    pub group_all : HasAnswered Is b c group [] [] → HasAnswered Is a c lines others []
+    group_all each =
+        answered_then Is a b c lines all others [] had
+        (rw are (answered_before Is b c group [] others [] each))
+
+    pub group_some : AnswersSomeOf Is b c group → AnswersSomeOf Is a c lines
+    group_some (rest, some, each) =
+        (
+          rest ++ others,
+          some_before rest others some,
+          answered_then Is a b c lines all _ [] had (rw are (answered_before Is b c group rest others [] each)),
+        )
+
+    pub group_begun : BeginsAnswersOf Is b c group → BeginsAnswersOf Is a c lines
+    group_begun (rest, (unwritten, each)) =
+        (
+          rest ++ others,
+          (
+            unwritten,
+            answered_then Is a b c lines all _ unwritten had
+            (rw are (answered_before Is b c group rest others unwritten each)),
+          ),
+        )

@@ -1,0 +1,14 @@
+use Rattle.lines_engine.proofs.Common.{arith, length, refl, ◌<◌, ◌∙◌}
+use Rattle.lines_engine.proofs.GroupLemmas.{AreBegun-set, group_lines-set}
+use Rattle.lines_engine.proofs.group.advance_each.Goals as goal
+
+pub loop-asked-preserved : goal.loop-asked-preserved
+loop-asked-preserved g c =
+    let less : c.loop-asked.asked-index < length c.loop-asked.group = omega arith in
+    let had = c.loop-asked.invariant.begun c.loop-asked.asked-index c.asked-item.result less in
+    record {
+      begun =
+          AreBegun-set (g.L.Steps.is_begun c.args.answers.now) _ _ _ (c.advance.ensures _ had)
+          c.loop-asked.invariant.begun;
+      lines = group_lines-set _ _ c.asked-item.result _ less refl ∙ c.loop-asked.invariant.lines;
+    }

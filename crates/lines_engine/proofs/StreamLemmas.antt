@@ -8,7 +8,7 @@ use Rattle.std.proofs.Math.Seq.{get_or-append_right}
 use Rattle.std.proofs.lemmas.Bool.{eqb-true}
 use Rattle.std.proofs.lemmas.List.{nil_from_length}
 use Rattle.std.proofs.lemmas.Option.{IfSome_then}
-use Rattle.lines_engine.proofs.RunLemmas.{answered_kept, answered_more, answered_none, answered_one, answered_then}
+use Rattle.lines_engine.proofs.RunLemmas.{answered_kept, answered_none, answered_one, answered_then}
 
 -- a byte that is no end stands in front of the first line
 line_on : (b : ℕ) (text line : List ℕ) (others : List (List ℕ)) → b ≢ 10 → lines_of text ≡ line ∷ others
@@ -58,6 +58,11 @@ module _ (Is : List ℕ → List ℕ → Type 0) where
   some_left a b lines part rest more some had =
       (_, lines-some (part ++ (rest ++ more)) (grind (arith, length-append)), had)
 
+  -- a piece without an end was kept behind a part of a line, and nothing was answered
+  pub all_kept : (a : Option (List ℕ)) (part piece others : List ℕ) → others ≡ part ++ piece → (more : List ℕ)
+      → HasAnswered Is a a (lines_of (part ++ (piece ++ more))) (lines_of (others ++ more)) []
+  all_kept a part piece others is more = rw (is, append_assoc) (answered_none Is a _)
+
   -- some lines were answered, and then not all of the others, or a beginning of their answers was written
   module _ (a b c : Option (List ℕ)) (input : List ℕ) (others : List (List ℕ))
       (had : HasAnswered Is a b (lines_of input) others []) where
@@ -99,19 +104,34 @@ module _ (Is : List ℕ → List ℕ → Type 0) where
     but_unanswered some = but_some b (λ more. some_left b b _ part piece more some (answered_none Is b _))
 
   -- a line ends in a piece, behind a part of it
-  module _ (a b : Option (List ℕ)) (lines : List (List ℕ)) (part piece line behind more : List ℕ)
-      (cut : IsCutAt 10 piece line behind)
-      (had : HasAnswered Is a b lines (lines_of (part ++ (piece ++ more))) []) where
+  module _ (a : Option (List ℕ)) (part piece line behind more : List ℕ) (cut : IsCutAt 10 piece line behind) where
     -- it wasn't answered
-    pub joined_some : AnswersSomeOf Is a b lines
-    joined_some =
-        some_left a b lines part piece more (omega (arith, ap length cut.split, length-append line (10 ∷ behind))) had
+    pub joined_left : AnswersSomeOf Is a a (lines_of (part ++ (piece ++ more)))
+    joined_left =
+        some_left a a _ part piece more (omega (arith, ap length cut.split, length-append line (10 ∷ behind)))
+        (answered_none Is a _)
 
-    -- it was
-    pub piece_more : (c : Option (List ℕ)) (unwritten : List ℕ) → HasNo 10 part
-        → HasAnsweredLine Is b c (part ++ line) unwritten
-        → HasAnswered Is a c lines (lines_of (behind ++ more)) unwritten
-    piece_more c unwritten none one = grind (arith, answered_more, lines-joined)
+    -- a beginning of its answer was written, or all of it
+    pub joined_one : (b : Option (List ℕ)) (unwritten : List ℕ) → HasNo 10 part
+        → HasAnsweredLine Is a b (part ++ line) unwritten
+        → HasAnswered Is a b (lines_of (part ++ (piece ++ more))) (lines_of (behind ++ more)) unwritten
+    joined_one b unwritten none one =
+        rw (lines-joined part piece line behind more none cut) (answered_one Is a b (part ++ line) _ unwritten one)
+
+    -- it was answered, and then all of the lines behind it, some, or a beginning of their answers was written
+    module _ (none : HasNo 10 part) (b c : Option (List ℕ)) (one : HasAnsweredLine Is a b (part ++ line) []) where
+      pub joined_all : (rest : List (List ℕ)) → HasAnswered Is b c (lines_of (behind ++ more)) rest []
+          → HasAnswered Is a c (lines_of (part ++ (piece ++ more))) rest []
+      joined_all rest each = answered_then Is a b c _ _ rest [] (joined_one b [] none one) each
+
+      pub joined_some : AnswersSomeOf Is b c (lines_of (behind ++ more))
+          → AnswersSomeOf Is a c (lines_of (part ++ (piece ++ more)))
+      joined_some (rest, some, each) = (rest, some, joined_all rest each)
+
+      pub joined_begun : BeginsAnswersOf Is b c (lines_of (behind ++ more))
+          → BeginsAnswersOf Is a c (lines_of (part ++ (piece ++ more)))
+      joined_begun (rest, (unwritten, each)) =
+          (rest, (unwritten, answered_then Is a b c _ _ rest unwritten (joined_one b [] none one) each))
 
   -- the last line is answered
   pub line_last : {X E : Type 0} (r : Result X E) (a b : Option (List ℕ)) (part : List ℕ) → HasNo 10 part

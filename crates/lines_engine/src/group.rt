@@ -15,8 +15,9 @@ use std::alloc::{AllocError, Allocator};
 /// The number of lines in a group at most.
 const GROUP: usize = 12;
 
-/// The number of steps that are taken side by side for each line of a group.
-const ROUNDS: usize = 24;
+/// The number of steps that are taken side by side for each line of a group. The call that ends an answer takes the steps
+/// that are left. In measurements of `origins` 8 rounds were faster than 4 and 24.
+const ROUNDS: usize = 8;
 
 /// A line, and what is known of its answer.
 #[derive(Drop)]
@@ -26,6 +27,7 @@ struct BegunLine<'t, B> {
 }
 
 /// Answers each line that ends in `piece`, in groups. Returns the bytes after the last end.
+#[tactic(auto, using(crate::proofs::RunLemmas::answered_none))]
 pub(crate) fn answer_groups<'t, A: Allocator + Copy, L: Steps, W: Sink>(
     alloc: A,
     answers: &L,
@@ -50,16 +52,16 @@ pub(crate) fn answer_groups<'t, A: Allocator + Copy, L: Steps, W: Sink>(
         return Ok(piece);
     }
     let mut group = Vec::with_capacity(alloc, GROUP)?;
-    let mut rest = piece;
+    let mut unanswered = piece;
     loop {
-        let behind = begin_lines(answers, rest, &mut group)?;
+        let behind = begin_lines(answers, unanswered, &mut group)?;
         if group.as_slice().is_empty() {
             return Ok(behind);
         }
         advance_lines(answers, &mut group);
         end_lines(alloc, answers, &group, text, writer)?;
         group.clear();
-        rest = behind;
+        unanswered = behind;
     }
 }
 

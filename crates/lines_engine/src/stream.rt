@@ -253,9 +253,6 @@ fn answer_joined<A: Allocator + Copy, L: Answers, W: Sink>(
         (L.is_answer answers.now) (W.written writer.old) (W.written writer.new) (part.old.items ++ line.now) unwritten }
     ensures not_read { IsErrOf result RunError.Read → ⊥ }
 {
-    if part.as_slice().is_empty() {
-        return answer_line(alloc, answers, line, text, writer);
-    }
     part.extend_from_slice(line)?;
     answer_line(alloc, answers, part.as_slice(), text, writer)?;
     part.clear();

@@ -4,9 +4,6 @@ use Rattle.lines_engine.proofs.GroupLemmas.{front_taken, group_all, group_begun,
 use Rattle.lines_engine.proofs.StreamLemmas.{some_left}
 use Rattle.lines_engine.proofs.group.answer_groups.Goals as goal
 
-pub returns-then-is_empty-clause-answered : goal.returns-then-is_empty-clause-answered
-returns-then-is_empty-clause-answered g c more = answered_none (g.L.Answers.is_answer c.args.answers.now) _ _
-
 -- there was no memory for a group
 pub returns-in_err-group-clause-some_answered : goal.returns-in_err-group-clause-some_answered
 returns-in_err-group-clause-some_answered g c is more =
@@ -23,7 +20,7 @@ loop-group-init g c = record {
 -- there was no memory to begin a line
 pub returns-in_err-behind-clause-some_answered : goal.returns-in_err-behind-clause-some_answered
 returns-in_err-behind-clause-some_answered g c is more =
-    some_left (g.L.Answers.is_answer c.args.answers.now) _ _ _ [] c.loop-group.rest.now more
+    some_left (g.L.Answers.is_answer c.args.answers.now) _ _ _ [] c.loop-group.unanswered.now more
     c.in_err-behind.ensures.some (c.loop-group.invariant.answered more)
 
 pub end_lines-requires-clause-begun : goal.end_lines-requires-clause-begun
@@ -64,7 +61,7 @@ loop-group-preserved g c =
     let again = front_taken c.deref.result.now c.advance_lines.new.group _ _ c.deref.ensures.value len in
     record {
       unmarked = c.in_ok-end_lines.ensures.unmarked ∙ c.loop-group.invariant.unmarked;
-      empty = c.clear.ensures.items;
+      empty = grind (arith, common_steps);
       answered =
           λ more. group_all (g.L.Answers.is_answer c.args.answers.now) _ _ _ _ _ _ _
           (lines_kept _ _ _ _ _ c.deref.result.now (c.in_ok-behind.ensures.lines more) c.deref_mut.ensures.value

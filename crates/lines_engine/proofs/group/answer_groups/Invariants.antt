@@ -1,4 +1,4 @@
--- The lines that end in the piece before the rest are answered, and the answers are written whole.
+-- The lines that end in the piece before what is unanswered are answered, and the answers are written whole.
 use Rattle.lines_engine.proofs.Common.{List, [], length, ℕ, ◌++◌, ◌≡◌, lines_of, HasAnswered}
 use Rattle.lines_engine.proofs.group.answer_groups.Given as goal
 
@@ -8,8 +8,8 @@ invariant-loop-group g l = record {
   empty : l.group.items ≡ [];
   answered : (more : List ℕ)
       → HasAnswered (g.L.Answers.is_answer l.answers) (g.W.Sink.written l.fn.writer) (g.W.Sink.written l.writer)
-      (lines_of (l.fn.piece ++ more)) (lines_of (l.rest ++ more)) [];
+      (lines_of (l.fn.piece ++ more)) (lines_of (l.unanswered ++ more)) [];
 }
 
 abbrev pub decreases-loop-group : goal.decreases-loop-group
-decreases-loop-group g l = length l.rest
+decreases-loop-group g l = length l.unanswered

@@ -1,6 +1,7 @@
 -- Steps on groups of lines.
 use Rattle.lines_engine.proofs.Common.{List, Option, [], ap, append_assoc, arith, drop, get_or, length, length-append}
-use Rattle.lines_engine.proofs.Common.{common_steps, refl, set, suc, sym, take, zero, ℕ, ◌++◌, ◌+◌, ◌<◌, ◌∷◌, ◌≡◌, ◌≢◌, add-one, IsCutAt, lines_of}
+use Rattle.lines_engine.proofs.Common.{common_steps, refl, set, suc, sym, take, zero, ℕ, ◌++◌, ◌+◌, ◌<◌, ◌∷◌, ◌≡◌, ◌≢◌}
+use Rattle.lines_engine.proofs.Common.{add-one, IsCutAt, lines_of}
 use Rattle.lines_engine.proofs.Common.{AnswersSomeOf, BeginsAnswersOf, HasAnswered, HasAnsweredLine, AreBegun}
 use Rattle.lines_engine.proofs.Common.{group_lines}
 use Rattle.std.proofs.lemmas.List.Elements.{All-push, All-set}
@@ -96,20 +97,18 @@ module _ (Is : List ℕ → List ℕ → Type 0) where
         (rw are (answered_before Is b c group [] others [] each))
 
     pub group_some : AnswersSomeOf Is b c group → AnswersSomeOf Is a c lines
-    group_some (rest, some, each) =
-        (
-          rest ++ others,
-          some_before rest others some,
-          answered_then Is a b c lines all _ [] had (rw are (answered_before Is b c group rest others [] each)),
-        )
+    group_some (rest, some, each) = (
+      rest ++ others,
+      some_before rest others some,
+      answered_then Is a b c lines all _ [] had (rw are (answered_before Is b c group rest others [] each)),
+    )
 
     pub group_begun : BeginsAnswersOf Is b c group → BeginsAnswersOf Is a c lines
-    group_begun (rest, (unwritten, each)) =
-        (
-          rest ++ others,
-          (
-            unwritten,
-            answered_then Is a b c lines all _ unwritten had
+    group_begun (rest, (unwritten, each)) = (
+      rest ++ others,
+      (
+        unwritten,
+        answered_then Is a b c lines all _ unwritten had
             (rw are (answered_before Is b c group rest others unwritten each)),
-          ),
-        )
+      ),
+    )

@@ -15,8 +15,10 @@ use std::alloc::{AllocError, Allocator};
 /// The number of lines in a group at most.
 const GROUP: usize = 12;
 
-/// The number of steps that are taken side by side for each line of a group. The call that ends an answer takes the steps
-/// that are left. In measurements of `origins` 8 rounds were faster than 4 and 24.
+/// The number of steps that are taken side by side for each line of a group.
+///
+/// A step of a binary search halves what is left, so 8 steps end a search among up to 255 items. The call that ends an
+/// answer takes the steps that are left.
 const ROUNDS: usize = 8;
 
 /// A line, and what is known of its answer.

@@ -3,7 +3,9 @@
 //! - [`engine::run`] reads the whole input, and then answers each line.
 //! - [`stream::answer_as_read`] answers each line as soon as it has read its end.
 //!
-//! A type that answers a line is a parameter of both ([`answers::Answers`]). This example is in `respath_lines::run`:
+//! A type that answers a line is a parameter of both ([`answers::Answers`]). The second engine needs one that answers
+//! in steps ([`steps::Steps`]). [`steps::OneByOne`] makes one of a type that answers a line by one call. This example
+//! is in `respath_lines::run`:
 //!
 //! ```rust
 //! engine::run(alloc, &Commands, reader, writer)

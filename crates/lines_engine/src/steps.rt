@@ -10,7 +10,7 @@ use std::alloc::{AllocError, Allocator};
 /// An engine begins the answers to several lines. Then it takes the first step for each of them, then the second step
 /// for each, and so on. The reads of memory for one line then don't wait for the reads for another line.
 ///
-/// [`OneByOne`] makes a type of this kind of one that has no steps.
+/// [`OneByOne`] implements this trait for a type that answers a line by one call.
 pub trait Steps: Answers {
     /// What is known of the answer to a line.
     type Begun: Drop;

@@ -16,9 +16,10 @@ use std::alloc::Allocator;
 
 /// Writes to `writer` the answer of `answers` to each line of `reader`, in order, as one line.
 ///
-/// The run answers a line as soon as it has read its end. It keeps only the bytes after the last end, so its memory
-/// grows with the longest line, not with the input. It flushes `writer` once, after the last answer, and after an empty
-/// input. It never repeats a call that failed.
+/// The run answers a line as soon as it has read its end. It takes the steps for up to 12 lines of one read side by
+/// side ([`Steps`]). It keeps only the bytes after the last end, so its memory grows with the longest line, not with
+/// the input. It flushes `writer` once, after the last answer, and after an empty input. It never repeats a call that
+/// failed.
 ///
 /// # Preconditions
 ///

@@ -11,13 +11,12 @@ pub returns-in_err-end_line-clause-some_written : goal.returns-in_err-end_line-c
 returns-in_err-end_line-clause-some_written g c is =
     let same = rw is at c.from_residual.ensures.1 in
     let part = c.in_err-end_line.ensures.some_written (ap Err (sym same)) in
-    let less : c.loop-asked.asked-index < length c.args.group.now = omega arith in
-    (
+    let less : c.loop-asked.asked-index < length c.args.group.now = omega arith in (
       _,
       (
         part.0,
         group_more (g.L.Answers.is_answer c.args.answers.now) _ _ _ _ _ c.loop-asked.asked-index c.asked-item.result
-        part.0 less c.asked-item.is c.loop-asked.invariant.answered part.1,
+            part.0 less c.asked-item.is c.loop-asked.invariant.answered part.1,
       ),
     )
 

@@ -30,13 +30,12 @@ pub returns-in_err-answer_joined-in-Some-clause-some_written :
     goal.returns-in_err-answer_joined-in-Some-clause-some_written
 returns-in_err-answer_joined-in-Some-clause-some_written g c is more =
     let same = rw is at c.from_residual.ensures.1 in
-    let part = c.in_err-answer_joined-in-Some.ensures.some_written (ap Err (sym same)) in
-    (
+    let part = c.in_err-answer_joined-in-Some.ensures.some_written (ap Err (sym same)) in (
       _,
       (
         part.0,
         joined_one (g.L.Answers.is_answer c.args.answers.now) _ c.args.part.now.items c.args.piece.now _ _ more
-        c.in-Some.ensures _ part.0 c.requires.unended part.1,
+            c.in-Some.ensures _ part.0 c.requires.unended part.1,
       ),
     )
 

@@ -6,6 +6,7 @@ use crate::streams::{SliceReader, SliceWriter};
 use lines_engine::adapters::{FromRead, IntoWrite};
 use lines_engine::device::{Sink, Source};
 use lines_engine::error::RunError;
+use lines_engine::steps::OneByOne;
 use lines_engine::stream::answer_as_read;
 use respath_lines::lines::Commands;
 use std::alloc::{Allocator, Global};
@@ -62,7 +63,7 @@ impl Engine {
     {
         match self {
             Engine::Whole => respath_lines::run(alloc, reader, writer),
-            Engine::AsRead => answer_as_read(alloc, &Commands, reader, writer),
+            Engine::AsRead => answer_as_read(alloc, &OneByOne(&Commands), reader, writer),
         }
     }
 }

@@ -47,6 +47,8 @@ use lines_engine::engine::read_to_end as _;
 use lines_engine::engine::run as _;
 use lines_engine::engine::write_all as _;
 use lines_engine::error::RunError as _;
+use lines_engine::steps::OneByOne as _;
+use lines_engine::steps::Steps as _;
 use lines_engine::stream::answer_as_read as _;
 use origins_lines::JsonRoutes as _;
 use origins_lines::Outcome as _;

@@ -10,4 +10,4 @@ pub use Rattle.rpki_text.specs.Cuts.{HasNo, IsCutAt}
 pub use Rattle.rpki_text.specs.Lines.{lines_of}
 pub use Rattle.lines_engine.specs.Run.{AnswersAll, AnswersBut, AnswersFirst, AnswersSomeOf, BeginsAnswers}
 pub use Rattle.lines_engine.specs.Run.{BeginsAnswersOf, HasAnswered, HasAnsweredLine, HasWritten, as_line}
-pub use Rattle.lines_engine.specs.Groups.{AreBegun, group_lines}
+pub use Rattle.lines_engine.specs.Groups.{AnswersAreBegun, group_lines}

@@ -2,7 +2,7 @@
 use Rattle.lines_engine.proofs.Common.{List, Option, [], ap, append_assoc, arith, drop, get_or, length, length-append}
 use Rattle.lines_engine.proofs.Common.{common_steps, refl, set, suc, sym, take, zero, ℕ, ◌++◌, ◌+◌, ◌<◌, ◌∷◌, ◌≡◌, ◌≢◌}
 use Rattle.lines_engine.proofs.Common.{add-one, IsCutAt, lines_of}
-use Rattle.lines_engine.proofs.Common.{AnswersSomeOf, BeginsAnswersOf, HasAnswered, HasAnsweredLine, AreBegun}
+use Rattle.lines_engine.proofs.Common.{AnswersSomeOf, BeginsAnswersOf, HasAnswered, HasAnsweredLine, AnswersAreBegun}
 use Rattle.lines_engine.proofs.Common.{group_lines}
 use Rattle.std.proofs.lemmas.List.Elements.{All-push, All-set}
 use Rattle.std.proofs.Math.Seq.{drop-cons}
@@ -60,13 +60,14 @@ module _ {B : Type 0} where
       rw (are, group_lines-push group asked (lines_of (behind ++ more)), is, ← joined) had
 
   module _ (Is : B → List ℕ → Type 0) where
-    pub AreBegun-push : (group : List (BegunLine B)) (asked : BegunLine B) → AreBegun Is group
-        → Is asked.begun asked.line.now → AreBegun Is (group ++ asked ∷ [])
-    AreBegun-push group asked all new = All-push (λ (x : BegunLine B). Is x.begun x.line.now) group asked all new
+    pub AnswersAreBegun-push : (group : List (BegunLine B)) (asked : BegunLine B) → AnswersAreBegun Is group
+        → Is asked.begun asked.line.now → AnswersAreBegun Is (group ++ asked ∷ [])
+    AnswersAreBegun-push group asked all new = All-push (λ (x : BegunLine B). Is x.begun x.line.now) group asked all new
 
-    pub AreBegun-set : (group : List (BegunLine B)) (i : ℕ) (asked : BegunLine B) → Is asked.begun asked.line.now
-        → AreBegun Is group → AreBegun Is (set group i asked)
-    AreBegun-set group i asked new all = All-set (λ (x : BegunLine B). Is x.begun x.line.now) group i asked new all
+    pub AnswersAreBegun-set : (group : List (BegunLine B)) (i : ℕ) (asked : BegunLine B) → Is asked.begun asked.line.now
+        → AnswersAreBegun Is group → AnswersAreBegun Is (set group i asked)
+    AnswersAreBegun-set group i asked new all =
+        All-set (λ (x : BegunLine B). Is x.begun x.line.now) group i asked new all
 
 -- what was written of the answers to some lines was written of those to these lines and others
 answered_before : (Is : List ℕ → List ℕ → Type 0) (a b : Option (List ℕ)) (lines rest others : List (List ℕ))

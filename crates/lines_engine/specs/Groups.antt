@@ -8,5 +8,5 @@ abbrev pub group_lines : {B : Type 0} → List (BegunLine B) → List (List ℕ)
 group_lines group = map (λ asked. asked.line.now) group
 
 -- Each value of the group is what is known of the answer to its line. `Is` says which values are so for a line.
-abbrev pub AreBegun : {B : Type 0} → (B → List ℕ → Type 0) → List (BegunLine B) → Type 0
-AreBegun Is group = All (λ asked. Is asked.begun asked.line.now) group
+abbrev pub AnswersAreBegun : {B : Type 0} → (B → List ℕ → Type 0) → List (BegunLine B) → Type 0
+AnswersAreBegun Is group = All (λ asked. Is asked.begun asked.line.now) group

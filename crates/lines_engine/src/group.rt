@@ -2,7 +2,7 @@
 ghost use Rattle.std.specs.Prelude.{◌≡◌, ◌<◌, ◌≤◌, ◌+◌, ◌++◌, length, ℕ, List, [], false, true, vec_len, IfOk, OnErr, OnOk, IsErrOf};
 ghost use Rattle.rpki_text.specs.Cuts.{HasNo};
 ghost use Rattle.rpki_text.specs.Lines.{lines_of};
-ghost use Rattle.lines_engine.specs.Groups.{AreBegun, group_lines};
+ghost use Rattle.lines_engine.specs.Groups.{AnswersAreBegun, group_lines};
 ghost use Rattle.lines_engine.specs.Run.{AnswersSomeOf, BeginsAnswersOf, HasAnswered, HasAnsweredLine};
 
 use crate::device::Sink;
@@ -75,7 +75,7 @@ fn begin_lines<'t, A: Allocator, L: Steps>(
     group: &mut Vec<BegunLine<'t, L::Begun>, A>,
 ) -> Result<&'t [u8], AllocError>
     requires { group.old.items ≡ [] }
-    ensures begun { AreBegun (L.is_begun answers.now) group.new.items }
+    ensures begun { AnswersAreBegun (L.is_begun answers.now) group.new.items }
     ensures lines { IfOk result (λ rest. (more : List ℕ) → lines_of (text.now ++ more) ≡
         group_lines group.new.items ++ lines_of (rest.now ++ more)) }
     ensures all { IfOk result (λ rest. group.new.items ≡ [] → HasNo 10 rest.now) }
@@ -96,8 +96,8 @@ fn begin_lines<'t, A: Allocator, L: Steps>(
 
 /// Takes the next steps for each line of `group`, side by side.
 fn advance_lines<L: Steps>(answers: &L, group: &mut [BegunLine<'_, L::Begun>])
-    requires { AreBegun (L.is_begun answers.now) group.old }
-    ensures begun { AreBegun (L.is_begun answers.now) group.new }
+    requires { AnswersAreBegun (L.is_begun answers.now) group.old }
+    ensures begun { AnswersAreBegun (L.is_begun answers.now) group.new }
     ensures lines { group_lines group.new ≡ group_lines group.old }
 {
     for _ in 0..ROUNDS {
@@ -107,8 +107,8 @@ fn advance_lines<L: Steps>(answers: &L, group: &mut [BegunLine<'_, L::Begun>])
 
 /// Takes the next step for each line of `group`.
 fn advance_each<L: Steps>(answers: &L, group: &mut [BegunLine<'_, L::Begun>])
-    requires { AreBegun (L.is_begun answers.now) group.old }
-    ensures begun { AreBegun (L.is_begun answers.now) group.new }
+    requires { AnswersAreBegun (L.is_begun answers.now) group.old }
+    ensures begun { AnswersAreBegun (L.is_begun answers.now) group.new }
     ensures lines { group_lines group.new ≡ group_lines group.old }
 {
     for asked in group.iter_mut() {
@@ -125,7 +125,7 @@ fn end_lines<A: Allocator + Copy, L: Steps, W: Sink>(
     writer: &mut W,
 ) -> Result<(), RunError>
     requires clear { W.mark writer.old ≡ false }
-    requires begun { AreBegun (L.is_begun answers.now) group.now }
+    requires begun { AnswersAreBegun (L.is_begun answers.now) group.now }
     ensures unmarked { OnOk result (W.mark writer.new ≡ W.mark writer.old) }
     ensures answered { OnOk result (HasAnswered (L.is_answer answers.now) (W.written writer.old)
         (W.written writer.new) (group_lines group.now) [] []) }

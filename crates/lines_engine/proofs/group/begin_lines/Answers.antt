@@ -1,5 +1,5 @@
 use Rattle.lines_engine.proofs.Common.{arith, refl}
-use Rattle.lines_engine.proofs.GroupLemmas.{AreBegun-push, cut_shorter, lines_begun}
+use Rattle.lines_engine.proofs.GroupLemmas.{AnswersAreBegun-push, cut_shorter, lines_begun}
 use Rattle.lines_engine.proofs.group.begin_lines.Goals as goal
 
 pub loop-rest-preserved : goal.loop-rest-preserved
@@ -8,7 +8,7 @@ loop-rest-preserved g c =
     record {
       begun =
           rw items
-          (AreBegun-push (g.L.Steps.is_begun c.args.answers.now) _ _ c.loop-rest.invariant.begun
+          (AnswersAreBegun-push (g.L.Steps.is_begun c.args.answers.now) _ _ c.loop-rest.invariant.begun
           c.begin-begun.ensures);
       lines =
           λ more. lines_begun c.args.text.now c.loop-rest.rest.now c.in-Some.line.now c.in-Some.behind.now more

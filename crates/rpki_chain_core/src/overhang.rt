@@ -152,8 +152,8 @@ fn ends_within<T: Block>(own: &[T], other: &[T]) -> bool
     own_end <= other_end
 }
 
-/// Returns the first block of `own` that doesn't lie in `other`, or None if each block does. Each block of `own` ends no
-/// later than some block of `other`.
+/// Returns the first block of `own` that doesn't lie in `other`, or None if each block does. Each block of `own` ends
+/// no later than some block of `other`.
 fn overhang_within<T: Block>(own: &[T], other: &[T]) -> Option<Overhang<T::Item>>
     requires own_chain { IsChain T.bounds T.form own.now }
     requires other_chain { IsChain T.bounds T.form other.now }

@@ -2,7 +2,7 @@
 ghost use Rattle.std.specs.Prelude.{◌≡◌};
 ghost use Rattle.origins_lines.specs.Outcomes.{IsOutcomeOf, asked_asn, outcome_text};
 
-use roa_origin::{Lookup, Validity};
+use roa_origin::{Lookup, Validity, ValidityAndAsn};
 use rpki_base::Asn;
 use std::fmt;
 
@@ -53,16 +53,19 @@ pub fn asked_asn(origin: Option<Asn>) -> Asn
 
 /// Returns the outcome for the route that is looked up, by the VRPs of the table.
 ///
-/// An invalid route needs two results of the lookup. Call [`Lookup::advance_to_end`] before, so that both begin where
-/// one search ended.
+/// One pass over the VRPs that cover the route finds the outcome ([`Lookup::validity_and_asn`]).
 pub fn outcome_of(lookup: &Lookup<'_>) -> Outcome
     ensures { IsOutcomeOf lookup.now.route lookup.now.asn lookup.now.vrps result }
 {
-    match lookup.validity() {
+    let ValidityAndAsn {
+        validity,
+        has_covering_asn,
+    } = lookup.validity_and_asn();
+    match validity {
         Validity::Valid => Outcome::Valid,
         Validity::NotFound => Outcome::NotFound,
         Validity::Invalid => {
-            if lookup.has_covering_asn() {
+            if has_covering_asn {
                 Outcome::InvalidLength
             } else {
                 Outcome::InvalidAs

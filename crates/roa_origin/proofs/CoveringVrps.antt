@@ -1,15 +1,17 @@
 -- The VRPs that cover a route, among the first of a table.
-use Rattle.roa_origin.proofs.Common.{List, [], ap, arith, false, get_or, length, refl, reverse, suc, sym, true, zero, ℕ}
-use Rattle.roa_origin.proofs.Common.{◌+◌, ◌-◌, ◌<◌, ◌↔◌, ◌∙◌, ◌∷◌, ◌≡◌, ◌≤◌, ◌⊎◌, and_parts, eq-eqb, eqb-true}
+use Rattle.roa_origin.proofs.Common.{Bool, List, [], ap, arith, false, get_or, length, refl, reverse, suc, true, zero}
+use Rattle.roa_origin.proofs.Common.{ℕ, ◌+◌, ◌-◌, ◌<◌, ◌↔◌, ◌∙◌, ◌∷◌, ◌≡◌, ◌≤◌, ◌⊎◌, and_parts, eq-eqb, eqb-true}
 use Rattle.roa_origin.proofs.Common.{le-leb, leb-true, append-nil, reverse-append, reverse-reverse, take_all}
-use Rattle.roa_origin.proofs.Common.{All-filter}
-use Rattle.roa_origin.proofs.Common.{filter_more, filter_passes, IsNonDecreasingBy-filter, filter, IsNonDecreasingBy}
-use Rattle.roa_origin.proofs.Common.{covers_round, round_covers, FamilyPrefix, IsFamilyPrefix, AreThose, IsWalk}
-use Rattle.roa_origin.proofs.Common.{IsCoveringWalk, covering_before, covers_route, AreLater, IsInOrder, IsLink}
+use Rattle.roa_origin.proofs.Common.{All-filter, filter_more, filter_passes, IsNonDecreasingBy-filter, filter}
+use Rattle.roa_origin.proofs.Common.{IsNonDecreasingBy, covers_round, round_covers, FamilyPrefix, IsFamilyPrefix}
+use Rattle.roa_origin.proofs.Common.{AreThose, IsWalk, IsCoveringWalk, covering_before, covers_route, IsInOrder, IsLink}
 use Rattle.roa_origin.proofs.Common.{NoneCovers, CoversRoute, Vrp, prefix_len, table_place, vrp_place, Link}
 use Rattle.roa_origin.proofs.NestedRoutes.{covers_between, same_width}
 use Rattle.roa_origin.proofs.OrderNumbers.{covers_len, covers_place}
 use Rattle.roa_origin.proofs.LinkSteps.{covers_through}
+use Rattle.roa_origin.specs.Coverings.{IsNearest}
+use Rattle.roa_origin.specs.Links.{AreUpTo, IsTable}
+use Rattle.roa_origin.specs.Lookups.{IsLookupBetween}
 use Rattle.roa_origin.proofs.LinkWalks.{later_covers_none, no_link, nowhere, passes_none, prefix_of}
 
 -- the test tells whether the VRP covers the route
@@ -43,18 +45,17 @@ module _ (route : FamilyPrefix) (xs : List Vrp) where
       rw (filter_more (covers_route route) xs k d small, fails, append-nil) refl
 
   -- places at which none covers the route give none
-  pub none_between : (n to from : ℕ) → to ≡ from + n → to ≤ length xs → NoneCovers xs route from to
+  none_between : (n to from : ℕ) → to ≡ from + n → to ≤ length xs → NoneCovers xs route from to
       → covering_before route xs to ≡ covering_before route xs from
   none_between zero to from far high none = ap (covering_before route xs) (let e : to ≡ from = omega arith in e)
   none_between (suc n) to from far high none =
       let on : to ≡ from + n + 1 = omega (arith, far) in
       rw on (grind (arith, free_step (from + n) nowhere, none (from + n) nowhere, none_between n (from + n) from))
 
-  -- what comes later than the route doesn't cover it: those before it are all that do
-  pub all_before : (n : ℕ) → IsInOrder xs → IsFamilyPrefix route → n ≤ length xs → AreLater xs n route
+  -- where none from a place on covers the route, those before it are all that do
+  pub all_before : (n : ℕ) → n ≤ length xs → NoneCovers xs route n (length xs)
       → reverse (covering_before route xs n) ≡ filter (covers_route route) xs
-  all_before n order is high later =
-      let none = later_covers_none route xs n order is later in
+  all_before n high none =
       let all = none_between (length xs - n) (length xs) n (omega arith) (omega arith) none in
       rw (← all, take_all (length xs) xs (omega arith), reverse-reverse)
 
@@ -72,14 +73,26 @@ pub by_place : (route : FamilyPrefix) (xs : List Vrp) → IsInOrder xs
     → IsNonDecreasingBy table_place (filter (covers_route route) xs)
 by_place route xs is = IsNonDecreasingBy-filter table_place (covers_route route) xs is.ranked
 
--- a pass begins at the nearest VRP that covers the route: the VRPs behind it don't cover the route
-module _ {xs : List Vrp} {links : List Link} {n at : ℕ} {route : FamilyPrefix} (walk : IsWalk xs links n route)
-    (back : at ≤ n) where
-  pub walk_near : ((d : Vrp) → 0 < at → CoversRoute route (get_or xs (at - 1) d)) → IsCoveringWalk xs links at route
-  walk_near found = grind (arith, found, back)
+-- a pass begins at the nearest VRP that covers the route: that which the search found
+pub near_found : {xs : List Vrp} {links : List Link} {route : FamilyPrefix} {n : ℕ} → IsTable xs links
+    → IsFamilyPrefix route → n ≤ length xs → AreUpTo xs n route → NoneCovers xs route n (length xs)
+    → ((d : Vrp) → 0 < n → CoversRoute route (get_or xs (n - 1) d)) → IsNearest xs links n route
+near_found table is within up_to none found = record {
+  pass = record {
+    walk = record { table = table; within = within; up_to = up_to; is_prefix = is };
+    next = found;
+  };
+  none = none;
+}
 
-  pub none_passed : NoneCovers xs route at n → covering_before route xs at ≡ covering_before route xs n
-  none_passed none = sym (none_between route xs (n - at) n at (omega (arith, back)) walk.within none)
+-- or that which was read at its end
+pub near_read : {xs : List Vrp} {links : List Link} {route : FamilyPrefix} {from to : ℕ} {covers : Bool} {l : Link}
+    → IsLookupBetween xs links from to route covers l → covers ≡ true → IsNearest xs links from route
+near_read {xs} {links} {route} h is_read =
+    let read = h.read is_read in
+    let later = later_covers_none route xs _ h.table.in_order h.is_prefix h.between.later in
+    near_found h.table h.is_prefix (omega (arith, h.between.ordered, h.between.within)) h.between.up_to
+    (λ k d from small inside. later k d (omega (arith, from, read.ended)) small inside) (λ d some. read.covers d)
 
 -- the next step of a pass: what is left is what the link of the VRP leaves
 module _ {xs : List Vrp} {links : List Link} {at : ℕ} {route : FamilyPrefix} (pass : IsCoveringWalk xs links at route)

@@ -1,9 +1,11 @@
 -- The first bits of addresses: how many numbers they write, and that they follow the order of places. So a prefix is
 -- sought between two places.
-use Rattle.roa_origin.proofs.Common.{List, [], arith, get_or, length, lit≤, slice_index, subst, ℕ, ◌*◌, ◌+◌, ◌-◌, ◌/◌}
-use Rattle.roa_origin.proofs.Common.{◌<◌, ◌^◌, ◌≡◌, ◌≤◌, ◌++◌, ◌∷◌, common_steps, get_or_default, le-div, pow_pos}
-use Rattle.roa_origin.proofs.Common.{shr_below, FamilyPrefix, IsFamilyPrefix, address_number, width, IsInOrder, Vrp}
-use Rattle.roa_origin.proofs.Common.{vrp_place, place, IsStart, first_bits, Link}
+use Rattle.roa_origin.proofs.Common.{Bool, List, [], arith, get_or, true, length, lit≤, slice_index, subst, ℕ, ◌*◌, ◌+◌}
+use Rattle.roa_origin.proofs.Common.{◌-◌, ◌/◌, cases_lt, slice_range, AreLater, AreUpTo, IsSearched, ◌<◌, ◌^◌, ◌≡◌, ◌≤◌}
+use Rattle.roa_origin.proofs.Common.{◌++◌, ◌∷◌, common_steps, get_or_default, le-div, pow_pos, shr_below, FamilyPrefix}
+use Rattle.roa_origin.proofs.Common.{IsFamilyPrefix, address_number, width, IsInOrder, Vrp, vrp_place, place, IsStart}
+use Rattle.roa_origin.proofs.Common.{first_bits, Link}
+use Rattle.roa_origin.proofs.PrefixGroups.{piece_at, piece_length}
 use Rattle.std.proofs.Math.Nat.{div-mul-le_self, pow-le-pow_right}
 use Rattle.roa_origin.proofs.NestedRoutes.{len_small}
 use Rattle.roa_origin.proofs.LinkWalks.{nowhere, prefix_of}
@@ -55,14 +57,39 @@ between_starts n xs starts p number are order is same below =
     }
 
 -- and then by what stands in the middle
-module _ {xs : List Vrp} {links : List Link} {from to : ℕ} {p : FamilyPrefix}
-    (h : IsLookupBetween xs links from to p) (m : ℕ) (d : Vrp) (le : from ≤ m) (small : m < to) where
+module _ {xs : List Vrp} {links : List Link} {from to : ℕ} {p : FamilyPrefix} {covers : Bool} {l : Link}
+    (h : IsLookupBetween xs links from to p covers l) (m : ℕ) (d : Vrp) (le : from ≤ m) (small : m < to) where
+  -- the last VRP wasn't read before
+  unread : ¬ (covers ≡ true)
+  unread e = (let same = (h.read e).ended in absurd (omega (arith, same, le, small)))
+
   -- where that comes no later, the prefix is sought behind it
-  pub behind_middle : vrp_place (get_or xs m d) ≤ place p → IsLookupBetween xs links (m + 1) to p
+  pub behind_middle : vrp_place (get_or xs m d) ≤ place p → IsLookupBetween xs links (m + 1) to p covers l
   behind_middle before =
+      let between : IsBetween xs (m + 1) to p =
       grind (arith, get_or_default xs m d, h.between.later, h.between.within, λ (k : ℕ). h.table.in_order.ordered k m)
+      in record { table = h.table; is_prefix = h.is_prefix; between = between; read = λ e. absurd (unread e) }
 
   -- and where it comes later, before it
-  pub before_middle : place p < vrp_place (get_or xs m d) → IsLookupBetween xs links from m p
+  pub before_middle : place p < vrp_place (get_or xs m d) → IsLookupBetween xs links from m p covers l
   before_middle after =
+      let between : IsBetween xs from m p =
       grind (arith, get_or_default xs m d, h.between.up_to, h.between.within, h.table.in_order.ordered m)
+      in record { table = h.table; is_prefix = h.is_prefix; between = between; read = λ e. absurd (unread e) }
+
+-- a search between the two tells how many come no later
+pub counted_between : {xs : List Vrp} {from to : ℕ} {p : FamilyPrefix} → IsBetween xs from to p → (n : ℕ)
+    → n ≤ length (slice_range xs from to) → IsSearched vrp_place (slice_range xs from to) (place p + 1) n
+    → (from + n ≤ length xs) × AreUpTo xs (from + n) p × AreLater xs (from + n) p
+counted_between {xs} {from} {to} {p} between n bound searched =
+    let wide = piece_length xs from to between.within in
+    let piece = piece_at xs from to in (
+      omega (arith, wide, bound, between.ordered, between.within),
+      (λ k d small.
+          let before = searched.before (k - from) d in
+          let front = between.up_to k d in
+          grind (arith, cases_lt k from, piece k d)),
+      (λ k d over small.
+          let behind = searched.from (k - from) d in
+          grind (arith, cases_lt k to, piece k d, between.later k d)),
+    )

@@ -3,6 +3,7 @@ use Rattle.roa_origin.proofs.Common.{List, None, [], arith, get_or, length, leng
 use Rattle.roa_origin.proofs.Common.{◌-◌, ◌<◌, ◌∙◌, ◌∷◌, ◌≡◌, ◌≤◌, cases_lt, get_or_append_left, get_or_default}
 use Rattle.roa_origin.proofs.Common.{get_or_push, V4, CoversPrefix, FamilyPrefix, IsFamilyPrefix, AreLater, AreLinks}
 use Rattle.roa_origin.proofs.Common.{AreUpTo, IsInOrder, IsLink, NoneCovers, Vrp, prefix_len, Link}
+use Rattle.roa_origin.specs.Vrps.{IsCoveringLimit}
 use Rattle.roa_origin.proofs.NestedRoutes.{covers_between}
 use Rattle.roa_origin.proofs.OrderNumbers.{covers_len, covers_place, no_earlier, same_prefix}
 
@@ -17,6 +18,14 @@ nowhere = (record { prefix = record { addr = V4 0; len = 0 }; max_len = None }, 
 
 abbrev pub no_link : Link
 no_link = record { first = 0; back = 0 }
+
+-- a VRP as it is read
+pub read_at : (xs : List Vrp) (k : ℕ) (d x : Vrp) → k < length xs → x ≡ get_or xs k x → get_or xs k d ≡ x
+read_at xs k d x small is = get_or_default xs k d x small ∙ sym is
+
+-- and a link
+pub read_link : (links : List Link) (k : ℕ) → k < length links → (e : Link) → get_or links k e ≡ get_or links k no_link
+read_link links k small e = get_or_default links k e no_link small
 
 -- how many steps a walk takes at most from the first n VRPs on: one more than the last one's prefix has bits
 abbrev pub steps : List Vrp → ℕ → ℕ
@@ -88,3 +97,8 @@ linked_more xs links at l as_many linked new i d e small =
 pub later_covers_none : (route : FamilyPrefix) (xs : List Vrp) (n : ℕ) → IsInOrder xs → IsFamilyPrefix route
     → AreLater xs n route → NoneCovers xs route n (length xs)
 later_covers_none route xs n order is later k d from before small covers = grind (arith, covers_place, prefix_of)
+
+-- a prefix that covers another, and is no shorter than the limit for that, doesn't cover the route
+pub too_long : (x y route : FamilyPrefix) (limit : ℕ) → IsFamilyPrefix x → CoversPrefix x y
+    → IsCoveringLimit y route limit → limit ≤ x.len → ¬ CoversPrefix x route
+too_long x y route limit is above tells long covers = absurd (omega (arith, (tells x is above).0 covers, long))

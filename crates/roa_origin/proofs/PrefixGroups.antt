@@ -61,3 +61,36 @@ module _ (route : FamilyPrefix) (xs : List Vrp) (asn : ℕ) (group : IsGroup rou
       let other = group.vrps (n - 1) d in
       let up = group.ranked k (n - 1) d in
       grind (arith, leb-false, leb-true, rank_asn, rank_longest, point.0 (n - 1) d, point.1 k d)
+
+  -- the last VRP has the lowest AS number: if that isn't below the route's, all are counted
+  pub last_of_all : (x : Vrp) → 0 < length xs → x ≡ get_or xs (length xs - 1) x → asn ≤ x.1
+      → IsLastOf asn xs (length xs)
+  last_of_all x some is from k d small same =
+      let one = group.vrps k d in
+      let other = group.vrps (length xs - 1) d in
+      let up = group.ranked k (length xs - 1) d in
+      grind (arith, rank_asn, rank_longest, get_or_default xs (length xs - 1) d x)
+
+-- the first VRPs of a group are a group
+module _ (xs : List Vrp) (m : ℕ) (within : m ≤ length xs) where
+  in_front : (k : ℕ) (d : Vrp) → k < length (slice_range xs 0 m) → get_or (slice_range xs 0 m) k d ≡ get_or xs k d
+  in_front k d small = grind (arith, piece_length xs 0 m within, in_piece xs 0 m k d)
+
+  pub group_front : (route : FamilyPrefix) → IsGroup route xs → IsGroup route (slice_range xs 0 m)
+  group_front route all =
+      let len = piece_length xs 0 m within in record {
+        vrps = λ k d small. rw (in_front k d small) (all.vrps k d (omega (arith, len, small, within)));
+        covers = λ k d small. rw (in_front k d small) (all.covers k d (omega (arith, len, small, within)));
+        ranked = λ i j d le small.
+            rw (in_front i d (omega (arith, small, le)), in_front j d small)
+            (all.ranked i j d le (omega (arith, len, small, within)));
+      }
+
+-- and the VRP to ask of these is that of the group, if the last one's AS number is below the route's
+pub last_of_front : (xs : List Vrp) (asn m n : ℕ) (x : Vrp) → m + 1 ≡ length xs → x ≡ get_or xs m x → x.1 < asn
+    → n ≤ m → IsLastOf asn (slice_range xs 0 m) n → IsLastOf asn xs n
+last_of_front xs asn m n x whole is below within last k d small same =
+    let len = piece_length xs 0 m (omega (arith, whole)) in
+    let here = last k d in
+    let other = in_piece xs 0 m (n - 1) d in
+    grind (arith, get_or_default xs m d x, in_piece xs 0 m k d)

@@ -5,7 +5,7 @@ use Rattle.std.specs.Prelude.{slice_index_or}
 use Rattle.std.specs.List.{filter}
 use Rattle.rpki_prefix.specs.Order.{last_bits}
 use Rattle.rpki_prefix.specs.Values.{FamilyPrefix, IsFamilyPrefix, address_number, width}
-use Rattle.roa_origin.specs.Links.{AreUpTo, IsTable}
+use Rattle.roa_origin.specs.Links.{AreUpTo, IsTable, NoneCovers}
 use Rattle.roa_origin.specs.Vrps.{CoversRoute, Vrp}
 use Rattle.roa_origin.specs.declared.links.Link.{Link}
 
@@ -36,3 +36,8 @@ pub record IsWalk (xs : List Vrp) (links : List Link) (n : ℕ) (route : FamilyP
 pub record IsCoveringWalk (xs : List Vrp) (links : List Link) (n : ℕ) (route : FamilyPrefix) : Type 0 where
   pub walk : IsWalk xs links n route
   pub next : (d : Vrp) → 0 < n → CoversRoute route (slice_index_or xs (n - 1) d)
+
+-- a pass that begins at the nearest VRP that covers the route: no VRP behind the first n covers it
+pub record IsNearest (xs : List Vrp) (links : List Link) (n : ℕ) (route : FamilyPrefix) : Type 0 where
+  pub pass : IsCoveringWalk xs links n route
+  pub none : NoneCovers xs route n (length xs)

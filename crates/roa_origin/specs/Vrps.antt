@@ -1,7 +1,7 @@
 -- VRPs (validated ROA payloads), and the routes that they cover and match (RFC 6811, 2; RFC 9582, 4.3).
-use Rattle.std.specs.Prelude.{◌≡◌, ◌≢◌, ℕ, ◌≤◌, ◌<◌, ◌^◌}
+use Rattle.std.specs.Prelude.{◌≡◌, ◌≢◌, ℕ, ◌↔◌, ◌≤◌, ◌<◌, ◌^◌}
 use Rattle.rpki_prefix.specs.MaxLen.{IsMaxLenPrefix, MaxLenValue, resolved}
-use Rattle.rpki_prefix.specs.Values.{FamilyPrefix, CoversPrefix}
+use Rattle.rpki_prefix.specs.Values.{FamilyPrefix, CoversPrefix, IsFamilyPrefix}
 
 -- the value of a VRP in contracts: a prefix with a maximum length, and the number of the AS that may originate routes
 -- to it
@@ -24,6 +24,11 @@ prefix_len vrp = vrp.0.prefix.len
 -- the VRP's prefix covers the route's (RFC 6811, 2: 'Covered')
 abbrev pub CoversRoute : FamilyPrefix → Vrp → Type 0
 CoversRoute route vrp = CoversPrefix vrp.0.prefix route
+
+-- a prefix that covers p covers the route too, if and only if its length is below the limit
+abbrev pub IsCoveringLimit : FamilyPrefix → FamilyPrefix → ℕ → Type 0
+IsCoveringLimit p route limit =
+    (q : FamilyPrefix) → IsFamilyPrefix q → CoversPrefix q p → CoversPrefix q route ↔ (q.len < limit)
 
 -- the VRP covers the route, the route is no longer than the VRP allows, and the route's AS is the VRP's and is not AS0
 -- (RFC 6811, 2: 'Matched')

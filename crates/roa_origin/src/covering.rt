@@ -1,9 +1,7 @@
 //! The VRPs that cover a route: they explain its validity (RFC 6811, 2).
-ghost use Rattle.std.specs.Prelude.{◌≡◌};
 ghost use Rattle.std.specs.Iterator.{YieldsFirst, item_count};
-ghost use Rattle.roa_origin.specs.Coverings.{IsWalk, covering_before};
 
-use crate::links::{Link, nearest};
+use crate::links::Link;
 use crate::packed_vrp::PackedVrp;
 use crate::route_key::RouteKey;
 use crate::vrp::Vrp;
@@ -16,10 +14,10 @@ use std::marker::Model;
 /// for C.
 #[derive(Drop)]
 pub struct Covering<'a> {
-    vrps: &'a [PackedVrp],
-    links: &'a [Link],
-    at: usize,
-    route: RouteKey,
+    pub(crate) vrps: &'a [PackedVrp],
+    pub(crate) links: &'a [Link],
+    pub(crate) at: usize,
+    pub(crate) route: RouteKey,
 }
 
 impl<'a> Model for Covering<'a> {
@@ -32,31 +30,6 @@ impl<'a> Model for Covering<'a> {
     ghost view = { λ c. covering_before c.route.0 c.vrps.now c.at };
 
     ghost invariant = { λ c. IsCoveringWalk c.vrps.now c.links.now c.at c.route.0 };
-}
-
-impl<'a> Covering<'a> {
-    /// Returns the iterator over the covering VRPs among the first `up_to` VRPs of a table.
-    ///
-    /// The nearest one is found here. From it the links lead to all others, since each link leads to a VRP that covers
-    /// what the VRP before covers.
-    #[tactic(auto, using(crate::proofs::CoveringVrps::walk_near))]
-    pub(crate) fn from(
-        vrps: &'a [PackedVrp],
-        links: &'a [Link],
-        up_to: usize,
-        route: RouteKey,
-    ) -> Covering<'a>
-        requires { IsWalk vrps.now links.now up_to route.0 }
-        ensures { result ≡ covering_before route.0 vrps.now up_to }
-    {
-        let at = nearest(vrps, links, up_to, &route);
-        Covering {
-            vrps,
-            links,
-            at,
-            route,
-        }
-    }
 }
 
 /// Prints the route's prefix, and not the VRPs that are left.
@@ -75,12 +48,19 @@ impl Iterator for Covering<'_> {
 
     ghost remaining = { item_count (λ vrps. vrps) };
 
+    /// Returns the next VRP. The VRP before it is next if it has the same prefix, and otherwise the one that its link
+    /// leads to.
     fn next(&mut self) -> Option<Vrp> {
         if self.at == 0 {
             return None;
         }
         let last = self.at - 1;
-        self.at = self.links[last].left(last);
+        let Link { first, back } = self.links[last];
+        self.at = if (first as usize) < last {
+            last
+        } else {
+            back as usize
+        };
         Some(self.vrps[last].vrp())
     }
 }

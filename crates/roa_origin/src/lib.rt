@@ -51,6 +51,6 @@ pub use lookup::Lookup;
 pub use reevaluation::changed_routes;
 pub use table::OriginTable;
 pub use updates::ChangeFault;
-pub use validation::{Validity, origin};
+pub use validation::{Validity, ValidityAndAsn, origin};
 pub use vrp::Vrp;
 pub use vrp_table::VrpTable;

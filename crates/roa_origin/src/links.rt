@@ -1,5 +1,5 @@
 //! The links of a table's VRPs, by which a lookup gets from a prefix to the shorter ones that cover it.
-ghost use Rattle.std.specs.Prelude.{◌≡◌, ◌-◌, ◌^◌, ◌<◌, ◌≤◌, ◌⊎◌, IfOk, length, slice_index_or};
+ghost use Rattle.std.specs.Prelude.{◌≡◌, ◌-◌, ◌^◌, ◌<◌, ◌≤◌, IfOk, length, slice_index_or};
 ghost use Rattle.rpki_prefix.specs.Values.{IsFamilyPrefix};
 ghost use Rattle.roa_origin.specs.Links.{AreLinks, AreUpTo, IsInOrder, IsLink, IsTable, NoneCovers};
 ghost use Rattle.roa_origin.specs.Vrps.{CoversRoute, Vrp};
@@ -21,23 +21,10 @@ pub(crate) struct Link {
     pub(crate) back: u32,
 }
 
-impl Link {
-    /// Returns how many VRPs before index `at` are left to a lookup. The link is that of the VRP at `at`.
-    ///
-    /// All are left if the VRP before has the same prefix. Otherwise the VRPs that can't cover what this one covers are
-    /// passed over.
-    pub(crate) fn left(self, at: usize) -> usize
-        ensures { ((result ≡ at) × (self.first < at))
-            ⊎ ((result ≡ self.back) × (at ≤ self.first)) }
-    {
-        let first = self.first as usize;
-        if first < at { at } else { self.back as usize }
-    }
-}
-
 /// Returns how many of the first `from` VRPs are left after the last ones that don't cover the route are dropped.
 ///
-/// Each step gets to a shorter prefix, so there are at most 129 steps.
+/// Each step leads to a prefix that covers the one before it. So the call compares the last VRP with the route, and
+/// after that compares lengths only. Each step gets to a shorter prefix, so there are at most 129 steps.
 pub(crate) fn nearest(vrps: &[PackedVrp], links: &[Link], from: usize, route: &RouteKey) -> usize
     requires in_order { IsInOrder vrps.now }
     requires is_prefix { IsFamilyPrefix route.now.0 }
@@ -50,11 +37,12 @@ pub(crate) fn nearest(vrps: &[PackedVrp], links: &[Link], from: usize, route: &R
     ensures found { (d : Vrp) → 0 < result →
         CoversRoute route.now.0 (slice_index_or vrps.now (result - 1) d) }
 {
+    if from == 0 {
+        return 0;
+    }
+    let limit = vrps[from - 1].covering_limit(route);
     let mut at = from;
-    while at > 0 {
-        if vrps[at - 1].covers(route) {
-            break;
-        }
+    while at > 0 && !vrps[at - 1].is_shorter_than(limit) {
         at = links[at - 1].back as usize;
     }
     at

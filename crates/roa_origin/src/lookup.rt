@@ -1,20 +1,20 @@
 //! A lookup of a route in a table, step by step.
-ghost use Rattle.std.specs.Prelude.{◌≡◌, ◌≤◌, ◌↔◌, IsTrue, length, reverse};
+ghost use Rattle.std.specs.Prelude.{◌≡◌, ◌-◌, ◌<◌, ◌≤◌, ◌↔◌, IsTrue, length, nat_le, reverse, slice_index_or};
 ghost use Rattle.std.specs.List.Sorted.{IsNonDecreasingBy};
 ghost use Rattle.rpki_prefix.specs.Values.{IsFamilyPrefix};
 ghost use Rattle.roa_origin.specs.Coverings.{AreThose};
-ghost use Rattle.roa_origin.specs.Links.{AreLater, AreUpTo, IsTable};
-ghost use Rattle.roa_origin.specs.Places.{table_place};
+ghost use Rattle.roa_origin.specs.Links.{AreLater, AreUpTo, IsBetween, IsTable, NoneCovers};
+ghost use Rattle.roa_origin.specs.Places.{place, table_place, vrp_place};
 ghost use Rattle.roa_origin.specs.Starts.{AreStarts};
 ghost use Rattle.roa_origin.specs.Validities.{HasCoveringAsn, IsValidity};
-ghost use Rattle.roa_origin.specs.Vrps.{CoversRoute, prefix_len};
+ghost use Rattle.roa_origin.specs.Vrps.{CoversRoute, Vrp, prefix_len};
 
 use crate::covering::Covering;
-use crate::links::Link;
+use crate::links::{Link, nearest};
 use crate::packed_vrp::PackedVrp;
 use crate::route_key::RouteKey;
-use crate::table::{count_between, has_covering_asn_in, validity_in};
-use crate::validation::Validity;
+use crate::table::validity_by;
+use crate::validation::{Validity, ValidityAndAsn};
 use std::fmt;
 use std::marker::Model;
 
@@ -30,6 +30,12 @@ pub struct Lookup<'a> {
     from: usize,
     to: usize,
     route: RouteKey,
+    /// Whether the search has ended, and the VRP before `from` was read.
+    is_ended: bool,
+    /// Whether the search has ended, and the VRP before `from` covers the route.
+    covers: bool,
+    /// The link of this VRP, if it covers the route.
+    link: Link,
 }
 
 impl<'a> Model for Lookup<'a> {
@@ -43,7 +49,7 @@ impl<'a> Model for Lookup<'a> {
       asn = s.route.1;
     } };
 
-    ghost invariant = { λ s. IsLookupBetween s.vrps.now s.links.now s.from s.to s.route.0 };
+    ghost invariant = { λ s. IsLookupBetween s.vrps.now s.links.now s.from s.to s.route.0 s.covers s.link };
 }
 
 impl<'a> Lookup<'a> {
@@ -76,16 +82,24 @@ impl<'a> Lookup<'a> {
             from,
             to,
             route,
+            is_ended: false,
+            covers: false,
+            link: Link { first: 0, back: 0 },
         }
     }
 
     /// Takes the next step: reads the VRP in the middle of the range that is left, and halves the range.
     ///
+    /// If no range is left, the step reads the VRP before the found index, and its link. The lookup remembers both.
     /// The step changes only how much a later call has to read. The results of the lookup stay the same.
     pub fn advance(&mut self)
         ensures { self.new ≡ self.old }
     {
         if self.from == self.to {
+            if !self.is_ended {
+                let end = self.from;
+                self.end_at(end);
+            }
             return;
         }
         let middle = self.from + (self.to - self.from) / 2;
@@ -104,43 +118,106 @@ impl<'a> Lookup<'a> {
         ensures { self.new ≡ self.old }
     {
         let end = self.count();
-        self.from = end;
-        self.to = end;
+        self.end_at(end);
     }
 
-    /// Returns how many VRPs come no later than the route's prefix in the table's order.
-    pub(crate) fn count(&self) -> usize
+    /// Ends the search at index `end`: reads the VRP before it, and its link, and remembers both.
+    fn end_at(&mut self, end: usize)
+        requires { IsBetween self.old.vrps end end self.old.route }
+        ensures { self.new ≡ self.old }
+    {
+        self.from = end;
+        self.to = end;
+        self.is_ended = true;
+        if end == 0 {
+            self.covers = false;
+            return;
+        }
+        self.covers = self.vrps[end - 1].covers(&self.route);
+        self.link = self.links[end - 1];
+    }
+
+    /// Returns how many VRPs come no later than the route's prefix in the table's order, by a binary search between the
+    /// two indices.
+    fn count(&self) -> usize
         ensures within { result ≤ length self.now.vrps }
         ensures up_to { AreUpTo self.now.vrps result self.now.route }
         ensures later { AreLater self.now.vrps result self.now.route }
     {
-        count_between(self.vrps, self.from, self.to, &self.route)
+        let route = &self.route;
+        self.from
+            + self.vrps[self.from..self.to].partition_point(
+                |vrp: &PackedVrp| -> bool
+                    ensures { result ≡ nat_le (vrp_place vrp.now) (place route.entry.now.0) }
+                { vrp.comes_by(route) },
+            )
+    }
+
+    /// Returns how many VRPs there are up to the last one that covers the route, or 0 if none covers it.
+    fn count_to_nearest(&self) -> usize
+        ensures within { result ≤ length self.now.vrps }
+        ensures up_to { AreUpTo self.now.vrps result self.now.route }
+        ensures none { NoneCovers self.now.vrps self.now.route result (length self.now.vrps) }
+        ensures found { (d : Vrp) → 0 < result →
+            CoversRoute self.now.route (slice_index_or self.now.vrps (result - 1) d) }
+    {
+        if self.covers {
+            return self.from;
+        }
+        nearest(self.vrps, self.links, self.count(), &self.route)
+    }
+
+    /// Returns the validity of the route by the VRPs of the table, and whether a VRP that covers the route has its AS
+    /// (RFC 6811, 2).
+    ///
+    /// The call finds both in one pass over the VRPs that cover the route.
+    #[tactic(auto, using(crate::proofs::CoveringVrps::near_found, crate::proofs::LinkWalks::read_link))]
+    pub fn validity_and_asn(&self) -> ValidityAndAsn
+        ensures validity { IsValidity self.now.route self.now.asn self.now.vrps result.validity }
+        ensures asn { IsTrue result.has_covering_asn
+            ↔ HasCoveringAsn self.now.route self.now.asn self.now.vrps }
+    {
+        if self.covers {
+            return validity_by(self.vrps, self.links, self.from, self.link, &self.route);
+        }
+        let at = self.count_to_nearest();
+        if at == 0 {
+            return ValidityAndAsn {
+                validity: Validity::NotFound,
+                has_covering_asn: false,
+            };
+        }
+        validity_by(self.vrps, self.links, at, self.links[at - 1], &self.route)
     }
 
     /// Returns the validity of the route by the VRPs of the table (RFC 6811, 2).
     pub fn validity(&self) -> Validity
         ensures { IsValidity self.now.route self.now.asn self.now.vrps result }
     {
-        validity_in(self.vrps, self.links, self.count(), &self.route)
+        self.validity_and_asn().validity
     }
 
     /// Returns whether a VRP of the table that covers the route has its AS, and that AS is not AS0.
     pub fn has_covering_asn(&self) -> bool
         ensures { IsTrue result ↔ HasCoveringAsn self.now.route self.now.asn self.now.vrps }
     {
-        has_covering_asn_in(self.vrps, self.links, self.count(), &self.route)
+        self.validity_and_asn().has_covering_asn
     }
 
     /// Returns an iterator over the VRPs of the table that cover the route (RFC 6811, 2).
     ///
     /// The order is that of [`OriginTable::covering`](crate::OriginTable::covering). The call allocates nothing.
-    #[tactic(auto, using(crate::proofs::CoveringVrps::all_before, crate::proofs::CoveringVrps::are_those, crate::proofs::CoveringVrps::by_length))]
     pub fn covering(&self) -> Covering<'a>
         ensures covering { AreThose (CoversRoute self.now.route) self.now.vrps (reverse result) }
         ensures longest_first { IsNonDecreasingBy prefix_len (reverse result) }
         ensures order { IsNonDecreasingBy table_place (reverse result) }
     {
-        Covering::from(self.vrps, self.links, self.count(), self.route)
+        Covering {
+            vrps: self.vrps,
+            links: self.links,
+            at: self.count_to_nearest(),
+            route: self.route,
+        }
     }
 }
 

@@ -2,7 +2,7 @@
 ghost use Rattle.std.specs.Prelude.{◌+◌, ◌-◌, ◌^◌, ◌<◌, ◌≡◌, ◌↔◌, ◌≤◌, IsTrue, nat_le, nat_lt};
 ghost use Rattle.std.specs.Ordering.{nat_cmp};
 ghost use Rattle.rpki_prefix.specs.Values.{IsFamilyPrefix, is_v6, width};
-ghost use Rattle.roa_origin.specs.Vrps.{CoversRoute, HasAs, IsLawfulVrp, Matches, longest, prefix_len};
+ghost use Rattle.roa_origin.specs.Vrps.{CoversRoute, HasAs, IsCoveringLimit, IsLawfulVrp, Matches, longest, prefix_len};
 ghost use Rattle.roa_origin.specs.Places.{place, vrp_place, rank, sent_place, sent_rank, table_place, max_len_flag};
 
 use crate::route_key::RouteKey;
@@ -247,6 +247,40 @@ impl PackedVrp {
             return false;
         }
         route.bits - self.bits <= self.addresses_after()
+    }
+
+    /// Returns how many first bits the addresses of the VRP and of the route have in common, at most the route's
+    /// length. Both are of one address family.
+    fn shared_len(&self, route: &RouteKey) -> u8
+        requires { is_v6 self.now.0.prefix.addr ≡ is_v6 route.now.0.addr }
+        ensures few { result ≤ 128 }
+        ensures limit { IsCoveringLimit self.now.0.prefix route.now.0 (result + 1) }
+    {
+        let shared = (self.bits ^ route.bits).leading_zeros() as u8;
+        if self.is_v6 {
+            shared.min(route.len)
+        } else {
+            (shared - 96).min(route.len)
+        }
+    }
+
+    /// Returns the length from which on a prefix that covers the VRP's prefix doesn't cover the route. Shorter ones do.
+    ///
+    /// One call replaces the comparison of each such prefix with the route.
+    pub(crate) fn covering_limit(&self, route: &RouteKey) -> u8
+        ensures { IsCoveringLimit self.now.0.prefix route.now.0 result }
+    {
+        if !self.has_family_of(route) {
+            return 0;
+        }
+        self.shared_len(route) + 1
+    }
+
+    /// Returns whether the VRP's prefix is shorter than `limit`.
+    pub(crate) fn is_shorter_than(&self, limit: u8) -> bool
+        ensures { IsTrue result ↔ (prefix_len self.now < limit) }
+    {
+        self.len < limit
     }
 
     /// Returns whether the VRP's AS number is not below the route's.

@@ -18,6 +18,16 @@ pub enum Validity {
     NotFound,
 }
 
+/// The validity of a route's origin, and whether a VRP that covers the route has the route's AS.
+#[derive(Debug, Clone, Copy, PartialEq, Eq)]
+pub struct ValidityAndAsn {
+    /// The validity.
+    pub validity: Validity,
+    /// Whether a VRP that covers the route has its AS, and that AS is not AS0. If the route is invalid, it is too long
+    /// for each such VRP.
+    pub has_covering_asn: bool,
+}
+
 /// Returns whether a VRP covers a route: its prefix covers the route's, so both are of one family (RFC 6811, 2).
 pub(crate) fn covers(vrp: &Vrp, route: Prefix) -> bool
     ensures { IsTrue result ↔ CoversRoute route vrp.now }

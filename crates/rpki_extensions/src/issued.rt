@@ -1,19 +1,17 @@
 //! A certificate's extensions, checked against the resources of its issuer.
-ghost use Rattle.std.specs.Prelude.{IfOk, MatchResult};
+ghost use Rattle.std.specs.Prelude.{◌≡◌, IfOk, MatchResult};
 ghost use Rattle.rpki_text.specs.Memory.{IfRefused};
-ghost use Rattle.rpki_chain.specs.Paths.{IsIssued};
-ghost use Rattle.rpki_chain.specs.Runs.{Holds};
+ghost use Rattle.rpki_der.specs.declared.family.AddressFamily.TheVariants.{Ipv4};
+ghost use Rattle.rpki_ipres.specs.Families.{IsWholeIn};
 ghost use Rattle.rpki_ipres.specs.Resources.{IsWholeClaim};
 ghost use Rattle.rpki_resources.specs.Triples.{HasEachOf};
-ghost use Rattle.rpki_extensions.specs.Issued.{AreIssued, AreNotIssued, IsAsExcess, IsIssuedOfEach};
-ghost use Rattle.rpki_extensions.specs.Issued.{IsNotIssuedOfEach, HasVerifyError, IsV4Excess, IsV6Excess, IsVerified};
+ghost use Rattle.rpki_extensions.specs.Issued.{HasVerifyError, IsIssuedOfEach, IsNotIssuedOfEach, IsVerified};
+ghost use Rattle.rpki_extensions.specs.declared.error.VerifyError.TheVariants.{Ipv6 as OverclaimedIpv6};
 
 use crate::error::VerifyError;
 use crate::extensions::{Claims, Extensions};
-use rpki_resources::OrMemory;
-use rpki_resources::repository::resources::{
-    AsBlocks, AsResources, IpResources, Ipv4Blocks, Ipv6Blocks, Overclaim, ResourceSet,
-};
+use rpki_resources::repository::resources::{Ipv4Blocks, Ipv6Blocks, Overclaim, ResourceSet};
+use rpki_resources::{OrMemory, refused_as};
 use std::alloc::Allocator;
 
 /// Returns the part of an issuer's resources that a certificate's extensions claim (RFC 6487, 7.2; RFC 8360, 4).
@@ -54,73 +52,31 @@ fn issued<A: Allocator + Copy>(
         (IfRefused
         (IsNotIssuedOfEach issuer.now claims.now.asn claims.now.ipv4 claims.now.ipv6 mode)) }
 {
-    let asn = issued_numbers(alloc, issuer.asn(), &claims.asn, mode)?;
-    let (ipv4, ipv6) = issued_addresses(alloc, issuer, &claims.ipv4, &claims.ipv6, mode)?;
-    Ok(ResourceSet::new(asn, ipv4, ipv6))
-}
-
-/// Returns the part of an issuer's AS numbers that a claim leaves.
-fn issued_numbers<A: Allocator + Copy>(
-    alloc: A,
-    issuer: &AsBlocks<A>,
-    claim: &AsResources<A>,
-    mode: Overclaim,
-) -> Result<AsBlocks<A>, OrMemory<VerifyError<A>>>
-    ensures { MatchResult result (IsIssued (Holds issuer.now) claim.now mode)
-        (IfRefused (IsAsExcess issuer.now claim.now mode)) }
-{
-    match issuer.verify_issued(alloc, claim, mode) {
-        Ok(set) => Ok(set),
-        Err(error) => Err(error.map_refused(|excess| VerifyError::Asn(excess))),
-    }
-}
-
-/// Returns the parts of an issuer's addresses that the claims on both families leave.
-fn issued_addresses<A: Allocator + Copy>(
-    alloc: A,
-    issuer: &ResourceSet<A>,
-    v4: &IpResources<A>,
-    v6: &IpResources<A>,
-    mode: Overclaim,
-) -> Result<(Ipv4Blocks<A>, Ipv6Blocks<A>), OrMemory<VerifyError<A>>>
-    requires { IsWholeClaim v4.now }
-    ensures { MatchResult result (AreIssued issuer.now v4.now v6.now mode)
-        (IfRefused (AreNotIssued issuer.now v4.now v6.now mode)) }
-{
-    let ipv4 = issued_v4(alloc, issuer.ipv4(), v4, mode)?;
-    let ipv6 = issued_v6(alloc, issuer.ipv6(), v6, mode)?;
-    Ok((ipv4, ipv6))
-}
-
-/// Returns the part of an issuer's IPv4 addresses that a claim leaves.
-fn issued_v4<A: Allocator + Copy>(
-    alloc: A,
-    issuer: &Ipv4Blocks<A>,
-    claim: &IpResources<A>,
-    mode: Overclaim,
-) -> Result<Ipv4Blocks<A>, OrMemory<VerifyError<A>>>
-    requires { IsWholeClaim claim.now }
-    ensures { MatchResult result (IsIssued (Holds issuer.now) claim.now mode)
-        (IfRefused (IsV4Excess issuer.now claim.now mode)) }
-{
-    match issuer.verify_issued(alloc, claim, mode) {
-        Ok(set) => Ok(set),
-        Err(error) => Err(error.map_refused(|excess| VerifyError::Ipv4(excess))),
-    }
-}
-
-/// Returns the part of an issuer's IPv6 addresses that a claim leaves.
-fn issued_v6<A: Allocator + Copy>(
-    alloc: A,
-    issuer: &Ipv6Blocks<A>,
-    claim: &IpResources<A>,
-    mode: Overclaim,
-) -> Result<Ipv6Blocks<A>, OrMemory<VerifyError<A>>>
-    ensures { MatchResult result (IsIssued (Holds issuer.now) claim.now mode)
-        (IfRefused (IsV6Excess issuer.now claim.now mode)) }
-{
-    match issuer.verify_issued(alloc, claim, mode) {
-        Ok(set) => Ok(set),
-        Err(error) => Err(error.map_refused(|excess| VerifyError::Ipv6(excess))),
-    }
+    let asn = refused_as(
+        issuer.asn().verify_issued(alloc, &claims.asn, mode),
+        |excess| VerifyError::Asn(excess),
+    )?;
+    let ipv4 = refused_as(
+        issuer
+            .ipv4()
+            .ip_blocks()
+            .verify_issued(alloc, &claims.ipv4, mode),
+        |excess|
+            requires { IsWholeIn Ipv4 excess }
+        { VerifyError::Ipv4(excess.v4()) },
+    )?;
+    let ipv6 = refused_as(
+        issuer
+            .ipv6()
+            .ip_blocks()
+            .verify_issued(alloc, &claims.ipv6, mode),
+        |excess|
+            ensures { result ≡ OverclaimedIpv6 excess }
+        { VerifyError::Ipv6(excess.v6()) },
+    )?;
+    Ok(ResourceSet::new(
+        asn,
+        Ipv4Blocks::from_ip_blocks(ipv4),
+        Ipv6Blocks::from_ip_blocks(ipv6),
+    ))
 }

@@ -7,10 +7,10 @@
 //! A claim is checked against the set of its issuer. This example is in `rpki_extensions::issued`:
 //!
 //! ```rust
-//! match issuer.verify_issued(alloc, claim, mode) {
-//!     Ok(set) => Ok(set),
-//!     Err(error) => Err(error.map_refused(|excess| VerifyError::Ipv6(excess))),
-//! }
+//! let asn = refused_as(
+//!     issuer.asn().verify_issued(alloc, &claims.asn, mode),
+//!     |excess| VerifyError::Asn(excess),
+//! )?;
 //! ```
 #![tactic(auto)]
 

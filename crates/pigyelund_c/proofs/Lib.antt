@@ -1,3 +1,4 @@
 pub mod CertificatePathLemmas
 pub mod CoverOctetLemmas
 pub mod RangeLemmas
+pub mod RequestLemmas

@@ -5,6 +5,7 @@ pub mod PairStatuses
 pub mod Pairs
 pub mod Paths
 pub mod Ranges
+pub mod Requests
 pub mod Sets
 pub mod Statuses
 pub mod Texts

@@ -27,6 +27,6 @@ mod path;
 mod ranges;
 mod read;
 mod refusal;
+mod request;
 mod text;
-mod verification;
 mod write;

@@ -1,14 +1,17 @@
 //! A path of certificates, from the set of a trust anchor down.
 ghost use Rattle.std.specs.Prelude.{◌≡◌, length, MatchResult};
 ghost use Rattle.rpki_text.specs.Memory.{IfRefused};
+ghost use Rattle.rpki_extensions.specs.Issued.{IsVerified};
+ghost use Rattle.pigyelund_c.specs.Verified.{IsVerifyRefusal};
 ghost use Rattle.pigyelund_c.specs.Paths.{IsFirstRefused, IsLeftOnPath, IsNoPathOutcome, IsNoPathOutcomeIn, IsPathOutcome, IsPathOutcomeIn, IsNoCertificateStep, IsCertificateStep, outcome_alone, verified_count};
 
 use crate::certificate::Certificate;
 use crate::encodings::encoding_of;
 use crate::read::set_of;
 use crate::refusal::{ArgumentError, Refusal};
-use crate::verification::verified;
 use rpki_extensions::encoding::Encoding;
+use rpki_extensions::extensions::Extensions;
+use rpki_extensions::issued::verified_octets;
 use rpki_resources::OrMemory;
 use rpki_resources::repository::resources::ResourceSet;
 use std::alloc::Global;
@@ -31,6 +34,27 @@ impl PathError {
             verified: 0,
             reason,
         }
+    }
+}
+
+/// Returns the part of an issuer's set that a certificate's extensions claim.
+///
+/// # Errors
+///
+/// - `Refused` if the extensions are no claims, or with the first overclaimed resources.
+/// - `Memory` if an allocation fails.
+fn verified(
+    alloc: Global,
+    issuer: &ResourceSet,
+    certificate: &Extensions<'_>,
+) -> Result<ResourceSet, OrMemory<Refusal>>
+    ensures { MatchResult result (IsVerified issuer.now certificate.now)
+        (IfRefused (IsVerifyRefusal issuer.now certificate.now)) }
+{
+    match verified_octets(alloc, issuer, certificate) {
+        Ok(set) => Ok(set),
+        Err(OrMemory::Refused(reason)) => Err(OrMemory::Refused(Refusal::Unverified(reason))),
+        Err(OrMemory::Memory(error)) => Err(OrMemory::Memory(error)),
     }
 }
 

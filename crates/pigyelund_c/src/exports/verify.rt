@@ -9,11 +9,15 @@ ghost use Rattle.pigyelund_c.specs.Statuses.{status_of, returned_set};
 ghost use Rattle.pigyelund_c.specs.Verified.{IsOutcome, IsNoOutcome};
 ghost use Rattle.pigyelund_c.specs.declared.path.PathError.{PathError};
 ghost use Rattle.pigyelund_c.specs.declared.refusal.Refusal.{Refusal};
+ghost use Rattle.pigyelund_c.specs.declared.refusal.Refusal.TheVariants.{Unverified};
 
 use crate::certificate::Certificate;
 use crate::outcome::write_outcome;
 use crate::path::{counted, path_answered};
-use crate::verification::answered;
+use crate::refusal::Refusal;
+use crate::request::request_of;
+use rpki_extensions::issued::verified_octets;
+use rpki_resources::refused_as;
 use std::alloc::Global;
 
 /// Returns the version of the calls.
@@ -74,9 +78,17 @@ pub extern "C" fn pigy_verify(
         × IsSetReturned (status_of outcome) (returned_set outcome) as_out.old ip_out.old as_out.new
         ip_out.new as_len.new ip_len.new result }
 {
-    let outcome = answered(
+    let outcome = match request_of(
         alloc, issuer_as, issuer_ip, present, cert_as, cert_ip, encoding, mode,
-    );
+    ) {
+        Ok(request) => refused_as(
+            verified_octets(alloc, &request.issuer, &request.certificate),
+            |reason|
+                ensures { result ≡ Unverified reason }
+            { Refusal::Unverified(reason) },
+        ),
+        Err(error) => Err(error),
+    };
     write_outcome(alloc, outcome, as_out, ip_out, as_len, ip_len)
 }
 

@@ -1,23 +1,57 @@
 //! Reading of sets from the octets of extensions.
-ghost use Rattle.std.specs.Prelude.{◌≡◌, MatchResult, option_map};
+ghost use Rattle.std.specs.Prelude.{IfOk, MatchResult};
 ghost use Rattle.rpki_text.specs.Memory.{IfRefused};
+ghost use Rattle.rpki_ipres.specs.Resources.{IsWholeClaim};
+ghost use Rattle.rpki_extensions.specs.Claims.{AreAddressClaims, HasAddressesFault, HasNumbersFault, IsNumbersClaim};
 ghost use Rattle.pigyelund_c.specs.Sets.{IsNoSet, IsSet, some_octets};
 
 use crate::refusal::ReadSetError;
+use rpki_der::DerError;
 use rpki_extensions::encoding::Encoding;
-use rpki_extensions::read::{read_optional_as_claim, read_optional_ip_claims};
+use rpki_extensions::read::{read_as_claim, read_ip_claims};
 use rpki_resources::OrMemory;
-use rpki_resources::repository::resources::ResourceSet;
+use rpki_resources::repository::resources::{AsResources, IpResources, ResourceSet};
 use std::alloc::Global;
 
-/// Returns the octets, or `None` for an empty array: the set then has no resources of these kinds.
-fn some_octets(octets: &[u8]) -> Option<&[u8]>
-    ensures { option_map (λ octets. octets.now) result ≡ some_octets octets.now }
+/// Returns the claim on AS numbers that octets make. No octets make a missing claim.
+///
+/// # Errors
+///
+/// - `Refused` with the first fault of the octets.
+/// - `Memory` if an allocation fails.
+fn as_claim(
+    alloc: Global,
+    octets: &[u8],
+    encoding: Encoding,
+) -> Result<AsResources, OrMemory<DerError>>
+    ensures { MatchResult result (IsNumbersClaim encoding (some_octets octets.now))
+        (IfRefused (HasNumbersFault encoding (some_octets octets.now))) }
 {
     if octets.is_empty() {
-        return None;
+        return Ok(AsResources::missing());
     }
-    Some(octets)
+    read_as_claim(alloc, octets, encoding)
+}
+
+/// Returns the claims on IPv4 and on IPv6 that octets make. No octets make missing claims.
+///
+/// # Errors
+///
+/// - `Refused` with the first fault of the octets.
+/// - `Memory` if an allocation fails.
+fn ip_claims(
+    alloc: Global,
+    octets: &[u8],
+    encoding: Encoding,
+) -> Result<(IpResources, IpResources), OrMemory<DerError>>
+    ensures claims { MatchResult result (AreAddressClaims encoding (some_octets octets.now))
+        (IfRefused (HasAddressesFault encoding (some_octets octets.now))) }
+    ensures whole { IfOk result (λ claims. IsWholeClaim claims.0) }
+{
+    if octets.is_empty() {
+        return Ok((IpResources::missing(), IpResources::missing()));
+    }
+    read_ip_claims(alloc, octets, encoding)
 }
 
 /// Returns the set that the octets of both extensions list.
@@ -35,14 +69,14 @@ pub(crate) fn set_of(
     ensures { MatchResult result (IsSet encoding numbers.now addresses.now)
         (IfRefused (IsNoSet encoding numbers.now addresses.now)) }
 {
-    let asn = match read_optional_as_claim(alloc, some_octets(numbers), encoding) {
+    let asn = match as_claim(alloc, numbers, encoding) {
         Ok(asn) => asn,
         Err(OrMemory::Refused(fault)) => return Err(OrMemory::Refused(ReadSetError::Numbers(
             fault,
         ))),
         Err(OrMemory::Memory(error)) => return Err(OrMemory::Memory(error)),
     };
-    let (v4, v6) = match read_optional_ip_claims(alloc, some_octets(addresses), encoding) {
+    let (v4, v6) = match ip_claims(alloc, addresses, encoding) {
         Ok(claims) => claims,
         Err(OrMemory::Refused(fault)) => return Err(OrMemory::Refused(ReadSetError::Addresses(
             fault,

@@ -7,12 +7,12 @@ use Rattle.pigyelund_c.proofs.read.set_of.Goals as goal
 pub returns-in-Err-Refused-from_resources : goal.returns-in-Err-Refused-from_resources
 returns-in-Err-Refused-from_resources c = record {
   asn = c.in-Ok.asn;
-  ip = c.in-Ok-read_optional_ip_claims.claims;
-  are_numbers = rw c.some_octets.ensures at c.in-Ok.ensures;
-  are_addresses = rw c.some_octets-2.ensures at c.in-Ok-read_optional_ip_claims.ensures.claims;
+  ip = c.in-Ok-ip_claims.claims;
+  are_numbers = c.in-Ok.ensures;
+  are_addresses = c.in-Ok-ip_claims.ensures.claims;
   inherited =
       subst
-      (IfRefused (λ _. IsOneInherited c.in-Ok.asn c.in-Ok-read_optional_ip_claims.claims.0
-      c.in-Ok-read_optional_ip_claims.claims.1)) c.in-Err-Refused-from_resources.field-0-is
+      (IfRefused (λ _. IsOneInherited c.in-Ok.asn c.in-Ok-ip_claims.claims.0
+      c.in-Ok-ip_claims.claims.1)) c.in-Err-Refused-from_resources.field-0-is
       c.in-Err-Refused-from_resources.ensures.found;
 }

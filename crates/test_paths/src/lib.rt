@@ -164,7 +164,6 @@ use roa_origin::OriginTable as _;
 use roa_origin::TableVrps as _;
 use roa_origin::Validity as _;
 use roa_origin::ValidityAndAsn as _;
-use roa_origin::ValidityAndAsn as _;
 use roa_origin::Vrp as _;
 use roa_origin::VrpChanges as _;
 use roa_origin::VrpTable as _;

@@ -24,6 +24,18 @@ expect() {
     fi
 }
 
+# prints NAME COMMAND STATUS TEXT: runs a command of the shell, which has to end with this status and print this text
+prints() {
+    said=$(eval "$2")
+    expect "$1" "$3" "$4" $? "$said"
+}
+
+# The crate of the program that a script starts, by the name of the script
+crate_of() { echo "$1" | sed 's/^respath$/respath_files/'; }
+
+# Counts equal lines that follow each other, as uniq -c does, without blanks in front.
+counted() { uniq -c | sed 's/^ *//'; }
+
 # Whether a case is left out, and says so: it grants less memory than a program with run-time checks needs. check --quick
 # sets UNPROVED where the programs are compiled so.
 needs_more() {

@@ -2,6 +2,7 @@
 # Tests what ./respath and ./origins do before, beside and in place of their programs. A folder with a space in its name
 # has a copy of both scripts, two programs that print what they are asked, and a prover that does the same. Nothing is
 # proved. The status is 0 if every case is as expected.
+# shellcheck disable=SC2016 # commands of cases, and the words of the README, of the programs and of the prover
 top=$(CDPATH='' cd -- "$(dirname -- "$0")/.." && pwd) || exit 1
 files=$(mktemp -d) || exit 1
 trap 'rm -rf "$files"' EXIT
@@ -12,18 +13,9 @@ copy="$files/a copy"
 mkdir -p "$copy/bin" "$copy/tools" "$copy/tmp" "$copy/crates/other"
 for crate in $(sed '/^#/d; s/[ :].*//' "$top/crates.txt"); do mkdir -p "$copy/crates/$crate/out"; done
 cp "$top/respath" "$top/origins" "$top/program.sh" "$top/crates.txt" "$top/HANDLES" "$copy/"
-# shellcheck disable=SC2016 # the README's own marks
 echo 'The kit that last proved all crates is `a-kit logic 12`.' >"$copy/README.md"
-# The crate of a script's program
-crate_of() {
-    case $1 in
-    respath) echo respath_files ;;
-    *) echo "$1" ;;
-    esac
-}
 
 for script in respath origins; do
-    # shellcheck disable=SC2016 # the program's own words
     program=$copy/crates/$(crate_of "$script")/out/$(crate_of "$script")
     printf '#!/bin/sh\necho ran\nfor word; do [ "$word" = -- ] || echo "[$word]"; done\n' >"$program"
     chmod +x "$program"
@@ -39,19 +31,17 @@ done
 
 # The commands of a prover that answers `rt version` with a kit of this name
 prover() {
-    # shellcheck disable=SC2016 # the prover's own words
     printf '#!/bin/sh\n[ "$1" != version ] || { echo "%s"; exit; }\n%s\n' "$1" "$2" >"$copy/bin/rt"
     chmod +x "$copy/bin/rt"
 }
 
-# The script, with that prover alone
-run() {
-    PATH=$copy/bin:$copy/tools TMPDIR=$copy/tmp "$@" </dev/null 2>&1
-}
+# Runs a script with that prover alone, with its own standard input or without one, or without a prover.
+piped() { PATH=$copy/bin:$copy/tools TMPDIR=$copy/tmp "$@" 2>&1; }
+run() { piped "$@" </dev/null; }
+without_rt() { PATH=$copy/tools "$@" </dev/null 2>&1; }
 
-without_rt() {
-    PATH=$copy/tools "$@" </dev/null 2>&1
-}
+respath() { run "$copy/respath" "$@"; }
+origins() { run "$copy/origins" "$@"; }
 
 # Sets `out`, the folder of a script's program, and `built`, the program, and makes it newer than all that it needs.
 is_built() {
@@ -66,32 +56,24 @@ built_first="respath: proving and building the program first: N crates, about N 
  once, unproved"
 
 # The second line of a script's --version: what proved the program that is in place
-version() {
-    run "$copy/$1" --version | sed -n '2p'
-}
+version() { run "$copy/$1" --version | sed -n '2p'; }
 
 echo line >"$files/a file"
 echo line >"$files/*"
 
 # Starts a script on a file, and prints what the program prints in front of its words.
-start() {
-    "$@" "$files/a file" | sed '/^\[/d'
-}
+start() { "$@" "$files/a file" | sed '/^\[/d'; }
 
 # Starts a script whose program is built. The prover would fail.
 of_start() {
     prover "a-kit logic 12" 'echo proving; exit 1'
     is_built "$1"
     touch "$copy/crates.txt" "$copy/crates/other/new" "$copy/crates/test_values/new"
-    said=$(start run "$copy/$1")
-    expect "$1: a crate that the program doesn't need is newer" 0 "ran" $? "$said"
-    said=$(start run "$files/$1.link")
-    expect "$1: a link to the script" 0 "ran" $? "$said"
+    prints "$1: a crate that the program doesn't need is newer" "start run '$copy/$1'" 0 ran
+    prints "$1: a link to the script" "start run '$files/$1.link'" 0 ran
     ln -s "$1.link" "$files/a second $1"
-    said=$(cd "$files" && start run "./a second $1")
-    expect "$1: a link to a link, from its folder" 0 "ran" $? "$said"
-    said=$(start without_rt "$copy/$1")
-    expect "$1: no rt, and the program is built" 0 "ran" $? "$said"
+    prints "$1: a link to a link, from its folder" "cd '$files' && start run './a second $1'" 0 ran
+    prints "$1: no rt, and the program is built" "start without_rt '$copy/$1'" 0 ran
 }
 
 unproved="not proved here; last proved whole with a-kit logic 12"
@@ -109,92 +91,76 @@ of_version() {
     touch "$copy/crates/rpki_text/new"
     expect "$1: a program that is older than its sources" 0 "$unproved" $? "$(version "$1")"
     rm -rf "$files/.git"
-    said=$(run "$copy/$1" --version | head -n 1)
-    expect "$1: no repository, and no git on the path" 0 "$1, revision unknown" $? "$said"
+    prints "$1: no repository, and no git on the path" "run '$copy/$1' --version | head -n 1" 0 "$1, revision unknown"
     git init -q "$files" && git -C "$files" -c user.name=nobody -c user.email=nobody commit -q --allow-empty -m empty
-    said=$("$copy/$1" --version | head -n 1)
-    expect "$1: a folder in another repository" 0 "$1, revision unknown" $? "$said"
-}
-
-# Starts a script whose program is older than its sources.
-of_no_rt() {
-    said=$(without_rt "$copy/$1" "$files/a file")
-    expect "$1: no rt, and the program isn't built" 1 "$1: the program is not built, and rt is not on the PATH to build\
- or try it: add the Rattle kit's bin folder" $? "$said"
+    prints "$1: a folder in another repository" "'$copy/$1' --version | head -n 1" 0 "$1, revision unknown"
 }
 
 for script in origins respath; do
     of_start "$script"
     of_version "$script"
 done
-of_no_rt origins
-of_no_rt respath
+# The programs are older than their sources.
+no_rt="the program is not built, and rt is not on the PATH to build or try it: add the Rattle kit's bin folder"
+for script in origins respath; do
+    prints "$script: no rt, and the program isn't built" "without_rt '$copy/$script' '$files/a file'" 1 "$script: $no_rt"
+done
 said=$(run "$copy/origins" --table vrps)
 expect "origins: a proof that fails" 1 "origins: the program was not built" $? "$(echo "$said" | tail -n 1)"
 
 # Names of files: each word stays one word.
 is_built respath
 is_built origins
-said=$(run "$copy/respath" "$files/a file" "$files/*")
-expect "respath: names with a space and a star" 0 "ran
+prints "respath: names with a space and a star" 'respath "$files/a file" "$files/*"' 0 "ran
 [$files/a file]
-[$files/*]" $? "$said"
-said=$(cd "$files" && run "$files/respath.link" --where -- "a file" --check)
-expect "respath: options, and then a file name that begins like one" 0 "ran
+[$files/*]"
+prints "respath: options, and then a file name that begins like one" \
+    'cd "$files" && run "$files/respath.link" --where -- "a file" --check' 0 "ran
 [--where]
 [a file]
-[--check]" $? "$said"
-said=$(cd "$files" && run "$files/origins.link" --why "a file")
-expect "origins: a name with a space" 0 "ran
+[--check]"
+prints "origins: a name with a space" 'cd "$files" && run "$files/origins.link" --why "a file"' 0 "ran
 [--why]
-[a file]" $? "$said"
-said=$(cd "$files" && run "$files/origins.link" --diff "a file" "*")
-expect "origins: names with a space and a star" 0 "ran
+[a file]"
+prints "origins: names with a space and a star" 'cd "$files" && run "$files/origins.link" --diff "a file" "*"' 0 "ran
 [--diff]
 [a file]
-[*]" $? "$said"
-said=$(printf '#!/bin/sh\necho of the program; exit 3\n' >"$out/origins" && run "$copy/origins" --check vrps)
-expect "origins: the status of the program" 3 "of the program" $? "$said"
+[*]"
+printf '#!/bin/sh\necho of the program; exit 3\n' >"$out/origins"
+prints "origins: the status of the program" 'origins --check vrps' 3 "of the program"
 
 # Lines in place of files
-said=$(run "$copy/respath" norm as 1)
-expect "a line in place of a file" 2 "respath: norm: no such file; lines come from the standard input: echo\
- 'norm as 1' | $copy/respath" $? "$said"
-said=$(run "$copy/respath" --check 'path as 1 | refuse 2')
-expect "a line in place of a file, in quotes" 2 "respath: path as 1 | refuse 2: no such file; lines come from the\
- standard input: echo 'path as 1 | refuse 2' | $copy/respath" $? "$said"
-said=$(cd "$files" && echo >norm && run "$copy/respath" norm)
-expect "a file that is named as a command" 0 "ran
-[norm]" $? "$said"
+prints "a line in place of a file" 'respath norm as 1' 2 "respath: norm: no such file; lines come from the standard\
+ input: echo 'norm as 1' | $copy/respath"
+prints "a line in place of a file, in quotes" 'respath --check "path as 1 | refuse 2"' \
+    2 "respath: path as 1 | refuse 2: no such file; lines come from the standard input: echo 'path as 1 | refuse 2'\
+ | $copy/respath"
+prints "a file that is named as a command" 'cd "$files" && echo >norm && respath norm' 0 "ran
+[norm]"
 
 # A tool or a right that is missing is named before anything is proved.
 touch "$copy/crates/rpki_text/new"
-no_rt="respath: the program is not built, and rt is not on the PATH to build or try it: add the Rattle kit's bin folder"
-said=$(without_rt "$copy/respath" --try)
-expect "no rt to try the sources" 1 "$no_rt" $? "$said"
-said=$(run "$copy/respath" "$files" "$files/none")
-expect "files that can't be read where the program isn't built" 1 "respath: $files: read failed
-respath: $files/none: can't be opened" $? "$said"
+prints "no rt to try the sources" 'without_rt "$copy/respath" --try' 1 "respath: $no_rt"
+prints "files that can't be read where the program isn't built" 'respath "$files" "$files/none"' \
+    1 "respath: $files: read failed
+respath: $files/none: can't be opened"
 no_room="respath: the program is not built, and $copy/crates/respath_files/out is not writable: copy the sources, or use\
  --try"
 chmod a-w "$copy/crates/respath_files/out"
 if [ -w "$copy/crates/respath_files/out" ]; then
     nobody='setpriv --reuid=65534 --regid=65534 --clear-groups'
     if $nobody true 2>/dev/null; then
-        # shellcheck disable=SC2086 # a command is words
-        said=$($nobody env PATH="$copy/bin:$copy/tools" "$copy/respath" </dev/null 2>&1)
-        expect "a folder that can't be written" 1 "$no_room" $? "$said"
+        prints "a folder that can't be written" \
+            '$nobody env PATH="$copy/bin:$copy/tools" "$copy/respath" </dev/null 2>&1' 1 "$no_room"
     else
         echo "left out  a folder that can't be written: whoever runs this can write everywhere, and there is no setpriv"
     fi
 else
-    said=$(run "$copy/respath")
-    expect "a folder that can't be written" 1 "$no_room" $? "$said"
+    prints "a folder that can't be written" 'respath' 1 "$no_room"
 fi
 chmod u+w "$copy/crates/respath_files/out"
 
 # A proof fails: the lines about the failure are shown, and no later line.
-# shellcheck disable=SC2016 # the prover's own words
 prover "a-kit logic 12" 'for at in 1 2 3 4 5 6 7 8 9 10 11 12 13 14 15 16 17 18 19 20; do echo "proving $at"; done
 echo "rt: rpki_text NOT PROVED"; echo "0 passed, 1 failed"; exit 1'
 said=$(run "$copy/respath")
@@ -206,7 +172,6 @@ respath: the program was not built" $? "$(echo "$said" | sed '/^respath: proving
 # A prover that makes the program where it is asked. The first crate is kept from an earlier run. Each of the next four
 # takes two seconds, and the others take none. The file `asked` gets the words, what is there of mutations and of what was
 # built, and HANDLES. Two more files get the crates of crates.txt and the folders.
-# shellcheck disable=SC2016 # the prover's own words
 prover "the-kit logic 12" 'asked=${0%/*}/../asked
 echo "$@" >"$asked"
 sed "/^#/d; s/[ :].*//" crates.txt >"${0%/*}/../listed"
@@ -268,44 +233,38 @@ estimate() (
     printf 'rt: %s\n' "$@" >"$work/log"
     report_proved 2>&1 | sed 's/.* gone, about //'
 )
-said=$(six 2 0 && plan)
-expect "a plan of six crates" 0 "one 1800 3600
+prints "a plan of six crates" 'six 2 0 && plan' 0 "one 1800 3600
 two 1800 3600
 three 1800 3600
 left 3480 6960
 right 3480 6960
-top 5880 10320" $? "$said"
+top 5880 10320"
 # An eighth of `left` counts, and nothing of `right`, since `two` was proved last. The work of 3600 + 210 seconds is done
 # at second 1905 of the plan. The build takes twice as long as the plan, so 3930 * 3975 / 2025 seconds are left.
-said=$(estimate 2 3810 "one proved" "three proved" "two proved")
-expect "an estimate with work in progress" 0 "129 min left" $? "$said"
+prints "an estimate with work in progress" 'estimate 2 3810 "one proved" "three proved" "two proved"' 0 "129 min left"
 # The plan has `left` after `two` and `three`, of which an eighth each counts. The work of 2880 + 300 seconds is done at
 # second 1590 of the plan, so 3300 * 4290 / 1710 seconds are left.
-said=$(estimate 2 3180 "one proved" "left proved")
-expect "an estimate after a crate that is late in the plan" 0 "138 min left" $? "$said"
+prints "an estimate after a crate that is late in the plan" 'estimate 2 3180 "one proved" "left proved"' \
+    0 "138 min left"
 # One processor proves one crate at a time, so an eighth of `two` counts, and nothing of `three`. The work of 1200 + 150
 # seconds took 1350 seconds, so the other 8970 seconds are left.
-said=$(estimate 1 1350 "one proved")
-expect "an estimate on one processor" 0 "150 min left" $? "$said"
+prints "an estimate on one processor" 'estimate 1 1350 "one proved"' 0 "150 min left"
 # A crate that was kept counts one second, in the plan and in the work. The work of 1 + 1200 + 150 seconds took 1351
 # seconds, so the other 7770 seconds are left.
-said=$(estimate 1 1351 "one is kept: an earlier run" "two proved")
-expect "an estimate with a crate that was kept" 0 "130 min left" $? "$said"
+prints "an estimate with a crate that was kept" 'estimate 1 1351 "one is kept: an earlier run" "two proved"' \
+    0 "130 min left"
 
 # Without a build
 touch "$copy/crates/rpki_text/new"
 unbuilt="respath: the program is not built, or is older than its sources: run $copy/respath once without --no-build"
-said=$(run "$copy/respath" --no-build)
-expect "a program that is older than its sources, and no build" 1 "$unbuilt" $? "$said"
+prints "a program that is older than its sources, and no build" 'respath --no-build' 1 "$unbuilt"
 touch "$copy/crates/respath_files/out/respath_files"
-said=$(run "$copy/respath" --no-build)
-expect "a program that is current, and no build" 0 "made" $? "$said"
+prints "a program that is current, and no build" 'respath --no-build' 0 "made"
 
 # Signals while it is proved, by a prover that waits for a child of its own; one of them doesn't heed the signal.
 touch "$copy/crates/rpki_text/new"
 # NAME, signal, status, what the prover runs first, and an option
 interrupt() {
-    # shellcheck disable=SC2016 # the prover's own words
     prover "a-kit logic 12" "$4"' sleep 60 & echo $! >"${0%/*}/child"; wait'
     rm -f "$copy/bin/child"
     # A shell's job ignores an interrupt; what timeout starts doesn't, and it hands its signals on to all of the group.
@@ -332,38 +291,29 @@ interrupt "an interrupt of --try" INT 130 '' --try
 # The lines about sources that are not proved, by two runners.
 tried="respath: these answers come from sources that were not proved here"
 prover "a-kit logic 12" 'cat; echo "run=ended status=0 runners=2 proved=no" >&2'
-said=$({ echo one; sleep 3; echo two; } | PATH=$copy/bin:$copy/tools "$copy/respath" --try 2>&1)
-expect "lines that come with a pause" 0 "$tried
+prints "lines that come with a pause" '{ echo one; sleep 3; echo two; } | piped "$copy/respath" --try' 0 "$tried
 one
-two" $? "$said"
+two"
 prover "a-kit logic 12" 'echo AS1; echo "run=ended status=0 runners=1 proved=no" >&2'
-said=$(run "$copy/respath" --try)
-expect "one runner that answers alone" 0 "$tried
+prints "one runner that answers alone" 'respath --try' 0 "$tried
 AS1
-respath: one of the two runners answered alone, the other one needs too many steps" $? "$said"
+respath: one of the two runners answered alone, the other one needs too many steps"
 prover "a-kit logic 12" 'printf "checked: no-answer: too long\nrun=no-answer proved=no\n" >&2; exit 6'
-said=$(run "$copy/respath" --try)
-expect "no runner that answers" 1 "$tried
-respath: no answers: too long" $? "$said"
+prints "no runner that answers" 'respath --try' 1 "$tried
+respath: no answers: too long"
 
 # The limit of --try: a prover gets 64 MiB, and no octet more.
 prover "a-kit logic 12" 'wc -c; echo "run=ended status=0 runners=2 proved=no" >&2'
-said=$(head -c 67108864 /dev/zero | PATH=$copy/bin:$copy/tools TMPDIR=$copy/tmp "$copy/respath" --try 2>&1)
-expect "64 MiB of lines under --try" 0 "$tried
-67108864" $? "$said"
-said=$(head -c 67108865 /dev/zero | PATH=$copy/bin:$copy/tools TMPDIR=$copy/tmp "$copy/respath" --try 2>&1)
-expect "one octet more than 64 MiB under --try" 1 "$tried
-respath: no answers: --try reads at most 64 MiB" $? "$said"
+prints "64 MiB of lines under --try" 'head -c 67108864 /dev/zero | piped "$copy/respath" --try' 0 "$tried
+67108864"
+prints "one octet more than 64 MiB under --try" 'head -c 67108865 /dev/zero | piped "$copy/respath" --try' 1 "$tried
+respath: no answers: --try reads at most 64 MiB"
 
 # Another kit may have proved what the README names: its name says nothing, but the logic has to be the README's.
-logic() {
-    PATH=$copy/bin:$copy/tools "$top/tests/page_logic.sh" "$copy/README.md" >/dev/null
-}
+logic='run "$top/tests/page_logic.sh" "$copy/README.md" >/dev/null'
 prover "other-kit logic 12" 'exit 1'
-logic
-expect "another kit of the same logic" 0 "" $? ""
+prints "another kit of the same logic" "$logic" 0 ""
 prover "a-kit logic 13" 'exit 1'
-logic
-expect "a kit of another logic" 1 "" $? ""
+prints "a kit of another logic" "$logic" 1 ""
 
 exit "$failed"

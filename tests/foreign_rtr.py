@@ -34,6 +34,7 @@ import tempfile
 import threading
 import time
 from concurrent.futures import ThreadPoolExecutor
+from ipaddress import IPv4Address, IPv6Address, ip_network
 from pathlib import Path
 from random import Random, SystemRandom
 from typing import IO, NamedTuple
@@ -143,29 +144,23 @@ def made(source: Random) -> Vrp:
     if source.random() < 0.7:
         length = source.randrange(8, 25)
         address = source.randrange(1 << length) << 32 - length
-        return f"{'.'.join(str(address >> at & 255) for at in (24, 16, 8, 0))}/{length}", 24, source.randrange(1, 70000)
+        return f"{IPv4Address(address)}/{length}", 24, source.randrange(1, 70000)
     length = source.randrange(20, 49)
     groups = [0x2A00 | source.randrange(16), *(source.randrange(65536) for _ in range(7))]
     number = sum(group << 16 * (7 - at) for at, group in enumerate(groups)) >> 128 - length << 128 - length
-    text = ":".join(f"{number >> 16 * at & 65535:x}" for at in range(7, -1, -1))
-    return f"{text}/{length}", 48, source.randrange(1, 70000)
+    return f"{IPv6Address(number)}/{length}", 48, source.randrange(1, 70000)
 
 
 def line_of(vrp: Vrp) -> str:
     """Returns a VRP as both programs print it."""
     prefix, max_len, asn = vrp
-    address, length = prefix.split("/")
-    family = socket.AF_INET6 if ":" in address else socket.AF_INET
-    return f"{socket.inet_ntop(family, socket.inet_pton(family, address))}/{length}-{max_len} AS{asn}"
+    return f"{ip_network(prefix)}-{max_len} AS{asn}"
 
 
 def order_of(vrp: Vrp) -> tuple[int, bytes, int, int, int]:
     """Returns the sort key by which pigy_table_vrps lists VRPs."""
-    prefix_text, max_len, asn = vrp
-    address, length = prefix_text.split("/")
-    family = socket.AF_INET6 if ":" in address else socket.AF_INET
-    octets = socket.inet_pton(family, address)
-    return len(octets), octets, int(length), -asn, max_len
+    network, max_len, asn = ip_network(vrp[0]), *vrp[1:]
+    return network.version, network.network_address.packed, network.prefixlen, -asn, max_len
 
 
 def write(path: Path, vrps: list[Vrp]) -> None:
@@ -254,13 +249,10 @@ def pdu(kind: int, field: int = 0, body: bytes = b"", version: int = 1, length: 
 
 def prefix(flags: int, vrp: Vrp, version: int = 1, more: bytes = b"") -> bytes:
     """Returns a Prefix PDU (RFC 8210, 5.6 and 5.7), with more octets at its end."""
-    net, max_len, asn = vrp
-    address, length = net.split("/")
-    family = socket.AF_INET6 if ":" in address else socket.AF_INET
-    fields = struct.pack(">BBBB", flags, int(length), max_len, 0)
-    kind = V6 if family == socket.AF_INET6 else V4
-    body = fields + socket.inet_pton(family, address) + struct.pack(">I", asn)
-    return pdu(kind, 0, body + more, version)
+    network, max_len, asn = ip_network(vrp[0]), *vrp[1:]
+    fields = struct.pack(">BBBB", flags, network.prefixlen, max_len, 0)
+    body = fields + network.network_address.packed + struct.pack(">I", asn)
+    return pdu(V4 if network.version == 4 else V6, 0, body + more, version)
 
 
 def router_key(version: int = 1, length: int = 115) -> bytes:
@@ -342,7 +334,7 @@ class Script(NamedTuple):
     name: str
     connections: list[list[Step]]
     tables: list[list[Vrp]]
-    most: int
+    most: int = 2
     unit: int = UNIT
 
 
@@ -351,11 +343,22 @@ def announced(*vrps: Vrp, version: int = 1) -> list[bytes]:
     return [prefix(ANNOUNCE, vrp, version) for vrp in vrps]
 
 
+def withdrawn(*vrps: Vrp, version: int = 1) -> list[bytes]:
+    """Returns the Prefix PDUs that withdraw VRPs."""
+    return [prefix(WITHDRAW, vrp, version) for vrp in vrps]
+
+
 def first(serial: int = 7, intervals: Intervals = LONG) -> list[Step]:
     """Returns the steps in which the router gets A and B."""
     return [ALL, response(*announced(A, B), serial=serial, intervals=intervals)]
 
 
+def changed(serial: int, *prefixes: bytes) -> list[Step]:
+    """Returns the steps in which the router gets the changes to a serial."""
+    return [notify(serial), changes(serial - 1), response(*prefixes, serial=serial)]
+
+
+BEGIN, BEGIN_BY_0, BEGIN_OTHER = pdu(RESPONSE, SESSION), pdu(RESPONSE, SESSION, version=0), pdu(RESPONSE, OTHER_SESSION)
 FIRST = first()
 ASKED: list[Step] = [*FIRST, notify(8), changes(7)]
 THIRD = response(*announced(C), serial=9)
@@ -365,31 +368,32 @@ ASKED_BY_0: list[Step] = [*FIRST_BY_0, notify(8, version=0), changes(7, version=
 THIRD_BY_0 = response(*announced(C, version=0), serial=9, version=0)
 
 
-def refused(name: str, sent: bytes, code: int, about: bytes, most: int = 3) -> Script:
-    """Returns a script in which the router has a table of A and B, and refuses what the cache sends by an Error Report.
+# The functions `refused..` take what the cache sends, the PDU that the router's Error Report names, and the error code.
+# Without this PDU the report names all that the cache sends.
+def refused(name: str, sent: bytes, about: bytes = b"", code: int = CORRUPT, most: int = 3) -> Script:
+    """Returns a script in which the router has a table of A and B, and refuses what the cache sends.
 
     Then the router drops the session and asks for all VRPs.
     """
-    return Script(name, [[*ASKED, sent, Wants(report(code, about)), CLOSED], LAST], [[A, B], [C]], most)
+    return Script(name, [[*ASKED, sent, Wants(report(code, about or sent)), CLOSED], LAST], [[A, B], [C]], most)
 
 
-def refused_at_once(name: str, sent: bytes, code: int, about: bytes) -> Script:
+def refused_at_once(name: str, sent: bytes, about: bytes = b"", code: int = CORRUPT) -> Script:
     """Returns a script in which the router refuses the first response.
 
     The router asks again after the default Retry Interval (RFC 8210, 6).
     """
-    return Script(name, [[ALL, sent, Wants(report(code, about)), CLOSED], [LATER, THIRD]], [[C]], 2)
+    return Script(name, [[ALL, sent, Wants(report(code, about or sent)), CLOSED], [LATER, THIRD]], [[C]])
 
 
-def refused_idle(name: str, sent: bytes, code: int = CORRUPT, about: bytes | None = None, most: int = 3) -> Script:
+def refused_idle(name: str, sent: bytes, about: bytes = b"", code: int = CORRUPT, most: int = 3) -> Script:
     """Returns a script in which the router has a table and no open query, and refuses what the cache sends."""
-    wanted = Wants(report(code, sent if about is None else about))
-    return Script(name, [[*FIRST, sent, wanted, CLOSED], LAST], [[A, B], [C]], most)
+    return Script(name, [[*FIRST, sent, Wants(report(code, about or sent)), CLOSED], LAST], [[A, B], [C]], most)
 
 
-def refused_by_0(name: str, sent: bytes, code: int, about: bytes) -> Script:
+def refused_by_0(name: str, sent: bytes, about: bytes = b"", code: int = CORRUPT) -> Script:
     """Returns a script in which the router refuses a PDU on a connection of version 0. Then it asks in version 1."""
-    wanted = Wants(report(code, about, version=0))
+    wanted = Wants(report(code, about or sent, version=0))
     return Script(name, [[*ASKED_BY_0, sent, wanted, CLOSED], [LATER, THIRD]], [[A, B], [C]], 3)
 
 
@@ -401,7 +405,7 @@ def ends(name: str, sent: bytes) -> Script:
 def states(name: str, intervals: Intervals, wanted: Intervals) -> Script:
     """Returns a script in which the router prints the intervals that it uses."""
     said = Says("intervals: refresh {}, retry {}, expire {}".format(*wanted))
-    return Script(name, [[*first(intervals=intervals), said]], [[A, B]], 2)
+    return Script(name, [[*first(intervals=intervals), said]], [[A, B]])
 
 
 # Words of the command line after which the status is 2: their number is wrong, or one is not a number in its range.
@@ -412,56 +416,34 @@ WRONG_WORDS = [
     *(["1", "1", word] for word in ("z", "1s", "-1", "2147483648")),
     *(["1", "1", "1", word] for word in ("w", "0", "-1", "2147483648")),
 ]
-SHORT = pdu(END_OF_DATA, SESSION, struct.pack(">I", 8))
+SHORT, LONG_BY_0 = pdu(END_OF_DATA, SESSION, struct.pack(">I", 8)), pdu(END_OF_DATA, SESSION, bytes(16), 0)
+BELOW: Vrp = ("10.0.0.0/8", 7, 1)
 MANY = 40
 SCRIPTS = [
-    Script("all VRPs", [FIRST], [[A, B]], 2),
-    Script(
-        "changes",
-        [[*ASKED, response(prefix(WITHDRAW, A), *announced(C), serial=8)]],
-        [[A, B], [B, C]],
-        2,
-    ),
+    Script("all VRPs", [FIRST], [[A, B]]),
+    Script("changes", [[*FIRST, *changed(8, *withdrawn(A), *announced(C))]], [[A, B], [B, C]]),
     Script(
         "many changes",
-        [
-            [*FIRST]
-            + [
-                step
-                for at in range(MANY)
-                for step in (
-                    notify(8 + at),
-                    changes(7 + at),
-                    response(prefix(at % 2, A), serial=8 + at),
-                )
-            ]
-        ],
+        [[*FIRST, *(step for at in range(MANY) for step in changed(8 + at, prefix(at % 2, A)))]],
         [[A, B], *([[B], [A, B]] * (MANY // 2))],
-        2,
     ),
     Script(
         "a notice while a response comes",
-        [
-            [ALL, pdu(RESPONSE, SESSION) + notify(9) + prefix(ANNOUNCE, A) + end_of_data(7)]
-            + [changes(7), response(*announced(B), serial=9)]
-        ],
+        [[ALL, BEGIN + notify(9) + announced(A)[0] + end_of_data(7), changes(7), response(*announced(B), serial=9)]],
         [[A], [A, B]],
-        2,
     ),
     Script(
         "a notice before a response comes",
-        [[*ASKED, notify(9) + response(*announced(C), serial=8), changes(8), response(prefix(WITHDRAW, A), serial=9)]],
+        [[*ASKED, notify(9) + response(*announced(C), serial=8), changes(8), response(*withdrawn(A), serial=9)]],
         [[A, B], [A, B, C], [B, C]],
-        2,
     ),
     Script(
         "a notice of the serial of the response",
         [[*ASKED, notify(9) + response(*announced(C), serial=9)]],
         [[A, B], [A, B, C]],
-        2,
     ),
     # The router may not ask here, so it refuses a Cache Response.
-    refused_idle("a notice of the table's serial", notify(7) + pdu(RESPONSE, SESSION), about=pdu(RESPONSE, SESSION)),
+    refused_idle("a notice of the table's serial", notify(7) + BEGIN, BEGIN),
     Script("a Cache Reset", [[*ASKED, pdu(RESET), *LAST]], [[A, B], [C]], 3),
     Script(
         "a notice and then a Cache Reset",
@@ -469,116 +451,95 @@ SCRIPTS = [
         [[A, B], [C]],
         3,
     ),
-    Script("reserved flags", [[ALL, response(prefix(0xFF, A), serial=7)]], [[A]], 2),
-    Script("Router Keys", [[ALL, response(router_key(), *announced(A), router_key(), serial=7)]], [[A]], 2),
+    Script("reserved flags", [[ALL, response(prefix(0xFF, A), serial=7)]], [[A]]),
+    Script("Router Keys", [[ALL, response(router_key(), *announced(A), router_key(), serial=7)]], [[A]]),
     # The table from before the error stays until the next one is there, so three are held at once: that table, the
     # empty one and the next.
     refused(
-        "a withdrawal of an unknown VRP",
-        response(prefix(WITHDRAW, A), prefix(WITHDRAW, C), serial=8),
-        UNKNOWN_RECORD,
-        prefix(WITHDRAW, C),
+        "a withdrawal of an unknown VRP", response(*withdrawn(A, C), serial=8), prefix(WITHDRAW, C), UNKNOWN_RECORD
     ),
-    refused(
-        "a withdrawal that comes twice",
-        response(prefix(WITHDRAW, B), prefix(WITHDRAW, B), serial=8),
-        UNKNOWN_RECORD,
-        prefix(WITHDRAW, B),
-    ),
-    refused("a duplicate announcement", response(*announced(C, B), serial=8), DUPLICATE, prefix(ANNOUNCE, B)),
+    refused("a withdrawal that comes twice", response(*withdrawn(B, B), serial=8), prefix(WITHDRAW, B), UNKNOWN_RECORD),
+    refused("a duplicate announcement", response(*announced(C, B), serial=8), prefix(ANNOUNCE, B), DUPLICATE),
     refused_at_once(
-        "an announcement that comes twice", response(*announced(A, B, A), serial=7), DUPLICATE, prefix(ANNOUNCE, A)
+        "an announcement that comes twice", response(*announced(A, B, A), serial=7), prefix(ANNOUNCE, A), DUPLICATE
     ),
     refused_at_once(
         "a withdrawal among all VRPs",
-        response(*announced(A), prefix(WITHDRAW, B), serial=7),
-        UNKNOWN_RECORD,
+        response(*announced(A), *withdrawn(B), serial=7),
         prefix(WITHDRAW, B),
+        UNKNOWN_RECORD,
     ),
     # A mismatch of sessions: error 0, and all data of the cache is dropped (RFC 8210, 5.1). So two are held at once.
     refused(
         "an End of Data of another session",
-        pdu(RESPONSE, SESSION) + prefix(ANNOUNCE, C) + end_of_data(8, OTHER_SESSION),
-        CORRUPT,
+        BEGIN + prefix(ANNOUNCE, C) + end_of_data(8, OTHER_SESSION),
         end_of_data(8, OTHER_SESSION),
-        2,
+        most=2,
     ),
-    refused("changes of another session", pdu(RESPONSE, OTHER_SESSION), CORRUPT, pdu(RESPONSE, OTHER_SESSION), 2),
+    refused("changes of another session", BEGIN_OTHER, most=2),
     refused_idle("a notice of another session", notify(7, OTHER_SESSION), most=2),
     refused_at_once(
         "a notice of another session than the first response",
-        pdu(RESPONSE, SESSION) + notify(7, OTHER_SESSION),
-        CORRUPT,
+        BEGIN + notify(7, OTHER_SESSION),
         notify(7, OTHER_SESSION),
     ),
     refused_at_once(
         "an End of Data of another session than the first response",
-        pdu(RESPONSE, SESSION) + prefix(ANNOUNCE, A) + end_of_data(7, OTHER_SESSION),
-        CORRUPT,
+        BEGIN + prefix(ANNOUNCE, A) + end_of_data(7, OTHER_SESSION),
         end_of_data(7, OTHER_SESSION),
     ),
     # Serial numbers (RFC 1982).
-    refused("changes to an earlier serial", response(*announced(C), serial=6), CORRUPT, end_of_data(6)),
+    refused("changes to an earlier serial", response(*announced(C), serial=6), end_of_data(6)),
     Script(
         "a serial after the wrap to 0",
         [[*first(0xFFFFFFFF), notify(0), changes(0xFFFFFFFF), response(*announced(C), serial=0)]],
         [[A, B], [A, B, C]],
-        2,
     ),
     Script(
         "a notice after the wrap to 0",
         [
-            [ALL, pdu(RESPONSE, SESSION) + notify(1) + prefix(ANNOUNCE, A) + end_of_data(0xFFFFFFFE)]
+            [ALL, BEGIN + notify(1) + prefix(ANNOUNCE, A) + end_of_data(0xFFFFFFFE)]
             + [changes(0xFFFFFFFE), response(*announced(B), serial=1)]
         ],
         [[A], [A, B]],
-        2,
     ),
     Script(
         "a notice before the wrap to 0",
-        [[ALL, pdu(RESPONSE, SESSION) + notify(0xFFFFFFFE) + prefix(ANNOUNCE, A) + end_of_data(1)]],
+        [[ALL, BEGIN + notify(0xFFFFFFFE) + prefix(ANNOUNCE, A) + end_of_data(1)]],
         [[A]],
-        2,
     ),
     # PDUs that are wrong, or come at a wrong time.
-    refused("an End of Data of version 0 in its length", pdu(RESPONSE, SESSION) + SHORT, CORRUPT, SHORT),
-    refused("an End of Data without a response", end_of_data(8), CORRUPT, end_of_data(8)),
-    refused("a VRP without a response", prefix(ANNOUNCE, C), CORRUPT, prefix(ANNOUNCE, C)),
-    refused("a Router Key without a response", router_key(), CORRUPT, router_key()),
-    refused("a second Cache Response", pdu(RESPONSE, SESSION) * 2, CORRUPT, pdu(RESPONSE, SESSION)),
-    refused("a Cache Reset in a response", pdu(RESPONSE, SESSION) + pdu(RESET), CORRUPT, pdu(RESET)),
-    refused_at_once("a Cache Reset for all VRPs", pdu(RESET), CORRUPT, pdu(RESET)),
+    refused("an End of Data of version 0 in its length", BEGIN + SHORT, SHORT),
+    refused("an End of Data without a response", end_of_data(8)),
+    refused("a VRP without a response", prefix(ANNOUNCE, C)),
+    refused("a Router Key without a response", router_key()),
+    refused("a second Cache Response", BEGIN * 2, BEGIN),
+    refused("a Cache Reset in a response", BEGIN + pdu(RESET), pdu(RESET)),
+    refused_at_once("a Cache Reset for all VRPs", pdu(RESET)),
     refused_idle("a Cache Reset without a query", pdu(RESET)),
-    refused_idle("a Cache Response without a query", pdu(RESPONSE, SESSION)),
+    refused_idle("a Cache Response without a query", BEGIN),
     refused_at_once(
-        "a VRP whose maxLength is below its length",
-        response(*announced(("10.0.0.0/8", 7, 1)), serial=7),
-        CORRUPT,
-        prefix(ANNOUNCE, ("10.0.0.0/8", 7, 1)),
+        "a VRP whose maxLength is below its length", response(*announced(BELOW), serial=7), prefix(ANNOUNCE, BELOW)
     ),
     refused_at_once(
-        "an IPv4 prefix of another length",
-        pdu(RESPONSE, SESSION) + prefix(ANNOUNCE, A, more=b"\0"),
-        CORRUPT,
-        prefix(ANNOUNCE, A, more=b"\0"),
+        "an IPv4 prefix of another length", BEGIN + prefix(ANNOUNCE, A, more=b"\0"), prefix(ANNOUNCE, A, more=b"\0")
     ),
     refused_at_once(
         "an IPv6 prefix of another length",
-        pdu(RESPONSE, SESSION) + prefix(ANNOUNCE, B, more=bytes(12)),
-        CORRUPT,
+        BEGIN + prefix(ANNOUNCE, B, more=bytes(12)),
         prefix(ANNOUNCE, B, more=bytes(12)),
     ),
-    refused_at_once("a Router Key too short", pdu(RESPONSE) + router_key(length=23), CORRUPT, router_key(length=23)),
-    refused("a Cache Response with a body", pdu(RESPONSE, SESSION, b"\0"), CORRUPT, pdu(RESPONSE, SESSION, b"\0")),
-    refused("a Cache Reset with a body", pdu(RESET, 0, b"\0"), CORRUPT, pdu(RESET, 0, b"\0")),
+    refused_at_once("a Router Key too short", pdu(RESPONSE) + router_key(length=23), router_key(length=23)),
+    refused("a Cache Response with a body", pdu(RESPONSE, SESSION, b"\0")),
+    refused("a Cache Reset with a body", pdu(RESET, 0, b"\0")),
     refused_idle("a notice without a serial", pdu(NOTIFY, SESSION)),
     refused_idle("a length below 8", pdu(RESPONSE, SESSION, length=7)),
     refused_idle("a length above 65536", pdu(RESPONSE, SESSION, length=65537)),
     refused_idle("a Serial Query", pdu(SERIAL_QUERY, SESSION, bytes(4))),
     refused_idle("a Reset Query", pdu(RESET_QUERY)),
-    refused_idle("type 5", pdu(5), BAD_TYPE),
-    refused_idle("type 11", pdu(11, 0, bytes(range(200))), BAD_TYPE),
-    refused_idle("type 255 with a long body", pdu(255, 0, bytes(2000)), BAD_TYPE, pdu(255, 0, bytes(2000))[:1024]),
+    refused_idle("type 5", pdu(5), code=BAD_TYPE),
+    refused_idle("type 11", pdu(11, 0, bytes(range(200))), code=BAD_TYPE),
+    refused_idle("type 255 with a long body", pdu(255, 0, bytes(2000)), pdu(255, 0, bytes(2000))[:1024], BAD_TYPE),
     # No Error Report is sent for an Error Report (RFC 8210, 5.11).
     ends("an Error Report", report(CORRUPT, pdu(SERIAL_QUERY))),
     ends("an Error Report with an unknown code", report(99, b"")),
@@ -589,57 +550,51 @@ SCRIPTS = [
     ends("an Error Report with a length above 65536", pdu(ERROR, NO_DATA, length=65537)),
     ends("an Error Report of another version", report(NO_DATA, b"", version=0)),
     Script(
-        "an Error Report of version 2 at first", [[ALL, report(BAD_VERSION, b"", 2), CLOSED], [LATER, THIRD]], [[C]], 2
+        "an Error Report of version 2 at first", [[ALL, report(BAD_VERSION, b"", 2), CLOSED], [LATER, THIRD]], [[C]]
     ),
     # Versions (RFC 8210, 7).
     Script(
         "version 0",
         [[*ASKED_BY_0, response(prefix(WITHDRAW, A, 0), *announced(C, version=0), serial=8, version=0)]],
         [[A, B], [B, C]],
-        2,
     ),
     Script(
         "a notice while a response of version 0 comes",
         [
-            [ALL, pdu(RESPONSE, SESSION, version=0) + notify(9, version=0) + end_of_data(7, version=0)]
+            [ALL, BEGIN_BY_0 + notify(9, version=0) + end_of_data(7, version=0)]
             + [changes(7, version=0), response(*announced(A, version=0), serial=9, version=0)]
         ],
         [[], [A]],
-        2,
     ),
     # The Retry Interval is longer than the test: the router does not wait for it.
     Script(
         "version 0 after an Error Report",
         [[ALL, report(BAD_VERSION, ALL.octets, 0), CLOSED], [ALL_BY_0, THIRD_BY_0]],
         [[C]],
-        2,
-        10 * LIMIT,
+        unit=10 * LIMIT,
     ),
     Script(
         "version 0 after an Error Report, and then another one",
         [[ALL, report(BAD_VERSION, b"", 0), CLOSED], [ALL_BY_0, report(BAD_VERSION, b"", 0), CLOSED], [LATER, THIRD]],
         [[C]],
-        2,
     ),
     Script(
         "version 1 after version 0 was asked for",
         [
             [ALL, report(BAD_VERSION, b"", 0), CLOSED],
-            [ALL_BY_0, pdu(RESPONSE, SESSION), Wants(report(OTHER_VERSION, pdu(RESPONSE, SESSION), 0)), CLOSED],
+            [ALL_BY_0, BEGIN, Wants(report(OTHER_VERSION, BEGIN, 0)), CLOSED],
             LAST,
         ],
         [[C]],
-        2,
     ),
     Script(
         "version 0 has no data",
         [[ALL, report(NO_DATA, b"", 0), Wants(ALL_BY_0.octets, DEFAULT_RETRY), THIRD_BY_0]],
         [[C]],
-        2,
     ),
     Script(
         "version 0 for a session of version 1",
-        [FIRST, [changes(7), pdu(RESPONSE, SESSION, version=0), CLOSED], [ALL_BY_0, THIRD_BY_0]],
+        [FIRST, [changes(7), BEGIN_BY_0, CLOSED], [ALL_BY_0, THIRD_BY_0]],
         [[A, B], [C]],
         3,
     ),
@@ -647,46 +602,32 @@ SCRIPTS = [
         "a session of version 0 on two connections",
         [
             FIRST_BY_0,
-            [changes(7, version=0, after=DEFAULT_RETRY)]
-            + [response(*announced(C, version=0), serial=8, version=0)],
+            [changes(7, version=0, after=DEFAULT_RETRY), response(*announced(C, version=0), serial=8, version=0)],
         ],
         [[A, B], [A, B, C]],
-        2,
     ),
     Script(
         "notices before the version is settled",
         [[ALL, notify(7, OTHER_SESSION, 0) + notify(9) + pdu(NOTIFY, 0, bytes(9), 2), *FIRST[1:]]],
         [[A, B]],
-        2,
     ),
     Script(
         "notices before the version is settled again",
         [FIRST, [changes(7), notify(9, OTHER_SESSION) + notify(9, SESSION, 0) + response(*announced(C), serial=8)]],
         [[A, B], [A, B, C]],
-        2,
     ),
-    refused("another version", pdu(RESPONSE, SESSION, version=0), OTHER_VERSION, pdu(RESPONSE, SESSION, version=0)),
-    refused_idle("a notice of another version", notify(8, version=0), OTHER_VERSION),
-    refused_at_once("version 2", pdu(RESPONSE, SESSION, version=2), BAD_VERSION, pdu(RESPONSE, SESSION, version=2)),
-    refused_by_0("version 1 after version 0", pdu(RESPONSE, SESSION), OTHER_VERSION, pdu(RESPONSE, SESSION)),
-    refused_by_0(
-        "a Router Key of version 0",
-        pdu(RESPONSE, SESSION, version=0) + router_key(version=0),
-        BAD_TYPE,
-        router_key(version=0),
-    ),
+    refused("another version", BEGIN_BY_0, code=OTHER_VERSION),
+    refused_idle("a notice of another version", notify(8, version=0), code=OTHER_VERSION),
+    refused_at_once("version 2", pdu(RESPONSE, SESSION, version=2), code=BAD_VERSION),
+    refused_by_0("version 1 after version 0", BEGIN, code=OTHER_VERSION),
+    refused_by_0("a Router Key of version 0", BEGIN_BY_0 + router_key(version=0), router_key(version=0), BAD_TYPE),
     refused_by_0(
         "a duplicate announcement of version 0",
         response(*announced(B, version=0), serial=8, version=0),
-        DUPLICATE,
         prefix(ANNOUNCE, B, version=0),
+        DUPLICATE,
     ),
-    refused_by_0(
-        "an End of Data of version 0 with intervals",
-        pdu(RESPONSE, SESSION, version=0) + pdu(END_OF_DATA, SESSION, bytes(16), 0),
-        CORRUPT,
-        pdu(END_OF_DATA, SESSION, bytes(16), 0),
-    ),
+    refused_by_0("an End of Data of version 0 with intervals", BEGIN_BY_0 + LONG_BY_0, LONG_BY_0),
     # Intervals (RFC 8210, 6).
     states("intervals in their ranges", (2, 3, 601), (2, 3, 601)),
     states("intervals below their ranges", (0, 0, 599), (1, 1, 600)),
@@ -698,10 +639,7 @@ SCRIPTS = [
     states("a Retry Interval as long as the Expire Interval", (60, 7000, 7000), (60, 6999, 7000)),
     states("intervals above an Expire Interval below its range", (86401, 7201, 0), (599, 599, 600)),
     Script(
-        "intervals of version 0",
-        [[*FIRST_BY_0, Says("intervals: refresh 3600, retry 600, expire 7200")]],
-        [[A, B]],
-        2,
+        "intervals of version 0", [[*FIRST_BY_0, Says("intervals: refresh 3600, retry 600, expire 7200")]], [[A, B]]
     ),
     Script(
         "changes after the Refresh Interval",
@@ -711,23 +649,20 @@ SCRIPTS = [
             + [response(*announced(C), serial=8)]
         ],
         [[A, B], [A, B], [A, B, C]],
-        2,
     ),
     Script(
         "changes after the Retry Interval",
         [first(intervals=(86400, 50, 172800)), [changes(7, after=0.5), response(*announced(C), serial=8)]],
         [[A, B], [A, B, C]],
-        2,
     ),
     Script(
         "changes after a connection is lost in a response",
-        [[*ASKED, pdu(RESPONSE, SESSION) + prefix(ANNOUNCE, C)], [changes(7), response(prefix(WITHDRAW, A), serial=8)]],
+        [[*ASKED, BEGIN + prefix(ANNOUNCE, C)], [changes(7), response(*withdrawn(A), serial=8)]],
         [[A, B], [B]],
-        2,
     ),
-    Script("a connection without a response", [[Closes()], [LATER, THIRD]], [[C]], 2),
-    Script("no data at first", [[ALL, report(NO_DATA, ALL.octets), LATER, THIRD]], [[C]], 2),
-    Script("no data, and the connection is lost", [[ALL, report(NO_DATA, b"")], [LATER, THIRD]], [[C]], 2),
+    Script("a connection without a response", [[Closes()], [LATER, THIRD]], [[C]]),
+    Script("no data at first", [[ALL, report(NO_DATA, ALL.octets), LATER, THIRD]], [[C]]),
+    Script("no data, and the connection is lost", [[ALL, report(NO_DATA, b"")], [LATER, THIRD]], [[C]]),
     Script(
         "no data for changes",
         [
@@ -743,43 +678,31 @@ SCRIPTS = [
         "a table expires while a query is open",
         [[*first(intervals=(50, 1, 600)), changes(7, after=0.25), Wants(b"", 3.0), EXPIRED], LAST],
         [[A, B], [C]],
-        2,
-        5,
+        unit=5,
     ),
     Script(
         "a table expires in a response",
-        [
-            [*first(intervals=(599, 1, 600)), notify(8), changes(7), pdu(RESPONSE, SESSION) + announced(C)[0][:10]]
-            + [CLOSED, EXPIRED],
-            LAST,
-        ],
+        [[*first(intervals=(599, 1, 600)), notify(8), changes(7), BEGIN + announced(C)[0][:10], CLOSED, EXPIRED], LAST],
         [[A, B], [C]],
-        2,
-        20,
+        unit=20,
     ),
     Script(
         "a table expires without a connection",
         [[*first(intervals=(50, 599, 600)), changes(7), Closes()], [Wants(ALL.octets, 2.995), EXPIRED, THIRD]],
         [[A, B], [C]],
-        2,
-        5,
+        unit=5,
     ),
     Script(
         "a table expires while the cache has no data",
-        [
-            [*first(intervals=(50, 599, 600)), changes(7), report(NO_DATA, b""), CLOSED, EXPIRED],
-            LAST,
-        ],
+        [[*first(intervals=(50, 599, 600)), changes(7), report(NO_DATA, b""), CLOSED, EXPIRED], LAST],
         [[A, B], [C]],
-        2,
     ),
     # The session of version 0 ended with its table, so the router asks in version 1 again (7).
     Script(
         "a table of version 0 expires",
         [[*FIRST_BY_0, changes(7, version=0, after=7.2), Wants(b"", 14.4), EXPIRED], LAST],
         [[A, B], [C]],
-        2,
-        2,
+        unit=2,
     ),
     Script(
         "a later End of Data makes the table expire later",
@@ -789,16 +712,9 @@ SCRIPTS = [
             + [response(*announced(C), serial=9)]
         ],
         [[A, B], [A, B], [A, B, C]],
-        2,
-        20,
+        unit=20,
     ),
-    Script(
-        "a first response that does not end",
-        [[ALL, pdu(RESPONSE, SESSION) + announced(C)[0][:10], CLOSED], LAST],
-        [[C]],
-        2,
-        2,
-    ),
+    Script("a first response that does not end", [[ALL, BEGIN + announced(C)[0][:10], CLOSED], LAST], [[C]], unit=2),
     # The router sends to a connection that the cache has closed: SIGPIPE does not end it.
     Script(
         "a query to a closed connection",
@@ -807,7 +723,6 @@ SCRIPTS = [
             [changes(7), response(*announced(C), serial=8)],
         ],
         [[A, B], [A, B, C]],
-        2,
     ),
     Script(
         "an Error Report to a closed connection",

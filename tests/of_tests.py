@@ -105,7 +105,7 @@ CASES = (
     Case("tests/page_api.py", "docs/api/rpki_cover.md", "ascending", "descending", "docs/api/rpki_cover.md is not"),
     Case(API, "crates/rpki_cover/src/cover.rt", "/// Returns the first number", "/// Returns the first moon",
          "docs/api/rpki_cover.md is not"),
-    Case("tests/page_api.py", "tests/page_api.py", '"rpki_text::list"', '"rpki_text::moon"', "is no rpki_text::moon"),
+    Case("tests/page_api.py", "tests/page_api.py", "line, list, number", "line, moon, number", "is no rpki_text::moon"),
     Case("tests/page_layers.py", "docs/layers.svg", "<line x1=", "<line x2=", "is not what crates.txt says"),
     Case("tests/page_layers.py", "crates.txt", "\nrpki_cover:\n", "\nrpki_cover: rpki_addr\n", "is not what crates"),
     Case("tests/page_layers.py", "crates.txt", "\nrpki_text: memchr\n", "\nrpki_text: memchr\nmoon:\n",

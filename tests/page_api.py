@@ -16,7 +16,7 @@ from dataclasses import dataclass, field, replace
 from functools import cache
 from pathlib import Path
 
-from api_paths import ITEM, Key, Module, meant_by, public_paths, root_of
+from api_paths import ITEM, Key, Module, meant_by, names_of, public_paths, root_of
 from api_text import anchor, laid_out, wrapped
 from groups import GROUPS, about, crates_of, group_of, is_program, stands_on
 
@@ -118,59 +118,25 @@ PATHS_HEAD = """//! A `use` line of each public path that docs/api shows. `tests
 
 """
 # The internal API: items that are public only for the crates above. Users have a call that does the whole task.
-# A path includes all paths below it.
-INTERNAL = (
-    "rpki_text::cut",
-    "rpki_text::hexadecimal",
-    "rpki_text::line",
-    "rpki_text::list",
-    "rpki_text::number::digits_from",
-    "rpki_text::number::parse_up_to",
-    "rpki_der::Content::has_more_bits_than",
-    "rpki_der::family::AddressFamily::append",
-    "rpki_der::sequences::Encode",
-    "rpki_der::sequences::ReadNext",
-    "rpki_der::sequences::append_sequence",
-    "rpki_der::sequences::encode_all",
-    "rpki_der::sequences::encode_sequence",
-    "rpki_der::sequences::len_of_all",
-    "rpki_der::sequences::read_some",
-    "rpki_der::sequences::read_values",
-    "rpki_der::sequences::sequence_len",
-    "rpki_der::sequences::take_sequence_of",
-    "rpki_addr::IpAddr::width",
-    "rpki_addr::addr::front",
-    "rpki_addr::addr::print",
-    "rpki_base::Asn::append",
-    "rpki_base::asn::at_index",
-    "rpki_base::asn::print",
-    "rpki_chain_core::reads::read_at",
-    "rpki_chain_core::shared::SharedChain::covered_by",
-    "rpki_chain_core::shared::SharedChain::from_vec",
-    "rpki_chain_core::shared::SharedChain::trim_shared",
-    "rpki_chain::BlockSet::as_chain",
-    "rpki_chain::BlockSet::from_vec_unchecked",
-    "rpki_chain::der",
-    "rpki_chain::path::BlockClaim",
-    "rpki_chain::resources::CollectBlocks",
-    "rpki_as_block::AsBlockIter::none",
-    "rpki_as_block::AsBlockIter::over",
-    "rpki_as_block::der::AsBlockReader",
-    "rpki_as_block::list",
-    "rpki_ip::AddressRange::append",
-    "rpki_ip::AddressRange::is_written_as",
-    "rpki_ip::Prefix::append",
-    "rpki_ip::front",
-    "rpki_ip::text",
-    "rpki_ip_block::SetPrefixes::over",
-    "rpki_ip_block::der::IpBlockReader",
-    "rpki_ip_block::list",
+# The trees are those of `use` lines. A path includes all paths below it.
+INTERNAL_TREES = (
+    "rpki_text::{cut, hexadecimal, line, list, number::{digits_from, parse_up_to}}",
+    "rpki_der::{Content::has_more_bits_than, family::AddressFamily::append}",
+    "rpki_der::sequences::{Encode, ReadNext, append_sequence, encode_all, encode_sequence, len_of_all, read_some}",
+    "rpki_der::sequences::{read_values, sequence_len, take_sequence_of}",
+    "rpki_addr::{IpAddr::width, addr::{front, print}}",
+    "rpki_base::{Asn::append, asn::{at_index, print}}",
+    "rpki_chain_core::{reads::read_at, shared::SharedChain::{covered_by, from_vec, trim_shared}}",
+    "rpki_chain::{BlockSet::{as_chain, from_vec_unchecked}, der, path::BlockClaim, resources::CollectBlocks}",
+    "rpki_as_block::{AsBlockIter::{none, over}, der::AsBlockReader, list}",
+    "rpki_ip::{AddressRange::{append, is_written_as}, Prefix::append, front, text}",
+    "rpki_ip_block::{SetPrefixes::over, der::IpBlockReader, list}",
     "rpki_ipres::OverclaimedIpResources::display_with_family",
     "rpki_family::iter::BlockOfSet",
-    "roa_vrps::field",
-    "roa_vrps::file::opens_object",
+    "roa_vrps::{field, file::opens_object}",
     "pigyelund_routes",
 )
+INTERNAL = ["::".join(path) for tree in INTERNAL_TREES for _, path in names_of(tree)]
 # Ghost lines without meaning for callers are left out: imports, proofs, and how a value is stored.
 PROOFS = "use laws total matches_partial_cmp matches_eq respects_eq one_item no_gaps in_order form_bounds has_family \
 has_width is_reading is_modal has_octets inverse"

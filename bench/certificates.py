@@ -62,9 +62,7 @@ def answers(lines: list[str]) -> tuple[list[str], float]:
 def extensions(library: Pigyelund, lists: list[str]) -> Resources:
     """Returns the octets of both extensions of the set that three lists describe."""
     (asn, v4, v6), _ = answers([f"der {kind} {it}" for kind, it in zip(KINDS, lists)])
-    return library.union(
-        Resources(bytes.fromhex(asn), bytes.fromhex(v4)), Resources(b"", bytes.fromhex(v6))
-    )
+    return library.union(Resources(bytes.fromhex(asn), bytes.fromhex(v4)), Resources(b"", bytes.fromhex(v6)))
 
 
 class OfOctets:
@@ -90,9 +88,7 @@ class OfLines:
 
     def __init__(self, lists: list[list[str]]) -> None:
         self._last, _ = answers([f"norm {kind} {it}" for kind, it in zip(KINDS, lists[-1])])
-        self._lines = [
-            f"path {kind} " + " | refuse ".join(it[at] for it in lists) for at, kind in enumerate(KINDS)
-        ]
+        self._lines = [f"path {kind} " + " | refuse ".join(it[at] for it in lists) for at, kind in enumerate(KINDS)]
 
     def seconds(self) -> float:
         """Returns how long the lines take to answer."""

@@ -24,9 +24,7 @@ LIMITS = {"long": 3.0, "inverted": 2.0, "words": 2.0}
 STRICT = "README.md", "CONTRIBUTING.md"
 # A small file may have one finding of each kind.
 SPARED = 1
-INVERTED = re.compile(
-    r"\W*(What|Who(ever)?|Whatever|Which(ever)?|Whose|That|Where|Of|Behind|Beside|So|By|Those|One)\b"
-)
+INVERTED = re.compile(r"\W*(What|Who(ever)?|Whatever|Which(ever)?|Whose|That|Where|Of|Behind|Beside|So|By|Those|One)\b")
 QUESTION = re.compile(r".*\?$")
 PLAINER = {
     r"\bstands?\b(?! for\b)|\bstood\b": "is, is in, depends on",

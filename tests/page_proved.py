@@ -166,9 +166,7 @@ def claims() -> Iterator[tuple[int, str, str, str]]:
     crate = file = ""
     # Joins the lines of a claim into one line. Blank lines keep the numbers of the lines after it.
     text = re.sub(
-        r"(?m)^- .*(?:\n  .*)+",
-        lambda it: re.sub(r"\n +", " ", it[0]) + "\n" * it[0].count("\n"),
-        PAGE.read_text(),
+        r"(?m)^- .*(?:\n  .*)+", lambda it: re.sub(r"\n +", " ", it[0]) + "\n" * it[0].count("\n"), PAGE.read_text()
     )
     for number, line in enumerate(text.split("\n"), 1):
         if line.startswith("## "):

@@ -20,10 +20,7 @@ PROGRAM = CRATE / "out" / "example_verified_set"
 ISSUER = ("AS64496-AS64511", "192.0.2.0/24", "2001:db8::/32")
 # The modes: whether each reads octets that are not canonical, and whether it trims overclaimed resources.
 MODES = {
-    "refuse": (True, False),
-    "trim": (True, True),
-    "canonical-refuse": (False, False),
-    "canonical-trim": (False, True),
+    "refuse": (True, False), "trim": (True, True), "canonical-refuse": (False, False), "canonical-trim": (False, True)
 }
 NUMBERS, ADDRESSES = "der as AS64500", "der v4 192.0.2.0/25"
 

@@ -22,14 +22,7 @@ from itertools import islice
 from pathlib import Path
 
 from reference import (
-    calls_of_callers,
-    calls_of_sets,
-    calls_of_values,
-    lines,
-    made_routes,
-    places,
-    random_lines,
-    requests,
+    calls_of_callers, calls_of_sets, calls_of_values, lines, made_routes, places, random_lines, requests
 )
 from reference.calls_of_callers import NotSaid
 
@@ -209,9 +202,7 @@ def compare_stored(writes: bool) -> bool:
 
 def ask(program: Path, asked: list[bytes]) -> list[str]:
     """Returns the answers of a program to lines."""
-    run = subprocess.run(
-        [program], input=b"\n".join(asked) + b"\n", stdout=subprocess.PIPE, check=True
-    )
+    run = subprocess.run([program], input=b"\n".join(asked) + b"\n", stdout=subprocess.PIPE, check=True)
     answers = run.stdout.decode("utf-8").split("\n")
     if len(answers) != len(asked) + 1 or answers.pop():
         raise SystemExit(f"{program}: {len(asked)} lines have {len(answers)} answers")

@@ -57,9 +57,7 @@ def main(words: list[str]) -> int:
         print(said[:400])
     count, size = sum(len(it.cases) for it in files), sum(len(it.encode()) for it in texts.values())
     differ = sum(1 for it in found if it.startswith("vectors/"))
-    print(
-        f"vectors: {len(files)} files, {count} cases, {size} octets, {differ} differ, {len(lacking)} counts too low"
-    )
+    print(f"vectors: {len(files)} files, {count} cases, {size} octets, {differ} differ, {len(lacking)} counts too low")
     return 1 if lacking or found else 0
 
 

@@ -20,8 +20,7 @@ ASKED = {
     "holds": (("holds(&rt, false)", True), ("holds(&rt, true)", False)),
     "same": (("same(&rt, 1u32, 2u32)", True), ("same(&rt, 1u32, 1u32)", False)),
     "is_shown": (
-        ('holds(&rt, is_shown(rt.alloc(), &1u32, "2"))', True),
-        ('holds(&rt, is_shown(rt.alloc(), &1u32, "1"))', False),
+        ('holds(&rt, is_shown(rt.alloc(), &1u32, "2"))', True), ('holds(&rt, is_shown(rt.alloc(), &1u32, "1"))', False)
     ),
 }
 

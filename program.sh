@@ -11,9 +11,7 @@ text_of() {
         /^pub const $1: &str = \"[^\"]*\$/,/\";\$/ { s/^pub const $1: &str = \"//; s/\";\$//; p; }" "$texts"
 }
 
-tell() {
-    printf '%s: %s\n' "$started" "$1" >&2
-}
+tell() { printf '%s: %s\n' "$started" "$1" >&2; }
 
 is_current() {
     [ -x "$program" ] &&
@@ -42,9 +40,7 @@ needed_lines() {
         }' "$top/crates.txt"
 }
 
-needed_crates() {
-    needed_lines | cut -d ' ' -f 1
-}
+needed_crates() { needed_lines | cut -d ' ' -f 1; }
 
 # Ends the process that leads a group, with all of its group, and a second later by force what is left of it.
 end_group() {
@@ -90,32 +86,10 @@ prove_copy() {
 # they add up to 44 minutes. The figures of rpki_block, rpki_text, respath_files, respath_places and origins are guesses.
 # Only the estimate of the time that is left uses this table. A crate that is missing here counts as a minute.
 seconds_of_crates() {
-    cat <<'END'
-lines_engine 160
-origins 60
-origins_lines 316
-respath_files 40
-respath_lines 239
-respath_places 120
-roa_origin 301
-roa_vrps 187
-roa_slurm 120
-roa_expiry 120
-rpki_addr 135
-rpki_as 167
-rpki_as_block 101
-rpki_base 88
-rpki_block 33
-rpki_chain 211
-rpki_chain_core 434
-rpki_cover 35
-rpki_der 208
-rpki_ip 166
-rpki_ip_block 113
-rpki_ipres 264
-rpki_prefix 86
-rpki_text 54
-END
+    printf '%s %s\n' lines_engine 160 origins 60 origins_lines 316 respath_files 40 respath_lines 239 \
+        respath_places 120 roa_expiry 120 roa_origin 301 roa_slurm 120 roa_vrps 187 rpki_addr 135 rpki_as 167 \
+        rpki_as_block 101 rpki_base 88 rpki_block 33 rpki_chain 211 rpki_chain_core 434 rpki_cover 35 rpki_der 208 \
+        rpki_ip 166 rpki_ip_block 113 rpki_ipres 264 rpki_prefix 86 rpki_text 54
 }
 
 # Prints a line for each crate of the build, lowest first: its seconds, its name and its direct dependencies. A crate
@@ -176,9 +150,7 @@ plan() {
 }
 
 # The minutes of so many seconds, rounded up.
-in_minutes() {
-    echo "$((($1 + 59) / 60)) min"
-}
+in_minutes() { echo "$((($1 + 59) / 60)) min"; }
 
 # The crates that rt ci has proved up to now, and those that an earlier run proved.
 note_proved() {
@@ -310,14 +282,10 @@ need_current() {
     }
 }
 
-sum_of_program() {
-    sha256sum <"$program"
-}
+sum_of_program() { sha256sum <"$program"; }
 
 # Notes which kit proved the program that has been built now.
-note_kit() {
-    { rt version && sum_of_program; } >"$noted"
-}
+note_kit() { { rt version && sum_of_program; } >"$noted"; }
 
 # The kit that proved the very program that lies here.
 kit_of_program() {

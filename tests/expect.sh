@@ -38,14 +38,10 @@ counted() { uniq -c | sed 's/^ *//'; }
 
 # Whether a case is left out, and says so: it grants less memory than a program with run-time checks needs. check --quick
 # sets UNPROVED where the programs are compiled so.
-needs_more() {
-    [ -n "${UNPROVED-}" ] && echo "left out  $1: a program with run-time checks needs more memory"
-}
+needs_more() { [ -n "${UNPROVED-}" ] && echo "left out  $1: a program with run-time checks needs more memory"; }
 
 # Whether a case is left out, and says so: a program with run-time checks takes minutes for its input.
-takes_long() {
-    [ -n "${UNPROVED-}" ] && echo "left out  $1: a program with run-time checks takes minutes"
-}
+takes_long() { [ -n "${UNPROVED-}" ] && echo "left out  $1: a program with run-time checks takes minutes"; }
 
 # examples WHAT PAGE COMMAND ..: each example of a page of the manual prints what the page shows. The command runs a
 # line.

@@ -103,21 +103,11 @@ class Answer(NamedTuple):
 
 
 class Status(Exception):
-    """A refusal, with its number and the overclaimed resources."""
+    """A refusal, with its number, the overclaimed resources, and the index of an invalid VRP or route."""
 
-    def __init__(self, number: int, excess: Triple = ([], [], [])) -> None:
+    def __init__(self, number: int, excess: Triple = ([], [], []), place: int | None = None) -> None:
         super().__init__(number)
-        self.number = number
-        self.excess = excess
-
-
-class StatusAt(Exception):
-    """A refusal, with its number and the index of the invalid VRP."""
-
-    def __init__(self, number: int, place: int) -> None:
-        super().__init__(number, place)
-        self.number = number
-        self.place = place
+        self.number, self.excess, self.place = number, excess, place
 
 
 def read_numbers(octets: bytes | None, strict: bool, base: int) -> Claim:
@@ -265,39 +255,41 @@ def range_octets(question: Question) -> bytes:
     return b"".join(end.to_bytes(bits // 8, "big").ljust(16, b"\0") for end in ends)
 
 
-def prefix_of(octets: bytes, base: int) -> prefixes.Prefix:
-    """Reads the prefix of a VRP or of a route."""
+def prefix_of(octets: bytes, base: int, place: int) -> prefixes.Prefix:
+    """Reads the prefix of a VRP or of a route, which is at an index."""
     number, length = octets[20:22]
     if number not in FAMILIES:
-        raise Status(base + BAD_FAMILY)
+        raise Status(base + BAD_FAMILY, place=place)
     family = FAMILIES[number]
     address = int.from_bytes(octets[: family.bits // 8], "big")
     if length > family.bits or address % (1 << family.bits - length):
-        raise Status(base + BAD_PREFIX)
+        raise Status(base + BAD_PREFIX, place=place)
     return prefixes.Prefix(family, address, length)
 
 
-def vrp_of(octets: bytes) -> prefixes.Vrp:
-    """Reads a VRP."""
-    prefix = prefix_of(octets, 0)
+def vrp_of(octets: bytes, base: int = 0, place: int = 0) -> prefixes.Vrp:
+    """Reads a VRP, which is at an index."""
+    prefix = prefix_of(octets, base, place)
     if not prefix.length <= octets[22] <= prefix.family.bits:
-        raise Status(BAD_MAX_LEN)
+        raise Status(base + BAD_MAX_LEN, place=place)
     return prefixes.Vrp(prefixes.MaxLenPrefix(prefix, octets[22]), int.from_bytes(octets[16:20], "big"))
+
+
+def vrps_in(octets: bytes, base: int = 0) -> list[prefixes.Vrp]:
+    """Reads the VRPs of an array."""
+    return [vrp_of(each, base, place) for place, each in enumerate(cut(octets, 23))]
+
+
+def routes_in(octets: bytes) -> list[tuple[prefixes.Prefix, int]]:
+    """Reads the routes of an array: the prefix and the AS number of each."""
+    found = enumerate(cut(octets, 22))
+    return [(prefix_of(each, SECOND, place), int.from_bytes(each[16:20], "big")) for place, each in found]
 
 
 def origins_answer(question: Question) -> Answer:
     """Returns the validity of each route under the VRPs."""
-    found = bytearray()
-    vrps: list[prefixes.Vrp] = []
-    place = 0
-    try:
-        for place, octets in enumerate(cut(question.first[0], 23)):
-            vrps.append(vrp_of(octets))
-        for place, octets in enumerate(cut(question.second[0], 22)):
-            prefix, number = prefix_of(octets, SECOND), int.from_bytes(octets[16:20], "big")
-            found.append(VALIDITIES[prefixes.validity(prefix, number, vrps)])
-    except Status as refusal:
-        return Answer(refusal.number, (b"", b""), place)
+    vrps = vrps_in(question.first[0])
+    found = [VALIDITIES[prefixes.validity(*route, vrps)] for route in routes_in(question.second[0])]
     return Answer(OK, (bytes(found), b""), 0)
 
 
@@ -317,20 +309,9 @@ def table_place(vrp: prefixes.Vrp) -> tuple[int, ...]:
     return family.bits, address, length, -vrp.asn, vrp.prefix.resolved()
 
 
-def vrps_in(octets: bytes, base: int = 0) -> list[prefixes.Vrp]:
-    """Reads the VRPs of an array. Raises the status and the index of the first VRP that is invalid."""
-    found = []
-    for place, each in enumerate(cut(octets, 23)):
-        try:
-            found.append(vrp_of(each))
-        except Status as refusal:
-            raise StatusAt(base + refusal.number, place) from None
-    return found
-
-
 def covering_octets(route: bytes, vrps: list[prefixes.Vrp]) -> bytes:
     """Returns the VRPs that cover a route, the longest prefix first, each with why it does not match (RFC 6811, 2)."""
-    prefix, number = prefix_of(route, SECOND), int.from_bytes(route[16:20], "big")
+    ((prefix, number),) = routes_in(route)
     found = sorted((one for one in vrps if one.prefix.prefix.covers(prefix)), key=table_place, reverse=True)
     octets = b""
     for vrp in found:
@@ -346,43 +327,33 @@ def changed_vrps(
     left = set(vrps)
     for place, vrp in enumerate(withdrawn):
         if vrp not in left:
-            raise StatusAt(UNKNOWN_WITHDRAWAL, place)
+            raise Status(UNKNOWN_WITHDRAWAL, place=place)
         left.remove(vrp)
     for place, vrp in enumerate(announced):
         if vrp in left:
-            raise StatusAt(DUPLICATE_ANNOUNCEMENT, place)
+            raise Status(DUPLICATE_ANNOUNCEMENT, place=place)
         left.add(vrp)
     return [one for one in vrps if one in left and one not in announced] + announced
 
 
 def differ_answer(question: Question) -> Answer:
     """Returns for each route whether its validity differs between two lists of VRPs."""
-    old, new = (vrps_in(octets) for octets in question.first)
-    found = bytearray()
-    for place, octets in enumerate(cut(question.second[0], 22)):
-        try:
-            prefix, number = prefix_of(octets, SECOND), int.from_bytes(octets[16:20], "big")
-        except Status as refusal:
-            return Answer(refusal.number, (b"", b""), place)
-        found.append(prefixes.validity(prefix, number, old) != prefixes.validity(prefix, number, new))
+    old, new = map(vrps_in, question.first)
+    routes = routes_in(question.second[0])
+    found = [prefixes.validity(*route, old) != prefixes.validity(*route, new) for route in routes]
     return Answer(OK, (bytes(found), b""), 0)
 
 
 def table_answer(question: Question) -> Answer:
     """Returns the answer of a call on a table: the VRPs that cover a route, its VRPs, or the VRPs of the next table."""
-    try:
-        vrps = vrps_in(question.first[0])
-        match question.call:
-            case "covering":
-                return Answer(OK, (covering_octets(question.second[0], vrps), b""), 0)
-            case "changed":
-                announced, withdrawn = vrps_in(question.second[0]), vrps_in(question.second[1], SECOND)
-                vrps = changed_vrps(vrps, announced, withdrawn)
-        return Answer(OK, (b"".join(map(vrp_octets, sorted(vrps, key=table_place))), b""), 0)
-    except StatusAt as refusal:
-        return Answer(refusal.number, (b"", b""), refusal.place)
-    except Status as refusal:
-        return Answer(refusal.number, (b"", b""), 0)
+    vrps = vrps_in(question.first[0])
+    match question.call:
+        case "covering":
+            return Answer(OK, (covering_octets(question.second[0], vrps), b""), 0)
+        case "changed":
+            announced, withdrawn = vrps_in(question.second[0]), vrps_in(question.second[1], SECOND)
+            vrps = changed_vrps(vrps, announced, withdrawn)
+    return Answer(OK, (b"".join(map(vrp_octets, sorted(vrps, key=table_place))), b""), 0)
 
 
 # How the text of the fault of a VRP begins, and its number. Any other text is that of a wrong AS number.
@@ -462,22 +433,19 @@ def written_by(question: Question) -> Octets:
     return written(asked_of_sets(question))
 
 
+# The calls whose answer has a last word.
+ANSWERS = {"path": path_answer, "origins": origins_answer, "differ": differ_answer, "read": file_answer}
+ANSWERS |= dict.fromkeys(("covering", "vrps", "changed"), table_answer)
+
+
 def answer(question: Question) -> Answer:
     """Returns the answer of a call."""
-    if question.call == "path":
-        return path_answer(question)
-    if question.call == "origins":
-        return origins_answer(question)
-    if question.call in ("covering", "vrps", "changed"):
-        return table_answer(question)
-    if question.call == "differ":
-        return differ_answer(question)
-    if question.call == "read":
-        return file_answer(question)
     try:
+        if question.call in ANSWERS:
+            return ANSWERS[question.call](question)
         return Answer(OK, written_by(question))
     except Status as refusal:
-        return Answer(refusal.number, written(refusal.excess))
+        return Answer(refusal.number, written(refusal.excess), refusal.place)
 
 
 # ---- questions
@@ -680,20 +648,11 @@ def of_origins() -> Iterator[Question]:
     fine = routed(1, 10 << 24, 24, 64496)
     ends = [routed(1, 0, 0, 1, 32), routed(2, 0, 0, 2**32 - 1, 128), routed(2, 2**128 - 1, 128, 7, 128)]
     yield asked(ends, [routed(2, 2**128 - 1, 128, 7), routed(1, 2**32 - 1, 32, 1), routed(1, 0, 0, 0), routed(2, 0, 0, 1)])
-    for bad in (
-        routed(0, 0, 0, 1, 0),
-        routed(3, 0, 0, 1, 0),
-        routed(255, 1, 255, 1, 0),
-        routed(1, 10 << 24, 33, 1, 33),
-        routed(1, 10 << 24, 6, 1, 32),
-        routed(1, 1, 31, 1, 0),
-        routed(2, 1, 127, 1, 128),
-        routed(2, 0, 129, 1, 255),
-        routed(1, 10 << 24, 8, 1, 7),
-        routed(1, 10 << 24, 8, 1, 33),
-        routed(2, 0, 128, 1, 127),
-        routed(2, 0, 0, 1, 129),
-    ):
+    ten = 10 << 24
+    families = (0, 0, 0, 1, 0), (3, 0, 0, 1, 0), (255, 1, 255, 1, 0)
+    lengths = (1, ten, 33, 1, 33), (1, ten, 6, 1, 32), (1, 1, 31, 1, 0), (2, 1, 127, 1, 128), (2, 0, 129, 1, 255)
+    most_lengths = (1, ten, 8, 1, 7), (1, ten, 8, 1, 33), (2, 0, 128, 1, 127), (2, 0, 0, 1, 129)
+    for bad in (routed(*it) for it in (*families, *lengths, *most_lengths)):
         for place in (0, 1, 2):
             vrps, routes = [good, good], [fine, fine]
             yield asked(vrps[:place] + [bad] + vrps[place:], routes)
@@ -758,17 +717,9 @@ LINES = [
 ]
 # Invalid lines, each with another fault.
 WRONG_LINES = [
-    b"\xff\n",
-    b"AS1,10.0.0.0/8,8,ripe,0,more\n",
-    b"AS1,10.0.0.0/8\n",
-    b"ASX,10.0.0.0/8,8\n",
-    b"AS4294967296,10.0.0.0/8,8\n",
-    b"AS1,10.0.0.0/33,8\n",
-    b"AS1,10.0.0.1/8,8\n",
-    b"AS1,10.0.0.0/8,256\n",
-    b"AS1,10.0.0.0/8,\n",
-    b"AS1,10.0.0.0/8,7\n",
-    b"AS1,10.0.0.0/8,33\n",
+    *(b"\xff\n", b"AS1,10.0.0.0/8,8,ripe,0,more\n", b"AS1,10.0.0.0/8\n", b"ASX,10.0.0.0/8,8\n"),
+    *(b"AS4294967296,10.0.0.0/8,8\n", b"AS1,10.0.0.0/33,8\n", b"AS1,10.0.0.1/8,8\n"),
+    *(b"AS1,10.0.0.0/8,256\n", b"AS1,10.0.0.0/8,\n", b"AS1,10.0.0.0/8,7\n", b"AS1,10.0.0.0/8,33\n"),
 ]
 ITEMS = [
     b'{"asn": 64496, "prefix": "10.0.0.0/8", "maxLength": 16, "ta": "ripe"}',
@@ -792,21 +743,9 @@ WRONG_ITEMS = [
     b'{"asn": 1, "prefix": "10.0.0.0/8", "maxLength": 7}',
 ]
 WRONG_FILES = [
-    b"",
-    b"\n \n",
-    HEADER,
-    b" [1]",
-    b"[",
-    b"{",
-    b"{}",
-    b'{"roas": []} x',
-    b'{"roas": []}',
-    b'{"roas": [], "roas": []}',
-    b'{"roas": {}}',
-    b'{"roas": ' + b"[" * 200 + b"]" * 200 + b"}",
-    b'{"roas": ["\xff"]}',
-    b"\xef\xbb\xbf",
-    b"\xef\xbb\xbf{}",
+    *(b"", b"\n \n", HEADER, b" [1]", b"[", b"{", b"{}"),
+    *(b'{"roas": []} x', b'{"roas": []}', b'{"roas": [], "roas": []}', b'{"roas": {}}'),
+    *(b'{"roas": ' + b"[" * 200 + b"]" * 200 + b"}", b'{"roas": ["\xff"]}', b"\xef\xbb\xbf", b"\xef\xbb\xbf{}"),
 ]
 
 

@@ -9,13 +9,14 @@ about 2.
 """
 
 import os
-import resource
-import shutil
 import subprocess
 import sys
 import tempfile
 import time
 from pathlib import Path
+
+import origins
+import regress
 
 TOP = Path(__file__).resolve().parent.parent
 sys.path.insert(0, str(TOP / "foreign" / "python"))
@@ -23,19 +24,14 @@ sys.path.insert(0, str(TOP / "foreign" / "python"))
 from pigyelund import Certificate, Encoding, Extensions, Pigyelund, Resources, concatenate  # noqa: E402
 
 RESPATH = TOP / "crates" / "respath_files" / "out" / "respath_files"
-LIBRARY = TOP / "crates" / "pigyelund_c" / "out" / "libpigyelund_c.a"
-KINDS = ("as", "v4", "v6")
+LIBRARY, KINDS = regress.LIBRARY, regress.KINDS
 STEPS = 10
 RUNS = 15
 
 
 def written(kind: str, number: int) -> str:
     """Returns a number below 2^32 as an AS number or an address."""
-    if kind == "as":
-        return f"AS{number}"
-    if kind == "v6":
-        return f"2001:db8:{number >> 16:x}:{number & 0xFFFF:x}::"
-    return ".".join(str(number >> shift & 255) for shift in (24, 16, 8, 0))
+    return f"2001:db8:{number >> 16:x}:{number & 0xFFFF:x}::" if kind == "v6" else regress.written(kind, number)
 
 
 def listed(kind: str, count: int, step: int) -> str:
@@ -49,14 +45,10 @@ def listed(kind: str, count: int, step: int) -> str:
 
 def answers(lines: list[str]) -> tuple[list[str], float]:
     """Runs respath on lines. Returns its answers and the seconds of the processor."""
-    with tempfile.TemporaryFile("w+") as asked:
-        asked.writelines(line + "\n" for line in lines)
-        asked.seek(0)
-        before = resource.getrusage(resource.RUSAGE_CHILDREN)
-        ran = subprocess.run([RESPATH], stdin=asked, stdout=subprocess.PIPE, text=True, check=True)
-        after = resource.getrusage(resource.RUSAGE_CHILDREN)
-    took = after.ru_utime + after.ru_stime - before.ru_utime - before.ru_stime
-    return ran.stdout.splitlines(), took
+    with tempfile.TemporaryDirectory() as folder:
+        asked = origins.write(Path(folder, "lines"), iter(lines))
+        took, _ = origins.run([RESPATH], asked, Path(folder, "answers"))
+        return Path(folder, "answers").read_text().splitlines(), took
 
 
 def extensions(library: Pigyelund, lists: list[str]) -> Resources:
@@ -106,7 +98,7 @@ def built(folder: str) -> Pigyelund:
     subprocess.run([TOP / "respath"], stdin=subprocess.DEVNULL, check=True)
     if not LIBRARY.exists():
         subprocess.run(["rt", "lib"], cwd=LIBRARY.parent.parent, check=True, stdout=sys.stderr)
-    kit = os.environ.get("KIT") or Path(os.path.realpath(shutil.which("rt") or "")).parent.parent
+    kit = os.environ.get("KIT") or regress.kit()
     shared = Path(folder) / "libpigyelund.so"
     whole = ["-Wl,--whole-archive", LIBRARY, "-Wl,--no-whole-archive", Path(kit) / "c" / "liblibc_c.a"]
     subprocess.run(["gcc", "-shared", "-o", shared, *whole], check=True)

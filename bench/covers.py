@@ -1,13 +1,14 @@
 #!/usr/bin/env python3
 """covers.py RESPATH N..: times the shortest cover of N random prefixes, for bench/covers.sh."""
 
-import os
 import random
-import resource
 import shutil
 import subprocess
 import sys
 import tempfile
+from pathlib import Path
+
+from origins import address, run
 
 NETADDR = """
 import sys, netaddr
@@ -31,20 +32,15 @@ def prefixes(count):
             number = made.randrange(1 << length) << 32 - length
         else:
             number ^= 1 << 32 - length
-        yield ".".join(str(number >> shift & 255) for shift in (24, 16, 8, 0)) + f"/{length}"
+        yield f"{address(32, number)}/{length}"
 
 
 def asked(name, list_of, folder):
-    """Returns the status, the answer as a list of prefixes, and the seconds of the processor."""
-    path = os.path.join(folder, "input")
-    with open(path, "w") as file:
-        file.write("cover v4 " + ",".join(list_of) + "\n" if name == "respath" else "\n".join(list_of) + "\n")
-    before = resource.getrusage(resource.RUSAGE_CHILDREN)
-    with open(path) as file:
-        answer = subprocess.run(callers[name], stdin=file, stdout=subprocess.PIPE, stderr=subprocess.DEVNULL, text=True)
-    after = resource.getrusage(resource.RUSAGE_CHILDREN)
-    took = after.ru_utime + after.ru_stime - before.ru_utime - before.ru_stime
-    return answer.returncode, answer.stdout.replace(", ", "\n").replace(" ", "").split(), took
+    """Returns the answer as a list of prefixes, and the seconds of the processor."""
+    given, answer = Path(folder, "input"), Path(folder, "answer")
+    given.write_text("cover v4 " + ",".join(list_of) + "\n" if name == "respath" else "\n".join(list_of) + "\n")
+    took, _ = run(callers[name], given, answer)
+    return answer.read_text().replace(", ", "\n").replace(" ", "").split(), took
 
 
 there = [name for name, command in callers.items() if command[0]]
@@ -60,7 +56,7 @@ with tempfile.TemporaryDirectory() as folder:
         for _ in range(5):
             for name in there:
                 if least.get(name, 0) < 3:
-                    status, answers[name], took = asked(name, inputs, folder)
+                    answers[name], took = asked(name, inputs, folder)
                     least[name] = min(took, least.get(name, took))
         wanted = answers["respath"]
         shown = (f"{least[it]:>11.3f}" if it in least else f"{'-':>11}" for it in all_there)

@@ -8,46 +8,35 @@ import subprocess
 import sys
 import tempfile
 
+import regress
+from regress import KINDS, written
+
 SIZES = (50_000, 100_000, 200_000)
 RUNS = 15
 
 
-def as_number(number):
-    return f"AS{number}"
-
-
-def ipv4(number):
-    return ".".join(str(number >> shift & 255) for shift in (24, 16, 8, 0))
-
-
-def ipv6(number):
-    return f"2001:db8::{number >> 16:x}:{number & 0xFFFF:x}"
-
-
-def blocks(written, count):
+def blocks(kind, count):
     """Returns ascending blocks that neither overlap nor touch."""
-    return [f"{written(16 * at)}-{written(16 * at + at % 9)}" for at in range(count)]
+    return [f"{written(kind, 16 * at)}-{written(kind, 16 * at + at % 9)}" for at in range(count)]
 
 
-def shuffled(kind, written, count):
-    elements = blocks(written, count)
-    random.Random(count).shuffle(elements)
-    return f"norm {kind} " + ", ".join(elements) + "\n"
+def shuffled(kind, count):
+    return f"norm {kind} " + ", ".join(regress.shuffled(blocks(kind, count))) + "\n"
 
 
-def ascending(kind, written, count):
-    return f"norm {kind} " + ", ".join(blocks(written, count)) + "\n"
+def ascending(kind, count):
+    return f"norm {kind} " + ", ".join(blocks(kind, count)) + "\n"
 
 
-def covered(written, count):
+def covered(count):
     """Returns a line of `cover` with random prefixes of 18 to 32 bits."""
     chance = random.Random(count)
     made = ((chance.getrandbits(32), chance.randint(18, 32)) for _ in range(count))
-    return "cover v4 " + ", ".join(f"{written(bits)}/{length}" for bits, length in made) + "\n"
+    return "cover v4 " + ", ".join(f"{written('v4', bits)}/{length}" for bits, length in made) + "\n"
 
 
-def lines(kind, written, count):
-    return "".join(f"norm {kind} {written(at + 1)}, {written(at)}\n" for at in range(count))
+def lines(kind, count):
+    return "".join(f"norm {kind} {written(kind, at + 1)}, {written(kind, at)}\n" for at in range(count))
 
 
 def peak_of(process):
@@ -76,18 +65,18 @@ def measured(program, path):
 def make_inputs(inputs):
     """Writes a file for each kind, form and size."""
     for size in SIZES:
-        for kind, written in (("as", as_number), ("v4", ipv4), ("v6", ipv6)):
+        for kind in KINDS:
             for name, made in (("shuffled", shuffled), ("sorted", ascending), ("lines", lines)):
                 with open(f"{inputs}/{kind}-{name}.{size}", "w") as out:
-                    out.write(made(kind, written, size))
+                    out.write(made(kind, size))
         with open(f"{inputs}/v4-cover.{size}", "w") as out:
-            out.write(covered(ipv4, size))
+            out.write(covered(size))
 
 
 def compare(program, inputs):
     """Prints the seconds and the peak memory for each input, and how they grow with its size."""
     print(f"{'input':<14}{'N':>8}{'MiB in':>8}{'seconds':>9}{'growth':>8}{'peak MiB':>10}{'growth':>8}")
-    for name in [f"{kind}-{made}" for kind in ("as", "v4", "v6") for made in ("shuffled", "sorted", "lines")] + ["v4-cover"]:
+    for name in [f"{kind}-{made}" for kind in KINDS for made in ("shuffled", "sorted", "lines")] + ["v4-cover"]:
         # Each round has all sizes, so that a slow moment of the machine does not affect only one size.
         rounds = [[measured(program, f"{inputs}/{name}.{size}") for size in SIZES] for _ in range(RUNS)]
         before = None

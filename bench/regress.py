@@ -168,15 +168,8 @@ def instructions(asked: Input) -> int:
         file.seek(0)
         valgrind = shutil.which("valgrind") or "valgrind"
         counting = [valgrind, "--tool=callgrind", "--callgrind-out-file=/dev/null", *asked.command]
-        ran = subprocess.run(
-            counting,
-            stdin=file,
-            stdout=subprocess.DEVNULL,
-            stderr=subprocess.PIPE,
-            text=True,
-            check=True,
-            env={"PATH": "/usr/bin:/bin"},
-        )
+        how = {"stdin": file, "stdout": subprocess.DEVNULL, "stderr": subprocess.PIPE, "text": True, "check": True}
+        ran = subprocess.run(counting, env={"PATH": "/usr/bin:/bin"}, **how)
     return int(re.findall(r"^==\d+== Collected : (\d+)", ran.stderr, re.MULTILINE)[-1])
 
 

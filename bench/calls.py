@@ -6,55 +6,25 @@ FOLDER has the program that bench/calls.sh compiles."""
 import re
 import subprocess
 import sys
+from pathlib import Path
+
+sys.path.append(str(Path(__file__).resolve().parent.parent / "tests"))
+from reference import resources  # noqa: E402
 
 folder = sys.argv[1]
 TIMES = 11
 CALLS = ("verify", "union", "intersection", "difference", "contains")
 
 
-def value(tag, content):
-    """Returns a DER value (X.690, 8.1)."""
-    length = len(content)
-    if length < 128:
-        return bytes([tag, length]) + content
-    octets = length.to_bytes((length.bit_length() + 7) // 8, "big")
-    return bytes([tag, 128 + len(octets)]) + octets + content
-
-
-def integer(number):
-    return value(2, number.to_bytes(number.bit_length() // 8 + 1, "big"))
-
-
-def bits(number, width, ones):
-    """Returns an address as a BIT STRING without its last bits that are all `ones` (RFC 3779, 2.2.3.8)."""
-    left = width
-    while left and number >> width - left & 1 == ones:
-        left -= 1
-    kept = number >> width - left << -left % 8
-    return value(3, bytes([-left % 8]) + kept.to_bytes((left + 7) // 8, "big"))
-
-
-def numbers(blocks):
-    """Returns AS identifiers (RFC 3779, 3.2.3)."""
-    listed = b"".join(value(0x30, integer(first) + integer(last)) for first, last in blocks)
-    return value(0x30, value(0xA0, value(0x30, listed)))
-
-
-def family(number, width, shift, blocks):
-    listed = b"".join(
-        value(0x30, bits(first << shift, width, 0) + bits((last + 1 << shift) - 1, width, 1)) for first, last in blocks
-    )
-    return value(0x30, value(4, number.to_bytes(2, "big")) + value(0x30, listed))
-
-
-def addresses(blocks):
-    """Returns IP address blocks (RFC 3779, 2.2.3)."""
-    return value(0x30, family(1, 32, 8, blocks) + family(2, 128, 80, blocks))
+def extensions(blocks):
+    """Returns the octets of both extensions of a set that has these blocks of each kind (RFC 3779)."""
+    v4, v6 = ([(first << shift, (last + 1 << shift) - 1) for first, last in blocks] for shift in (104, 80))
+    return [resources.written_as_claim(blocks), resources.written_families(resources.Families(v4, v6))]
 
 
 def written(one, other):
     """Writes a file of four values, two of one set and two of the other. Returns the words that name them."""
-    values = [numbers(one), addresses(one), numbers(other), addresses(other)]
+    values = [*extensions(one), *extensions(other)]
     with open(f"{folder}/octets", "wb") as file:
         file.write(b"".join(values))
     return [f"{folder}/octets", *(str(len(it)) for it in values[:3])]

@@ -10,9 +10,8 @@ from dataclasses import dataclass, field
 from functools import cache
 from pathlib import Path
 
-from groups import stands_on
+from groups import TOP, stands_on
 
-TOP = Path(__file__).resolve().parent.parent
 ITEM = re.compile(r"pub (?:struct|enum|trait|type) (\w+)|pub (?:const |extern \"C\" )?fn (\w+)|pub const (\w+)")
 # An item: the path of its module, and its name.
 Key = tuple[tuple[str, ...], str]

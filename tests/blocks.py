@@ -104,6 +104,13 @@ def examples_of(page: str) -> Block:
     return with_output(page, "console", text, "")
 
 
+def told(faults: Iterable[str], last: str = "") -> int:
+    """Prints faults, and a last line with their number in place of `{}`. Returns the status of a test."""
+    found = [*faults]
+    print("".join(f"{it}\n" for it in found) + (f"{last.format(len(found))}\n" if last else ""), end="")
+    return 1 if found else 0
+
+
 class Report:
     """Prints what differs from the pages, and counts the examples."""
 

@@ -24,7 +24,7 @@ from ipaddress import IPv4Network, IPv6Network
 from pathlib import Path
 from random import Random
 
-from blocks import TOP, blocks_of
+from blocks import TOP, blocks_of, told
 
 RECIPES = "docs/RECIPES.md"
 FIRST_TITLE = "## Validate routes (`origins`)"
@@ -184,10 +184,7 @@ def main() -> int:
     with tempfile.TemporaryDirectory() as folder:
         write_programs(Path(folder))
         faults = list(faults_of(Path(folder), environment, int(rest[0]) if rest else None))
-    for fault in faults:
-        print(fault)
-    print(f"Dask: {len(WORKERS)} numbers of workers, {len(faults)} faults")
-    return 1 if faults else 0
+    return told(faults, f"Dask: {len(WORKERS)} numbers of workers, {{}} faults")
 
 
 if __name__ == "__main__":

@@ -25,7 +25,7 @@ import sys
 import tempfile
 from pathlib import Path
 
-from blocks import TOP, Report, blocks_of, run
+from blocks import TOP, Report, blocks_of, run, told
 
 PAGE = TOP / "docs" / "FOREIGN.md"
 HEADER = TOP / "foreign" / "pigyelund.h"
@@ -215,10 +215,7 @@ def main() -> int:
     """Compares the numbers, or runs the program that the arguments name."""
     if sys.argv[1:]:
         return compare_program(*sys.argv[1:])
-    faults = numbers_differ()
-    for fault in faults:
-        print(fault)
-    return 1 if faults else 0
+    return told(numbers_differ())
 
 
 if __name__ == "__main__":

@@ -39,7 +39,8 @@ from pathlib import Path
 from random import Random, SystemRandom
 from typing import IO, NamedTuple
 
-TOP = Path(__file__).resolve().parent.parent
+from blocks import TOP, told
+
 SOURCES = TOP / "foreign" / "rtr"
 LIMIT = 300
 AT_ONCE = 32  # the number of scripts that are played at the same time
@@ -955,10 +956,7 @@ def main() -> int:
         else:
             build_peer(folder)
             faults += of_stayrtr(folder)
-    for fault in faults:
-        print(fault)
-    print(f"a router: {len(SCRIPTS)} scripts, {len(faults)} faults")
-    return 1 if faults else 0
+    return told(faults, f"a router: {len(SCRIPTS)} scripts, {{}} faults")
 
 
 if __name__ == "__main__":

@@ -24,7 +24,8 @@ import sys
 import types
 from pathlib import Path
 
-TOP = Path(__file__).resolve().parent.parent
+from groups import TOP, is_program, stands_on
+
 ROW = re.compile(r"^(proves|same|refused|elsewhere|not-judged|not-source|not-run|untested|no-ensures) +(\S.*)$")
 MOST_FAULTS = 3  # the most variants of a fault that are planted one by one
 REPORTED = ("proves", "same", "no-ensures", "untested", "elsewhere", "not-judged", "not-run")
@@ -180,9 +181,7 @@ def planted():
 
 def libraries():
     """Returns the repository's libraries, in the order of crates.txt."""
-    lines = [line.partition(":")[0].split() for line in (TOP / "crates.txt").read_text().splitlines()]
-    names = [words[0] for words in lines if words and not words[0].startswith("#")]
-    return [name for name in names if (TOP / "crates" / name / "src/lib.rt").is_file()]
+    return [name for name in stands_on() if not is_program(name)]
 
 
 def main(words):

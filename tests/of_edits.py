@@ -17,6 +17,7 @@ from collections.abc import Iterator
 from pathlib import Path
 
 sys.dont_write_bytecode = True
+from blocks import told  # noqa: E402
 from copies import TOP, said_by, written  # noqa: E402
 
 # Each call adds a line to the file `calls`: the crate, and all mutations that the copy has.
@@ -111,7 +112,7 @@ def commit(copy: Path) -> str:
 
 def made(copy: Path) -> None:
     """Makes a repository with the crates `low`, `small`, which depends on `low`, and `other`. The stub is beside it."""
-    files = {f"tests/{it}.py": (TOP / "tests" / f"{it}.py").read_text() for it in ("edits", "groups", "source_edits")}
+    files = {f"tests/{it}.py": (TOP / "tests" / f"{it}.py").read_text() for it in ("blocks", "edits", "groups", "source_edits")}
     files |= {f"crates/small/{name}.edit": f"{said}\n" for name, said, _ in RESULTS}
     files |= {f"crates/{name}/src/lib.rt": "right\n" for name in ("low", "small", "other")}
     files |= {"crates/low/edits/turned.edit": f"{REFUSED}: {GOAL}\n", "crates/low/out/made": ""}
@@ -204,11 +205,8 @@ def main() -> int:
         copy = Path(name, "copy")
         made(copy)
         found = [it for part in (of_results, of_runs, of_signals, of_write) for it in part(copy)]
-    faults = [(what, fault) for what, fault in found if fault]
-    for what, fault in faults:
-        print(f"FAILED  {what}: {fault}")
-    print(f"{len(found)} runs of tests/edits.py: {len(faults)} wrong")
-    return 1 if faults else 0
+    faults = (f"FAILED  {what}: {fault}" for what, fault in found if fault)
+    return told(faults, f"{len(found)} runs of tests/edits.py: {{}} wrong")
 
 
 if __name__ == "__main__":

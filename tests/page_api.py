@@ -18,9 +18,8 @@ from pathlib import Path
 
 from api_paths import ITEM, Key, Module, meant_by, names_of, public_paths, root_of
 from api_text import anchor, laid_out, wrapped
-from groups import GROUPS, about, crates_of, group_of, is_program, stands_on
+from groups import GROUPS, TOP, about, crates_of, group_of, is_program, stands_on
 
-TOP = Path(__file__).resolve().parent.parent
 DOCS = TOP / "docs"
 PATHS = TOP / "crates" / "test_paths" / "src" / "lib.rt"
 HEAD = """# API reference

@@ -11,11 +11,9 @@ from collections.abc import Iterator
 from dataclasses import dataclass
 from functools import cache
 from itertools import pairwise
-from pathlib import Path
 
-from groups import GROUPS, Group, below, crates_of, group_of, stands_on
+from groups import GROUPS, TOP, Group, below, crates_of, group_of, stands_on
 
-TOP = Path(__file__).resolve().parent.parent
 PICTURE = TOP / "docs" / "layers.svg"
 # The size of a box, the distances of columns and floors, and the space around the boxes of a group.
 WIDE, HIGH, BESIDE, ABOVE, BELOW = 110, 24, 128, 34, 8

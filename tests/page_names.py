@@ -18,11 +18,10 @@ from collections.abc import Iterator
 from functools import cache
 from pathlib import Path
 
-from groups import group_of
+from groups import TOP, group_of
 from page_api import items_of, libraries
 from page_proved import defines, definition_at, names_of
 
-TOP = Path(__file__).resolve().parent.parent
 CRATES = TOP / "crates"
 PAGES = [TOP / "README.md", TOP / "CONTRIBUTING.md", *sorted((TOP / "docs").glob("*.md"))]
 OF_THE_RUST_CRATE = {"DIFFERENCES.md", "PATHS.md"}

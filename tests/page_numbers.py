@@ -10,9 +10,9 @@ differs, or if no page has it.
 import re
 import sys
 from collections.abc import Callable, Iterator
-from pathlib import Path
 
-TOP = Path(__file__).resolve().parent.parent
+from blocks import TOP, told
+
 ROWS = "rows_values", "rows_sets", "rows_claims", "rows_calls"
 NUMBER = r"(\d[\d,]*)"
 
@@ -107,11 +107,7 @@ def faults_of_quotes() -> Iterator[str]:
 
 def main() -> int:
     """Prints what differs."""
-    faults = [*faults_of_counts(), *faults_of_quotes()]
-    for fault in faults:
-        print(fault)
-    print(f"numbers on the pages: {len(faults)} differ")
-    return 1 if faults else 0
+    return told([*faults_of_counts(), *faults_of_quotes()], "numbers on the pages: {} differ")
 
 
 if __name__ == "__main__":

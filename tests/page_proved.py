@@ -18,7 +18,9 @@ import sys
 from collections.abc import Iterator
 from pathlib import Path
 
-TOP = Path(__file__).resolve().parent.parent
+import page_api
+from groups import TOP
+
 PAGE = TOP / "docs" / "PROVED.md"
 CELL = 200
 
@@ -50,13 +52,8 @@ def clauses_in(text: str, word: str) -> Clauses:
 
 def owner_of(head: str) -> str:
     """Returns the type of an impl, or the trait, by the head of its block."""
-    head = re.split(r"\bwhere\b", head)[0]
-    if found := re.match(r"\s*(?:pub\s+)?(?:unsafe\s+)?trait\s+(\w+)", head):
-        return found[1]
-    head = re.sub(r"^\s*(?:unsafe\s+)?impl\b", "", head)
-    while (shorter := re.sub(r"<[^<>]*>", "", head)) != head:
-        head = shorter
-    return head.split(" for ")[-1].strip().lstrip("&").split()[-1].split("::")[-1]
+    found = re.match(r"\s*(?:pub\s+)?(?:unsafe\s+)?trait\s+(\w+)", head)
+    return found[1] if found else page_api.owner_of(" ".join(head.split()))[0]
 
 
 def calls_of(path: Path) -> dict[str, Clauses]:

@@ -14,7 +14,8 @@ import sys
 from collections.abc import Iterator
 from pathlib import Path
 
-TOP = Path(__file__).resolve().parent.parent
+from blocks import TOP, told
+
 TRIED_BY_THE_KIT = "must-fail"
 FOLDERS = (TRIED_BY_THE_KIT, "edits")
 NAME = re.compile(r"\w[\w.-]*\.edit", re.ASCII)
@@ -64,10 +65,7 @@ def main() -> int:
     kit = the_kit()
     crates = kit.rtlib.crates_below(str(TOP))
     faults = [it for crate in crates for it in faults_of(kit, crate)] + [*faults_of_the_kits(crates)]
-    for fault in faults:
-        print(fault)
-    print(f"{sum(len(edits_of(it)) for it in crates)} edits: {len(faults)} faults")
-    return 1 if faults else 0
+    return told(faults, f"{sum(len(edits_of(it)) for it in crates)} edits: {{}} faults")
 
 
 if __name__ == "__main__":

@@ -9,7 +9,7 @@ lines as they are.
 import re
 import sys
 
-from page_proved import TOP, without_comments
+from page_proved import TOP, behind_braces, without_comments
 
 ROOT = TOP / "crates"
 WIDTH = 100
@@ -18,11 +18,7 @@ WIDTH = 100
 def clauses(text):
     """Yields the start and the end of the text between the braces of each contract, ghost member and ghost field."""
     for word in re.finditer(r"\b(requires|ensures|ghost(?! use)|by)\b[^{};()]*\{", text):
-        at, depth = word.end(), 1
-        while depth and at < len(text):
-            depth += {"{": 1, "}": -1}.get(text[at], 0)
-            at += 1
-        yield word.end(), at - 1
+        yield word.end(), behind_braces(text, word.end() - 1) - 1
 
 
 def imports(text):

@@ -15,9 +15,9 @@ place has another version or none.
 import re
 import sys
 from collections.abc import Iterator
-from pathlib import Path
 
-TOP = Path(__file__).resolve().parent.parent
+from blocks import TOP, told
+
 LICENSE = [(TOP / "LICENSE").read_text()]
 # The files with the version, and the pattern whose group is the version. Each pattern matches at least once.
 PLACES = {
@@ -88,11 +88,7 @@ def main(words: list[str]) -> int:
     if len(words) > 1 or any(it.startswith("-") for it in words):
         print("usage: source_versions.py [VERSION]", file=sys.stderr)
         return 2
-    there = list(faults(words))
-    for fault in there:
-        print(fault)
-    print(f"versions: {len(there)} differ")
-    return 1 if there else 0
+    return told(faults(words), "versions: {} differ")
 
 
 if __name__ == "__main__":

@@ -9,9 +9,9 @@ there is one.
 import re
 import sys
 from collections import defaultdict
-from pathlib import Path
 
-TOP = Path(__file__).resolve().parent.parent
+from blocks import TOP, told
+
 DECLARED = re.compile(r"^(?P<indent> *)(?P<words>(?:[a-z]+ )*?)pub (?P<kind>record |data |mod )?(?P<name>[^\s:({]+)")
 RECORD = re.compile(r"^(?P<indent> *)(?:[a-z]+ )*record\b")
 
@@ -42,9 +42,7 @@ def main():
         for word in declared_in(path.read_text()):
             places[word].add(str(path.relative_to(TOP)))
     twice = {word: files for word, files in places.items() if len(files) > 1}
-    for word, files in sorted(twice.items()):
-        print(f"{word}: {', '.join(sorted(files))}")
-    return 1 if twice else 0
+    return told(f"{word}: {', '.join(sorted(files))}" for word, files in sorted(twice.items()))
 
 
 if __name__ == "__main__":

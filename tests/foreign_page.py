@@ -33,21 +33,13 @@ CRATE = TOP / "crates" / "pigyelund_c"
 ROUTES = TOP / "crates" / "pigyelund_routes"
 SYMBOLS = TOP / "packaging" / "libpigyelund1.symbols"
 # The names in pigyelund.h, each with its name in the library's definitions.
-CHOICES = {
-    "LENIENT": "encoding_number Any",
-    "STRICT": "encoding_number Canonical",
-    "REFUSE": "mode_number Refuse",
-    "TRIM": "mode_number Trim",
-    "HAS_AS": "present_number Numbers",
-    "HAS_IP": "present_number Addresses",
-    "HAS_BOTH": "present_number Both",
-    "ASN": "kind_number Numbers",
-    "IPV4": "family_number Ipv4",
-    "IPV6": "family_number Ipv6",
-    "VALID": "validity_number Valid",
-    "NOT_FOUND": "validity_number NotFound",
-    "INVALID": "validity_number Invalid",
-}
+CHOICES = dict(
+    LENIENT="encoding_number Any", STRICT="encoding_number Canonical",
+    REFUSE="mode_number Refuse", TRIM="mode_number Trim",
+    HAS_AS="present_number Numbers", HAS_IP="present_number Addresses", HAS_BOTH="present_number Both",
+    ASN="kind_number Numbers", IPV4="family_number Ipv4", IPV6="family_number Ipv6",
+    VALID="validity_number Valid", NOT_FOUND="validity_number NotFound", INVALID="validity_number Invalid",
+)  # fmt: skip
 # The reasons why a covering VRP does not match a route: two cases of IsMismatch. Their sum is the third case.
 MISMATCHES = {"OTHER_AS": 1, "TOO_LONG": 2}
 SOURCES = {"c": "program.c", "cpp": "program.cpp", "toml": "Cargo.toml", "rust": "src/main.rs", "python": "program.py"}

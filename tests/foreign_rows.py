@@ -357,14 +357,8 @@ def table_answer(question: Question) -> Answer:
 
 
 # How the text of the fault of a VRP begins, and its number. Any other text is that of a wrong AS number.
-VRP_FAULTS = {
-    "not UTF-8": 1,
-    "too many fields: ": 2,
-    "too few fields: ": 3,
-    "invalid prefix: ": 5,
-    "invalid max length: ": 6,
-    "max-length ": 7,
-}
+VRP_FAULTS = {"not UTF-8": 1, "too many fields: ": 2, "too few fields: ": 3}
+VRP_FAULTS |= {"invalid prefix: ": 5, "invalid max length: ": 6, "max-length ": 7}
 FIRST_OF_MEMBER = {"asn": 8, "prefix": 11, "maxLength": 14, "roas": 3}
 MEMBER_FAULTS = ("missing", "repeated", "wrong kind of value")
 FILE_FAULTS = {"a JSON array, where an object with the member roas is expected": 1, "not a JSON object": 2, "no VRP": 6}

@@ -18,6 +18,7 @@ from collections.abc import Iterator
 from functools import cache
 from pathlib import Path
 
+from blocks import told
 from groups import TOP, group_of
 from page_api import items_of, libraries
 from page_proved import defines, definition_at, names_of
@@ -227,19 +228,14 @@ def main() -> int:
         words.update(re.findall(r"\w+", path.read_text()))
     crates = {it.name for it in CRATES.iterdir()}
     words |= crates
-    found = 0
-    for page in PAGES:
-        more = faults_of_conditions() if page.name == "CALLING.md" else ()
-        for number, fault in sorted({*faults_of_names(page, words, crates), *faults_of_code(page), *more}):
-            print(f"{page.relative_to(TOP)}:{number}: {fault}")
-            found += 1
     heads = [it for it in sorted(CRATES.glob("*/src/**/*.rt")) if it.read_text().startswith("//!")]
-    for file in heads:
-        for number, fault in sorted({*faults_of_names(file, words, crates), *faults_of_head(file, crates)}):
-            print(f"{file.relative_to(TOP)}:{number}: {fault}")
-            found += 1
-    print(f"names in {len(PAGES)} pages and {len(heads)} heads: {found} aren't there")
-    return 1 if found else 0
+    faults = []
+    for file in (*PAGES, *heads):
+        found = {*faults_of_names(file, words, crates)}
+        found |= {*faults_of_code(file)} if file in PAGES else {*faults_of_head(file, crates)}
+        found |= {*faults_of_conditions()} if file.name == "CALLING.md" else set()
+        faults += [f"{file.relative_to(TOP)}:{number}: {fault}" for number, fault in sorted(found)]
+    return told(faults, f"names in {len(PAGES)} pages and {len(heads)} heads: {{}} aren't there")
 
 
 if __name__ == "__main__":

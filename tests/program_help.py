@@ -10,7 +10,6 @@ prints a line for each fault. The status is 1 if there is a fault.
 
 import os
 import re
-import resource
 import shutil
 import subprocess
 import sys
@@ -60,7 +59,7 @@ def entries(text: str) -> dict[str, str]:
 
 def asked(name: str, *words: str) -> tuple[int, str, float]:
     """Runs a script with no rt on the PATH. Returns its status, its output and its processor seconds."""
-    before = resource.getrusage(resource.RUSAGE_CHILDREN)
+    before = os.times()
     with tempfile.TemporaryDirectory() as tools:
         for tool in TOOLS:
             if found := shutil.which(tool):
@@ -69,8 +68,8 @@ def asked(name: str, *words: str) -> tuple[int, str, float]:
             ["/bin/sh", TOP / name, *words], env=os.environ | {"PATH": tools}, stdin=subprocess.DEVNULL,
             stdout=subprocess.PIPE, stderr=subprocess.STDOUT, text=True, timeout=60,
         )  # fmt: skip
-    after = resource.getrusage(resource.RUSAGE_CHILDREN)
-    took = after.ru_utime + after.ru_stime - before.ru_utime - before.ru_stime
+    after = os.times()
+    took = after.children_user + after.children_system - before.children_user - before.children_system
     return ran.returncode, ran.stdout, took
 
 

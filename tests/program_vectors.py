@@ -39,13 +39,9 @@ MINE_IN_C = """static int read_ip_blocks(const char *octets, char *canonical) {
 
 def python_with_jsonschema() -> str:
     """Returns a Python that has jsonschema, or this one."""
-    for python in (sys.executable, OF_DEBIAN):
-        if (
-            Path(python).exists()
-            and subprocess.run([python, "-c", "import jsonschema"], capture_output=True).returncode == 0
-        ):
-            return python
-    return sys.executable
+    there = [it for it in (sys.executable, OF_DEBIAN) if Path(it).exists()]
+    asked = (it for it in there if not subprocess.run([it, "-c", "import jsonschema"], capture_output=True).returncode)
+    return next(asked, sys.executable)
 
 
 def example(kind: str) -> str:

@@ -36,9 +36,7 @@ in_root() {
         sh -c "cd /tmp/work && $1" </dev/null
 }
 # quietly WHAT COMMAND: runs it, and shows what it prints only if it fails
-quietly() {
-    in_root "$2" >"$work/log" 2>&1 || { cat "$work/log"; fail "$1"; return 1; }
-}
+quietly() { in_root "$2" >"$work/log" 2>&1 || { cat "$work/log"; fail "$1"; return 1; }; }
 
 # Prints the names of all files of the system, except those of the kernel, logs, caches and temporary files. dpkg keeps
 # a copy of its own lists.

@@ -25,7 +25,7 @@ from collections.abc import Iterator
 from pathlib import Path
 from typing import NamedTuple
 
-from blocks import TOP
+from blocks import TOP, told
 
 HEADER = TOP / "foreign" / "pigyelund.h"
 # By the last word of the next parameter's name: what the comment of an array says.
@@ -193,12 +193,10 @@ def faults_of_arrays(folder: Path) -> Iterator[str]:
 
 def main() -> int:
     """Prints what is wrong."""
-    of_header = [fault for call in calls() for fault in faults_of_header(call)]
-    print("".join(f"{it}\n" for it in of_header), end="", flush=True)
+    status = told(fault for call in calls() for fault in faults_of_header(call))
+    sys.stdout.flush()
     with tempfile.TemporaryDirectory() as folder:
-        of_arrays = [*faults_of_arrays(Path(folder))]
-    print("".join(f"{it}\n" for it in of_arrays[:20]), end="")
-    return 1 if of_header or of_arrays else 0
+        return told([*faults_of_arrays(Path(folder))][:20]) or status
 
 
 if __name__ == "__main__":

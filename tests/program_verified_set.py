@@ -14,8 +14,9 @@ from collections.abc import Iterator
 from pathlib import Path
 
 from reference import calls_of_callers, lines
+from rows import CRATES, Comparison
 
-CRATE = Path(__file__).resolve().parent.parent / "crates" / "example_verified_set"
+CRATE = CRATES / "example_verified_set"
 PROGRAM = CRATE / "out" / "example_verified_set"
 ISSUER = ("AS64496-AS64511", "192.0.2.0/24", "2001:db8::/32")
 # The modes: whether each reads octets that are not canonical, and whether it trims overclaimed resources.
@@ -62,7 +63,7 @@ def main() -> int:
     if not PROGRAM.exists():
         print("left out: example_verified_set is not built (rt ci builds it, and rt run in its folder)")
         return 0
-    asked = differ = longest = 0
+    comparison, longest = Comparison(), 0
     for name, numbers, addresses, is_canonical, is_inside in cases():
         for mode, (is_lenient, is_trimmed) in MODES.items():
             line = f"verified_octets {' ; '.join(ISSUER)} | {mode} {numbers} {addresses}"
@@ -71,10 +72,7 @@ def main() -> int:
             wanted = (0, f"{text}\n", "") if is_verified else (1, "", f"Error: {text}\n")
             found = run([*ISSUER, "numbers", "addresses", mode], numbers, addresses)
             longest = max(longest, 0 if is_verified else len(text))
-            asked += 1
-            if wanted != found:
-                differ += 1
-                print(f"{name}, {mode}\n  wanted: {wanted}\n  found:  {found}")
+            comparison.add(f"{name}, {mode}", wanted, found)
     files = ["numbers", "addresses"]
     fault = lines.answer(b"norm as x").removeprefix("error: ")
     for arguments, reason in (
@@ -82,13 +80,10 @@ def main() -> int:
         ([*ISSUER, *files, "strict"], "modes: refuse, trim, canonical-refuse, canonical-trim"),
         (["x", *ISSUER[1:], *files, "trim"], f"cannot parse ASN resources: {fault}"),
     ):
-        wanted, found = (1, "", f"Error: {reason}\n"), run(arguments, "", "")
-        asked += 1
-        if wanted != found:
-            differ += 1
-            print(f"{arguments}\n  wanted: {wanted}\n  found:  {found}")
-    print(f"example_verified_set: {asked} runs, the longest reason has {longest} bytes, {differ} differ")
-    return 1 if differ else 0
+        comparison.add(f"{arguments}", (1, "", f"Error: {reason}\n"), run(arguments, "", ""))
+    counts = f"{comparison.compared} runs, the longest reason has {longest} bytes, {comparison.differing} differ"
+    print(f"example_verified_set: {counts}")
+    return 1 if comparison.differing else 0
 
 
 if __name__ == "__main__":

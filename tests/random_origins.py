@@ -18,11 +18,10 @@ from reference import expiry, route_lines, slurm, vrp_files
 from reference.addresses import Family
 from reference.faults import Fault
 from reference.prefixes import MaxLenPrefix, Prefix, Vrp
+from rows import CRATES, Comparison
 
-TOP = Path(__file__).resolve().parent.parent
-PROGRAM = TOP / "crates" / "origins" / "out" / "origins"
+PROGRAM = CRATES / "origins" / "out" / "origins"
 FILES = 20
-SHOWN = 10
 # Paths that end with a set of AS numbers or with a confederation's segment, empty paths, and malformed ones.
 PATHS = (
     *("", "64500 {7,8}", "{64496}", "7 {}", "64500 (64512)", "64500 (64512 64513)", "(64496 64497)", "64500 [64496]"),
@@ -99,15 +98,10 @@ class Maker:
         return (head + "".join(lines)).encode()
 
     def _json(self, vrps: list[Vrp]) -> bytes:
-        items = [
-            {
-                "asn": asn if self.one_in(2) else f"AS{asn}",
-                "prefix": prefix.prefix.text(),
-                "maxLength": prefix.max_length,
-                "ta": "ripe",
-            }
-            for prefix, asn in vrps
-        ]
+        items = []
+        for one, asn in vrps:
+            number = asn if self.one_in(2) else f"AS{asn}"
+            items.append({"asn": number, "prefix": one.prefix.text(), "maxLength": one.max_length, "ta": "ripe"})
         value = {"metadata": {"vrps": len(items)}, "roas": items, "bgpsec_keys": []}
         return json.dumps(value, indent=self.random.choice((None, 1))).encode()
 
@@ -224,20 +218,12 @@ def text(vrp: Vrp) -> str:
     return f"{vrp.prefix.text()} AS{vrp.asn}"
 
 
-class Comparison:
-    """Counts the answers that were compared, and those that differ."""
+class Questions(Comparison):
+    """Asks the program, and compares its answers."""
 
     def __init__(self, program: Path, folder: Path, maker: Maker) -> None:
+        super().__init__()
         self.program, self.folder, self.maker = program, folder, maker
-        self.compared = self.differing = 0
-
-    def same(self, what: str, expected: object, found: object) -> None:
-        """Compares what is expected with what was found."""
-        self.compared += 1
-        if expected != found:
-            self.differing += 1
-            if self.differing <= SHOWN:
-                print(f"{what}\n  the reference: {expected}\n  the program:   {found}")
 
     def kept(self, name: str, octets: bytes) -> Path:
         """Writes a file of these octets. Returns its path."""
@@ -254,18 +240,18 @@ class Comparison:
         octets = b"\n".join(lines) + b"\n"
         for why in (False, True):
             status, answers, said = run(self.program, ["--why", file] if why else [file], octets)
-            self.same("a run", (0, f"origins: {counted(listed)}\n", count), (status, said, len(answers)))
+            self.add("a run", (0, f"origins: {counted(listed)}\n", count), (status, said, len(answers)))
             for line, found in zip(lines, answers, strict=False):
-                self.same(repr(line), answer(line, listed, why), found)
+                self.add(repr(line), answer(line, listed, why), found)
         words = {answer(line, listed, False).split("-")[0].split(":")[0] for line in lines}
         wanted = 3 if words & {"invalid", "error"} else 0
         status, _, _ = run(self.program, ["--check", file], octets)
-        self.same("a check", wanted, status)
+        self.add("a check", wanted, status)
         for why in (False, True):
             status, answers, said = run(self.program, ["--check", "--json", *(["--why"] if why else []), file], octets)
-            self.same("a run", (wanted, f"origins: {counted(listed)}\n", count), (status, said, len(answers)))
+            self.add("a run", (wanted, f"origins: {counted(listed)}\n", count), (status, said, len(answers)))
             for line, found in zip(lines, answers, strict=False):
-                self.same(repr(line), route_lines.json_answer(listed, line, why), found)
+                self.add(repr(line), route_lines.json_answer(listed, line, why), found)
         self.checks(file, listed, lines)
 
     def checks(self, file: Path, listed: list[Vrp], lines: list[bytes]) -> None:
@@ -273,7 +259,7 @@ class Comparison:
         for line in lines[:20]:
             wanted = 3 if answer(line, listed, False).startswith(("invalid", "error")) else 0
             for form in ([], ["--json"]):
-                self.same(f"a check of {line!r}", wanted, run(self.program, ["--check", *form, file], line)[0])
+                self.add(f"a check of {line!r}", wanted, run(self.program, ["--check", *form, file], line)[0])
 
     def several(self, count: int) -> None:
         """Asks lines of routes by several files, and with the exceptions of a SLURM file."""
@@ -295,16 +281,16 @@ class Comparison:
                 said += f"; {len(listed)} after {exceptions}"
             except Fault as fault:
                 wanted = (1, [], f"origins: {exceptions}: {fault}\n")
-                self.same(repr(exceptions.read_bytes()), wanted, run(self.program, ["--table", *words]))
-                self.same(repr(exceptions.read_bytes()), wanted, run(self.program, words, b"10.0.0.0/8 AS1\n"))
+                self.add(repr(exceptions.read_bytes()), wanted, run(self.program, ["--table", *words]))
+                self.add(repr(exceptions.read_bytes()), wanted, run(self.program, words, b"10.0.0.0/8 AS1\n"))
                 return
         status, found, told = run(self.program, ["--table", *words])
-        self.same("a table of several files", (0, said + "\n", [text(one) for one in table(listed)]), (status, told, found))
+        self.add("a table of several files", (0, said + "\n", [text(one) for one in table(listed)]), (status, told, found))
         lines = [maker.line() for _ in range(count)]
         status, answers, told = run(self.program, ["--why", *words], b"\n".join(lines) + b"\n")
-        self.same("a run by several files", (0, said + "\n", count), (status, told, len(answers)))
+        self.add("a run by several files", (0, said + "\n", count), (status, told, len(answers)))
         for line, found in zip(lines, answers, strict=False):
-            self.same(repr(line), answer(line, listed, True), found)
+            self.add(repr(line), answer(line, listed, True), found)
 
     def expired(self) -> None:
         """Asks for the VRPs that are valid at a time."""
@@ -315,7 +301,7 @@ class Comparison:
             wanted = (0, [text(one) for one in table(kept)], f"origins: {counted(vrps)}; {expired} expired\n")
         except Fault as fault:
             wanted = (1, [], f"origins: {file}: {fault}\n")
-        self.same(repr(file.read_bytes()), wanted, run(self.program, ["--table", "--now", str(now), file]))
+        self.add(repr(file.read_bytes()), wanted, run(self.program, ["--table", "--now", str(now), file]))
 
     def tables(self) -> None:
         """Asks for tables, and for what changes between two files."""
@@ -325,17 +311,17 @@ class Comparison:
         after = shared[5:] + [maker.vrp() for _ in range(maker.random.randrange(20))]
         old, new = self.kept("old", maker.file(before)), self.kept("new", maker.file(after))
         status, found, said = run(self.program, ["--table", old])
-        self.same("a table", (0, f"origins: {counted(before)}\n"), (status, said))
-        self.same("a table", [text(one) for one in table(before)], found)
+        self.add("a table", (0, f"origins: {counted(before)}\n"), (status, said))
+        self.add("a table", [text(one) for one in table(before)], found)
         asn = maker.asn()
         _, found, _ = run(self.program, ["--table", "--of", f"AS{asn}", old])
-        self.same("a table of an AS", [text(one) for one in table(before) if one.asn == asn], found)
+        self.add("a table of an AS", [text(one) for one in table(before) if one.asn == asn], found)
         withdrawn, announced = set(before) - set(after), set(after) - set(before)
         changes = [f"withdraw {text(one)}" for one in table(withdrawn)]
         changes += [f"announce {text(one)}" for one in table(announced)]
         status, found, said = run(self.program, ["--diff", old, new])
-        self.same("a change", (0, f"origins: {counted(before)} in {old}, {len(after)} in {new}\n"), (status, said))
-        self.same("a change", changes, found)
+        self.add("a change", (0, f"origins: {counted(before)} in {old}, {len(after)} in {new}\n"), (status, said))
+        self.add("a change", changes, found)
 
     def wrong(self) -> None:
         """Asks for the table of a file that may be wrong."""
@@ -343,10 +329,10 @@ class Comparison:
         file = self.kept("wrong", self.maker.wrong(vrps))
         try:
             expected = (0, [text(one) for one in table(vrp_files.read(file.read_bytes()))])
-            self.same(repr(file.read_bytes()), expected, run(self.program, ["--table", file])[:2])
+            self.add(repr(file.read_bytes()), expected, run(self.program, ["--table", file])[:2])
         except Fault as fault:
             wanted = (1, [], f"origins: {file}: {fault}\n")
-            self.same(repr(file.read_bytes()), wanted, run(self.program, ["--table", file]))
+            self.add(repr(file.read_bytes()), wanted, run(self.program, ["--table", file]))
 
 
 def main() -> int:
@@ -357,7 +343,7 @@ def main() -> int:
     parser.add_argument("--program", type=Path, default=PROGRAM, help="a built origins")
     options = parser.parse_args()
     with tempfile.TemporaryDirectory() as folder:
-        comparison = Comparison(options.program, Path(folder), Maker(options.seed))
+        comparison = Questions(options.program, Path(folder), Maker(options.seed))
         for _ in range(FILES):
             comparison.routes(options.count // FILES)
             comparison.several(options.count // FILES // 4 + 1)
@@ -365,8 +351,7 @@ def main() -> int:
             for _ in range(10):
                 comparison.wrong()
                 comparison.expired()
-    print(f"origins, seed {options.seed}: {comparison.compared} answers compared, {comparison.differing} differ")
-    return 1 if comparison.differing else 0
+    return 0 if comparison.report(f"origins, seed {options.seed}") else 1
 
 
 if __name__ == "__main__":

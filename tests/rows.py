@@ -72,9 +72,9 @@ class Comparison:
         self.differing = 0
         self.not_said: Counter[str] = Counter()
         self.stored = stored
-        self.answers: list[str] = []
+        self.answers: list[object] = []
 
-    def add(self, place: str, line: str, expected: str, found: str) -> None:
+    def add(self, what: str, expected: object, found: object) -> None:
         """Compares an answer with the reference's. It prints the first ones that differ, or all that are written."""
         self.compared += 1
         self.answers.append(expected)
@@ -82,7 +82,7 @@ class Comparison:
             return
         self.differing += 1
         if self.differing <= SHOWN or self.stored:
-            print(f"{place}: {line}\n  the reference: {expected}\n  the program:   {found}")
+            print(f"{what}\n  the reference: {expected}\n  the program:   {found}")
 
     def pass_over(self, reason: str, found: str) -> None:
         """Counts an answer that the reference does not know."""
@@ -123,7 +123,7 @@ def compare_program(name: str, answer: Callable[[str], str], writes: bool) -> bo
         return False
     for place, (line, found) in enumerate(zip(asked, answered, strict=True), 1):
         try:
-            comparison.add(f"{name}/stdin:{place}", line, answer(line), found)
+            comparison.add(f"{name}/stdin:{place}: {line}", answer(line), found)
         except NotSaid as reason:
             comparison.pass_over(f"{line.split(' ')[0]}: {reason}", found)
     return comparison.report(name)
@@ -138,7 +138,7 @@ def compare_holdings(writes: bool) -> bool:
         print(f"holdings: {len(expected)} answers expected, {len(answered)} found")
         return False
     for place, (one, found) in enumerate(zip(expected, answered, strict=True), 1):
-        comparison.add(f"example_holdings/stdout:{place}", asked[1], one, found)
+        comparison.add(f"example_holdings/stdout:{place}: {asked[1]}", one, found)
     return comparison.report("example_holdings")
 
 
@@ -150,7 +150,7 @@ def compare_verified_set(writes: bool) -> bool:
     octets = [(folder / "data" / name).read_bytes().hex() for name in (numbers, addresses)]
     line = f"verified_octets {' ; '.join(lists)} | {mode} {' '.join(octets)}"
     (found,) = lines_of(folder / "stdout")
-    comparison.add("example_verified_set/args", line, calls_of_callers.answer(line), found)
+    comparison.add(f"example_verified_set/args: {line}", calls_of_callers.answer(line), found)
     return comparison.report("example_verified_set")
 
 
@@ -178,7 +178,7 @@ def compare_growth() -> bool:
     printed = [line for line in printed if " routes: " in line]
     answers = [(line, answer) for line, found in asked_of_origins(given) for answer in found]
     for (line, answer), found in zip(answers, printed, strict=True):
-        comparison.add("bench_growth/args", line, answer, found)
+        comparison.add(f"bench_growth/args: {line}", answer, found)
     return comparison.report("bench_growth")
 
 
@@ -188,7 +188,7 @@ def compare_files(writes: bool) -> bool:
     folder = CRATES / "respath_files"
     asked = lines_of(folder / "data" / "lines") + lines_of(folder / "stdin")
     for line, found in zip(asked, lines_of(folder / "stdout"), strict=True):
-        comparison.add("respath_files/stdout", line, places.answer(line.encode()), found)
+        comparison.add(f"respath_files/stdout: {line}", places.answer(line.encode()), found)
     return comparison.report("respath_files")
 
 
@@ -223,8 +223,7 @@ def compare_random(program: Path, seed: int, count: int, commands: list[str]) ->
         made = islice(random_lines.lines(command, seed), count)
         for part in in_parts(made):
             for line, found in zip(part, ask(program, part), strict=True):
-                shown = repr(line)
-                comparison.add(f"{command} of seed {seed}", shown, lines.answer(line), found)
+                comparison.add(f"{command} of seed {seed}: {line!r}", lines.answer(line), found)
         results.append(comparison.report(f"{command}, seed {seed}"))
     return all(results)
 

@@ -86,21 +86,16 @@ def write_made(folder: Path, count: int) -> None:
 
 def expected(folder: Path) -> tuple[list[str], dict[str, int]]:
     """Returns the invalid routes, and the number of routes of each validity, by the definitions of RFC 6811, 2."""
-    from reference import prefixes
+    from reference import prefixes, vrp_files
 
-    table: dict[prefixes.Prefix, list[tuple[int, int]]] = {}
-    for line in (folder / "csv").read_text().splitlines()[1:]:
-        asn, prefix, max_len = line.split(",")
-        table.setdefault(prefixes.read_prefix(prefix), []).append((int(asn[2:]), int(max_len)))
-    invalid, counts = [], {"VALID": 0, "NOT_FOUND": 0, "INVALID": 0}
+    vrps = vrp_files.read((folder / "csv").read_bytes())
+    names = {"Valid": "VALID", "NotFound": "NOT_FOUND", "Invalid": "INVALID"}
+    invalid, counts = [], dict.fromkeys(names.values(), 0)
     known: dict[str, str] = {}
     for line in (folder / "routes").read_text().splitlines():
         if line not in known:
             text, asn = line.split(" AS")
-            route = prefixes.read_prefix(text)
-            covering = [it for prefix, listed in table.items() if prefix.covers(route) for it in listed]
-            is_valid = int(asn) != 0 and any(int(asn) == own and route.length <= limit for own, limit in covering)
-            known[line] = "VALID" if is_valid else "INVALID" if covering else "NOT_FOUND"
+            known[line] = names[prefixes.validity(prefixes.read_prefix(text), int(asn), vrps)]
         counts[known[line]] += 1
         if known[line] == "INVALID":
             invalid.append(line)

@@ -67,16 +67,8 @@ def of_markdown(text: str) -> Iterator[tuple[int, str]]:
 
 def of_comments(text: str, mark: str) -> Iterator[tuple[int, str]]:
     """Yields the lines of prose of doc comments, which begin with a mark."""
-    of_mark = re.compile(rf"\s*{mark} ?(.*)")
-    lines = [(number, of_mark.match(line)) for number, line in enumerate(text.splitlines(), 1)]
-    yield from of_markdown_lines((number, found[1] if found else "") for number, found in lines)
-
-
-def of_markdown_lines(lines: Iterator[tuple[int, str]]) -> Iterator[tuple[int, str]]:
-    """Does the same as of_markdown for numbered lines."""
-    numbers, texts = zip(*lines, strict=True) if (lines := list(lines)) else ((), ())
-    for at, line in of_markdown("\n".join(texts)):
-        yield numbers[at - 1], line
+    found = [re.match(rf"\s*{mark} ?(.*)", line) for line in text.splitlines()]
+    yield from of_markdown("\n".join(it[1] if it else "" for it in found))
 
 
 def of_c(text: str) -> Iterator[tuple[int, str]]:

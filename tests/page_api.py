@@ -18,6 +18,7 @@ from pathlib import Path
 
 from api_paths import ITEM, Key, Module, meant_by, names_of, public_paths, root_of
 from api_text import anchor, laid_out, wrapped
+from blocks import told
 from groups import GROUPS, TOP, about, crates_of, group_of, is_program, stands_on
 
 DOCS = TOP / "docs"
@@ -647,7 +648,7 @@ def stale_paths() -> Iterator[str]:
 
 def main() -> int:
     """Writes the files, or compares them with the existing ones."""
-    made, found = files(), 0
+    made = files()
     there = set((DOCS / "api").glob("*.md"))
     if sys.argv[1:] == ["--write"]:
         for path in there - made.keys():
@@ -655,14 +656,10 @@ def main() -> int:
         for path, text in made.items():
             path.parent.mkdir(parents=True, exist_ok=True)
             path.write_text(text)
-    for path in sorted(there | made.keys()):
-        if (path.read_text() if path.is_file() else None) != made.get(path):
-            print(f"{path.relative_to(TOP)} is not what the sources say: tests/page_api.py --write makes it anew")
-            found += 1
-    for path in stale_paths():
-        print(f"tests/page_api.py: there is no {path}")
-        found += 1
-    return 1 if found else 0
+    other = "is not what the sources say: tests/page_api.py --write makes it anew"
+    differing = (it for it in there | made.keys() if (it.read_text() if it.is_file() else None) != made.get(it))
+    faults = [f"{it.relative_to(TOP)} {other}" for it in sorted(differing)]
+    return told([*faults, *(f"tests/page_api.py: there is no {it}" for it in stale_paths())])
 
 
 if __name__ == "__main__":

@@ -11,7 +11,8 @@ import sys
 from collections import Counter
 from pathlib import Path
 
-TOP = Path(__file__).resolve().parent.parent
+from blocks import TOP, told
+
 HEADING = re.compile(r"#{1,6} (.*)")
 LINK = re.compile(r"\]\(([^)\s]+)\)")
 INLINE_CODE = re.compile(r"`[^`]*`")
@@ -60,18 +61,15 @@ def fault(page: Path, target: str, anchors_of: dict[Path, set[str]]) -> str:
 def main() -> int:
     """Prints each link that leads nowhere, and the number of links."""
     anchors_of = {page: anchors(page) for page in pages()}
-    links = faults = 0
-    for page in anchors_of:
-        for number, line in prose(page):
-            for target in LINK.findall(INLINE_CODE.sub("code", line)):
-                if re.match(r"[a-z]+:", target):
-                    continue
-                links += 1
-                if why := fault(page, target, anchors_of):
-                    faults += 1
-                    print(f"{page.relative_to(TOP)}:{number}: {why}: {target}")
-    print(f"links of {len(anchors_of)} pages: {links}, {faults} lead nowhere")
-    return 1 if faults else 0
+    lines = ((page, number, INLINE_CODE.sub("code", line)) for page in anchors_of for number, line in prose(page))
+    links = [(page, number, it) for page, number, line in lines for it in LINK.findall(line)]
+    relative = [it for it in links if not re.match(r"[a-z]+:", it[2])]
+    faults = [
+        f"{page.relative_to(TOP)}:{number}: {why}: {target}"
+        for page, number, target in relative
+        if (why := fault(page, target, anchors_of))
+    ]
+    return told(faults, f"links of {len(anchors_of)} pages: {len(relative)}, {{}} lead nowhere")
 
 
 sys.exit(main())

@@ -19,7 +19,7 @@ from collections.abc import Iterator
 from pathlib import Path
 
 import page_api
-from groups import TOP
+from blocks import TOP, told
 
 PAGE = TOP / "docs" / "PROVED.md"
 CELL = 200
@@ -176,19 +176,13 @@ def claims() -> Iterator[tuple[int, str, str, str]]:
 
 def main() -> int:
     """Checks each claim, and prints how many there are."""
-    count = found = 0
-    for number, crate, file, line in claims():
-        count += 1
-        for fault in faults_of(crate, file, line):
-            print(f"docs/PROVED.md:{number}: {fault}")
-            found += 1
+    listed = [*claims()]
+    faults = [f"docs/PROVED.md:{number}: {fault}" for number, *claim in listed for fault in faults_of(*claim)]
     for number, line in enumerate((TOP / "README.md").read_text().split("\n"), 1):
-        for cell in re.split(r"(?<!\\)\|", line) if line.startswith("|") else []:
-            if len(cell.strip()) > CELL:
-                print(f"README.md:{number}: a cell of {len(cell.strip())} characters")
-                found += 1
-    print(f"docs/PROVED.md: {count} claims, {found} faults")
-    return 1 if found or not count else 0
+        cells = re.split(r"(?<!\\)\|", line) if line.startswith("|") else []
+        lengths = (len(it.strip()) for it in cells)
+        faults += [f"README.md:{number}: a cell of {it} characters" for it in lengths if it > CELL]
+    return told(faults, f"docs/PROVED.md: {len(listed)} claims, {{}} faults") or int(not listed)
 
 
 if __name__ == "__main__":

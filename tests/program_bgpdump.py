@@ -15,7 +15,8 @@ from collections.abc import Iterator
 from ipaddress import ip_address, ip_network
 from pathlib import Path
 
-TOP = Path(__file__).resolve().parent.parent
+from blocks import TOP, told
+
 ROWS = TOP / "crates" / "rows_claims" / "stdin"
 VRPS = "192.0.2.0/23-24 AS64496"
 TIME, MICROSECONDS = 1732600000, 123456
@@ -154,11 +155,8 @@ def main(words: list[str]) -> int:
         return 0
     stored = set(ROWS.read_text(encoding="utf-8").splitlines())
     wanted = [f"{command} {VRPS} ; {line}" for line in lines for command in ("route", "why")]
-    missing = [row for row in wanted if row not in stored]
-    for row in missing:
-        print(f"not in {ROWS.relative_to(TOP)}: {row}")
-    print(f"lines of bgpdump: {len(lines)}, not stored: {len(missing)}")
-    return 1 if missing or not all(made) else 0
+    missing = (f"not in {ROWS.relative_to(TOP)}: {row}" for row in wanted if row not in stored)
+    return told(missing, f"lines of bgpdump: {len(lines)}, not stored: {{}}") or int(not all(made))
 
 
 if __name__ == "__main__":

@@ -9,7 +9,8 @@ lines as they are.
 import re
 import sys
 
-from page_proved import TOP, behind_braces, without_comments
+from blocks import TOP, told
+from page_proved import behind_braces, without_comments
 
 ROOT = TOP / "crates"
 WIDTH = 100
@@ -70,13 +71,9 @@ def wide(text):
 def main():
     faults = wide if "--wide" in sys.argv else unused
     names = [it for it in sys.argv[1:] if it != "--wide"] or sorted(it.name for it in ROOT.iterdir() if (it / "src").is_dir())
-    found = 0
-    for name in names:
-        for path in sorted((ROOT / name / "src").rglob("*.rt")):
-            for line, what in faults(without_comments(path.read_text())):
-                print(f"{path.relative_to(ROOT.parent)}:{line}: {what}")
-                found += 1
-    sys.exit(found > 0)
+    paths = (path for name in names for path in sorted((ROOT / name / "src").rglob("*.rt")))
+    found = ((path, *it) for path in paths for it in faults(without_comments(path.read_text())))
+    return told(f"{path.relative_to(TOP)}:{line}: {what}" for path, line, what in found)
 
 
-main()
+sys.exit(main())

@@ -2,6 +2,7 @@
 
 The tests of pages use this module, so their reports have one form. A report has the difference for each example whose
 output is not the one on its page. It has a line for each example that is left out, and a last line with the counts.
+Tests without examples print their faults by `told`.
 """
 
 import difflib

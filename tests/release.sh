@@ -6,7 +6,7 @@
 # each package installs below a clean root, and lintian finds no error and no warning. The script names the tools that
 # are missing. The status is 0 if nothing failed. tests/debian_packages.sh installs the packages in a Debian system.
 cd "$(dirname "$0")/.." || exit 1
-unset LIB KIT MAINTAINER
+unset LIB KIT MAINTAINER deb
 top=$PWD
 out=$(mktemp -d) || exit 1
 trap 'rm -rf "$out"' EXIT
@@ -66,14 +66,6 @@ END
         ar rcs "$kit/proved/libpigyelund_c.a" "$out/one.o" && ar rcs "$kit/c/liblibc_c.a" "$out/two.o"
 }
 
-# The crate of a program, by the name of its script
-crate_of() {
-    case $1 in
-    respath) echo respath_files ;;
-    *) echo "$1" ;;
-    esac
-}
-
 # Makes the copy anew, of the files that a release reads, with the programs that are proved there.
 make_copy() {
     rm -rf "$copy" "$out/made" "$kit/meanwhile" "$kit/tools"
@@ -97,19 +89,17 @@ make_copy() {
     )
 }
 
-# In the copy: runs a release with these variables, to out/made, or makes the packages.
-released() { (cd "$copy" && PATH=$kit/tools:$kit/bin:$PATH "$@" ./release "$version" "$out/made" 2>&1); }
-released_packages() {
-    (cd "$copy" && PATH=$kit/tools:$kit/bin:$PATH "$@" ./release --deb "$version" "$out/made" 2>&1)
+# In the copy: runs a release with these variables, to out/made. If `deb` is set, it makes the packages.
+released() {
+    (cd "$copy" && PATH=$kit/tools:$kit/bin:$PATH env "$@" ./release ${deb:+--deb} "$version" "$out/made" 2>&1)
 }
-making=released
 
 # refuses WHAT TEXT COMMAND: after the command in the copy the release says this and makes nothing
 refuses() {
     local said status
     make_copy || { fail "a copy for $1"; return; }
     (cd "$copy" && eval "$3") || fail "what should make a refusal: $1"
-    said=$("$making" env)
+    said=$(released)
     status=$?
     [ "$status" -eq 1 ] && [ "$(printf '%s\n' "$said" | tail -n 1)" = "release: $2" ] ||
         fail "$1: status $status, $said"
@@ -190,20 +180,18 @@ END
 
 # Refuses a file that changes after its sum was noted: a program as it is installed, the library, and the archive.
 refuses_other_sums() {
-    local program
+    local program noted="the archive doesn't have the files whose sums were noted"
     for program in respath origins; do
         refuses "a $program that is changed as it is installed" "$program isn't the one that was proved here" \
             "tool install '*out/$program*/bin/$program*' '\$LAST'"
     done
     refuses "a library that is changed meanwhile" "libpigyelund_c.a isn't the one that was proved here" \
         "tool make '*install*' '$copy/crates/pigyelund_c/out/libpigyelund_c.a'"
-    refuses "an archive with another file" "the archive doesn't have the files whose sums were noted" \
+    refuses "an archive with another file" "$noted" \
         "tool tar '*-xzf*' '\$LAST/${archive%.tar.gz}/share/doc/pigyelund/LICENSE'"
-    refuses "an archive with one file more" "the archive doesn't have the files whose sums were noted" \
-        "tool tar '*-xzf*' '\$LAST/${archive%.tar.gz}/more'"
-    refuses "an archive without its sums" "the archive doesn't have the files whose sums were noted" \
-        "tool sha256sum '*/LICENSE*' /dev/stdout"
-    refuses "an archive that can't be read" "the archive doesn't have the files whose sums were noted" \
+    refuses "an archive with one file more" "$noted" "tool tar '*-xzf*' '\$LAST/${archive%.tar.gz}/more'"
+    refuses "an archive without its sums" "$noted" "tool sha256sum '*/LICENSE*' /dev/stdout"
+    refuses "an archive that can't be read" "$noted" \
         "tool gzip '*.tar' '\$LAST.gz' && printf 'printf x >\"\$LAST.gz\"\n' >>'$kit/tools/gzip'"
 }
 
@@ -211,7 +199,7 @@ refuses_other_sums() {
 # another library in the variables, and after a planted program whose note is right. A missing program is built first.
 makes_the_same() {
     make_copy
-    released env >"$out/said" || { cat "$out/said"; fail "a release in a copy"; return; }
+    released >"$out/said" || { cat "$out/said"; fail "a release in a copy"; return; }
     [ "$(tail -n 1 "$out/said")" = "$out/made/$archive" ] || fail "the last line: $(tail -n 1 "$out/said")"
     head -n 1 "$out/said" | grep -qx 'release: ./check --all has to pass at this commit, [0-9a-f]*' ||
         fail "the first line: $(head -n 1 "$out/said")"
@@ -223,7 +211,7 @@ makes_the_same() {
     cp "$out/first/pigyelund-$version/lib/libpigyelund.a" "$out/other.a" && ar r "$out/other.a" LICENSE 2>/dev/null
     find "$copy" -name .git -prune -o -type f -exec touch -d '2001-01-01' {} +
     chmod g+s "$copy" && [ "$(id -u)" -ne 0 ] || chown -R 12345:12345 "$copy"
-    (umask 077 && released env TZ=Asia/Tokyo LANG=C.UTF-8 LIB="$out/other.a" KIT="$out" GZIP=-1 \
+    (umask 077 && released TZ=Asia/Tokyo LANG=C.UTF-8 LIB="$out/other.a" KIT="$out" GZIP=-1 \
         TAR_OPTIONS=--owner=me GIT_CONFIG_COUNT=1 GIT_CONFIG_KEY_0=safe.directory GIT_CONFIG_VALUE_0='*') \
         >"$out/said" || { cat "$out/said"; fail "a second release"; return; }
     cmp "$out/first/$archive" "$out/made/$archive" || fail "the same commit makes the same archive"
@@ -295,9 +283,7 @@ END
 }
 
 # same_packages FOLDER OTHER: both have the same packages, and there are five of them.
-same_packages() {
-    diff -r "$1" "$2" && [ "$(cd "$1" && echo *.deb | sed 's/_[^ ]*//g')" = "$packages" ]
-}
+same_packages() { diff -r "$1" "$2" && [ "$(cd "$1" && echo *.deb | sed 's/_[^ ]*//g')" = "$packages" ]; }
 packages="libpigyelund-dev libpigyelund1 pigyelund-vectors pigyelund python3-pigyelund"
 
 # field PACKAGE FIELD: prints a field of a package
@@ -368,10 +354,11 @@ try_packages() {
 
 # The same commit makes the same packages.
 makes_the_same_packages() {
+    local deb=1
     make_copy
-    released_packages env >"$out/said" && mv "$out/made" "$out/first_packages" && sleep 1.1 && install_as_other &&
+    released >"$out/said" && mv "$out/made" "$out/first_packages" && sleep 1.1 && install_as_other &&
         find "$copy" -name .git -prune -o -type f -exec touch -d '2001-01-01' {} + &&
-        (umask 077 && released_packages env TZ=Asia/Tokyo LANG=C.UTF-8 GZIP=-1 XZ_OPT=-0 taskset -c 0) >"$out/said" ||
+        (umask 077 && released TZ=Asia/Tokyo LANG=C.UTF-8 GZIP=-1 XZ_OPT=-0 taskset -c 0) >"$out/said" ||
         { cat "$out/said"; fail "packages in a copy"; return; }
     same_packages "$out/first_packages" "$out/made" || fail "the same commit makes the same packages"
     try_packages "$out/made"
@@ -379,8 +366,7 @@ makes_the_same_packages() {
 
 # Other symbols or another soname than those of the symbols file.
 refuses_other_symbols() {
-    local file=packaging/libpigyelund1.symbols commit="git -c user.name=n -c user.email=e commit -q -a -m more"
-    making=released_packages
+    local file=packaging/libpigyelund1.symbols commit="git -c user.name=n -c user.email=e commit -q -a -m more" deb=1
     refuses "a library without a call" "libpigyelund.so.1 has other symbols than $file" \
         "sed -i 's/^ *pigy_union;/    pigy_more;\n&/' foreign/c/exports.map &&
         echo ' pigy_more@PIGYELUND_1 0.2.0' >>$file && $commit"
@@ -391,7 +377,6 @@ refuses_other_symbols() {
         "sed -i '/ pigy_union@/s/0[.]/1000./' $file && $commit"
     refuses "another soname" "the shared library isn't libpigyelund.so.2" \
         "sed -i '1s/so.1/so.2/' $file && $commit"
-    making=released
 }
 
 if has "what a release refuses" git gcc make ar tar gzip python3; then

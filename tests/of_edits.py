@@ -112,7 +112,8 @@ def commit(copy: Path) -> str:
 
 def made(copy: Path) -> None:
     """Makes a repository with the crates `low`, `small`, which depends on `low`, and `other`. The stub is beside it."""
-    files = {f"tests/{it}.py": (TOP / "tests" / f"{it}.py").read_text() for it in ("blocks", "edits", "groups", "source_edits")}
+    scripts = [f"tests/{it}.py" for it in ("blocks", "edits", "groups", "source_edits")]
+    files = {it: (TOP / it).read_text() for it in scripts}
     files |= {f"crates/small/{name}.edit": f"{said}\n" for name, said, _ in RESULTS}
     files |= {f"crates/{name}/src/lib.rt": "right\n" for name in ("low", "small", "other")}
     files |= {"crates/low/edits/turned.edit": f"{REFUSED}: {GOAL}\n", "crates/low/out/made": ""}

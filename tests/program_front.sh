@@ -103,7 +103,8 @@ done
 # The programs are older than their sources.
 no_rt="the program is not built, and rt is not on the PATH to build or try it: add the Rattle kit's bin folder"
 for script in origins respath; do
-    prints "$script: no rt, and the program isn't built" "without_rt '$copy/$script' '$files/a file'" 1 "$script: $no_rt"
+    prints "$script: no rt, and the program isn't built" "without_rt '$copy/$script' '$files/a file'" \
+        1 "$script: $no_rt"
 done
 said=$(run "$copy/origins" --table vrps)
 expect "origins: a proof that fails" 1 "origins: the program was not built" $? "$(echo "$said" | tail -n 1)"

@@ -9,10 +9,10 @@ import difflib
 import sys
 from pathlib import Path
 
+from blocks import TOP, told
 from vector_sources import der_cases, file_cases, origin_cases, schemas, set_cases, text_cases
 from vector_sources.cases import Difference, VectorFile
 
-TOP = Path(__file__).resolve().parent.parent
 VECTORS = TOP / "vectors"
 SHOWN = 10
 MAKERS = (der_cases, text_cases, set_cases, origin_cases, file_cases)
@@ -53,12 +53,10 @@ def main(words: list[str]) -> int:
         if words == ["--write"]:
             path.write_text(text, encoding="utf-8")
         found += differences(path, text)
-    for said in (*lacking, *found):
-        print(said[:400])
     count, size = sum(len(it.cases) for it in files), sum(len(it.encode()) for it in texts.values())
     differ = sum(1 for it in found if it.startswith("vectors/"))
-    print(f"vectors: {len(files)} files, {count} cases, {size} octets, {differ} differ, {len(lacking)} counts too low")
-    return 1 if lacking or found else 0
+    counts = f"{len(files)} files, {count} cases, {size} octets, {differ} differ, {len(lacking)} counts too low"
+    return told((it[:400] for it in (*lacking, *found)), f"vectors: {counts}")
 
 
 if __name__ == "__main__":

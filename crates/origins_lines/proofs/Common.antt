@@ -20,6 +20,7 @@ pub use Rattle.roa_vrps.specs.Files.{HasFileFault, IsVrpFile}
 pub use Rattle.rpki_prefix.specs.Values.{FamilyPrefix, IsFamilyPrefix}
 pub use Rattle.rpki_text.specs.Cuts.{is_space}
 pub use Rattle.origins_lines.specs.Answers.{IsExplanationIf, IsOriginAnswer, IsRouteAnswer}
+pub use Rattle.origins_lines.specs.Begun.{IsBegun}
 pub use Rattle.origins_lines.specs.Checks.{HasFound, IsFaultInitial, IsSeen}
 pub use Rattle.origins_lines.specs.Explanations.{AreReasonTexts, IsExplainedBefore, IsExplanation, IsExplanationText}
 pub use Rattle.origins_lines.specs.Explanations.{IsNextText, IsReason, is_first, item_text}
@@ -33,6 +34,8 @@ pub use Rattle.origins_lines.specs.Routes.{IsReadOf, IsRouteBy, IsRouteLine, IsS
 pub use Rattle.origins_lines.specs.Routes.{is_bar, last_word, origin_word, prefix_word, route_fault_text}
 pub use Rattle.origins_lines.specs.Runs.{ByFile, WritesBetween, change_lines, vrp_line, vrp_lines}
 pub use Rattle.origins_lines.specs.Words.{fault_line, skipped_text}
+pub use Rattle.origins_lines.specs.declared.begun.AskedRoute.{AskedRoute}
+pub use Rattle.origins_lines.specs.declared.begun.BegunRoute.{BegunRoute}
 pub use Rattle.origins_lines.specs.declared.explanation.Form.{Form}
 pub use Rattle.origins_lines.specs.declared.explanation.Reason.{Reason}
 pub use Rattle.origins_lines.specs.declared.outcome.Outcome.{Outcome}

@@ -2,14 +2,14 @@
 ghost use Rattle.std.specs.Prelude.{◌≡◌, [], OnOk};
 ghost use Rattle.std.specs.String.{string_bytes};
 ghost use Rattle.origins_lines.specs.Answers.{IsRouteAnswer};
+ghost use Rattle.origins_lines.specs.Begun.{IsLookedUp};
 
+use crate::begun::{AskedRoute, BegunRoute};
 use crate::explanation::{Form, push_why};
-use crate::outcome::{asked_asn, outcome_of, word_for};
-use crate::route::{Route, read_route};
+use crate::outcome::{outcome_of, word_for};
 use lines_engine::answers::Answers;
-use roa_origin::{Lookup, OriginTable};
-use rpki_base::Asn;
-use rpki_prefix::Prefix;
+use lines_engine::steps::Steps;
+use roa_origin::OriginTable;
 use std::alloc::{AllocError, Allocator, Global};
 
 /// Answers lines of routes by a table of VRPs.
@@ -37,59 +37,67 @@ impl<B: Allocator> Answers for Routes<'_, B> {
 
     fn answer<A: Allocator + Copy>(
         &self,
-        _alloc: A,
+        alloc: A,
         line: &[u8],
         text: &mut String<A>,
     ) -> Result<(), AllocError> {
+        let begun = self.begin(line);
+        self.end(alloc, line, &begun, text)
+    }
+}
+
+impl<'a, B: Allocator> Steps for Routes<'a, B> {
+    type Begun = BegunRoute<'a>;
+
+    ghost use Rattle.origins_lines.specs.Begun.{IsBegun};
+
+    ghost is_begun = { λ routes begun line. IsBegun routes.table.now begun line };
+
+    fn begin(&self, line: &[u8]) -> BegunRoute<'a> {
+        BegunRoute::of(self.table, line)
+    }
+
+    fn advance(&self, begun: &mut BegunRoute<'a>) {
+        if let BegunRoute::Asked(asked) = begun {
+            asked.lookup.advance();
+        }
+    }
+
+    fn end<A: Allocator + Copy>(
+        &self,
+        _alloc: A,
+        _line: &[u8],
+        begun: &BegunRoute<'a>,
+        text: &mut String<A>,
+    ) -> Result<(), AllocError> {
         text.clear();
-        match read_route(line) {
-            Ok(Some(route)) => {
-                let Route { prefix, origin } = route;
-                write_answer(text, self.table, self.why, prefix, asked_asn(origin))
-            }
-            Ok(None) => text.push_str("skipped"),
-            Err(fault) => write!(text, "error: {fault}"),
+        match begun {
+            BegunRoute::Asked(asked) => write_answer(text, self.why, asked),
+            BegunRoute::Skipped => text.push_str("skipped"),
+            BegunRoute::Wrong(fault) => write!(text, "error: {fault}"),
         }
     }
 }
 
-/// Returns the lookup of the route to `route` that `asn` originates, with no step left.
-pub(crate) fn ended_lookup<B: Allocator>(
-    table: &OriginTable<B>,
-    route: Prefix,
-    asn: Asn,
-) -> Lookup<'_>
-    ensures vrps { result.vrps ≡ table.now }
-    ensures route { result.route ≡ route }
-    ensures asn { result.asn ≡ asn }
-{
-    let mut lookup = table.lookup(route, asn);
-    lookup.advance_to_end();
-    lookup
-}
-
-/// Appends the outcome for the route to `route` that `asn` originates. If `why` is true, it also appends the
-/// explanation.
+/// Appends the outcome for a route that is looked up. If `why` is true, it also appends the explanation.
 ///
 /// # Preconditions
 ///
-/// `text` is empty.
-fn write_answer<A: Allocator, B: Allocator>(
+/// `text` is empty, and `asked` has the lookup of its route.
+fn write_answer<A: Allocator>(
     text: &mut String<A>,
-    table: &OriginTable<B>,
     why: bool,
-    route: Prefix,
-    asn: Asn,
+    asked: &AskedRoute<'_>,
 ) -> Result<(), AllocError>
-    requires { string_bytes text.old ≡ [] }
-    ensures { OnOk result (IsRouteAnswer why table.now route asn (string_bytes text.new)) }
+    requires empty { string_bytes text.old ≡ [] }
+    requires asked { IsLookedUp asked.now }
+    ensures { OnOk result (IsRouteAnswer why asked.now.lookup.vrps asked.now.route.prefix asked.now.asn
+        (string_bytes text.new)) }
 {
     if !why {
-        let lookup = ended_lookup(table, route, asn);
-        text.push_str(word_for(outcome_of(&lookup)))?;
+        text.push_str(word_for(outcome_of(&asked.lookup)))?;
         return Ok(());
     }
-    let lookup = table.lookup(route, asn);
-    let outcome = push_why(text, Form::Words, &lookup, route, asn)?;
+    let outcome = push_why(text, Form::Words, asked)?;
     text.insert_str(0, word_for(outcome))
 }

@@ -3,14 +3,16 @@ ghost use Rattle.std.specs.Prelude.{◌≡◌, ◌↔◌, ◌+◌, ◌≤◌, �
 ghost use Rattle.std.specs.String.{string_bytes};
 ghost use Rattle.roa_origin.specs.Tables.{as_sent};
 ghost use Rattle.roa_origin.specs.Vrps.{IsLawfulVrp};
+ghost use Rattle.origins_lines.specs.Begun.{IsLookedUp};
 ghost use Rattle.origins_lines.specs.Explanations.{IsReason, IsNextText, IsExplanationText, asn_key, item_text, max_length_key, prefix_key, reason_and_vrp_text, reason_key, reason_text, vrp_back, vrp_front, vrp_object};
 ghost use Rattle.origins_lines.specs.Outcomes.{IsOutcomeOf, outcome_with};
 
+use crate::begun::AskedRoute;
 use crate::buffer::{
     MAX_ASN, MAX_PREFIX, push_before, put_all, put_asn, put_dash_and_len, put_prefix,
 };
 use crate::outcome::Outcome;
-use roa_origin::{Lookup, Vrp};
+use roa_origin::Vrp;
 use rpki_addr::addr::print::{put, put_octet};
 use rpki_base::Asn;
 use rpki_prefix::Prefix;
@@ -75,28 +77,29 @@ fn reason_for(route: Prefix, asn: Asn, vrp: &Vrp) -> Reason
     }
 }
 
-/// Appends each VRP that covers the route to `route`, once, with its relation to the route that `asn` originates.
-/// Returns the outcome for this route, which these relations decide.
+/// Appends each VRP that covers a route, once, with its relation to the route. Returns the outcome for the route, which
+/// these relations decide.
 ///
 /// # Preconditions
 ///
-/// `lookup` is a lookup of `route`.
+/// `asked` has the lookup of its route.
 pub(crate) fn push_why<A: Allocator>(
     text: &mut String<A>,
     form: Form,
-    lookup: &Lookup<'_>,
-    route: Prefix,
-    asn: Asn,
+    asked: &AskedRoute<'_>,
 ) -> Result<Outcome, AllocError>
-    requires { lookup.now.route ≡ route }
-    ensures text { OnOk result ((why : List ℕ) × IsExplanationText form route asn lookup.now.vrps why
+    requires { IsLookedUp asked.now }
+    ensures text { OnOk result ((why : List ℕ)
+        × IsExplanationText form asked.now.route.prefix asked.now.asn asked.now.lookup.vrps why
         × (string_bytes text.new ≡ string_bytes text.old ++ why)) }
-    ensures outcome { IfOk result (IsOutcomeOf route asn lookup.now.vrps) }
+    ensures outcome { IfOk result (IsOutcomeOf asked.now.route.prefix asked.now.asn asked.now.lookup.vrps) }
 {
+    let route = asked.route.prefix;
+    let asn = asked.asn;
     route.recall_invariant();
     let mut outcome = Outcome::NotFound;
     let mut last = None;
-    for vrp in lookup.covering() {
+    for vrp in asked.lookup.covering() {
         vrp.0.recall_invariant();
         vrp.1.recall_invariant();
         let reason = reason_for(route, asn, &vrp);

@@ -3,18 +3,18 @@ ghost use Rattle.std.specs.Prelude.{◌≡◌, ◌++◌, ℕ, List, [], OnOk};
 ghost use Rattle.std.specs.String.{string_bytes};
 ghost use Rattle.json.specs.Print.{quoted};
 ghost use Rattle.origins_lines.specs.JsonAnswers.{IsErrorObject, IsJsonRouteAnswer, IsLineValue, IsVrpsMember, object_head, origin_key, origin_value, outcome_members, route_prefix_key};
-ghost use Rattle.origins_lines.specs.Outcomes.{asked_asn};
+ghost use Rattle.origins_lines.specs.Begun.{IsLookedUp};
 
-use crate::answers::ended_lookup;
+use crate::begun::{AskedRoute, BegunRoute};
 use crate::explanation::{Form, push_why};
 use crate::fault::RouteFault;
 use crate::outcome::{Outcome, outcome_of};
-use crate::route::{Route, read_route};
+use crate::route::Route;
 use json::Writer;
 use lines_engine::answers::Answers;
-use roa_origin::{Lookup, OriginTable};
+use lines_engine::steps::Steps;
+use roa_origin::OriginTable;
 use rpki_base::Asn;
-use rpki_prefix::Prefix;
 use std::alloc::{AllocError, Allocator, Global};
 
 /// Answers lines of routes by a table of VRPs, each by an object of JSON (RFC 8259) without white space.
@@ -49,66 +49,80 @@ impl<B: Allocator> Answers for JsonRoutes<'_, B> {
         line: &[u8],
         text: &mut String<A>,
     ) -> Result<(), AllocError> {
+        let begun = self.begin(line);
+        self.end(alloc, line, &begun, text)
+    }
+}
+
+impl<'a, B: Allocator> Steps for JsonRoutes<'a, B> {
+    type Begun = BegunRoute<'a>;
+
+    ghost use Rattle.origins_lines.specs.Begun.{IsBegun};
+
+    ghost is_begun = { λ routes begun line. IsBegun routes.table.now begun line };
+
+    fn begin(&self, line: &[u8]) -> BegunRoute<'a> {
+        BegunRoute::of(self.table, line)
+    }
+
+    fn advance(&self, begun: &mut BegunRoute<'a>) {
+        if let BegunRoute::Asked(asked) = begun {
+            asked.lookup.advance();
+        }
+    }
+
+    fn end<A: Allocator + Copy>(
+        &self,
+        alloc: A,
+        line: &[u8],
+        begun: &BegunRoute<'a>,
+        text: &mut String<A>,
+    ) -> Result<(), AllocError> {
         text.clear();
-        match read_route(line) {
-            Ok(Some(route)) => {
-                let Route { prefix, origin } = route;
-                write_route(text, self.table, self.why, prefix, origin)
-            }
-            Ok(None) => text.push_str("{\"state\":\"skipped\"}"),
-            Err(fault) => write_fault(alloc, text, fault, line),
+        match begun {
+            BegunRoute::Asked(asked) => write_route(text, self.why, asked),
+            BegunRoute::Skipped => text.push_str("{\"state\":\"skipped\"}"),
+            BegunRoute::Wrong(fault) => write_fault(alloc, text, *fault, line),
         }
     }
 }
 
-/// Appends the object for the route to `prefix` that `origin` originates.
+/// Appends the object for a route that is looked up.
 ///
 /// # Preconditions
 ///
-/// `text` is empty.
-fn write_route<A: Allocator, B: Allocator>(
+/// `text` is empty, and `asked` has the lookup of its route.
+fn write_route<A: Allocator>(
     text: &mut String<A>,
-    table: &OriginTable<B>,
     why: bool,
-    prefix: Prefix,
-    origin: Option<Asn>,
+    asked: &AskedRoute<'_>,
 ) -> Result<(), AllocError>
-    requires { string_bytes text.old ≡ [] }
-    ensures { OnOk result (IsJsonRouteAnswer why table.now prefix origin (string_bytes text.new)) }
+    requires empty { string_bytes text.old ≡ [] }
+    requires asked { IsLookedUp asked.now }
+    ensures { OnOk result (IsJsonRouteAnswer why asked.now.lookup.vrps asked.now.route.prefix asked.now.route.origin
+        (string_bytes text.new)) }
 {
-    let asn = asked_of(&origin);
-    let lookup = ended_lookup(table, prefix, asn);
-    let outcome = outcome_of(&lookup);
-    push_head(text, outcome, prefix, &origin)?;
-    push_vrps(text, why, &lookup, prefix, asn)?;
+    push_head(text, outcome_of(&asked.lookup), &asked.route)?;
+    push_vrps(text, why, asked)?;
     text.push_str("}")?;
     Ok(())
-}
-
-/// Returns the AS number to look up for an origin.
-fn asked_of(origin: &Option<Asn>) -> Asn
-    ensures { result ≡ asked_asn origin.now }
-{
-    match origin {
-        Some(asn) => *asn,
-        None => Asn::MIN,
-    }
 }
 
 /// Appends the beginning of the object for a route.
 fn push_head<A: Allocator>(
     text: &mut String<A>,
     outcome: Outcome,
-    prefix: Prefix,
-    origin: &Option<Asn>,
+    route: &Route,
 ) -> Result<(), AllocError>
-    ensures { OnOk result (string_bytes text.new ≡ string_bytes text.old ++ object_head outcome prefix origin.now) }
+    ensures { OnOk result (string_bytes text.new ≡ string_bytes text.old
+        ++ object_head outcome route.now.prefix route.now.origin) }
 {
     let members = outcome_members(outcome);
     let before_prefix = route_prefix_key();
     let before_origin = origin_key();
+    let prefix = route.prefix;
     write!(text, "{{{members}{before_prefix}{prefix}{before_origin}")?;
-    push_origin(text, origin)
+    push_origin(text, &route.origin)
 }
 
 /// Returns the text before the prefix of a route.
@@ -153,23 +167,22 @@ fn push_origin<A: Allocator>(text: &mut String<A>, origin: &Option<Asn>) -> Resu
 ///
 /// # Preconditions
 ///
-/// `lookup` is a lookup of `route`.
+/// `asked` has the lookup of its route.
 fn push_vrps<A: Allocator>(
     text: &mut String<A>,
     why: bool,
-    lookup: &Lookup<'_>,
-    route: Prefix,
-    asn: Asn,
+    asked: &AskedRoute<'_>,
 ) -> Result<(), AllocError>
-    requires { lookup.now.route ≡ route }
-    ensures { OnOk result ((member : List ℕ) × IsVrpsMember why lookup.now.vrps route asn member
+    requires { IsLookedUp asked.now }
+    ensures { OnOk result ((member : List ℕ)
+        × IsVrpsMember why asked.now.lookup.vrps asked.now.route.prefix asked.now.asn member
         × (string_bytes text.new ≡ string_bytes text.old ++ member)) }
 {
     if !why {
         return Ok(());
     }
     text.push_str(",\"vrps\":[")?;
-    push_why(text, Form::Json, lookup, route, asn)?;
+    push_why(text, Form::Json, asked)?;
     text.push_str("]")?;
     Ok(())
 }

@@ -7,6 +7,7 @@
 #![tactic(auto)]
 
 pub mod answers;
+pub mod begun;
 mod buffer;
 pub mod check;
 pub mod check_sink;
@@ -28,6 +29,7 @@ pub mod unexpired;
 pub mod until_end;
 
 pub use answers::Routes;
+pub use begun::{AskedRoute, BegunRoute};
 pub use explanation::Reason;
 pub use fault::RouteFault;
 pub use json_answers::JsonRoutes;

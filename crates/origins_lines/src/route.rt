@@ -3,7 +3,7 @@ ghost use Rattle.std.specs.Prelude.{◌≡◌, ◌↔◌, ◌∷◌, [], ◌<◌
 ghost use Rattle.std.specs.List.{after_last, position_or_len};
 ghost use Rattle.rpki_text.specs.Cuts.{is_space};
 ghost use Rattle.rpki_text.specs.Reading.{Answers};
-ghost use Rattle.origins_lines.specs.Routes.{AreRouteWords, HasDumpFault, HasCommaForSpace, HasFaultBy, HasReadFault, HasRouteFault, HasWordFault, HaveWordsFault, IsAsnOrigin, IsConfedWord, IsDumpRoute, IsFieldAt, IsKindOf, IsNoAsnText, IsNoFieldAt, IsReadLine, IsReadOf, IsRouteBy, IsSetWord, IsTableName, IsUpdateName, IsWordOrigin, HasNoOrigin, fields_of, origin_part, origin_word, prefix_part, prefix_word};
+ghost use Rattle.origins_lines.specs.Routes.{AreRouteWords, HasDumpFault, HasCommaForSpace, HasFaultBy, HasReadFault, HasRouteFault, HasWordFault, HaveWordsFault, IsAsnOrigin, IsConfedWord, IsDumpRoute, IsFieldAt, IsKindOf, IsNoAsnText, IsNoFieldAt, IsReadLine, IsReadOf, IsRouteBy, IsSetWord, IsTableName, IsUpdateName, IsWordOrigin, HasNoOrigin, fields_of, origin_part, prefix_part};
 
 use crate::fault::RouteFault;
 use rpki_base::Asn;
@@ -72,7 +72,7 @@ pub fn read_route(line: &[u8]) -> Result<Option<Route>, RouteFault>
 
 /// Returns the route of a line, or None if it announces none, or its first fault.
 #[tactic(auto, using(crate::proofs::RouteLineLemmas::text_found))]
-fn read_route_matched(line: &[u8]) -> Result<Option<Route>, RouteFault>
+pub(crate) fn read_route_matched(line: &[u8]) -> Result<Option<Route>, RouteFault>
     ensures { MatchResult result (IsReadLine line.now) (HasRouteFault line.now) }
 {
     let Ok(text) = str::from_utf8(line) else {
@@ -170,12 +170,12 @@ fn split_at_bar(text: &str) -> Option<(&str, &str)>
 }
 
 /// Returns the route of a prefix and an AS number with a space between them, or the first fault.
-#[tactic(auto, using(crate::proofs::RouteLineLemmas::words_found))]
 fn read_words(text: &str) -> Result<Route, RouteFault>
     ensures { MatchResult result (AreRouteWords text.now) (HaveWordsFault text.now) }
 {
-    let (prefix, origin) = words_of(text);
-    match read_pair(prefix, origin) {
+    // If the line has no space, the second text is empty, which is no AS number.
+    let (before, behind) = cut_at(text, ' ');
+    match read_pair(before.trim(), behind.trim()) {
         Ok(route) => Ok(route),
         Err(fault) => if has_comma_for_space(text) {
             Err(RouteFault::CommaForSpace)
@@ -226,16 +226,6 @@ fn read_pair(prefix: &str, origin: &str) -> Result<Route, RouteFault>
         prefix,
         origin: Some(origin),
     })
-}
-
-/// Returns the text before the first space of a line and the text after it, both without white space at their ends. The
-/// second is empty if there is no space.
-fn words_of(line: &str) -> (&str, &str)
-    ensures prefix { result.0.now ≡ prefix_word line.now }
-    ensures origin { result.1.now ≡ origin_word line.now }
-{
-    let (prefix, origin) = cut_at(line, ' ');
-    (prefix.trim(), origin.trim())
 }
 
 /// Returns the route of a dump's line whose path has the index `path_place`.

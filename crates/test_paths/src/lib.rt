@@ -50,6 +50,8 @@ use lines_engine::error::RunError as _;
 use lines_engine::steps::OneByOne as _;
 use lines_engine::steps::Steps as _;
 use lines_engine::stream::answer_as_read as _;
+use origins_lines::AskedRoute as _;
+use origins_lines::BegunRoute as _;
 use origins_lines::JsonRoutes as _;
 use origins_lines::Outcome as _;
 use origins_lines::Reason as _;

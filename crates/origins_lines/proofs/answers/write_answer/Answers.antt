@@ -6,23 +6,22 @@ use Rattle.origins_lines.proofs.answers.write_answer.Goals as goal
 pub returns-then-not-why : goal.returns-then-not-why
 returns-then-not-why g c =
     let said = c.outcome_of in
-    let lookup = c.ended_lookup-lookup.ensures in
-    let is = rw (lookup.route, lookup.asn, lookup.vrps) at said.ensures in
+    let asked = c.requires.asked in
+    let is = rw (asked.prefix, asked.looked_up) at said.ensures in
     let alone = sym (append-nil (outcome_text said.result)) in
     rw c.if-not-why.true
-    (said.result, is, [], refl, rw (c.in_ok-push_str.ensures.bytes, c.requires, c.word_for.ensures) alone)
+    (said.result, is, [], refl, rw (c.in_ok-push_str.ensures.bytes, c.requires.empty, c.word_for.ensures) alone)
 
 pub returns : goal.returns
 returns g c =
-    let lookup = c.lookup-lookup.ensures in
     let said = c.in_ok-outcome in
     let (why, texts, more) = said.ensures.text in
     on_ok_weaker c.insert_str.result
     (λ whole. rw c.if-not-why.false (
       said.outcome,
-      rw lookup.vrps at said.ensures.outcome,
+      said.ensures.outcome,
       why,
-      rw lookup.vrps at texts,
-      grind (arith, common_steps, whole, more, c.requires, c.word_for-2.ensures),
+      texts,
+      grind (arith, common_steps, whole, more, c.requires.empty, c.word_for-2.ensures),
     ))
     c.insert_str.ensures.bytes

@@ -7,18 +7,23 @@ use Rattle.origins_lines.proofs.WhyLemmas.{IsExplainedSo, all_explained, covers_
 use Rattle.origins_lines.proofs.explanation.push_why.Goals as goal
 
 pub loop-vrp-init : goal.loop-vrp-init
-loop-vrp-init g c = (
-  [],
-  explained_none c.args.form c.args.route c.args.asn,
-  sym (append-nil (string_bytes c.args.text.now)),
-  outcome_none c.args.route c.args.asn,
-)
+loop-vrp-init g c =
+    let route = c.args.asked.now.route.prefix in
+    let asn = c.args.asked.now.asn in (
+      [],
+      explained_none c.args.form route asn,
+      sym (append-nil (string_bytes c.args.text.now)),
+      outcome_none route asn,
+    )
 
 pub loop-vrp-preserved : goal.loop-vrp-preserved
 loop-vrp-preserved g c =
+    let route = c.args.asked.now.route.prefix in
+    let asn = c.args.asked.now.asn in
+    let vrps = c.args.asked.now.lookup.vrps in
     let all : List Vrp = c.covering-vrp-items.result in
     let covering = c.covering-vrp-items.ensures in
-    let those = rw c.requires at covering.covering in
+    let those = rw c.requires.prefix at covering.covering in
     let done : List Vrp = c.loop-vrp.yielded in
     let x : Vrp = c.in-Some.vrp in
     let rest : List Vrp = c.next.new.self in
@@ -33,19 +38,22 @@ loop-vrp-preserved g c =
     let lawful : IsLawfulVrp x =
     record { prefix = c.recall_invariant-in-loop-vrp.ensures; number = c.recall_invariant-in-loop-vrp-2.ensures } in
     let covers =
-    covers_next c.args.form c.args.route is c.args.asn c.args.lookup.now.vrps all done rest x lawful those
+    covers_next c.args.form route is asn vrps all done rest x lawful those
     covering.longest_first covering.order cut in (
       why ++ next.0,
-      explained_next c.args.form c.args.route is c.args.asn c.args.lookup.now.vrps all done rest x lawful those
+      explained_next c.args.form route is asn vrps all done rest x lawful those
           covering.longest_first covering.order cut c.loop-vrp.last why next.0 reason.result reason.ensures explained
           next.1,
       next.2 ∙ ap (λ t. t ++ next.0) text ∙ append_assoc _ why next.0,
       rw c.outcome_with-outcome.ensures
-          (outcome_more c.args.route c.args.asn done x covers c.loop-vrp.outcome reason.result reason.ensures outcome),
+          (outcome_more route asn done x covers c.loop-vrp.outcome reason.result reason.ensures outcome),
     )
 
 pub returns-clause-text : goal.returns-clause-text
 returns-clause-text g c =
+    let route = c.args.asked.now.route.prefix in
+    let asn = c.args.asked.now.asn in
+    let vrps = c.args.asked.now.lookup.vrps in
     let all : List Vrp = c.covering-vrp-items.result in
     let done : List Vrp = c.loop-vrp.yielded in
     let (why, so_far, text, outcome) = c.loop-vrp.invariant in
@@ -54,15 +62,18 @@ returns-clause-text g c =
     sym (ap (λ left. done ++ left) c.in-None.ensures.steps.0 ∙ append-nil done) ∙ sym given
     ∙ c.into_iter-vrp-iterator.ensures.into_iter_gives in
     let explained =
-    subst (λ ys. IsExplainedSo c.args.form c.args.route c.args.asn ys c.loop-vrp.last why) whole so_far in
-    let those = rw c.requires at c.covering-vrp-items.ensures.covering in
+    subst (λ ys. IsExplainedSo c.args.form route asn ys c.loop-vrp.last why) whole so_far in
+    let those = rw c.requires.prefix at c.covering-vrp-items.ensures.covering in
     let explains =
-    all_explained c.args.form c.args.route c.args.asn c.args.lookup.now.vrps all c.loop-vrp.last why those
+    all_explained c.args.form route asn vrps all c.loop-vrp.last why those
     explained in
     (why, (explained.explained, explains, explained.texts), text)
 
 pub returns-clause-outcome : goal.returns-clause-outcome
 returns-clause-outcome g c =
+    let route = c.args.asked.now.route.prefix in
+    let asn = c.args.asked.now.asn in
+    let vrps = c.args.asked.now.lookup.vrps in
     let all : List Vrp = c.covering-vrp-items.result in
     let done : List Vrp = c.loop-vrp.yielded in
     let (why, so_far, text, outcome) = c.loop-vrp.invariant in
@@ -70,6 +81,6 @@ returns-clause-outcome g c =
     let whole : done ≡ all =
     sym (ap (λ left. done ++ left) c.in-None.ensures.steps.0 ∙ append-nil done) ∙ sym given
     ∙ c.into_iter-vrp-iterator.ensures.into_iter_gives in
-    let those = rw c.requires at c.covering-vrp-items.ensures.covering in
-    let by_all = subst (λ ys. IsOutcomeOf c.args.route c.args.asn ys c.loop-vrp.outcome) whole outcome in
-    outcome_all c.args.route c.args.asn c.args.lookup.now.vrps all those c.loop-vrp.outcome by_all
+    let those = rw c.requires.prefix at c.covering-vrp-items.ensures.covering in
+    let by_all = subst (λ ys. IsOutcomeOf route asn ys c.loop-vrp.outcome) whole outcome in
+    outcome_all route asn vrps all those c.loop-vrp.outcome by_all

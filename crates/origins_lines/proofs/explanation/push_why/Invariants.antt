@@ -5,5 +5,6 @@ use Rattle.origins_lines.proofs.explanation.push_why.Given as goal
 
 abbrev pub invariant-loop-vrp : goal.invariant-loop-vrp
 invariant-loop-vrp g l =
-    (why : List ℕ) × IsExplainedSo l.form l.route l.asn l.yielded l.last why
-    × (string_bytes l.text ≡ string_bytes l.fn.text ++ why) × IsOutcomeOf l.route l.asn l.yielded l.outcome
+    (why : List ℕ) × IsExplainedSo l.form l.asked.route.prefix l.asked.asn l.yielded l.last why
+    × (string_bytes l.text ≡ string_bytes l.fn.text ++ why)
+    × IsOutcomeOf l.asked.route.prefix l.asked.asn l.yielded l.outcome

@@ -4,9 +4,9 @@ use Rattle.origins_lines.proofs.json_answers.write_route.Goals as goal
 
 pub returns : goal.returns
 returns g c =
-    let said = c.outcome_of-outcome in
-    let lookup = c.ended_lookup-lookup.ensures in
-    let is = rw (lookup.route, lookup.asn, c.asked_of-asn.ensures, lookup.vrps) at said.ensures in
+    let said = c.outcome_of in
+    let asked = c.requires.asked in
+    let is = rw (asked.prefix, asked.looked_up, asked.asn) at said.ensures in
     let more = c.in_ok-push_vrps.ensures in
-    let explained = rw (lookup.vrps, c.asked_of-asn.ensures) at more.1 in
+    let explained = rw asked.asn at more.1 in
     (said.result, is, more.0, explained, grind (arith, common_steps))

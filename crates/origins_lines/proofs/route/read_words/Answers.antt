@@ -1,10 +1,23 @@
-use Rattle.origins_lines.proofs.Common.{arith}
-use Rattle.origins_lines.proofs.RouteLineLemmas.{words_wrong}
+-- The two words are the texts before and after the first space, without white space at their ends.
+use Rattle.origins_lines.proofs.Common.{ap, arith, origin_word, prefix_word, trim, ◌∙◌, ◌≡◌}
+use Rattle.std.proofs.Common.{lit<}
+use Rattle.origins_lines.proofs.RouteLineLemmas.{words_found, words_wrong}
 use Rattle.origins_lines.proofs.route.read_words.Goals as goal
+
+pub returns-in-Ok : goal.returns-in-Ok
+returns-in-Ok c =
+    let one : c.trim.result.now ≡ prefix_word c.args.text.now =
+    c.trim.ensures.trim ∙ ap trim (c.cut_at.ensures.before (lit< tt)) in
+    let other : c.trim-2.result.now ≡ origin_word c.args.text.now =
+    c.trim-2.ensures.trim ∙ ap trim (c.cut_at.ensures.behind (lit< tt)) in
+    words_found c.args.text.now c.trim.result.now c.trim-2.result.now c.in-Ok.route one other c.in-Ok.ensures
 
 -- neither word is right, and no comma stands for the space
 pub returns-else-has_comma_for_space : goal.returns-else-has_comma_for_space
 returns-else-has_comma_for_space c =
-    words_wrong c.args.text.now c.words_of.result.0.now c.words_of.result.1.now c.in-Err.fault
-    c.words_of.ensures.prefix c.words_of.ensures.origin (grind (arith, c.if-has_comma_for_space.ensures.1))
-    c.in-Err.ensures
+    let one : c.trim.result.now ≡ prefix_word c.args.text.now =
+    c.trim.ensures.trim ∙ ap trim (c.cut_at.ensures.before (lit< tt)) in
+    let other : c.trim-2.result.now ≡ origin_word c.args.text.now =
+    c.trim-2.ensures.trim ∙ ap trim (c.cut_at.ensures.behind (lit< tt)) in
+    words_wrong c.args.text.now c.trim.result.now c.trim-2.result.now c.in-Err.fault one other
+    (grind (arith, c.if-has_comma_for_space.ensures.1)) c.in-Err.ensures

@@ -1,0 +1,18 @@
+use Rattle.origins_lines.proofs.Common.{string_bytes}
+use Rattle.std.proofs.lemmas.Result.{on_ok_weaker}
+use Rattle.origins_lines.proofs.RouteAnswerLemmas.{asked_answered, wrong_answered}
+use Rattle.origins_lines.proofs.answers.RoutesSteps.end.Goals as goal
+
+pub returns-in-Asked : goal.returns-in-Asked
+returns-in-Asked g c =
+    on_ok_weaker c.write_answer.result
+    (asked_answered c.args.self.now.why c.args.self.now.table.now c.args._line.now
+    (string_bytes c.write_answer.new.text)
+    c.args.begun.now c.requires c.in-Asked.asked c.in-Asked.is) c.write_answer.ensures
+
+pub returns-in-Wrong : goal.returns-in-Wrong
+returns-in-Wrong g c =
+    on_ok_weaker c.write.result
+    (λ whole. wrong_answered c.args.self.now.why c.args.self.now.table.now c.args._line.now
+    (string_bytes c.write.new.self) c.args.begun.now c.requires c.in-Wrong.fault c.in-Wrong.is
+    (rw c.clear.ensures.bytes at whole)) c.write.ensures.bytes

@@ -1,0 +1,16 @@
+use Rattle.origins_lines.proofs.Common.{string_bytes}
+use Rattle.std.proofs.lemmas.Result.{on_ok_weaker}
+use Rattle.origins_lines.proofs.JsonLemmas.{asked_object, wrong_object}
+use Rattle.origins_lines.proofs.json_answers.JsonRoutesSteps.end.Goals as goal
+
+pub returns-in-Asked : goal.returns-in-Asked
+returns-in-Asked g c =
+    on_ok_weaker c.write_route.result
+    (asked_object c.args.self.now.why c.args.self.now.table.now c.args.line.now (string_bytes c.write_route.new.text)
+    c.args.begun.now c.requires c.in-Asked.asked c.in-Asked.is) c.write_route.ensures
+
+pub returns-in-Wrong : goal.returns-in-Wrong
+returns-in-Wrong g c =
+    on_ok_weaker c.write_fault.result
+    (wrong_object c.args.self.now.why c.args.self.now.table.now c.args.line.now (string_bytes c.write_fault.new.text)
+    c.args.begun.now c.requires c.in-Wrong.fault c.in-Wrong.is) c.write_fault.ensures

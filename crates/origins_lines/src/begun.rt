@@ -1,0 +1,49 @@
+//! What is known of the answer to a line of routes, while its route is looked up.
+ghost use Rattle.origins_lines.specs.Begun.{IsBegun};
+
+use crate::fault::RouteFault;
+use crate::route::{Route, read_route_matched};
+use roa_origin::{Lookup, OriginTable};
+use rpki_base::Asn;
+use std::alloc::Allocator;
+
+/// The route that a line gives, and its lookup.
+#[derive(Drop)]
+pub struct AskedRoute<'a> {
+    /// The route.
+    pub route: Route,
+    /// The AS of the lookup: the origin of the route, or AS0 if the origin is unknown
+    /// ([`asked_asn`](crate::asked_asn)).
+    pub asn: Asn,
+    /// The lookup of the route's prefix and of this AS.
+    pub lookup: Lookup<'a>,
+}
+
+/// What is known of the answer to a line, after any number of steps of the lookup.
+#[derive(Drop)]
+pub enum BegunRoute<'a> {
+    /// The line gives a route.
+    Asked(AskedRoute<'a>),
+    /// The line is of `bgpdump -m`, and announces no route.
+    Skipped,
+    /// The line is invalid. The field is its first fault.
+    Wrong(RouteFault),
+}
+
+impl<'a> BegunRoute<'a> {
+    /// Reads a line, and starts the lookup of its route in a table.
+    pub(crate) fn of<B: Allocator>(table: &'a OriginTable<B>, line: &[u8]) -> BegunRoute<'a>
+        ensures { IsBegun table.now result line.now }
+    {
+        match read_route_matched(line) {
+            Ok(Some(route)) => {
+                let Route { prefix, origin } = route;
+                let asn = origin.unwrap_or(Asn::MIN);
+                let lookup = table.lookup(prefix, asn);
+                BegunRoute::Asked(AskedRoute { route, asn, lookup })
+            }
+            Ok(None) => BegunRoute::Skipped,
+            Err(fault) => BegunRoute::Wrong(fault),
+        }
+    }
+}

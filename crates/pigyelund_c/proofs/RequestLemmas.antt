@@ -1,6 +1,6 @@
 -- The outcome of a request, from the answer of the issuer's set.
 use Rattle.std.proofs.Common.{ℕ, List, Result, Ok, Err, MatchResult, inl, inr, ◌≡◌}
-use Rattle.core.specs.Result.{IsErrAnd}
+use Rattle.std.specs.Result.{IsErrAnd}
 use Rattle.rpki_text.specs.Memory.{IfRefused, IsMemory, IsRefusedAnd, MatchOrMemory}
 use Rattle.rpki_text.specs.declared.memory.OrMemory.{OrMemory}
 use Rattle.rpki_text.specs.declared.memory.OrMemory.TheVariants.{Memory, Refused}

@@ -12,7 +12,7 @@ use std::alloc::{AllocError, Allocator};
 ///
 /// [`OneByOne`] implements this trait for a type that answers a line by one call.
 pub trait Steps: Answers {
-    /// What is known of the answer to a line.
+    /// Holds what is known about the answer to a line, between two steps.
     type Begun: Drop;
 
     // Whether a value is what is known of the answer to a line, after any number of steps. The arguments are `self`,

@@ -1,4 +1,4 @@
-//! What is known of the answer to a line of routes, while its route is looked up.
+//! Holds what is known about the answer to a line of routes, while its route is looked up.
 ghost use Rattle.origins_lines.specs.Begun.{IsBegun};
 
 use crate::fault::RouteFault;
@@ -19,7 +19,7 @@ pub struct AskedRoute<'a> {
     pub lookup: Lookup<'a>,
 }
 
-/// What is known of the answer to a line, after any number of steps of the lookup.
+/// Holds what is known about the answer to a line, after any number of steps of the lookup.
 #[derive(Drop)]
 pub enum BegunRoute<'a> {
     /// The line gives a route.

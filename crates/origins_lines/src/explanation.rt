@@ -110,8 +110,9 @@ pub(crate) fn push_why<A: Allocator>(
     Ok(outcome)
 }
 
-/// Returns the outcome for a route by some VRPs and one more VRP, which covers the route with the relation `reason`. By
-/// the other VRPs the outcome is `outcome`.
+/// Adds one VRP to an outcome, and returns the new outcome for the route.
+///
+/// `outcome` is the outcome by the VRPs before it. The VRP covers the route, and `reason` is its relation to the route.
 fn outcome_with(outcome: Outcome, reason: Reason) -> Outcome
     ensures { result ≡ outcome_with outcome reason }
 {

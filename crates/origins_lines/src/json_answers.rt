@@ -19,14 +19,14 @@ use std::alloc::{AllocError, Allocator, Global};
 
 /// Answers lines of routes by a table of VRPs, each by an object of JSON (RFC 8259) without white space.
 ///
-/// The first member is `state`: `valid`, `invalid` or `not-found` for a route (RFC 6811, 2), `skipped` for a line of
-/// `bgpdump -m` that announces no route, and `error` for an invalid line.
+/// The first member is `state`. Its value says which other members follow:
 ///
-/// | state | the other members |
-/// |---|---|
-/// | `valid`, `not-found` | `prefix`; `origin_asn`, which is null if the origin is unknown |
-/// | `invalid` | `reason`, which is `length` or `as`; `prefix`; `origin_asn` |
-/// | `error` | `error`, the fault; `line`, the line, which is null if the line isn't UTF-8 |
+/// | state | line | other members |
+/// |---|---|---|
+/// | `valid`, `not-found` | a route (RFC 6811, 2) | `prefix`; `origin_asn`, which is null if the origin is unknown |
+/// | `invalid` | a route | `reason`, which is `length` or `as`; `prefix`; `origin_asn` |
+/// | `skipped` | a line of `bgpdump -m` that announces no route | none |
+/// | `error` | an invalid line | `error`, the fault; `line`, the line, which is null if it isn't UTF-8 |
 #[derive(Drop)]
 pub struct JsonRoutes<'a, B: Allocator = Global> {
     /// The VRPs.

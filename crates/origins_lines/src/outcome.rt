@@ -51,7 +51,7 @@ pub fn asked_asn(origin: Option<Asn>) -> Asn
     origin.unwrap_or(Asn::MIN)
 }
 
-/// Returns the outcome for the route that is looked up, by the VRPs of the table.
+/// Returns the outcome for the route of a lookup.
 ///
 /// One pass over the VRPs that cover the route finds the outcome ([`Lookup::validity_and_asn`]).
 pub fn outcome_of(lookup: &Lookup<'_>) -> Outcome

@@ -50,8 +50,8 @@ enum Kind {
 ///
 /// The sixth field is the prefix and the seventh the path. In a line with a path identifier the eighth is the path. The
 /// third field of an update is `A` if the line announces the route. Returns None if the third field is `W` or `STATE`:
-/// the line withdraws a route, or says how the state of a session changed. A line with another third field is none of
-/// `bgpdump -m`.
+/// the line withdraws a route, or says how the state of a session changed. A line with another third field is
+/// invalid.
 ///
 /// The last word of a path is the origin. The origin is unknown for three kinds of paths (RFC 6811, 2):
 ///

@@ -36,7 +36,7 @@ fn ends_group(text: &[u8], at: usize) -> bool
 
 /// Returns the number that the hexadecimal digits from an index on write, and the index after them.
 ///
-/// It reads four digits at most, and returns None if there is none.
+/// Reads four digits at most. Returns None if the first octet is no digit.
 #[inline(always)]
 fn group_at(text: &[u8], at: usize) -> Option<(u32, usize)>
     requires { at + 5 ≤ length text.now }

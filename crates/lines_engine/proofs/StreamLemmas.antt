@@ -52,6 +52,11 @@ module _ (Is : List ℕ → List ℕ → Type 0) where
   pub but_none : (a input : Option (List ℕ)) → AnswersBut Is a a input input []
   but_none a input = grind (arith, answered_none)
 
+  -- there is no piece, and no part of a line
+  pub none_left : (a : Option (List ℕ)) (part piece : List ℕ) → part ≡ [] → length piece ≡ 0 → (more : List ℕ)
+      → HasAnswered Is a a (lines_of (piece ++ more)) (lines_of (part ++ more)) []
+  none_left a part piece empty none more = rw (empty, nil_from_length piece none) (answered_none Is a _)
+
   -- not all is answered where a byte is left
   pub some_left : (a b : Option (List ℕ)) (lines : List (List ℕ)) (part rest more : List ℕ) → 0 < length rest
       → HasAnswered Is a b lines (lines_of (part ++ (rest ++ more))) [] → AnswersSomeOf Is a b lines

@@ -10,6 +10,7 @@ use crate::engine::write_all;
 use crate::error::RunError;
 use crate::newline::split_at_newline;
 use crate::steps::Steps;
+use crate::stream::keep;
 use std::alloc::{AllocError, Allocator};
 
 /// The number of lines in a group at most.
@@ -28,20 +29,27 @@ struct BegunLine<'t, B> {
     begun: B,
 }
 
-/// Answers each line that ends in `piece`, in groups. Returns the bytes after the last end.
+/// Answers each line that ends in `piece`, in groups. Afterwards `part` is the start of the line whose end wasn't read.
+///
+/// # Preconditions
+///
+/// `part` is empty.
 #[tactic(auto, using(crate::proofs::RunLemmas::answered_none))]
-pub(crate) fn answer_groups<'t, A: Allocator + Copy, L: Steps, W: Sink>(
+pub(crate) fn answer_groups<A: Allocator + Copy, L: Steps, W: Sink>(
     alloc: A,
     answers: &L,
-    piece: &'t [u8],
+    part: &mut Vec<u8, A>,
+    piece: &[u8],
     text: &mut String<A>,
     writer: &mut W,
-) -> Result<&'t [u8], RunError>
+) -> Result<(), RunError>
     requires clear { W.mark writer.old ≡ false }
+    requires empty { part.old.items ≡ [] }
     ensures unmarked { OnOk result (W.mark writer.new ≡ W.mark writer.old) }
-    ensures unended { IfOk result (λ rest. HasNo 10 rest.now) }
-    ensures answered { IfOk result (λ rest. (more : List ℕ) → HasAnswered (L.is_answer answers.now)
-        (W.written writer.old) (W.written writer.new) (lines_of (piece.now ++ more)) (lines_of (rest.now ++ more)) []) }
+    ensures unended { OnOk result (HasNo 10 part.new.items) }
+    ensures answered { OnOk result ((more : List ℕ) → HasAnswered (L.is_answer answers.now)
+        (W.written writer.old) (W.written writer.new)
+        (lines_of (piece.now ++ more)) (lines_of (part.new.items ++ more)) []) }
     ensures memory_unmarked { IsErrOf result RunError.Memory → W.mark writer.new ≡ W.mark writer.old }
     ensures some_answered { IsErrOf result RunError.Memory → (more : List ℕ) → AnswersSomeOf
         (L.is_answer answers.now) (W.written writer.old) (W.written writer.new) (lines_of (piece.now ++ more)) }
@@ -51,17 +59,17 @@ pub(crate) fn answer_groups<'t, A: Allocator + Copy, L: Steps, W: Sink>(
     ensures not_read { IsErrOf result RunError.Read → ⊥ }
 {
     if piece.is_empty() {
-        return Ok(piece);
+        return Ok(());
     }
     let mut group = Vec::with_capacity(alloc, GROUP)?;
     let mut unanswered = piece;
     loop {
         let behind = begin_lines(answers, unanswered, &mut group)?;
-        if group.as_slice().is_empty() {
-            return Ok(behind);
-        }
         advance_lines(answers, &mut group);
         end_lines(alloc, answers, &group, text, writer)?;
+        if group.len() < GROUP {
+            return keep(part, behind);
+        }
         group.clear();
         unanswered = behind;
     }
@@ -78,7 +86,7 @@ fn begin_lines<'t, A: Allocator, L: Steps>(
     ensures begun { AnswersAreBegun (L.is_begun answers.now) group.new.items }
     ensures lines { IfOk result (λ rest. (more : List ℕ) → lines_of (text.now ++ more) ≡
         group_lines group.new.items ++ lines_of (rest.now ++ more)) }
-    ensures all { IfOk result (λ rest. group.new.items ≡ [] → HasNo 10 rest.now) }
+    ensures all { IfOk result (λ rest. vec_len group.new < 12 → HasNo 10 rest.now) }
     ensures shorter { IfOk result (λ rest. vec_len group.new + length rest.now ≤ length text.now) }
     ensures some { OnErr result (0 < length text.now) }
 {
@@ -94,25 +102,20 @@ fn begin_lines<'t, A: Allocator, L: Steps>(
     Ok(rest)
 }
 
-/// Takes the next steps for each line of `group`, side by side.
+/// Takes the next steps for each line of `group`, side by side, until no step is left or [`ROUNDS`] are taken.
 fn advance_lines<L: Steps>(answers: &L, group: &mut [BegunLine<'_, L::Begun>])
     requires { AnswersAreBegun (L.is_begun answers.now) group.old }
     ensures begun { AnswersAreBegun (L.is_begun answers.now) group.new }
     ensures lines { group_lines group.new ≡ group_lines group.old }
 {
     for _ in 0..ROUNDS {
-        advance_each(answers, group);
-    }
-}
-
-/// Takes the next step for each line of `group`.
-fn advance_each<L: Steps>(answers: &L, group: &mut [BegunLine<'_, L::Begun>])
-    requires { AnswersAreBegun (L.is_begun answers.now) group.old }
-    ensures begun { AnswersAreBegun (L.is_begun answers.now) group.new }
-    ensures lines { group_lines group.new ≡ group_lines group.old }
-{
-    for asked in group.iter_mut() {
-        answers.advance(&mut asked.begun);
+        let mut is_step_left = false;
+        for asked in group.iter_mut() {
+            is_step_left |= answers.advance(&mut asked.begun);
+        }
+        if !is_step_left {
+            return;
+        }
     }
 }
 

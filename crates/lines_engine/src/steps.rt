@@ -23,10 +23,11 @@ pub trait Steps: Answers {
     fn begin(&self, line: &[u8]) -> Self::Begun
         ensures { is_begun self.now result line.now };
 
-    /// Takes the next step, if one is left.
+    /// Takes the next step, if one is left. Returns whether another step is left.
     ///
-    /// An engine may take any number of steps for a line, or none. The answer is the same.
-    fn advance(&self, begun: &mut Self::Begun)
+    /// An engine may take any number of steps for a line, or none. The answer is the same. An engine that takes all
+    /// steps side by side stops when none is left.
+    fn advance(&self, begun: &mut Self::Begun) -> bool
         ensures { (line : List ℕ) → is_begun self.now begun.old line → is_begun self.now begun.new line };
 
     /// Replaces the content of `text` by the answer to `line`.
@@ -76,7 +77,9 @@ impl<L: Answers> Steps for OneByOne<'_, L> {
 
     fn begin(&self, _line: &[u8]) {}
 
-    fn advance(&self, _begun: &mut ()) {}
+    fn advance(&self, _begun: &mut ()) -> bool {
+        false
+    }
 
     fn end<A: Allocator + Copy>(
         &self,

@@ -195,43 +195,15 @@ fn answer_piece<A: Allocator + Copy, L: Steps, W: Sink>(
     ensures not_read { IsErrOf result RunError.Read → ⊥ }
 {
     if part.as_slice().is_empty() {
-        return answer_unbroken(alloc, answers, part, piece, text, writer);
+        return answer_groups(alloc, answers, part, piece, text, writer);
     }
     match split_at_newline(piece) {
         Some((line, behind)) => {
             answer_joined(alloc, answers, part, line, text, writer)?;
-            answer_unbroken(alloc, answers, part, behind, text, writer)
+            answer_groups(alloc, answers, part, behind, text, writer)
         }
         None => keep(part, piece),
     }
-}
-
-/// Does what [`answer_piece`] does, if `part` is empty.
-fn answer_unbroken<A: Allocator + Copy, L: Steps, W: Sink>(
-    alloc: A,
-    answers: &L,
-    part: &mut Vec<u8, A>,
-    piece: &[u8],
-    text: &mut String<A>,
-    writer: &mut W,
-) -> Result<(), RunError>
-    requires clear { W.mark writer.old ≡ false }
-    requires empty { part.old.items ≡ [] }
-    ensures unmarked { OnOk result (W.mark writer.new ≡ W.mark writer.old) }
-    ensures unended { OnOk result (HasNo 10 part.new.items) }
-    ensures answered { OnOk result ((more : List ℕ) → HasAnswered (L.is_answer answers.now)
-        (W.written writer.old) (W.written writer.new)
-        (lines_of (piece.now ++ more)) (lines_of (part.new.items ++ more)) []) }
-    ensures memory_unmarked { IsErrOf result RunError.Memory → W.mark writer.new ≡ W.mark writer.old }
-    ensures some_answered { IsErrOf result RunError.Memory → (more : List ℕ) → AnswersSomeOf
-        (L.is_answer answers.now) (W.written writer.old) (W.written writer.new) (lines_of (piece.now ++ more)) }
-    ensures write { IsErrOf result RunError.Write → W.mark writer.new ≡ true }
-    ensures some_written { IsErrOf result RunError.Write → (more : List ℕ) → BeginsAnswersOf
-        (L.is_answer answers.now) (W.written writer.old) (W.written writer.new) (lines_of (piece.now ++ more)) }
-    ensures not_read { IsErrOf result RunError.Read → ⊥ }
-{
-    let rest = answer_groups(alloc, answers, piece, text, writer)?;
-    keep(part, rest)
 }
 
 /// Answers the line that is `part` and then `line`. Afterwards `part` is empty.
@@ -261,7 +233,7 @@ fn answer_joined<A: Allocator + Copy, L: Answers, W: Sink>(
 }
 
 /// Appends `rest`, the bytes of a line whose end wasn't read, to `part`. The call allocates nothing if `rest` is empty.
-fn keep<A: Allocator>(part: &mut Vec<u8, A>, rest: &[u8]) -> Result<(), RunError>
+pub(crate) fn keep<A: Allocator>(part: &mut Vec<u8, A>, rest: &[u8]) -> Result<(), RunError>
     ensures kept { OnOk result (part.new.items ≡ part.old.items ++ rest.now) }
     ensures memory { IfErr result (λ error. (error ≡ RunError.Memory) × (0 < length rest.now)) }
 {

@@ -65,9 +65,10 @@ impl<'a, B: Allocator> Steps for JsonRoutes<'a, B> {
         BegunRoute::of(self.table, line)
     }
 
-    fn advance(&self, begun: &mut BegunRoute<'a>) {
-        if let BegunRoute::Asked(asked) = begun {
-            asked.lookup.advance();
+    fn advance(&self, begun: &mut BegunRoute<'a>) -> bool {
+        match begun {
+            BegunRoute::Asked(asked) => asked.lookup.advance(),
+            BegunRoute::Skipped | BegunRoute::Wrong(_) => false,
         }
     }
 

@@ -90,9 +90,12 @@ impl<'a> Lookup<'a> {
 
     /// Takes the next step: reads the VRP in the middle of the range that is left, and halves the range.
     ///
-    /// If no range is left, the step reads the VRP before the found index, and its link. The lookup remembers both.
-    /// The step changes only how much a later call has to read. The results of the lookup stay the same.
-    pub fn advance(&mut self)
+    /// If no range is left, the step reads the VRP before the found index, and its link. The lookup remembers both, and
+    /// no step is left. The step changes only how much a later call has to read. The results of the lookup stay the
+    /// same.
+    ///
+    /// Returns whether another step is left.
+    pub fn advance(&mut self) -> bool
         ensures { self.new ≡ self.old }
     {
         if self.from == self.to {
@@ -100,7 +103,7 @@ impl<'a> Lookup<'a> {
                 let end = self.from;
                 self.end_at(end);
             }
-            return;
+            return false;
         }
         let middle = self.from + (self.to - self.from) / 2;
         if self.vrps[middle].comes_by(&self.route) {
@@ -108,6 +111,7 @@ impl<'a> Lookup<'a> {
         } else {
             self.to = middle;
         }
+        true
     }
 
     /// Takes all steps that are left.

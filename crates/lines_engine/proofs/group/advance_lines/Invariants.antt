@@ -7,3 +7,9 @@ invariant-loop g l = record {
   begun : AnswersAreBegun (g.L.Steps.is_begun l.answers) l.group;
   lines : group_lines l.group ≡ group_lines l.fn.group;
 }
+
+abbrev pub invariant-loop-asked : goal.invariant-loop-asked
+invariant-loop-asked g l = record {
+  begun : AnswersAreBegun (g.L.Steps.is_begun l.answers) l.group;
+  lines : group_lines l.group ≡ group_lines l.fn.group;
+}

@@ -8,12 +8,12 @@ use Rattle.lines_engine.proofs.stream.answer_piece.Goals as goal
 pub returns-then-is_empty-clause-some_answered : goal.returns-then-is_empty-clause-some_answered
 returns-then-is_empty-clause-some_answered g c is more =
     let empty : c.args.part.now.items ≡ [] = grind (arith, common_steps) in
-    rw empty (c.answer_unbroken.ensures.some_answered is more)
+    rw empty (c.answer_groups.ensures.some_answered is more)
 
 pub returns-then-is_empty-clause-some_written : goal.returns-then-is_empty-clause-some_written
 returns-then-is_empty-clause-some_written g c is more =
     let empty : c.args.part.now.items ≡ [] = grind (arith, common_steps) in
-    rw empty (c.answer_unbroken.ensures.some_written is more)
+    rw empty (c.answer_groups.ensures.some_written is more)
 
 -- the line that ends in the piece was not answered
 pub returns-in_err-answer_joined-in-Some-clause-some_answered :
@@ -42,24 +42,24 @@ returns-in_err-answer_joined-in-Some-clause-some_written g c is more =
 -- the lines behind it were answered too
 pub returns-in_ok-answer_joined-in-Some-clause-answered : goal.returns-in_ok-answer_joined-in-Some-clause-answered
 returns-in_ok-answer_joined-in-Some-clause-answered g c =
-    on_ok_weaker c.answer_unbroken-in-Some.result
+    on_ok_weaker c.answer_groups-in-Some.result
     (λ each more. joined_all (g.L.Answers.is_answer c.args.answers.now) _ c.args.part.now.items c.args.piece.now _ _
     more c.in-Some.ensures c.requires.unended _ _ c.in_ok-answer_joined-in-Some.ensures.answered _ (each more))
-    c.answer_unbroken-in-Some.ensures.answered
+    c.answer_groups-in-Some.ensures.answered
 
 pub returns-in_ok-answer_joined-in-Some-clause-some_answered :
     goal.returns-in_ok-answer_joined-in-Some-clause-some_answered
 returns-in_ok-answer_joined-in-Some-clause-some_answered g c is more =
     joined_some (g.L.Answers.is_answer c.args.answers.now) _ c.args.part.now.items c.args.piece.now _ _ more
     c.in-Some.ensures c.requires.unended _ _ c.in_ok-answer_joined-in-Some.ensures.answered
-    (c.answer_unbroken-in-Some.ensures.some_answered is more)
+    (c.answer_groups-in-Some.ensures.some_answered is more)
 
 pub returns-in_ok-answer_joined-in-Some-clause-some_written :
     goal.returns-in_ok-answer_joined-in-Some-clause-some_written
 returns-in_ok-answer_joined-in-Some-clause-some_written g c is more =
     joined_begun (g.L.Answers.is_answer c.args.answers.now) _ c.args.part.now.items c.args.piece.now _ _ more
     c.in-Some.ensures c.requires.unended _ _ c.in_ok-answer_joined-in-Some.ensures.answered
-    (c.answer_unbroken-in-Some.ensures.some_written is more)
+    (c.answer_groups-in-Some.ensures.some_written is more)
 
 -- no line ends in the piece
 pub returns-in-None-clause-answered : goal.returns-in-None-clause-answered

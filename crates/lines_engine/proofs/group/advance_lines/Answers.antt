@@ -1,6 +1,6 @@
 use Rattle.lines_engine.proofs.Common.{arith, length, refl, ◌<◌, ◌∙◌}
 use Rattle.lines_engine.proofs.GroupLemmas.{AnswersAreBegun-set, group_lines-set}
-use Rattle.lines_engine.proofs.group.advance_each.Goals as goal
+use Rattle.lines_engine.proofs.group.advance_lines.Goals as goal
 
 pub loop-asked-preserved : goal.loop-asked-preserved
 loop-asked-preserved g c =
@@ -8,7 +8,7 @@ loop-asked-preserved g c =
     let had = c.loop-asked.invariant.begun c.loop-asked.asked-index c.asked-item.result less in
     record {
       begun =
-          AnswersAreBegun-set (g.L.Steps.is_begun c.args.answers.now) _ _ _ (c.advance.ensures _ had)
+          AnswersAreBegun-set (g.L.Steps.is_begun c.args.answers.now) _ _ _ (c.advance-is_step_left.ensures _ had)
           c.loop-asked.invariant.begun;
       lines = group_lines-set _ _ c.asked-item.result _ less refl ∙ c.loop-asked.invariant.lines;
     }

@@ -1,10 +1,14 @@
 -- How a dump's line is cut: at each bar, and its path at the last space.
-use Rattle.origins_lines.proofs.Common.{List, None, Some, [], ap, arith, drop, eq-eqb, get_or, get_or-drop, length}
-use Rattle.origins_lines.proofs.Common.{length-drop, ne_eqb, not, ℕ, ◌-◌, ◌<◌, ◌∙◌, ◌∷◌, ◌≡◌, ◌≢◌, ◌≤◌, after_first}
+use Rattle.origins_lines.proofs.Common.{List, None, Some, [], ap, arith, drop, eq-eqb, get_or, get_or-drop, inl, inr}
+use Rattle.origins_lines.proofs.Common.{length, sym}
+use Rattle.origins_lines.proofs.Common.{length-drop, ne_eqb, not, ℕ, ◌-◌, ◌<◌, ◌∙◌, ◌∷◌, ◌≡◌, ◌≢◌, ◌≤◌, ◌⊎◌}
+use Rattle.origins_lines.proofs.Common.{after_first}
 use Rattle.origins_lines.proofs.Common.{after_last, before_first, position_or_len, suffix_len, slice_get, fields_of}
-use Rattle.origins_lines.proofs.Common.{is_bar, is_space}
+use Rattle.origins_lines.proofs.Common.{IsFieldAt, is_bar, is_space}
 use Rattle.std.specs.Str.Pattern.{RFindsChar, SplitsAroundMatch}
-use Rattle.std.proofs.lemmas.List.Sums.{fails_before_first, suffix_len_is}
+use Rattle.std.proofs.lemmas.Bool.{cases_lt}
+use Rattle.std.proofs.lemmas.List.Sums.{fails_before_first, prefix_len-le-length, suffix_len_is}
+use Rattle.std.proofs.lemmas.List.{take_all}
 use Rattle.std.proofs.lemmas.List.Splits.{slice_split_first, slice_split_none}
 use Rattle.std.proofs.lemmas.Str.{len_utf8_ascii}
 use Rattle.std.proofs.lemmas.Str.Pattern.{NoCharPasses-char}
@@ -17,6 +21,22 @@ cut_some text field behind some one more = grind (arith, slice_split_first)
 -- and one without is one field
 pub cut_none : (text : List ℕ) → position_or_len is_bar text ≡ length text → fields_of text ≡ text ∷ []
 cut_none text none = grind (arith, fails_before_first, slice_split_none)
+
+-- the first field ends at the first bar, or with the text
+pub first_field : (text field : List ℕ) → (124 < 128 → field ≡ before_first is_bar text) → IsFieldAt 0 text field
+first_field text field ascii = by (cases_lt (position_or_len is_bar text) (length text))
+  where
+    is : field ≡ before_first is_bar text
+    is = ascii (omega arith)
+
+    by : (position_or_len is_bar text < length text) ⊎ (length text ≤ position_or_len is_bar text)
+        → slice_get (fields_of text) 0 ≡ Some field
+    by (inl some) = ap (λ all. slice_get all 0) (slice_split_first is_bar text 0 some) ∙ ap Some (sym is)
+    by (inr none) =
+        let all : position_or_len is_bar text ≡ length text =
+        grind (arith, none, prefix_len-le-length (λ b. not (is_bar b)) text) in
+        let whole : before_first is_bar text ≡ text = grind (arith, all, take_all) in
+        ap (λ fields. slice_get fields 0) (cut_none text all) ∙ ap Some (sym whole ∙ sym is)
 
 -- the fields behind the first one
 pub field_next : (text field behind : List ℕ) (n : ℕ) → fields_of text ≡ field ∷ fields_of behind → 0 < n

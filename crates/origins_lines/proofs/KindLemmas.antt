@@ -1,6 +1,6 @@
 -- The kind of a line, by its first field and its third.
 use Rattle.origins_lines.proofs.Common.{List, Some, inl, inr, ℕ, ◌∙◌, ◌≡◌, sym, IsFieldAt}
-use Rattle.origins_lines.specs.Routes.{AnnouncesNothing, IsNoDump, IsTableName, IsUpdate, IsUpdateName}
+use Rattle.origins_lines.specs.Routes.{AnnouncesNothing, IsNoDump, IsPathPlace, IsTableName, IsUpdate, IsUpdateName}
 
 some_inj : {X : Type 0} {a b : X} → Some a ≡ Some b → a ≡ b
 some_inj e = cc
@@ -24,3 +24,8 @@ module _ (line name : List ℕ) (at : IsFieldAt 0 line name) where
   pub no_skip : ((n : ℕ) → ¬ IsUpdateName name n) → ¬ AnnouncesNothing line
   no_skip none (n, inl update) = no_update none n _ update
   no_skip none (n, inr update) = no_update none n _ update
+
+  -- a line of a table has a route
+  pub dump_is : (n : ℕ) → IsTableName name n → ((m : ℕ) → ¬ IsUpdateName name m)
+      → IsPathPlace line n × (¬ AnnouncesNothing line)
+  dump_is n table none = (inl (name, at, table), no_skip none)

@@ -4,7 +4,7 @@ ghost use Rattle.std.specs.String.{string_bytes};
 ghost use Rattle.roa_origin.specs.Tables.{as_sent};
 ghost use Rattle.roa_origin.specs.Vrps.{IsLawfulVrp};
 ghost use Rattle.origins_lines.specs.Begun.{IsLookedUp};
-ghost use Rattle.origins_lines.specs.Explanations.{IsReason, IsNextText, IsExplanationText, asn_key, item_text, max_length_key, prefix_key, reason_and_vrp_text, reason_key, reason_text, vrp_back, vrp_front, vrp_object};
+ghost use Rattle.origins_lines.specs.Explanations.{IsReason, IsNextText, IsExplanationText, asn_key, max_length_key, prefix_key, reason_and_vrp_text, reason_key, reason_text, vrp_back, vrp_front, vrp_object};
 ghost use Rattle.origins_lines.specs.Outcomes.{IsOutcomeOf, outcome_with};
 
 use crate::begun::AskedRoute;
@@ -125,7 +125,7 @@ fn outcome_with(outcome: Outcome, reason: Reason) -> Outcome
 }
 
 /// Appends a VRP with its relation to a route. Appends nothing if the VRP is the same, as it is sent, as `last`, the
-/// VRP before it.
+/// VRP before it. An object of JSON that is not the first has a comma before it.
 fn push_next<A: Allocator>(
     text: &mut String<A>,
     form: Form,
@@ -137,13 +137,23 @@ fn push_next<A: Allocator>(
     ensures { OnOk result ((more : List ℕ) × IsNextText form reason last.now vrp.now more
         × (string_bytes text.new ≡ string_bytes text.old ++ more)) }
 {
-    match last {
-        Some(before) => if is_same(before, vrp) {
-            Ok(())
+    let is_first = match last {
+        Some(before) => {
+            if is_same(before, vrp) {
+                return Ok(());
+            }
+            false
+        }
+        None => true,
+    };
+    match form {
+        Form::Words => push_word(text, reason, vrp),
+        Form::Json => if is_first {
+            push_object(text, reason, vrp)
         } else {
-            push_item(text, form, false, reason, vrp)
+            text.push_str(",")?;
+            push_object(text, reason, vrp)
         },
-        None => push_item(text, form, true, reason, vrp),
     }
 }
 
@@ -154,28 +164,6 @@ fn is_same(one: &Vrp, other: &Vrp) -> bool
     one.1 == other.1
         && one.0.prefix() == other.0.prefix()
         && one.0.resolved_max_len() == other.0.resolved_max_len()
-}
-
-/// Appends a VRP with its relation to a route. An object of JSON that is not the first has a comma before it.
-fn push_item<A: Allocator>(
-    text: &mut String<A>,
-    form: Form,
-    is_first: bool,
-    reason: Reason,
-    vrp: &Vrp,
-) -> Result<(), AllocError>
-    requires { IsLawfulVrp vrp.now }
-    ensures { OnOk result (string_bytes text.new ≡ string_bytes text.old ++ item_text form is_first reason vrp.now) }
-{
-    match form {
-        Form::Words => push_word(text, reason, vrp),
-        Form::Json => if is_first {
-            push_object(text, reason, vrp)
-        } else {
-            text.push_str(",")?;
-            push_object(text, reason, vrp)
-        },
-    }
 }
 
 /// The maximum number of bytes of a word: a space, a reason of six letters, a prefix, a length of three digits, an AS

@@ -3,7 +3,7 @@ ghost use Rattle.std.specs.Prelude.{◌≡◌, ◌↔◌, ◌∷◌, [], ◌<◌
 ghost use Rattle.std.specs.List.{after_last, position_or_len};
 ghost use Rattle.rpki_text.specs.Cuts.{is_space};
 ghost use Rattle.rpki_text.specs.Reading.{Answers};
-ghost use Rattle.origins_lines.specs.Routes.{AreRouteWords, HasDumpFault, HasCommaForSpace, HasFaultBy, HasReadFault, HasRouteFault, HasWordFault, HaveWordsFault, IsAsnOrigin, IsConfedWord, IsDumpRoute, IsFieldAt, IsKindOf, IsNoAsnText, IsNoFieldAt, IsReadLine, IsReadOf, IsRouteBy, IsSetWord, IsTableName, IsUpdateName, IsWordOrigin, HasNoOrigin, fields_of, origin_part, prefix_part};
+ghost use Rattle.origins_lines.specs.Routes.{AreRouteWords, HasDumpFault, HasCommaForSpace, HasFaultBy, HasReadFault, HasRouteFault, HasWordFault, HaveWordsFault, IsAsnOrigin, IsConfedWord, IsDumpRoute, IsFieldAt, IsKindOf, IsNoAsnText, IsNoFieldAt, IsReadLine, IsReadOf, IsRouteBy, IsSetWord, IsUpdateName, IsWordOrigin, HasNoOrigin, fields_of, origin_part, prefix_part};
 
 use crate::fault::RouteFault;
 use rpki_base::Asn;
@@ -96,37 +96,15 @@ fn read_text(text: &str) -> Result<Option<Route>, RouteFault>
 fn kind_of(line: &str) -> Kind
     ensures { IsKindOf line.now result }
 {
-    let Some(name) = field_at(line, 0) else {
-        return Kind::Words;
-    };
-    if let Some(place) = table_place(name) {
-        return Kind::Dump(place);
-    }
-    match update_place(name) {
-        Some(place) => update_kind(line, place),
-        None => Kind::Words,
-    }
-}
-
-/// Returns the index of the path in a line of a table, or None if `name` does not begin such a line.
-fn table_place(name: &str) -> Option<usize>
-    ensures { MatchOption result ((n : ℕ) → ¬ IsTableName name.now n) (IsTableName name.now) }
-{
+    let (name, _) = cut_at(line, '|');
     match name {
-        "TABLE_DUMP2" | "TABLE_DUMP" => Some(6),
-        "TABLE_DUMP2_AP" => Some(7),
-        _ => None,
-    }
-}
-
-/// Returns the index of a path in a line of an update, or None if `name` does not begin such a line.
-fn update_place(name: &str) -> Option<usize>
-    ensures { MatchOption result ((n : ℕ) → ¬ IsUpdateName name.now n) (IsUpdateName name.now) }
-{
-    match name {
-        "BGP4MP" | "BGP4MP_ET" | "BGP4MP_LOCAL" | "BGP4MP_ET_LOCAL" => Some(6),
-        "BGP4MP_AP" | "BGP4MP_ET_AP" | "BGP4MP_LOCAL_AP" | "BGP4MP_ET_LOCAL_AP" => Some(7),
-        _ => None,
+        "TABLE_DUMP2" | "TABLE_DUMP" => Kind::Dump(6),
+        "TABLE_DUMP2_AP" => Kind::Dump(7),
+        "BGP4MP" | "BGP4MP_ET" | "BGP4MP_LOCAL" | "BGP4MP_ET_LOCAL" => update_kind(line, 6),
+        "BGP4MP_AP" | "BGP4MP_ET_AP" | "BGP4MP_LOCAL_AP" | "BGP4MP_ET_LOCAL_AP" => {
+            update_kind(line, 7)
+        }
+        _ => Kind::Words,
     }
 }
 

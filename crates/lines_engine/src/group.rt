@@ -16,7 +16,7 @@ use std::alloc::{AllocError, Allocator};
 /// The number of lines in a group at most.
 const GROUP: usize = 12;
 
-/// The number of steps that are taken side by side for each line of a group.
+/// The number of steps that are taken side by side for each line of a group at most.
 ///
 /// A step of a binary search halves what is left, so 8 steps end a search among up to 255 items. The call that ends an
 /// answer takes the steps that are left.

@@ -1,5 +1,5 @@
 //! AS numbers and their texts.
-ghost use Rattle.std.specs.Prelude.{◌≡◌, ◌+◌, ◌^◌, ◌<◌, codes, Some};
+ghost use Rattle.std.specs.Prelude.{◌≡◌, ◌+◌, ◌^◌, ◌<◌, Some};
 ghost use Rattle.rpki_base.specs.AsnText.{IsAfterAs, ReadsAsn, asn_text};
 ghost use Rattle.rpki_text.specs.Digits.{octets_of};
 
@@ -10,10 +10,10 @@ pub mod print;
 use at_index::asn_at;
 use print::fmt_asn;
 use rpki_text::number::parse_up_to;
-use std::error::Error;
 use std::fmt;
 use std::marker::Model;
 use std::str::FromStr;
+use thiserror::Error;
 
 /// An AS number: 0 to 4294967295 (RFC 6793).
 ///
@@ -101,18 +101,9 @@ impl From<Asn> for u32 {
 }
 
 /// The error for a text that is not an AS number.
-#[derive(Clone, Copy, Debug, PartialEq, Eq)]
+#[derive(Clone, Copy, Debug, PartialEq, Eq, Error)]
+#[error("invalid AS number")]
 pub struct ParseAsnError;
-
-impl fmt::Display for ParseAsnError {
-    ghost output = { λ _. Some (codes "invalid AS number") };
-
-    fn fmt<W: fmt::Write>(&self, f: &mut fmt::Formatter<W>) -> fmt::Result {
-        f.write_str("invalid AS number")
-    }
-}
-
-impl Error for ParseAsnError {}
 
 /// Returns the text after `as`, in any case of letters, or the whole text if it does not begin with that.
 #[tactic(auto, using(crate::proofs::AsnLemmas::too_short, crate::proofs::AsnLemmas::no_letters))]

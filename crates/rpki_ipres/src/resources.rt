@@ -1,5 +1,5 @@
 //! Resources of addresses: missing, inherited from the issuer, or listed.
-ghost use Rattle.std.specs.Prelude.{◌≡◌, ◌≢◌, ◌↔◌, true, [], IsTrue, IsErr, IfOk, Ok, Some, MatchResult, codes, ⊤};
+ghost use Rattle.std.specs.Prelude.{◌≡◌, ◌≢◌, ◌↔◌, true, [], IsTrue, IsErr, IfOk, Ok, MatchResult, ⊤};
 ghost use Rattle.rpki_text.specs.Memory.{IsMemory};
 ghost use Rattle.rpki_chain.specs.Choices.{IsRefused, ListsBy, MatchChoice, if_present};
 ghost use Rattle.rpki_der.specs.SequenceWriting.{sequence_octets};
@@ -26,9 +26,9 @@ use rpki_chain::set::BlockSet;
 use rpki_ip_block::block::IpBlock;
 use rpki_text::memory::OrMemory;
 use std::alloc::{AllocError, Allocator, Global};
-use std::error::Error;
 use std::fmt;
 use std::marker::Model;
+use thiserror::Error;
 
 /// The resources of one family of addresses (RFC 3779, 2.2.3.4 to 2.2.3.6).
 ///
@@ -267,7 +267,8 @@ impl<A: Allocator> Eq for IpResources<A> {
 }
 
 /// The error for inherited resources, which are no set of addresses by themselves.
-#[derive(Clone, Copy, Debug, PartialEq, Eq)]
+#[derive(Clone, Copy, Debug, PartialEq, Eq, Error)]
+#[error("inherited IP resources")]
 pub struct InheritedIpResources;
 
 impl From<InheritedResources> for InheritedIpResources {
@@ -277,13 +278,3 @@ impl From<InheritedResources> for InheritedIpResources {
         InheritedIpResources
     }
 }
-
-impl fmt::Display for InheritedIpResources {
-    ghost output = { λ _. Some (codes "inherited IP resources") };
-
-    fn fmt<W: fmt::Write>(&self, f: &mut fmt::Formatter<W>) -> fmt::Result {
-        f.write_str("inherited IP resources")
-    }
-}
-
-impl Error for InheritedIpResources {}

@@ -1,15 +1,14 @@
 -- Texts of prefixes: an address, a slash, and a length (RFC 4632, 3.1; RFC 4291, 2.3).
-use Rattle.std.specs.Prelude.{◌≡◌, ℕ, ◌-◌, ◌^◌, ◌≢◌, ◌⊎◌, List, [], ◌∷◌, ◌++◌, codes, decimal, Result, Ok, MatchResult}
+use Rattle.std.specs.Prelude.{◌≡◌, ℕ, ◌-◌, ◌^◌, ◌≢◌, ◌⊎◌, List, [], ◌∷◌, ◌++◌, decimal, Result, Ok, MatchResult}
 use Rattle.rpki_addr.specs.AddressText.{IsIpText}
 use Rattle.rpki_text.specs.Cuts.{HasNo, Around, slash}
-use Rattle.rpki_text.specs.Numbers.{IsNumberText, HasNumberFault, number_fault_text}
+use Rattle.rpki_text.specs.Numbers.{IsNumberText, HasNumberFault}
 use Rattle.rpki_addr.specs.PrintedAddress.{ip_text}
-use Rattle.rpki_addr.specs.FromStrResults.{address_fault_text}
 use Rattle.rpki_text.specs.Reading.{Answers}
 use Rattle.rpki_addr.specs.declared.addr.AddrParseError.TheVariants.{Ip}
 use Rattle.rpki_addr.specs.declared.addr.IpAddr.{IpAddr}
 use Rattle.rpki_prefix.specs.Values.{FamilyPrefix, IsFamilyPrefix, IsPrefixOf, IsRelaxedPrefixOf, HasPrefixError}
-use Rattle.rpki_prefix.specs.Values.{HasRelaxedPrefixError, prefix_error_text}
+use Rattle.rpki_prefix.specs.Values.{HasRelaxedPrefixError}
 use Rattle.rpki_prefix.specs.declared.error.PrefixError.{PrefixError}
 use Rattle.rpki_prefix.specs.declared.error.ParsePrefixError.{ParsePrefixError}
 use Rattle.rpki_prefix.specs.declared.error.ParsePrefixError.TheVariants.{Empty, MissingLen, InvalidAddr, InvalidLen}
@@ -65,14 +64,6 @@ IsRelaxedPrefixText = IsTextBy IsRelaxedPrefixOf
 -- this is the first fault of a text that is not that of a prefix with any host bits
 abbrev pub HasRelaxedPrefixTextFault : List ℕ → ParsePrefixError → Type 0
 HasRelaxedPrefixTextFault = HasTextFaultBy HasRelaxedPrefixError
-
--- the printed text of an error
-abbrev pub prefix_fault_text : ParsePrefixError → List ℕ
-prefix_fault_text Empty = codes "empty string"
-prefix_fault_text MissingLen = codes "missing length portion"
-prefix_fault_text (InvalidAddr f) = codes "invalid address: " ++ address_fault_text f
-prefix_fault_text (InvalidLen f) = codes "invalid length: " ++ number_fault_text f
-prefix_fault_text (InvalidPrefix f) = prefix_error_text f
 
 -- the printed text of a prefix: its address and, always, its length
 abbrev pub prefix_text : FamilyPrefix → List ℕ

@@ -1,13 +1,13 @@
 //! The errors of prefixes and of their texts.
-ghost use Rattle.std.specs.Prelude.{◌≡◌, Some};
+ghost use Rattle.std.specs.Prelude.{◌≡◌};
 
 use rpki_addr::addr::AddrParseError;
 use rpki_text::number::ParseIntError;
-use std::fmt;
 use thiserror::Error;
 
 /// The reason why an address and a length are not a prefix.
-#[derive(Clone, Copy, Debug, PartialEq, Eq)]
+#[derive(Clone, Copy, Debug, PartialEq, Eq, Error)]
+#[error("{}", self.static_description())]
 pub enum PrefixError {
     /// The length is above the longest one of the family: 32 for IPv4, 128 for IPv6.
     LenOverflow,
@@ -39,50 +39,25 @@ impl From<PrefixError> for &'static str {
     }
 }
 
-impl fmt::Display for PrefixError {
-    ghost use Rattle.rpki_prefix.specs.Values.{prefix_error_text};
-
-    ghost output = { λ error. Some (prefix_error_text error) };
-
-    fn fmt<W: fmt::Write>(&self, f: &mut fmt::Formatter<W>) -> fmt::Result {
-        f.write_str(self.static_description())
-    }
-}
-
-impl std::error::Error for PrefixError {}
-
 /// The reason why a text is not a prefix. The variants are in the order of the checks, and the first fault is reported.
-#[derive(Clone, Copy, Debug, PartialEq, Eq)]
+#[derive(Clone, Copy, Debug, PartialEq, Eq, Error)]
 pub enum ParsePrefixError {
     /// The text is empty.
+    #[error("empty string")]
     Empty,
     /// The text has no slash.
+    #[error("missing length portion")]
     MissingLen,
     /// The text before the first slash is not an address.
+    #[error("invalid address: {0}")]
     InvalidAddr(AddrParseError),
     /// The text after the first slash is not a decimal `u8`.
+    #[error("invalid length: {0}")]
     InvalidLen(ParseIntError),
     /// The address and the length are not a prefix.
+    #[error("{0}")]
     InvalidPrefix(PrefixError),
 }
-
-impl fmt::Display for ParsePrefixError {
-    ghost use Rattle.rpki_prefix.specs.PrefixText.{prefix_fault_text};
-
-    ghost output = { λ fault. Some (prefix_fault_text fault) };
-
-    fn fmt<W: fmt::Write>(&self, f: &mut fmt::Formatter<W>) -> fmt::Result {
-        match self {
-            ParsePrefixError::Empty => f.write_str("empty string"),
-            ParsePrefixError::MissingLen => f.write_str("missing length portion"),
-            ParsePrefixError::InvalidAddr(fault) => write!(f, "invalid address: {fault}"),
-            ParsePrefixError::InvalidLen(fault) => write!(f, "invalid length: {fault}"),
-            ParsePrefixError::InvalidPrefix(fault) => write!(f, "{fault}"),
-        }
-    }
-}
-
-impl std::error::Error for ParsePrefixError {}
 
 impl From<AddrParseError> for ParsePrefixError {
     ghost use Rattle.rpki_prefix.specs.declared.error.ParsePrefixError.TheVariants.{InvalidAddr};
@@ -115,7 +90,8 @@ impl From<PrefixError> for ParsePrefixError {
 }
 
 /// The reason why a number is not a maximum length of a prefix.
-#[derive(Clone, Copy, Debug, PartialEq, Eq)]
+#[derive(Clone, Copy, Debug, PartialEq, Eq, Error)]
+#[error("{}", self.static_description())]
 pub enum MaxLenError {
     /// The number is above the longest prefix length of the family: 32 for IPv4, 128 for IPv6.
     Overflow,
@@ -146,18 +122,6 @@ impl From<MaxLenError> for &'static str {
         error.static_description()
     }
 }
-
-impl fmt::Display for MaxLenError {
-    ghost use Rattle.rpki_prefix.specs.MaxLen.{max_len_error_text};
-
-    ghost output = { λ error. Some (max_len_error_text error) };
-
-    fn fmt<W: fmt::Write>(&self, f: &mut fmt::Formatter<W>) -> fmt::Result {
-        f.write_str(self.static_description())
-    }
-}
-
-impl std::error::Error for MaxLenError {}
 
 /// The reason why a text is not a prefix with an optional maximum length. The variants are in the order of the checks,
 /// and the first fault is reported.

@@ -1,11 +1,9 @@
--- The faults of the three lists of a set, and their texts, as in the Rust crate `rpki` 0.20.1.
-use Rattle.std.specs.Prelude.{ℕ, List, ◌++◌, codes}
+-- The faults of the three lists of a set, as in the Rust crate `rpki` 0.20.1.
+use Rattle.std.specs.Prelude.{ℕ, List}
 use Rattle.rpki_text.specs.declared.memory.OrMemory.{OrMemory}
 use Rattle.rpki_text.specs.declared.memory.OrMemory.TheVariants.{Refused, Memory}
-use Rattle.rpki_as_block.specs.Faults.{as_from_str_error_text}
 use Rattle.rpki_as.specs.ListText.{IsAsListText, HasAsListFault}
 use Rattle.rpki_chain.specs.Runs.{Runs}
-use Rattle.rpki_ip.specs.Faults.{ip_from_str_error_text}
 use Rattle.rpki_resources.specs.TripleText.{IsIpv4ListText, HasIpv4ListFault, HasIpv6ListFault}
 use Rattle.rpki_resources.specs.declared.error.FromStrError.{FromStrError}
 use Rattle.rpki_resources.specs.declared.error.FromStrError.TheVariants.{Asn, Ipv4, Ipv6}
@@ -21,13 +19,3 @@ HasTripleFault asn ipv4 ipv6 (Ipv6 fault) =
 abbrev pub refusal_of : {E : Type 0} → (E → FromStrError) → OrMemory E → OrMemory FromStrError
 refusal_of kind (Refused fault) = Refused (kind fault)
 refusal_of kind (Memory error) = Memory error
-
--- the text of a fault: which list has it, and the fault of that list
-abbrev pub triple_fault_text : FromStrError → List ℕ
-triple_fault_text (Asn fault) = codes "cannot parse ASN resources: " ++ as_from_str_error_text fault
-triple_fault_text (Ipv4 fault) = codes "cannot parse IPv4 resources: " ++ ip_from_str_error_text fault
-triple_fault_text (Ipv6 fault) = codes "cannot parse IPv6 resources: " ++ ip_from_str_error_text fault
-
--- the printed text of `InheritError`
-abbrev pub inherit_text : List ℕ
-inherit_text = codes "cannot determine resources for certificate using inherit"

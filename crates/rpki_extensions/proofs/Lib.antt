@@ -1,6 +1,12 @@
 pub mod Common
 pub mod EncodingLemmas
 pub mod IssuedSetLemmas
+pub mod KindPaths
+pub mod OutcomeLemmas
+pub mod ReadingOutcomes
+pub mod RefusedCertificates
+pub mod VerifiedKinds
+pub mod VerifiedOutcomes
 pub mod VerifiedPathLemmas
 pub mod WholeValueLemmas
 pub mod WrittenClaimLemmas

@@ -3,6 +3,8 @@ pub mod Below
 pub mod Claims
 pub mod Encodings
 pub mod Issued
+pub mod Kinds
+pub mod Outcomes
 pub mod Paths
 pub mod Texts
 pub mod Written

@@ -21,6 +21,7 @@ pub mod encoding;
 pub mod error;
 pub mod extensions;
 pub mod issued;
+pub mod laws;
 pub mod path;
 pub mod read;
 pub mod write;

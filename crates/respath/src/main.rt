@@ -1,7 +1,7 @@
 //! The program `respath`. It answers each line of the standard input by one line on the standard output.
 #![tactic(auto)]
 
-use lines_engine::adapters::{FromRead, IntoWrite};
+use lines_engine::adapters::{FromRead, IntoBufWriter};
 use lines_engine::error::RunError;
 use respath_lines::run;
 use std::io::BufWriter;
@@ -27,6 +27,8 @@ fn serve(rt: &HostRuntime) -> Result<(), RunError> {
         return Err(RunError::Memory);
     };
     let mut reader = FromRead::new(rt.stdin());
-    let mut writer = IntoWrite::new(buffered);
-    run(rt.alloc(), &mut reader, &mut writer)
+    let mut writer = IntoBufWriter::new(buffered);
+    let ended = run(rt.alloc(), &mut reader, &mut writer);
+    let (_stdout, written) = writer.finish();
+    written.and(ended)
 }

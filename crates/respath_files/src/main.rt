@@ -10,7 +10,7 @@ mod options;
 use crate::failure::Failure;
 use crate::help::{HELP, USAGE, VERSION};
 use crate::options::{Misuse, Options, Task, parse};
-use lines_engine::adapters::{FromRead, IntoWrite};
+use lines_engine::adapters::{FromRead, IntoBufWriter};
 use lines_engine::device::Sink;
 use lines_engine::error::RunError;
 use respath_lines::run;
@@ -119,14 +119,17 @@ fn answer_lines<'a, R: Read + Drop>(
     name: Option<&'a str>,
     reader: R,
 ) -> Result<bool, Failure<'a>> {
-    let mut writer = IntoWrite::new(buffered(rt, name)?);
+    let mut writer = IntoBufWriter::new(buffered(rt, name)?);
     if !options.check {
-        write_answers(rt, options, name, reader, &mut writer)?;
+        let ended = write_answers(rt, options, reader, &mut writer);
+        finish(name, writer, ended)?;
         return Ok(false);
     }
     let mut watched = Watched::new(writer);
-    write_answers(rt, options, name, reader, &mut watched)?;
-    Ok(watched.has_found())
+    let ended = write_answers(rt, options, reader, &mut watched);
+    let has_found = watched.has_found();
+    finish(name, watched.into_inner(), ended)?;
+    Ok(has_found)
 }
 
 /// Writes the answers to the lines of `reader`.
@@ -134,22 +137,31 @@ fn answer_lines<'a, R: Read + Drop>(
 /// # Preconditions
 ///
 /// No call of `writer` has failed.
-fn write_answers<'a, R: Read + Drop, W: Sink>(
+fn write_answers<R: Read + Drop, W: Sink>(
     rt: &HostRuntime,
     options: Options,
-    name: Option<&'a str>,
     reader: R,
     writer: &mut W,
-) -> Result<(), Failure<'a>>
+) -> Result<(), RunError>
     requires { W.mark writer.old ≡ false }
 {
     let mut reader = FromRead::new(reader);
-    let answered = if options.places {
+    if options.places {
         run_with_places(rt.alloc(), &mut reader, writer)
     } else {
         run(rt.alloc(), &mut reader, writer)
-    };
-    match answered {
+    }
+}
+
+/// Writes the answers that an ended run left in the buffer, unless a write has failed. Returns the error of that write,
+/// or else of the run.
+fn finish<'a>(
+    name: Option<&'a str>,
+    writer: IntoBufWriter<Stdout>,
+    ended: Result<(), RunError>,
+) -> Result<(), Failure<'a>> {
+    let (_stdout, written) = writer.finish();
+    match written.and(ended) {
         Ok(()) => Ok(()),
         Err(error) => Err(Failure::Run(name, error)),
     }

@@ -1,10 +1,9 @@
 -- What the proofs of this crate use of std, of the crates below and of its own definitions, passed on by one name.
 pub use Rattle.std.proofs.Common.{Err, List, MatchResult, Ok, Result, [], ap, append_assoc, arith, codes, decimal, drop}
-pub use Rattle.std.proofs.Common.{eqb, false, get_or, inl, inr, length, lit<, map, refl, rules, slice_set, subst, suc}
-pub use Rattle.std.proofs.Common.{sym, take, zero, ℕ, ◌%◌, ◌*◌, ◌++◌, ◌+◌, ◌-◌, ◌/◌, ◌<◌, ◌==◌, ◌∙◌, ◌∷◌, ◌≡◌, ◌≢◌, ◌≤◌}
+pub use Rattle.std.proofs.Common.{eqb, false, get_or, inl, inr, length, lit<, map, refl, subst, suc}
+pub use Rattle.std.proofs.Common.{sym, take, zero, ℕ, ◌%◌, ◌++◌, ◌+◌, ◌-◌, ◌/◌, ◌<◌, ◌==◌, ◌∙◌, ◌∷◌, ◌≡◌, ◌≢◌, ◌≤◌}
 pub use Rattle.std.proofs.Common.{◌⊎◌}
 pub use Rattle.std.proofs.lemmas.Bool.{ne_eqb}
-pub use Rattle.std.proofs.lemmas.Grind.{common_steps}
 pub use Rattle.std.proofs.lemmas.List.{append-nil, flat_map_more, length-append, map-append}
 pub use Rattle.std.proofs.lemmas.Result.{err_from_is_err_and, on_ok_weaker}
 pub use Rattle.std.specs.Iterator.{Drains, YieldsFirst}
@@ -30,7 +29,6 @@ pub use Rattle.rpki_text.specs.Reading.{AnswersOrMemory}
 pub use Rattle.rpki_text.specs.declared.memory.OrMemory.{OrMemory}
 pub use Rattle.rpki_text.specs.declared.memory.OrMemory.TheVariants.{Memory, Refused}
 pub use Rattle.respath_lines.specs.Cover.{cover_text, listed_text, prefix_with_length}
-pub use Rattle.respath_lines.specs.Hexadecimal.{IsPairOf}
 unfoldable pub use Rattle.respath_lines.specs.Hexadecimal.{IsHexadecimal, lower_hexadecimal}
 pub use Rattle.respath_lines.specs.Path.{ArePath, HasRootFault, HasStepFault, HavePathFault, IsStepText, ShowsLeft}
 pub use Rattle.respath_lines.specs.Path.{ShowsPath, list_of, parts_of}

@@ -3,5 +3,8 @@ pub mod Common
 pub mod CoverCommandLemmas
 pub mod DerCommandLemmas
 pub mod HexadecimalLemmas
+pub mod LineAnswers
 pub mod PathCommandLemmas
 pub mod ReadCommandLemmas
+pub mod SingleAnswers
+pub mod SinglePaths

@@ -1,5 +1,5 @@
 //! The command `der`: encodes resources in DER, and prints the octets in hexadecimal.
-ghost use Rattle.std.specs.Prelude.{◌≡◌, ◌≢◌, [], IfOk, OnOk, MatchResult};
+ghost use Rattle.std.specs.Prelude.{◌≡◌, ◌≢◌, ◌*◌, [], length, IfOk, OnOk, MatchResult};
 ghost use Rattle.std.specs.String.{string_bytes};
 ghost use Rattle.rpki_text.specs.Memory.{IfRefused};
 ghost use Rattle.rpki_as.specs.AsDer.{as_resources_octets};
@@ -8,7 +8,6 @@ ghost use Rattle.rpki_ip_block.specs.ListText.{HasBlocksFault};
 ghost use Rattle.respath_lines.specs.Der.{HasIpResourcesFault, IsDerAnswer, IsDerAs, IsDerIp, IsIpResourcesText, IsListed, one_family_der, octets_text};
 ghost use Rattle.respath_lines.specs.Hexadecimal.{lower_hexadecimal};
 
-use crate::hexadecimal::hexadecimal_of;
 use crate::kind::{Kind, kind_named};
 use crate::write_answer::{write_fault, write_text};
 use rpki_as::resources::AsResources;
@@ -41,13 +40,44 @@ pub(crate) fn der<A: Allocator + Copy>(
     }
 }
 
-/// Takes the buffer of an answer and returns it without its content. The answer is empty and has no buffer afterwards.
-fn buffer_of<A: Allocator>(alloc: A, answer: &mut String<A>) -> Vec<u8, A>
-    ensures { result.items ≡ [] }
+/// Writes the digits of octets, in lower case, to a slice that has two bytes for each octet.
+fn put_digits(octets: &[u8], digits: &mut [u8])
+    requires { length digits.old ≡ 2 * length octets.now }
+    ensures { digits.new ≡ lower_hexadecimal octets.now }
 {
-    let mut buffer = replace(answer, String::new(alloc)).into_bytes();
+    match hex::encode_to_slice(octets, digits) {
+        Ok(()) => {}
+        Err(_) => unreachable!(),
+    }
+}
+
+/// Returns the digits of octets, in lower case. They replace the content of `buffer`, which gets capacity for them and
+/// for the end of a line.
+fn digits_of<A: Allocator>(octets: &[u8], mut buffer: Vec<u8, A>) -> Result<String<A>, AllocError>
+    ensures { IfOk result (λ text. string_bytes text ≡ lower_hexadecimal octets.now) }
+{
+    let Some(len) = octets.len().checked_mul(2) else {
+        return Err(AllocError);
+    };
     buffer.clear();
-    buffer
+    buffer.reserve(len + 1)?;
+    buffer.resize(len, 0)?;
+    put_digits(octets, buffer.as_mut_slice());
+    // Digits are ASCII, so they are valid UTF-8.
+    String::from_utf8(buffer).map_err(|_| AllocError)
+}
+
+/// Answers with octets in hexadecimal. The digits are written to the buffer of the answer.
+fn write_octets<A: Allocator>(
+    alloc: A,
+    octets: &[u8],
+    answer: &mut String<A>,
+) -> Result<(), AllocError>
+    ensures { OnOk result (string_bytes answer.new ≡ lower_hexadecimal octets.now) }
+{
+    let buffer = replace(answer, String::new(alloc)).into_bytes();
+    *answer = digits_of(octets, buffer)?;
+    Ok(())
 }
 
 /// Answers with the octets of the AS resources in a text, or with the fault of the text.
@@ -65,14 +95,6 @@ fn der_as<A: Allocator + Copy>(
     }
 }
 
-/// Answers with octets in hexadecimal. The digits are written to the buffer of `octets`.
-fn write_octets<A: Allocator>(octets: Vec<u8, A>, answer: &mut String<A>) -> Result<(), AllocError>
-    ensures { OnOk result (string_bytes answer.new ≡ lower_hexadecimal octets.items) }
-{
-    *answer = hexadecimal_of(octets)?;
-    Ok(())
-}
-
 /// Answers with the octets of AS resources, or with `missing`.
 fn write_as<A: Allocator + Copy>(
     alloc: A,
@@ -84,20 +106,21 @@ fn write_as<A: Allocator + Copy>(
     if resources.is_missing() {
         return write_text(answer, "missing");
     }
-    let octets = as_octets(alloc, resources, answer)?;
-    write_octets(octets, answer)
+    let octets = as_octets(alloc, resources)?;
+    write_octets(alloc, octets.as_slice(), answer)
 }
 
-/// Returns the octets of AS resources, which aren't missing, in the buffer of an answer. The resources are dropped.
+/// Returns the octets of AS resources, which aren't missing.
+///
+/// The resources are dropped, so that their memory is free when the digits are written.
 fn as_octets<A: Allocator + Copy>(
     alloc: A,
     resources: AsResources<A>,
-    answer: &mut String<A>,
 ) -> Result<Vec<u8, A>, AllocError>
     requires { resources ≢ Missing }
     ensures { IfOk result (λ octets. octets.items ≡ as_resources_octets resources) }
 {
-    let mut octets = buffer_of(alloc, answer);
+    let mut octets = Vec::new(alloc);
     resources.encode(&mut octets)?;
     Ok(octets)
 }
@@ -160,22 +183,22 @@ fn write_ip<A: Allocator + Copy>(
     if resources.is_missing() {
         return write_text(answer, "missing");
     }
-    let octets = ip_octets(alloc, family, resources, answer)?;
-    write_octets(octets, answer)
+    let octets = ip_octets(alloc, family, resources)?;
+    write_octets(alloc, octets.as_slice(), answer)
 }
 
-/// Returns the octets of a list of families in which only this family has resources, in the buffer of an answer. The
-/// resources aren't missing, and are dropped.
+/// Returns the octets of a list of families in which only this family has resources, which aren't missing.
+///
+/// The resources are dropped, so that their memory is free when the digits are written.
 fn ip_octets<A: Allocator + Copy>(
     alloc: A,
     family: AddressFamily,
     resources: IpResources<A>,
-    answer: &mut String<A>,
 ) -> Result<Vec<u8, A>, AllocError>
     requires { resources ≢ Missing }
     ensures { IfOk result (λ octets. octets.items ≡ one_family_der family resources) }
 {
-    let mut octets = buffer_of(alloc, answer);
+    let mut octets = Vec::new(alloc);
     encode_alone(family, &resources, &mut octets)?;
     Ok(octets)
 }

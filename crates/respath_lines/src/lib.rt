@@ -4,7 +4,7 @@
 //! standard streams:
 //!
 //! ```rust
-//! run(rt.alloc(), &mut reader, &mut writer)
+//! let ended = run(rt.alloc(), &mut reader, &mut writer);
 //! ```
 #![tactic(auto)]
 
@@ -15,7 +15,6 @@ ghost use Rattle.respath_lines.specs.Answer.{IsAnswer};
 mod command;
 mod cover;
 mod der;
-mod hexadecimal;
 mod kind;
 pub mod laws;
 pub mod lines;

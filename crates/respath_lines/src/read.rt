@@ -1,5 +1,5 @@
 //! The command `read`: decodes octets in hexadecimal as resources in DER.
-ghost use Rattle.std.specs.Prelude.{OnOk, ◌≡◌, MatchResult};
+ghost use Rattle.std.specs.Prelude.{◌≡◌, ℕ, List, IfOk, OnOk, MatchOption, MatchResult};
 ghost use Rattle.std.specs.String.{string_bytes};
 ghost use Rattle.rpki_der.specs.Views.{left};
 ghost use Rattle.rpki_text.specs.Memory.{IfRefused};
@@ -7,11 +7,12 @@ ghost use Rattle.rpki_as.specs.AsDer.{IsAsResources};
 ghost use Rattle.rpki_as.specs.AsDerReading.{as_choice_at};
 ghost use Rattle.rpki_der.specs.FamiliesDer.{of_family};
 ghost use Rattle.rpki_ipres.specs.ResourcesDer.{IsIpFamilies, ip_families_at};
+ghost use Rattle.respath_lines.specs.Hexadecimal.{IsHexadecimal};
 ghost use Rattle.respath_lines.specs.Read.{HasFault, IsEnded, IsReadAnswer, IsReadAs, IsReadIp, ShowsFamily, family_text};
 
-use crate::hexadecimal::octets_of;
 use crate::kind::{Kind, kind_named};
 use crate::write_answer::{print_set, show, write_fault, write_text};
+use hex::FromHexError;
 use rpki_as::resources::AsResources;
 use rpki_base::memory::OrMemory;
 use rpki_der::{Cursor, DerError};
@@ -38,6 +39,24 @@ pub(crate) fn read<A: Allocator + Copy>(
         Some(Kind::V4) => read_ip(alloc, AddressFamily::Ipv4, text, answer),
         Some(Kind::V6) => read_ip(alloc, AddressFamily::Ipv6, text, answer),
         None => write_text(answer, "error: unknown kind"),
+    }
+}
+
+/// Returns the octets of a text with digits of either case, or None if the text is not hexadecimal (RFC 4648, 8).
+///
+/// # Errors
+///
+/// [`AllocError`] if an allocation fails.
+#[tactic(auto, using(crate::proofs::HexadecimalLemmas::decoded))]
+fn octets_of<A: Allocator>(alloc: A, text: &str) -> Result<Option<Vec<u8, A>>, AllocError>
+    ensures { IfOk result (λ found. MatchOption found
+        ((octets : List ℕ) → ¬ IsHexadecimal text.now octets)
+        (λ octets. IsHexadecimal text.now octets.items)) }
+{
+    match hex::decode(alloc, text) {
+        Ok(octets) => Ok(Some(octets)),
+        Err(FromHexError::OutOfMemory) => Err(AllocError),
+        Err(_) => Ok(None),
     }
 }
 

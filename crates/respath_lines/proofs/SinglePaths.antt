@@ -1,0 +1,312 @@
+-- A path has one result or one fault. The mode of a step without a list is not in its text, and doesn't matter.
+use Rattle.respath_lines.proofs.Common.{List, [], ap, arith, codes, get_or, inl, inr, length, refl, subst, suc, sym}
+use Rattle.respath_lines.proofs.Common.{take, zero, ℕ, ◌<◌, ◌∙◌, ◌∷◌, ◌≡◌, ◌≢◌, ◌≤◌, ◌⊎◌, All, before_first, Claim}
+use Rattle.respath_lines.proofs.Common.{Holds}
+use Rattle.respath_lines.proofs.Common.{Runs, claim_of, HaveValues, ArePath, HasRootFault, HasStepFault}
+use Rattle.respath_lines.proofs.Common.{HavePathFault, IsStepText, ShowsPath, list_of, parts_of}
+use Rattle.std.proofs.lemmas.Bool.{cases_lt}
+use Rattle.std.proofs.lemmas.List.Elements.{All-cons, All-head, All-tail}
+use Rattle.std.specs.Str.{trim}
+use Rattle.rpki_chain.proofs.Common.{Covers-head}
+use Rattle.rpki_chain.proofs.RunLists.{IsRunsOf-same, IsRunsOf-unique}
+use Rattle.rpki_chain.specs.Runs.{IsRunsOf}
+use Rattle.rpki_chain.specs.Paths.{Exceeds, ExceedsAt, IsFirstRefusal, IsLeft, IsPathResult, Leaves, Lists}
+use Rattle.rpki_chain.specs.declared.path.Overclaim.{Overclaim}
+use Rattle.rpki_chain.specs.declared.path.Overclaim.TheVariants.{Refuse, Trim}
+use Rattle.rpki_chain.specs.declared.path.PathRefusal.{PathRefusal}
+use Rattle.rpki_chain.specs.declared.path.Step.{Step}
+use Rattle.rpki_text.specs.Cuts.{is_space}
+use Rattle.rpki_text.proofs.TextListLemmas.{first_fault_apart, same_first_fault}
+use Rattle.respath_lines.specs.Path.{IsMode, IsNoStep, IsPathOf, part_fault_text, refusal_text, word_of}
+use Rattle.respath_lines.specs.Shown.{error_line}
+use Rattle.respath_lines.specs.declared.steps.PartFault.{PartFault}
+use Rattle.respath_lines.specs.declared.steps.PartFault.TheVariants.{BadList, UnknownStep}
+use Rattle.respath_lines.proofs.SingleAnswers.{IsSingle, differ, shown_once}
+
+-- ---- steps with the same claim, and the same mode if the claim lists a set
+
+abbrev IsAlike : Step Claim → Step Claim → Type 0
+IsAlike s t = (s.claim ≡ t.claim) × ((s.mode ≡ t.mode) ⊎ ((n : ℕ) → ¬ Lists s.claim n))
+
+abbrev AreAlike : List (Step Claim) → List (Step Claim) → Type 0
+AreAlike [] [] = Unit {0}
+AreAlike (s ∷ ss) (t ∷ ts) = IsAlike s t × AreAlike ss ts
+AreAlike [] (t ∷ ts) = ⊥
+AreAlike (s ∷ ss) [] = ⊥
+
+modes_back : (s t : Step Claim) → s.claim ≡ t.claim → (s.mode ≡ t.mode) ⊎ ((n : ℕ) → ¬ Lists s.claim n)
+    → (t.mode ≡ s.mode) ⊎ ((n : ℕ) → ¬ Lists t.claim n)
+modes_back s t same (inl mode) = inl (sym mode)
+modes_back s t same (inr none) = inr (subst (λ (claim : Claim). (n : ℕ) → ¬ Lists claim n) same none)
+
+alike_back : (ss ts : List (Step Claim)) → AreAlike ss ts → AreAlike ts ss
+alike_back [] [] alike = tt
+alike_back (s ∷ ss) (t ∷ ts) alike =
+    ((sym alike.0.0, modes_back s t alike.0.0 alike.0.1), alike_back ss ts alike.1)
+alike_back [] (t ∷ ts) alike = absurd alike
+alike_back (s ∷ ss) [] alike = absurd alike
+
+-- the same numbers remain after them
+leave_alike : (n : ℕ) (ss ts : List (Step Claim)) → AreAlike ss ts → All (λ (s : Step Claim). Leaves s.claim n) ss
+    → All (λ (s : Step Claim). Leaves s.claim n) ts
+leave_alike n [] [] alike all = all
+leave_alike n (s ∷ ss) (t ∷ ts) alike all =
+    All-cons (λ (s : Step Claim). Leaves s.claim n) t ts
+    (subst (λ (claim : Claim). Leaves claim n) alike.0.0 (All-head (λ (s : Step Claim). Leaves s.claim n) s ss all))
+    (leave_alike n ss ts alike.1 (All-tail (λ (s : Step Claim). Leaves s.claim n) s ss all))
+leave_alike n [] (t ∷ ts) alike all = absurd alike
+leave_alike n (s ∷ ss) [] alike all = absurd alike
+
+take_alike : (at : ℕ) (ss ts : List (Step Claim)) → AreAlike ss ts → AreAlike (take at ss) (take at ts)
+take_alike zero ss ts alike = tt
+take_alike (suc at) [] [] alike = tt
+take_alike (suc at) (s ∷ ss) (t ∷ ts) alike = (alike.0, take_alike at ss ts alike.1)
+take_alike (suc at) [] (t ∷ ts) alike = absurd alike
+take_alike (suc at) (s ∷ ss) [] alike = absurd alike
+
+-- the step at an index
+step_alike_at : (at : ℕ) (ss ts : List (Step Claim)) → AreAlike ss ts → (s : Step Claim) → at < length ss
+    → get_or ss at s ≡ s → (t : Step Claim) × (at < length ts) × (get_or ts at t ≡ t) × IsAlike s t
+step_alike_at at [] ts alike s below is = absurd (omega (arith, below))
+step_alike_at at (x ∷ ss) [] alike s below is = absurd alike
+step_alike_at zero (x ∷ ss) (t ∷ ts) alike s below is =
+    (t, omega arith, refl, subst (λ (y : Step Claim). IsAlike y t) is alike.0)
+step_alike_at (suc at) (x ∷ ss) (t ∷ ts) alike s below is =
+    let found = step_alike_at at ss ts alike.1 s (omega (arith, below)) is in
+    (found.0, omega (arith, found.1), found.2, found.3)
+
+module _ (S U : ℕ → Type 0) (n : ℕ) where
+  -- what is overclaimed is listed
+  exceeds_lists : (claim : Claim) (mode : Overclaim) → Exceeds S claim mode n → Lists claim n
+  exceeds_lists claim Refuse e = e.0
+  exceeds_lists claim Trim e = absurd e
+
+  exceeds_fewer : (claim : Claim) (mode : Overclaim) → (U n → S n) → Exceeds S claim mode n → Exceeds U claim mode n
+  exceeds_fewer claim Refuse back e = (e.0, λ held. e.1 (back held))
+  exceeds_fewer claim Trim back e = absurd e
+
+  exceeds_step : (s t : Step Claim) → s.claim ≡ t.claim → (s.mode ≡ t.mode) ⊎ ((n : ℕ) → ¬ Lists s.claim n)
+      → (U n → S n) → Exceeds S s.claim s.mode n → Exceeds U t.claim t.mode n
+  exceeds_step s t claims (inl modes) back e =
+      let claim : Exceeds S t.claim s.mode n = subst (λ (c : Claim). Exceeds S c s.mode n) claims e in
+      let mode : Exceeds S t.claim t.mode n = subst (λ (m : Overclaim). Exceeds S t.claim m n) modes claim in
+      exceeds_fewer t.claim t.mode back mode
+  exceeds_step s t claims (inr none) back e = absurd (none n (exceeds_lists s.claim s.mode e))
+
+module _ (S : ℕ → Type 0) where
+  exceeds_alike : (ss ts : List (Step Claim)) → AreAlike ss ts → (at n : ℕ) → ExceedsAt (λ claim. claim) S ss at n
+      → ExceedsAt (λ claim. claim) S ts at n
+  exceeds_alike ss ts alike at n (s, below, is, e) =
+      let found = step_alike_at at ss ts alike s below is in
+      let back : IsLeft (λ claim. claim) S (take at ts) n → IsLeft (λ claim. claim) S (take at ss) n = λ left. (
+        left.0,
+        leave_alike n (take at ts) (take at ss)
+            (alike_back (take at ss) (take at ts) (take_alike at ss ts alike)) left.1,
+      ) in (
+        found.0,
+        found.1,
+        found.2,
+        exceeds_step (IsLeft (λ claim. claim) S (take at ss))
+            (IsLeft (λ claim. claim) S (take at ts)) n s found.0 found.3.0 found.3.1 back e,
+      )
+
+  module _ (ss ts : List (Step Claim)) (alike : AreAlike ss ts) where
+    left_alike : (n : ℕ) → IsLeft (λ claim. claim) S ts n → IsLeft (λ claim. claim) S ss n
+    left_alike n left = (left.0, leave_alike n ts ss (alike_back ss ts alike) left.1)
+
+    result_alike : (set : Runs) → IsPathResult (λ claim. claim) S ts set → IsPathResult (λ claim. claim) S ss set
+    result_alike set h = record {
+      runs = IsRunsOf-same set (IsLeft (λ claim. claim) S ts) (IsLeft (λ claim. claim) S ss)
+          (λ n. (left_alike n, λ left. (left.0, leave_alike n ss ts alike left.1))) h.runs;
+      accepted = λ at n e. h.accepted at n (exceeds_alike ss ts alike at n e);
+    }
+
+    refusal_alike : (refusal : PathRefusal Runs) → IsFirstRefusal (λ claim. claim) S ts refusal
+        → IsFirstRefusal (λ claim. claim) S ss refusal
+    refusal_alike refusal h = record {
+      excess = IsRunsOf-same refusal.fault (ExceedsAt (λ claim. claim) S ts refusal.step)
+          (ExceedsAt (λ claim. claim) S ss refusal.step)
+          (λ n. (exceeds_alike ts ss (alike_back ss ts alike) refusal.step n, exceeds_alike ss ts alike refusal.step n))
+          h.excess;
+      some = h.some;
+      first = λ at n below e. h.first at n below (exceeds_alike ss ts alike at n e);
+    }
+
+-- ---- one result or one first refusal
+
+-- runs that are not empty hold a number
+some_held : (S : ℕ → Type 0) (runs : Runs) → IsRunsOf S runs → runs ≢ [] → (n : ℕ) × S n
+some_held S [] h some = absurd (some refl)
+some_held S (run ∷ runs) h some =
+    let ordered : run.0 ≤ run.1 = All-head (λ (x : ℕ × ℕ). x.0 ≤ x.1) run runs h.ordered in
+    (run.0, (h.members run.0).0 (Covers-head (λ (x : ℕ × ℕ). x) run runs run.0 (omega arith, ordered)))
+
+module _ (S : ℕ → Type 0) (steps : List (Step Claim)) where
+  not_before : (q r : PathRefusal Runs) → IsFirstRefusal (λ claim. claim) S steps q
+      → IsFirstRefusal (λ claim. claim) S steps r → q.step < r.step → ⊥
+  not_before q r h k below =
+      let found = some_held (ExceedsAt (λ claim. claim) S steps q.step) q.fault h.excess h.some in
+      k.first q.step found.0 below found.1
+
+  one_place : (q r : PathRefusal Runs) → IsFirstRefusal (λ claim. claim) S steps q
+      → IsFirstRefusal (λ claim. claim) S steps r → q.step ≡ r.step
+  one_place q r h k = grind (arith, not_before q r h k, not_before r q k h, cases_lt)
+
+  one_refusal : (q r : PathRefusal Runs) → IsFirstRefusal (λ claim. claim) S steps q
+      → IsFirstRefusal (λ claim. claim) S steps r → q ≡ r
+  one_refusal q r h k =
+      let place = one_place q r h k in
+      let excess = subst (λ (at : ℕ). IsRunsOf (ExceedsAt (λ claim. claim) S steps at) q.fault) place h.excess in
+      let faults = IsRunsOf-unique (ExceedsAt (λ claim. claim) S steps r.step) q.fault r.fault excess k.excess in
+      λ i. record { step = place i; fault = faults i }
+
+  single_path : IsSingle (IsPathResult (λ claim. claim) S steps) (IsFirstRefusal (λ claim. claim) S steps)
+  single_path = record {
+    one = λ v w h k. IsRunsOf-unique (IsLeft (λ claim. claim) S steps) v w h.runs k.runs;
+    apart = λ v q h k.
+        let found = some_held (ExceedsAt (λ claim. claim) S steps q.step) q.fault k.excess k.some in
+        h.accepted q.step found.0 found.1;
+    same = one_refusal;
+  }
+
+-- what is shown of a path of such steps is one text
+module _ (list_text excess_text : Runs → List ℕ) (root : Runs) where
+  shows_alike : (ss ts : List (Step Claim)) → AreAlike ss ts → (text : List ℕ)
+      → ShowsPath list_text excess_text root ts text → ShowsPath list_text excess_text root ss text
+  shows_alike ss ts alike text (inl (left, is, shown)) =
+      inl (left, result_alike (Holds root) ss ts alike left is, shown)
+  shows_alike ss ts alike text (inr (refusal, is, shown)) =
+      inr (refusal, refusal_alike (Holds root) ss ts alike refusal is, shown)
+
+  path_shown : (ss ts : List (Step Claim)) → AreAlike ss ts → (a b : List ℕ)
+      → ShowsPath list_text excess_text root ss a → ShowsPath list_text excess_text root ts b → a ≡ b
+  path_shown ss ts alike a b h k =
+      shown_once (IsPathResult (λ claim. claim) (Holds root) ss) (IsFirstRefusal (λ claim. claim) (Holds root) ss)
+      (single_path (Holds root) ss) list_text (refusal_text excess_text) a b h (shows_alike ss ts alike b k)
+
+-- ---- the words of a step
+
+one_mode : (word : List ℕ) (m o : Overclaim) → IsMode word m → IsMode word o → m ≡ o
+one_mode word Refuse Refuse h k = refl
+one_mode word Trim Trim h k = refl
+one_mode word Refuse Trim h k = absurd (differ (codes "refuse") (codes "trim") refl (sym h ∙ k))
+one_mode word Trim Refuse h k = absurd (differ (codes "trim") (codes "refuse") refl (sym h ∙ k))
+
+module _ (part : List ℕ) where
+  -- `inherit` and `missing` are no modes
+  mode_no_inherit : (mode : Overclaim) → IsMode (word_of part) mode → trim part ≡ codes "inherit" → ⊥
+  mode_no_inherit Refuse is e =
+      differ (before_first is_space (codes "inherit")) (codes "refuse") refl (sym (ap (before_first is_space) e) ∙ is)
+  mode_no_inherit Trim is e =
+      differ (before_first is_space (codes "inherit")) (codes "trim") refl (sym (ap (before_first is_space) e) ∙ is)
+
+  mode_no_missing : (mode : Overclaim) → IsMode (word_of part) mode → trim part ≡ codes "missing" → ⊥
+  mode_no_missing Refuse is e =
+      differ (before_first is_space (codes "missing")) (codes "refuse") refl (sym (ap (before_first is_space) e) ∙ is)
+  mode_no_missing Trim is e =
+      differ (before_first is_space (codes "missing")) (codes "trim") refl (sym (ap (before_first is_space) e) ∙ is)
+
+  inherit_no_missing : trim part ≡ codes "inherit" → trim part ≡ codes "missing" → ⊥
+  inherit_no_missing h k = differ (codes "inherit") (codes "missing") refl (sym h ∙ k)
+
+  no_mode : IsNoStep part → (mode : Overclaim) → IsMode (word_of part) mode → ⊥
+  no_mode none Refuse is = none.no_refuse is
+  no_mode none Trim is = none.no_trim is
+
+-- ---- parts, where each list has one set or one fault
+
+module _ {E : Type 0} (Writes : List ℕ → Runs → Type 0) (Fails : List ℕ → E → Type 0)
+    (single : (list : List ℕ) → IsSingle (Writes list) (Fails list)) where
+  one_step : (part : List ℕ) (s t : Step Claim) → IsStepText (λ claim. claim) Writes part s
+      → IsStepText (λ claim. claim) Writes part t → IsAlike s t
+  one_step part s t (inl h) (inl k) = (h.1 ∙ sym k.1, inr (λ n. subst (λ (claim : Claim). Lists claim n) h.1))
+  one_step part s t (inl h) (inr (inl k)) = absurd (inherit_no_missing part h.0 k.0)
+  one_step part s t (inl h) (inr (inr k)) = absurd (mode_no_inherit part t.mode k.0 h.0)
+  one_step part s t (inr (inl h)) (inl k) = absurd (inherit_no_missing part k.0 h.0)
+  one_step part s t (inr (inl h)) (inr (inl k)) =
+      (h.1 ∙ sym k.1, inr (λ n. subst (λ (claim : Claim). Lists claim n) h.1))
+  one_step part s t (inr (inl h)) (inr (inr k)) = absurd (mode_no_missing part t.mode k.0 h.0)
+  one_step part s t (inr (inr h)) (inl k) = absurd (mode_no_inherit part s.mode h.0 k.0)
+  one_step part s t (inr (inr h)) (inr (inl k)) = absurd (mode_no_missing part s.mode h.0 k.0)
+  one_step part s t (inr (inr (m, x, h, is))) (inr (inr (o, y, k, also))) = (
+    is ∙ ap (λ (set : Runs). claim_of set) ((single (list_of part)).one x y h k) ∙ sym also,
+    inl (one_mode (word_of part) s.mode t.mode m o),
+  )
+
+  steps_alike : (parts : List (List ℕ)) (ss ts : List (Step Claim))
+      → HaveValues (IsStepText (λ claim. claim) Writes) parts ss
+      → HaveValues (IsStepText (λ claim. claim) Writes) parts ts → AreAlike ss ts
+  steps_alike [] [] [] h k = tt
+  steps_alike [] (s ∷ ss) ts h k = absurd h
+  steps_alike [] [] (t ∷ ts) h k = absurd k
+  steps_alike (part ∷ parts) [] ts h k = absurd h
+  steps_alike (part ∷ parts) (s ∷ ss) [] h k = absurd k
+  steps_alike (part ∷ parts) (s ∷ ss) (t ∷ ts) h k =
+      (one_step part s t h.0 k.0, steps_alike parts ss ts h.1 k.1)
+
+  step_apart : (part : List ℕ) (s : Step Claim) (e : PartFault E) → IsStepText (λ claim. claim) Writes part s
+      → HasStepFault Fails part e → ⊥
+  step_apart part s UnknownStep (inl h) f = f.no_inherit h.0
+  step_apart part s UnknownStep (inr (inl h)) f = f.no_missing h.0
+  step_apart part s UnknownStep (inr (inr h)) f = no_mode part f s.mode h.0
+  step_apart part s (BadList e) (inl h) f = mode_no_inherit part f.0 f.1 h.0
+  step_apart part s (BadList e) (inr (inl h)) f = mode_no_missing part f.0 f.1 h.0
+  step_apart part s (BadList e) (inr (inr h)) f = (single (list_of part)).apart h.1 e h.2 f.2
+
+  same_step_fault : (part : List ℕ) (d e : PartFault E) → HasStepFault Fails part d → HasStepFault Fails part e → d ≡ e
+  same_step_fault part UnknownStep UnknownStep f g = refl
+  same_step_fault part UnknownStep (BadList e) f g = absurd (no_mode part f g.0 g.1)
+  same_step_fault part (BadList d) UnknownStep f g = absurd (no_mode part g f.0 f.1)
+  same_step_fault part (BadList d) (BadList e) f g =
+      ap (λ (x : E). BadList x) ((single (list_of part)).same d e f.2 g.2)
+
+  -- ---- whole paths
+
+  root_apart : (list : List ℕ) (root : Runs) (e : PartFault E) → Writes list root → HasRootFault Fails list e → ⊥
+  root_apart list root UnknownStep h f = f
+  root_apart list root (BadList e) h f = (single list).apart root e h f
+
+  same_root_fault : (list : List ℕ) (d e : PartFault E) → HasRootFault Fails list d → HasRootFault Fails list e → d ≡ e
+  same_root_fault list UnknownStep e f g = absurd f
+  same_root_fault list (BadList d) UnknownStep f g = absurd g
+  same_root_fault list (BadList d) (BadList e) f g = ap (λ (x : E). BadList x) ((single list).same d e f g)
+
+  one_root : (parts : List (List ℕ)) (x y : Runs) (ss ts : List (Step Claim))
+      → ArePath (λ claim. claim) Writes parts x ss → ArePath (λ claim. claim) Writes parts y ts
+      → (x ≡ y) × AreAlike ss ts
+  one_root [] x y ss ts h k = absurd h
+  one_root (list ∷ parts) x y ss ts h k = ((single list).one x y h.0 k.0, steps_alike parts ss ts h.1 k.1)
+
+  path_apart : (parts : List (List ℕ)) (root : Runs) (ss : List (Step Claim)) (e : PartFault E)
+      → ArePath (λ claim. claim) Writes parts root ss → HavePathFault Fails (λ (claim : Claim). claim) Writes parts e
+      → ⊥
+  path_apart [] root ss e h f = absurd h
+  path_apart (list ∷ parts) root ss e h (inl f) = root_apart list root e h.0 f
+  path_apart (list ∷ parts) root ss e h (inr f) =
+      first_fault_apart (IsStepText (λ claim. claim) Writes) (HasStepFault Fails) step_apart parts ss e h.1 f.2
+
+  same_path_fault : (parts : List (List ℕ)) (d e : PartFault E)
+      → HavePathFault Fails (λ (claim : Claim). claim) Writes parts d
+      → HavePathFault Fails (λ (claim : Claim). claim) Writes parts e → d ≡ e
+  same_path_fault [] d e f g = absurd f
+  same_path_fault (list ∷ parts) d e (inl f) (inl g) = same_root_fault list d e f g
+  same_path_fault (list ∷ parts) d e (inl f) (inr g) = absurd (root_apart list g.0 d g.1 f)
+  same_path_fault (list ∷ parts) d e (inr f) (inl g) = absurd (root_apart list f.0 e f.1 g)
+  same_path_fault (list ∷ parts) d e (inr f) (inr g) =
+      same_first_fault (IsStepText (λ claim. claim) Writes) (HasStepFault Fails) step_apart same_step_fault parts d e
+      f.2 g.2
+
+  pub path_once : (list_text excess_text : Runs → List ℕ) (error_text : E → List ℕ) (path a b : List ℕ)
+      → IsPathOf Writes list_text excess_text Fails error_text path a
+      → IsPathOf Writes list_text excess_text Fails error_text path b → a ≡ b
+  path_once list_text excess_text error_text path a b (inl (x, ss, h, shows)) (inl (y, ts, k, also)) =
+      let one = one_root (parts_of path) x y ss ts h k in
+      path_shown list_text excess_text x ss ts one.1 a b shows
+      (subst (λ (root : Runs). ShowsPath list_text excess_text root ts b) (sym one.0) also)
+  path_once list_text excess_text error_text path a b (inl (x, ss, h, shows)) (inr (e, f, also)) =
+      absurd (path_apart (parts_of path) x ss e h f)
+  path_once list_text excess_text error_text path a b (inr (d, f, is)) (inl (y, ts, k, also)) =
+      absurd (path_apart (parts_of path) y ts d k f)
+  path_once list_text excess_text error_text path a b (inr (d, f, is)) (inr (e, g, also)) =
+      is ∙ ap (λ (x : PartFault E). error_line (part_fault_text error_text x)) (same_path_fault (parts_of path) d e f g)
+      ∙ sym also

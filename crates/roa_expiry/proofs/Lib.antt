@@ -6,3 +6,4 @@ pub mod ExpiryLemmas
 pub mod FileLemmas
 pub mod ItemLemmas
 pub mod JsonLemmas
+pub mod OutcomeLemmas

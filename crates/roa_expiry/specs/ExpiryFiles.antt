@@ -8,6 +8,7 @@ use Rattle.roa_expiry.specs.Expiries.{is_expired, unexpired_of}
 use Rattle.roa_expiry.specs.ItemExpiries.{AreJsonExpiries, HasJsonExpiryFault}
 use Rattle.roa_expiry.specs.RowExpiries.{AreCsvExpiries, HasCsvExpiryFault}
 use Rattle.roa_expiry.specs.declared.fault.ExpiryFault.{ExpiryFault}
+use Rattle.roa_expiry.specs.declared.file.UnexpiredVrps.{UnexpiredVrps}
 use Rattle.roa_expiry.specs.declared.fault.ExpiryFault.TheVariants.{File, Line, Item}
 
 -- the expiries of a text: as JSON if it opens an object, as CSV if it opens neither an object nor an array
@@ -42,6 +43,10 @@ pub record AreDated (file : List ℕ) (vrps : List (MaxLenValue × ℕ)) (expiri
   pub vrps_are : IsVrpFile file vrps
   pub expiries_are : AreFileExpiries file expiries
   pub one_each : length expiries ≡ length vrps
+
+-- the model of `UnexpiredVrps`: the VRPs that have not expired, and the number of the expired ones
+abbrev pub unexpired_value : {A : Type 0} → UnexpiredVrps A → List (MaxLenValue × ℕ) × ℕ
+unexpired_value unexpired = (unexpired.vrps.items, unexpired.expired)
 
 -- the VRPs of a file that have not expired at the time `time`, in their order, and the number of the expired ones
 pub record IsUnexpiredFile (file : List ℕ) (time : ℕ) (kept : List (MaxLenValue × ℕ)) (expired : ℕ) : Type 0 where

@@ -1,9 +1,11 @@
 //! Files of VRPs with expiries, in either form, JSON or CSV.
-ghost use Rattle.std.specs.Prelude.{ℕ, List, MatchResult};
+ghost use Rattle.std.specs.Prelude.{ℕ, IfErr, List, MatchResult};
 ghost use Rattle.rpki_prefix.specs.MaxLen.{MaxLenValue};
-ghost use Rattle.rpki_text.specs.Memory.{IfRefused};
+ghost use Rattle.rpki_text.specs.Memory.{IfRefused, IsMemory};
+ghost use Rattle.rpki_text.specs.Reading.{AnswersOrMemory};
+ghost use Rattle.roa_vrps.specs.Asking.{MayWantMemory};
 ghost use Rattle.roa_vrps.specs.Files.{IsVrpFile, IsVrpText};
-ghost use Rattle.roa_expiry.specs.ExpiryFiles.{AreDated, AreTextExpiries, HasExpiryFault, HasTextExpiryFault, IsUnexpiredFile};
+ghost use Rattle.roa_expiry.specs.ExpiryFiles.{AreDated, AreTextExpiries, HasExpiryFault, HasTextExpiryFault, IsUnexpiredFile, unexpired_value};
 
 use crate::expiry::{expired_count, unexpired};
 use crate::fault::ExpiryFault;
@@ -46,9 +48,25 @@ pub fn read_unexpired<A: Allocator + Copy>(
     text: &[u8],
     time: u64,
 ) -> Result<UnexpiredVrps<A>, OrMemory<ExpiryFault>>
-    ensures { MatchResult result
+    ensures answers { AnswersOrMemory unexpired_value
+        (λ found. IsUnexpiredFile text.now time found.0 found.1) (HasExpiryFault text.now) result }
+
+    // An allocation failed, and `read_vrps` may request memory for the file.
+    ensures memory { IfErr result (λ error. IsMemory error → MayWantMemory text.now) }
+{
+    read_unexpired_matched(alloc, text, time)
+}
+
+/// Returns the VRPs of a file that have not expired, or the first fault of the file.
+fn read_unexpired_matched<A: Allocator + Copy>(
+    alloc: A,
+    text: &[u8],
+    time: u64,
+) -> Result<UnexpiredVrps<A>, OrMemory<ExpiryFault>>
+    ensures found { MatchResult result
         (λ unexpired. IsUnexpiredFile text.now time unexpired.vrps.items unexpired.expired)
         (IfRefused (HasExpiryFault text.now)) }
+    ensures memory { IfErr result (λ error. IsMemory error → MayWantMemory text.now) }
 {
     let vrps = read_valid(alloc, text)?;
     let expiries = read_dates(alloc, text)?;
@@ -74,9 +92,24 @@ pub fn read_expiries<A: Allocator + Copy>(
     alloc: A,
     text: &[u8],
 ) -> Result<Vec<Option<u64>, A>, OrMemory<ExpiryFault>>
-    ensures { MatchResult result
+    ensures answers { AnswersOrMemory (λ expiries. expiries.items)
+        (λ found. (vrps : List (MaxLenValue × ℕ)) × AreDated text.now vrps found) (HasExpiryFault text.now) result }
+
+    // An allocation failed, and `read_vrps` may request memory for the file.
+    ensures memory { IfErr result (λ error. IsMemory error → MayWantMemory text.now) }
+{
+    read_expiries_matched(alloc, text)
+}
+
+/// Returns the expiries of the VRPs of a file, or the first fault of the file.
+fn read_expiries_matched<A: Allocator + Copy>(
+    alloc: A,
+    text: &[u8],
+) -> Result<Vec<Option<u64>, A>, OrMemory<ExpiryFault>>
+    ensures found { MatchResult result
         (λ expiries. (vrps : List (MaxLenValue × ℕ)) × AreDated text.now vrps expiries.items)
         (IfRefused (HasExpiryFault text.now)) }
+    ensures memory { IfErr result (λ error. IsMemory error → MayWantMemory text.now) }
 {
     let _vrps = read_valid(alloc, text)?;
     read_dates(alloc, text)
@@ -87,8 +120,9 @@ fn read_valid<A: Allocator + Copy>(
     alloc: A,
     text: &[u8],
 ) -> Result<Vec<Vrp, A>, OrMemory<ExpiryFault>>
-    ensures { MatchResult result (λ vrps. IsVrpFile text.now vrps.items)
+    ensures found { MatchResult result (λ vrps. IsVrpFile text.now vrps.items)
         (IfRefused (HasExpiryFault text.now)) }
+    ensures memory { IfErr result (λ error. IsMemory error → MayWantMemory text.now) }
 {
     match read_vrps(alloc, text) {
         Ok(vrps) => Ok(vrps),

@@ -2,6 +2,9 @@
 pub mod AppliedLemmas
 pub mod Common
 pub mod EntryLemmas
+pub mod EntryOutcomes
 pub mod FileLemmas
+pub mod FileOutcomes
 pub mod ListLemmas
 pub mod ObjectLemmas
+pub mod PartOutcomes

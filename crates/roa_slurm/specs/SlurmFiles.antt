@@ -1,6 +1,7 @@
 -- SLURM files (RFC 8416, 3), and their faults. RFC 8416, 3.1: each deviation from the RFC is an error, and so is a
 -- member that it doesn't define.
 use Rattle.std.specs.Prelude.{◌≡◌, ◌≢◌, ◌⊎◌, ℕ, List, codes}
+use Rattle.std.specs.Str.{IsUtf8}
 use Rattle.json.specs.Json.{Members, number, object}
 use Rattle.rpki_prefix.specs.MaxLen.{MaxLenValue}
 use Rattle.roa_vrps.specs.JsonFiles.{IsJsonObject}
@@ -115,6 +116,10 @@ HasSlurmTextFault text fault =
 -- the text of the file, without a byte order mark at its beginning, says this
 abbrev pub IsSlurmFile : List ℕ → SlurmValue → Type 0
 IsSlurmFile file slurm = (text : List ℕ) × IsUnmarked file text × IsSlurmText text slurm
+
+-- the text of the file is UTF-8, so that memory may be requested for it
+abbrev pub MayWantMemory : List ℕ → Type 0
+MayWantMemory file = (text : List ℕ) × IsUnmarked file text × IsUtf8 text
 
 -- the fault of the text of the file
 abbrev pub HasSlurmFault : List ℕ → SlurmFault → Type 0

@@ -1,8 +1,10 @@
 //! Reads SLURM files.
-ghost use Rattle.std.specs.Prelude.{MatchResult};
+ghost use Rattle.std.specs.Prelude.{IfErr, MatchResult};
+ghost use Rattle.std.specs.Str.{IsUtf8};
 ghost use Rattle.json.specs.Value.{members_view};
-ghost use Rattle.rpki_text.specs.Memory.{IfRefused};
-ghost use Rattle.roa_slurm.specs.SlurmFiles.{HasAssertions, HasAssertionsFault, HasFilters, HasFiltersFault, HasPart, HasPartFault, HasSlurmFault, HasSlurmTextFault, HasVersion, HasVersionFault, HaveSlurmFault, IsSlurmFile, IsSlurmText, AreSlurm, slurm_value};
+ghost use Rattle.rpki_text.specs.Memory.{IfRefused, IsMemory};
+ghost use Rattle.rpki_text.specs.Reading.{AnswersOrMemory};
+ghost use Rattle.roa_slurm.specs.SlurmFiles.{HasAssertions, HasAssertionsFault, HasFilters, HasFiltersFault, HasPart, HasPartFault, HasSlurmFault, HasSlurmTextFault, HasVersion, HasVersionFault, HaveSlurmFault, IsSlurmFile, IsSlurmText, MayWantMemory, AreSlurm, slurm_value};
 
 use crate::bgpsec::{KeyAssertion, KeyFilter};
 use crate::fault::SlurmFault;
@@ -38,16 +40,20 @@ pub fn read_slurm<A: Allocator + Copy>(
     alloc: A,
     text: &[u8],
 ) -> Result<Slurm<A>, OrMemory<SlurmFault>>
-    ensures { MatchResult result (λ slurm. IsSlurmFile text.now (slurm_value slurm))
-        (IfRefused (HasSlurmFault text.now)) }
+    ensures answers { AnswersOrMemory slurm_value (IsSlurmFile text.now)
+        (HasSlurmFault text.now) result }
+
+    // An allocation failed. No allocation is requested for a text that isn't UTF-8.
+    ensures memory { IfErr result (λ error. IsMemory error → MayWantMemory text.now) }
 {
     read_text(alloc, without_mark(text))
 }
 
 /// Returns what a text without a byte order mark says, or its first fault.
 fn read_text<A: Allocator + Copy>(alloc: A, text: &[u8]) -> Result<Slurm<A>, OrMemory<SlurmFault>>
-    ensures { MatchResult result (λ slurm. IsSlurmText text.now (slurm_value slurm))
+    ensures found { MatchResult result (λ slurm. IsSlurmText text.now (slurm_value slurm))
         (IfRefused (HasSlurmTextFault text.now)) }
+    ensures memory { IfErr result (λ error. IsMemory error → IsUtf8 text.now) }
 {
     let Ok(text) = str::from_utf8(text) else {
         return Err(OrMemory::Refused(SlurmFault::NotObject));

@@ -39,4 +39,4 @@ pub use Rattle.roa_vrps.specs.declared.fault.ItemFault.{ItemFault}
 pub use Rattle.roa_vrps.specs.declared.fault.MemberFault.TheVariants.{Kind, Missing, Repeated}
 pub use Rattle.roa_vrps.specs.declared.fault.VrpFault.{VrpFault}
 pub use Rattle.roa_vrps.specs.declared.row.Row.{Row}
-pub use Rattle.roa_vrps.specs.declared.row.Row.TheVariants.{Header, Vrp}
+pub use Rattle.roa_vrps.specs.declared.row.Row.TheVariants.{Blank, Header, Vrp}

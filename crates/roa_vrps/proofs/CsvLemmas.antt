@@ -1,9 +1,11 @@
 -- The lines of a file, read one after another; a file writes one list of VRPs, or has one fault.
 use Rattle.roa_vrps.proofs.Common.{List, [], append-nil, append_assoc, arith, inl, inr, refl, sym, ℕ, ◌++◌, ◌+◌, ◌∙◌}
 use Rattle.roa_vrps.proofs.Common.{◌∷◌, ◌≡◌, ◌≢◌, usual, HasRowFault, IsRow, Columns, FileFault, Line, MaxLenValue}
-use Rattle.roa_vrps.proofs.Common.{NoVrp, Vrp, VrpFault, Row}
+use Rattle.roa_vrps.proofs.Common.{NoVrp, Blank, Header, Vrp, VrpFault, Row}
 use Rattle.rpki_text.specs.Lines.{lines_of}
-use Rattle.roa_vrps.specs.Csv.{AreRows, HaveFirstFault, HasCsvFault, IsCsvFile, columns_after, vrps_of}
+use Rattle.roa_vrps.specs.Csv.{AreRows, HaveFirstFault, HasCsvFault, HasLineFault, HasUnknownHeader, IsCsvFile}
+use Rattle.roa_vrps.specs.Csv.{columns_after, vrps_of}
+use Rattle.roa_vrps.specs.Rows.{IsUnknownHeader}
 use Rattle.roa_vrps.specs.Asking.{BeginVrps, HasCsvVrp}
 use Rattle.roa_vrps.proofs.ItemLemmas.{Vrps}
 use Rattle.roa_vrps.proofs.RowLemmas.{row_apart, row_fault_one, row_one}
@@ -43,7 +45,7 @@ module _ (text rest after line : List ℕ) (number : ℕ) (columns : Columns) (v
   read_wanting vrp is = had.begins (rw first (Vrp vrp, is, inl (λ none. cc none)))
 
   -- the next line is wrong
-  pub read_wrong : (wrong : VrpFault) → HasRowFault columns line wrong → HasCsvFault text (Line (number + 1) wrong)
+  pub read_wrong : (wrong : VrpFault) → HasRowFault columns line wrong → HasLineFault text (Line (number + 1) wrong)
   read_wrong wrong has = had.faults (Line (number + 1) wrong) (rw first (inl (wrong, has, refl)))
 
 -- nothing is left
@@ -55,8 +57,18 @@ module _ (text rest : List ℕ) (number : ℕ) (columns : Columns) (vrps : Vrps)
   pub read_some : vrps ≢ [] → IsCsvFile text vrps
   read_some some = (read_all, some)
 
-  pub read_no_vrp : vrps ≡ [] → HasCsvFault text NoVrp
+  pub read_no_vrp : vrps ≡ [] → HasLineFault text NoVrp
   read_no_vrp none = rw none at read_all
+
+-- lines with VRPs have one before the first wrong line
+pub rows_begin : (columns : Columns) (lines : List (List ℕ)) (vrps : Vrps) → AreRows columns lines vrps → vrps ≢ []
+    → BeginVrps columns lines
+rows_begin columns [] vrps none some = absurd (some none)
+rows_begin columns (line ∷ lines) vrps (Vrp vrp, is, more, same, rows) some = (Vrp vrp, is, inl (λ none. cc none))
+rows_begin columns (line ∷ lines) vrps (Blank, is, more, same, rows) some =
+    (Blank, is, inr (rows_begin columns lines more rows (λ none. some (same ∙ none))))
+rows_begin columns (line ∷ lines) vrps (Header next, is, more, same, rows) some =
+    (Header next, is, inr (rows_begin next lines more rows (λ none. some (same ∙ none))))
 
 -- lines write one list of VRPs
 rows_one : (columns : Columns) (lines : List (List ℕ)) (a b : Vrps) → AreRows columns lines a
@@ -85,8 +97,33 @@ first_one number columns (line ∷ lines) d e h k =
 pub csv_one : (text : List ℕ) (a b : Vrps) → IsCsvFile text a → IsCsvFile text b → a ≡ b
 csv_one text a b h k = rows_one usual (lines_of text) a b h.0 k.0
 
+-- a row isn't an unknown header
+row_known : (line : List ℕ) (row : Row) → IsRow usual line row → IsUnknownHeader line → ⊥
+row_known line Blank (_, blank) unknown = unknown.body.some_text blank
+row_known line (Header next) (_, _, header) unknown = unknown.body.no_header next header
+row_known line (Vrp vrp) (_, _, inl texts) unknown = unknown.no_asn (vrp.1, texts.asn_is)
+row_known line (Vrp vrp) (_, _, inr (_, texts)) unknown = unknown.no_asn (vrp.1, texts.asn_is)
+
+-- so lines that write VRPs begin with none
+rows_known : (lines others : List (List ℕ)) (line : List ℕ) (a : Vrps) → AreRows usual lines a → lines ≡ line ∷ others
+    → IsUnknownHeader line → ⊥
+rows_known [] others line a rows same unknown = cc same
+rows_known (first ∷ lines) others line a (row, is, _, _, _) same unknown =
+    let equal : first ≡ line = cc in row_known first row is (rw equal unknown)
+
+line_fault_apart : (text : List ℕ) (a : Vrps) (fault : FileFault) → IsCsvFile text a → HasLineFault text fault → ⊥
+line_fault_apart text a fault h k = grind (arith, rows_apart, rows_one)
+
+line_fault_one : (text : List ℕ) (d e : FileFault) → HasLineFault text d → HasLineFault text e → d ≡ e
+line_fault_one text d e h k = grind (arith, first_one, rows_apart)
+
 pub csv_apart : (text : List ℕ) (a : Vrps) (fault : FileFault) → IsCsvFile text a → HasCsvFault text fault → ⊥
-csv_apart text a fault h k = grind (arith, rows_apart, rows_one)
+csv_apart text a fault h (inl ((line, others, same, unknown), _)) =
+    rows_known (lines_of text) others line a h.0 same unknown
+csv_apart text a fault h (inr (_, k)) = line_fault_apart text a fault h k
 
 pub csv_fault_one : (text : List ℕ) (d e : FileFault) → HasCsvFault text d → HasCsvFault text e → d ≡ e
-csv_fault_one text d e h k = grind (arith, first_one, rows_apart)
+csv_fault_one text d e (inl (_, is)) (inl (_, iz)) = is ∙ sym iz
+csv_fault_one text d e (inl (unknown, _)) (inr (known, _)) = absurd (known unknown)
+csv_fault_one text d e (inr (known, _)) (inl (unknown, _)) = absurd (known unknown)
+csv_fault_one text d e (inr (_, h)) (inr (_, k)) = line_fault_one text d e h k

@@ -1,6 +1,6 @@
 -- A text in either form writes one list of VRPs, or has one fault, and so does a file.
 use Rattle.roa_vrps.proofs.Common.{List, MatchResult, Result, arith, inl, inr, sym, ℕ, ◌∙◌, ◌≡◌, MaxLenValue}
-use Rattle.roa_vrps.proofs.Common.{AnswersOrMemory, FileFault}
+use Rattle.roa_vrps.proofs.Common.{AnswersOrMemory, FileFault, usual}
 use Rattle.std.specs.Prelude.{IfErr}
 use Rattle.rpki_text.specs.Memory.{IfRefused, IsMemory, MatchOrMemory}
 use Rattle.rpki_text.specs.declared.memory.OrMemory.{OrMemory}
@@ -8,7 +8,8 @@ use Rattle.rpki_text.proofs.TextListLemmas.{AnswersOrMemory-from_found}
 use Rattle.roa_vrps.specs.Asking.{MayTextWantMemory, MayWantMemory}
 use Rattle.roa_vrps.specs.Files.{HasFileFault, HasVrpTextFault, IsVrpFile, IsVrpText}
 use Rattle.roa_vrps.specs.Marks.{IsUnmarked}
-use Rattle.roa_vrps.proofs.CsvLemmas.{csv_apart, csv_fault_one, csv_one}
+use Rattle.rpki_text.specs.Lines.{lines_of}
+use Rattle.roa_vrps.proofs.CsvLemmas.{csv_apart, csv_fault_one, csv_one, rows_begin}
 use Rattle.roa_vrps.proofs.ItemLemmas.{Vrps}
 use Rattle.roa_vrps.proofs.JsonLemmas.{json_apart, json_fault_one, json_one}
 
@@ -57,13 +58,13 @@ module _ (text : List ℕ) where
 
 -- so a file writes one list of VRPs, or has one fault
 module _ (file : List ℕ) where
-  file_one : (a b : Vrps) → IsVrpFile file a → IsVrpFile file b → a ≡ b
+  pub file_one : (a b : Vrps) → IsVrpFile file a → IsVrpFile file b → a ≡ b
   file_one a b (s, is, h) (t, iz, k) = text_one t a b (rw (unmarked_one file s t is iz) at h) k
 
-  file_apart : (a : Vrps) (f : FileFault) → IsVrpFile file a → HasFileFault file f → ⊥
+  pub file_apart : (a : Vrps) (f : FileFault) → IsVrpFile file a → HasFileFault file f → ⊥
   file_apart a f (s, is, h) (t, iz, k) = text_apart t a f (rw (unmarked_one file s t is iz) at h) k
 
-  file_fault_one : (d e : FileFault) → HasFileFault file d → HasFileFault file e → d ≡ e
+  pub file_fault_one : (d e : FileFault) → HasFileFault file d → HasFileFault file e → d ≡ e
   file_fault_one d e (s, is, h) (t, iz, k) = text_fault_one t d e (rw (unmarked_one file s t is iz) at h) k
 
 -- what is found decides the answer
@@ -73,3 +74,11 @@ pub file_answers : {V : Type 0} (text : List ℕ) (view : V → List (MaxLenValu
 file_answers text view r found =
     AnswersOrMemory-from_found view (IsVrpFile text) (HasFileFault text) (file_one text) (file_apart text)
     (file_fault_one text) r found
+
+-- memory may be requested for a file with VRPs
+text_wants : (text : List ℕ) (vrps : Vrps) → IsVrpText text vrps → MayTextWantMemory text
+text_wants text vrps (inl (object, ((_, is, (_, _, _)), _))) = inl (object, is.0)
+text_wants text vrps (inr (csv, (rows, some))) = inr (csv, rows_begin usual (lines_of text) vrps rows some)
+
+pub file_wants : (file : List ℕ) (vrps : Vrps) → IsVrpFile file vrps → MayWantMemory file
+file_wants file vrps (text, is, are) = (text, is, text_wants text vrps are)

@@ -1,8 +1,16 @@
 -- A line writes one thing alone, or has one fault.
-use Rattle.roa_vrps.proofs.Common.{List, MatchResult, Result, Some, [], ap, arith, inl, inr, sym, ℕ, ◌-◌, ◌^◌, ◌∙◌, ◌≡◌}
+use Rattle.roa_vrps.proofs.Common.{List, MatchResult, Result, Err, Ok, Some, [], ap, arith, inl, inr, sym, ℕ, ◌-◌, ◌^◌}
+use Rattle.roa_vrps.proofs.Common.{◌∙◌, ◌≡◌}
+use Rattle.std.specs.Prelude.{Bool, IsTrue, not, true, false, ◌↔◌}
+use Rattle.std.proofs.Common.{refl}
 use Rattle.roa_vrps.proofs.Common.{◌≢◌, ◌⊎◌, IsUtf8, trim, HasMaxLenError, IsMaxLenOf, MaxLenValue, Answers, IsHeader}
 use Rattle.roa_vrps.proofs.Common.{AreVrpTexts, HasRowFault, HaveFault, IsBody, IsRow, Columns, VrpFault, Row, Vrp}
-use Rattle.roa_vrps.specs.Rows.{FitsColumns, HasCountFault, HaveColumnsFault}
+use Rattle.roa_vrps.specs.Rows.{AreFieldTexts, ArePairTexts, FitsColumns, HasCountFault, HaveColumnsFault}
+use Rattle.roa_vrps.specs.Rows.{HaveFieldsFault, IsUnknownHeader, WritesAsn, WritesPrefix}
+use Rattle.roa_vrps.specs.Fields.{field}
+use Rattle.rpki_text.specs.declared.number.ParseIntError.TheVariants.{Empty, InvalidDigit, PosOverflow}
+use Rattle.rpki_prefix.specs.PrefixText.{HasPrefixTextFault}
+use Rattle.rpki_prefix.specs.declared.error.ParsePrefixError.{ParsePrefixError}
 use Rattle.rpki_text.proofs.ReadingLemmas.{Answers-from_found}
 use Rattle.rpki_base.proofs.AsnLemmas.{IsAsnText-one}
 use Rattle.rpki_text.proofs.NumberTexts.{IsNumberText-one}
@@ -60,6 +68,73 @@ module _ (a p m : List ℕ) where
       ap MaxLen (max_error_one r k f g (rw (same, len) at wrong) other)
   have_one (MaxLen f) e h k = search (arith, IsPrefixText-no_fault)
 
+  -- so do the texts of three fields, of which the last may be empty
+  fields_one : (x y : MaxLenValue × ℕ) → AreFieldTexts a p m x → AreFieldTexts a p m y → x ≡ y
+  fields_one x y (inl h) (inl k) = vrp_one x y h k
+  fields_one x y (inl h) (inr (empty, k)) = absurd (number_apart m h.len Empty h.len_is empty)
+  fields_one x y (inr (empty, h)) (inl k) = absurd (number_apart m k.len Empty k.len_is empty)
+  fields_one x y (inr (_, h)) (inr (_, k)) =
+      let prefix = IsPrefixText-one p x.0.prefix y.0.prefix h.prefix_is k.prefix_is in
+      grind (arith, prefix, IsAsnText-one a x.1 y.1 h.asn_is k.asn_is)
+
+  plain_fault : (f : VrpFault) → HaveFieldsFault a p m f → HaveFault a p m f
+  plain_fault NotUtf8 h = h
+  plain_fault (TooManyFields found named) h = h
+  plain_fault (TooFewFields found needed) h = h
+  plain_fault (Asn f) h = h
+  plain_fault (Prefix f) h = h
+  plain_fault (MaxLenFormat f) h = h.1
+  plain_fault (MaxLen f) h = h
+
+  field_texts_apart : (x : MaxLenValue × ℕ) (f : VrpFault) → AreFieldTexts a p m x → HaveFieldsFault a p m f → ⊥
+  field_texts_apart x f (inl h) wrong = fields_apart x.0 x.1 f h (plain_fault f wrong)
+  field_texts_apart x (MaxLenFormat f) (inr (empty, h)) (some, (_, _, wrong)) =
+      some (same_number_fault m f Empty wrong empty)
+  field_texts_apart x (MaxLen f) (inr (empty, h)) (_, (q, n, _, number, _)) = number_apart m n Empty number empty
+  field_texts_apart x (Asn f) (inr (empty, h)) wrong = wrong x.1 h.asn_is
+  field_texts_apart x (Prefix f) (inr (empty, h)) (_, wrong) = IsPrefixText-no_fault p x.0.prefix f h.prefix_is wrong
+  field_texts_apart x NotUtf8 (inr (empty, h)) wrong = wrong
+  field_texts_apart x (TooManyFields found named) (inr (empty, h)) wrong = wrong
+  field_texts_apart x (TooFewFields found needed) (inr (empty, h)) wrong = wrong
+
+  fields_fault_one : (d e : VrpFault) → HaveFieldsFault a p m d → HaveFieldsFault a p m e → d ≡ e
+  fields_fault_one d e h k = have_one d e (plain_fault d h) (plain_fault e k)
+
+  -- what is found in two texts, or in three, is found in the fields
+  pub pair_found : (r : Result (MaxLenValue × ℕ) VrpFault) → m ≡ []
+      → MatchResult r (λ x. ArePairTexts a p x.0 x.1) (HaveFieldsFault a p [])
+      → MatchResult r (AreFieldTexts a p m) (HaveFieldsFault a p m)
+  pair_found (Ok x) empty is = inr (empty, is)
+  pair_found (Err f) empty wrong = rw empty wrong
+
+  some_fault : (f : VrpFault) → m ≢ [] → HaveFault a p m f → HaveFieldsFault a p m f
+  some_fault NotUtf8 some h = h
+  some_fault (TooManyFields found named) some h = h
+  some_fault (TooFewFields found needed) some h = h
+  some_fault (Asn f) some h = h
+  some_fault (Prefix f) some h = h
+  some_fault (MaxLenFormat Empty) some (_, _, empty) = absurd (some empty)
+  some_fault (MaxLenFormat InvalidDigit) some h = ((λ e. cc e), h)
+  some_fault (MaxLenFormat PosOverflow) some h = ((λ e. cc e), h)
+  some_fault (MaxLen f) some h = h
+
+  pub three_found : (r : Result (MaxLenValue × ℕ) VrpFault) → m ≢ []
+      → MatchResult r (λ x. AreVrpTexts a p m x.0 x.1) (HaveFault a p m)
+      → MatchResult r (AreFieldTexts a p m) (HaveFieldsFault a p m)
+  three_found (Ok x) some is = inl is
+  three_found (Err f) some wrong = some_fault f some wrong
+
+-- a text with a fault is no prefix
+pub no_prefix : (text : List ℕ) (f : ParsePrefixError) → HasPrefixTextFault text f → ¬ WritesPrefix text
+no_prefix text f wrong (q, is) = search (arith, IsPrefixText-no_fault)
+
+-- the tests of the first two fields decide whether a line is an unknown header
+pub header_tests : (line : List ℕ) (p : Bool) → IsBody line → ¬ WritesAsn (field 0 line)
+    → IsTrue p ↔ WritesPrefix (field 1 line) → IsTrue (not p) ↔ IsUnknownHeader line
+header_tests line true body none (to, from) = ((λ e. cc e), λ h. absurd (h.no_prefix (to refl)))
+header_tests line false body none (to, from) =
+    ((λ e. record { body = body; no_asn = none; no_prefix = λ w. cc (from w) }), λ h. refl)
+
 -- a line that is to write a VRP
 pub body_of : (line : List ℕ) → IsUtf8 line → trim line ≢ [] → ((next : Columns) → ¬ IsHeader line next) → IsBody line
 body_of line utf8 some_text no_header = record { utf8 = utf8; some_text = some_text; no_header = no_header }
@@ -89,15 +164,15 @@ module _ (columns : Columns) (line : List ℕ) where
   count_one d e h k = grind (arith)
 
   fails_one : (d e : VrpFault) → Fails d → Fails e → d ≡ e
-  fails_one d e h k = grind (arith, count_apart, count_one, have_one)
+  fails_one d e h k = grind (arith, count_apart, count_one, fields_fault_one)
 
   pub row_one : (x y : Row) → IsRow columns line x → IsRow columns line y → x ≡ y
-  row_one (Vrp p) (Vrp q) (_, _, h) (_, _, k) = ap Vrp (vrp_one _ _ _ p q h k)
+  row_one (Vrp p) (Vrp q) (_, _, h) (_, _, k) = ap Vrp (fields_one _ _ _ p q h k)
   row_one x y h k = grind (arith, header_one)
 
   body_apart : (x : Row) (f : VrpFault) → IsRow columns line x → IsBody line → Fails f → ⊥
   body_apart (Vrp p) f (_, fits, h) body wrong =
-      grind (arith, count_apart f fits, fields_apart _ _ _ p.0 p.1 f h)
+      grind (arith, count_apart f fits, field_texts_apart _ _ _ p f h)
   body_apart x f h body wrong = grind (arith)
 
   pub row_apart : (x : Row) (f : VrpFault) → IsRow columns line x → HasRowFault columns line f → ⊥

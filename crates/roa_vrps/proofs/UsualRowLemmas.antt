@@ -183,8 +183,11 @@ module _ (columns : Columns) (line : List ℕ) (vrp : MaxLenValue × ℕ) (count
         prefix = omega (arith, fields, allow.prefix);
         max_len = omega (arith, fields, allow.max_len);
       } in
-      let not_long : ¬ IsTooLong columns line = λ long. omega (arith, fields, allow.count long.0, long.1) in
-      (body, (not_long, columns_there), rw (allow.asn, allow.prefix, allow.max_len, first, second, third) h.texts)
+      let not_long : ¬ IsTooLong columns line = λ long. omega (arith, fields, allow.count long.0, long.1) in (
+        body,
+        (not_long, columns_there),
+        rw (allow.asn, allow.prefix, allow.max_len, first, second, third) (inl h.texts),
+      )
 
 -- and so is what is found in it, if anything
 pub usual_found : (columns : Columns) (line first second left : List ℕ) (asn : ℕ) (a : IpAddr) (n m count : ℕ)

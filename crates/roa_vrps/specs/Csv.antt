@@ -3,10 +3,11 @@ use Rattle.std.specs.Prelude.{◌≡◌, ◌≢◌, ◌⊎◌, ℕ, ◌+◌, Lis
 use Rattle.rpki_prefix.specs.MaxLen.{MaxLenValue}
 use Rattle.rpki_text.specs.Lines.{lines_of}
 use Rattle.roa_vrps.specs.Columns.{usual}
-use Rattle.roa_vrps.specs.Rows.{IsRow, HasRowFault}
+use Rattle.roa_vrps.specs.Rows.{IsRow, IsUnknownHeader, HasRowFault}
 use Rattle.roa_vrps.specs.declared.columns.Columns.{Columns}
 use Rattle.roa_vrps.specs.declared.fault.FileFault.{FileFault}
-use Rattle.roa_vrps.specs.declared.fault.FileFault.TheVariants.{Line, NoVrp, JsonArray, NotObject, Roas, Item}
+use Rattle.roa_vrps.specs.declared.fault.FileFault.TheVariants.{Line, UnknownHeader, NoVrp, JsonArray, NotObject, Roas}
+use Rattle.roa_vrps.specs.declared.fault.FileFault.TheVariants.{Item}
 use Rattle.roa_vrps.specs.declared.fault.VrpFault.{VrpFault}
 use Rattle.roa_vrps.specs.declared.row.Row.{Row}
 use Rattle.roa_vrps.specs.declared.row.Row.TheVariants.{Blank, Header, Vrp}
@@ -41,11 +42,22 @@ HaveFirstFault number columns (line ∷ lines) fault =
 abbrev pub IsCsvFile : List ℕ → List (MaxLenValue × ℕ) → Type 0
 IsCsvFile text vrps = AreRows usual (lines_of text) vrps × (vrps ≢ [])
 
+-- the first line of the text is meant to name columns, and names none that are known
+abbrev pub HasUnknownHeader : List ℕ → Type 0
+HasUnknownHeader text =
+    (line : List ℕ) × (lines : List (List ℕ)) × (lines_of text ≡ line ∷ lines) × IsUnknownHeader line
+
 -- a line is invalid (the first line has number 1), or no line has a VRP
+abbrev pub HasLineFault : List ℕ → FileFault → Type 0
+HasLineFault text (Line number wrong) = HaveFirstFault 1 usual (lines_of text) (Line number wrong)
+HasLineFault text UnknownHeader = ⊥
+HasLineFault text NoVrp = AreRows usual (lines_of text) []
+HasLineFault text JsonArray = ⊥
+HasLineFault text NotObject = ⊥
+HasLineFault text (Roas wrong) = ⊥
+HasLineFault text (Item place wrong) = ⊥
+
+-- the first line is an unknown header, or else the fault of the lines
 abbrev pub HasCsvFault : List ℕ → FileFault → Type 0
-HasCsvFault text (Line number wrong) = HaveFirstFault 1 usual (lines_of text) (Line number wrong)
-HasCsvFault text NoVrp = AreRows usual (lines_of text) []
-HasCsvFault text JsonArray = ⊥
-HasCsvFault text NotObject = ⊥
-HasCsvFault text (Roas wrong) = ⊥
-HasCsvFault text (Item place wrong) = ⊥
+HasCsvFault text fault =
+    (HasUnknownHeader text × (fault ≡ UnknownHeader)) ⊎ ((¬ HasUnknownHeader text) × HasLineFault text fault)

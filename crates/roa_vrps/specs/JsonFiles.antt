@@ -6,7 +6,8 @@ use Rattle.rpki_prefix.specs.MaxLen.{MaxLenValue}
 use Rattle.roa_vrps.specs.Items.{AreItems, HaveWrongItem}
 use Rattle.roa_vrps.specs.Members.{values_in, AreWrong}
 use Rattle.roa_vrps.specs.declared.fault.FileFault.{FileFault}
-use Rattle.roa_vrps.specs.declared.fault.FileFault.TheVariants.{Line, NoVrp, JsonArray, NotObject, Roas, Item}
+use Rattle.roa_vrps.specs.declared.fault.FileFault.TheVariants.{Line, UnknownHeader, NoVrp, JsonArray, NotObject, Roas}
+use Rattle.roa_vrps.specs.declared.fault.FileFault.TheVariants.{Item}
 
 -- the text is UTF-8 and a JSON text, and its value is an object of these members (RFC 8259, 2 and 4)
 abbrev pub IsJsonObject : List ℕ → Members → Type 0
@@ -23,6 +24,7 @@ WriteRoas values vrps = (items : Items) × (values ≡ array items ∷ []) × Ar
 -- the values of `roas` are not a single array, or one of its items is invalid (the first item has number 1)
 abbrev pub HaveRoasFault : List Json → FileFault → Type 0
 HaveRoasFault values (Line number wrong) = ⊥
+HaveRoasFault values UnknownHeader = ⊥
 HaveRoasFault values NoVrp = ⊥
 HaveRoasFault values JsonArray = ⊥
 HaveRoasFault values NotObject = ⊥
@@ -42,6 +44,7 @@ IsJsonFile text vrps =
 -- the text is no JSON object, or its member `roas` is invalid or has no items
 abbrev pub HasJsonFault : List ℕ → FileFault → Type 0
 HasJsonFault text (Line number wrong) = ⊥
+HasJsonFault text UnknownHeader = ⊥
 HasJsonFault text NoVrp = (members : Members) × IsJsonObject text members × WriteRoas (values_in roas members) []
 HasJsonFault text JsonArray = ⊥
 HasJsonFault text NotObject = (members : Members) → ¬ IsJsonObject text members

@@ -1,7 +1,8 @@
 -- The content of a line of a CSV file: blank, names of columns, or a VRP.
-use Rattle.std.specs.Prelude.{◌≡◌, ◌≢◌, ℕ, ◌<◌, ◌-◌, ◌^◌, List, [], Some, true}
+use Rattle.std.specs.Prelude.{◌≡◌, ◌≢◌, ◌⊎◌, ℕ, ◌<◌, ◌-◌, ◌^◌, List, [], Some, true}
 use Rattle.std.specs.Str.{IsUtf8, trim}
 use Rattle.rpki_text.specs.Numbers.{IsNumberText, HasNumberFault}
+use Rattle.rpki_text.specs.declared.number.ParseIntError.TheVariants.{Empty}
 use Rattle.rpki_base.specs.AsnText.{IsAsnText}
 use Rattle.rpki_prefix.specs.MaxLen.{MaxLenValue, IsMaxLenOf, HasMaxLenError}
 use Rattle.rpki_prefix.specs.PrefixText.{IsPrefixText, HasPrefixTextFault}
@@ -24,6 +25,19 @@ pub record AreVrpTexts (asn_text prefix_text max_text : List ℕ) (prefix : MaxL
   pub len_is : IsNumberText (2 ^ 8 - 1) max_text len
   pub within : IsMaxLenOf prefix.prefix (Some len)
 
+-- Two texts denote an AS number and a prefix. The maximum length of the prefix is its own length, as in a ROA without a
+-- maximum length (RFC 9582, 4.3.2.2).
+pub record ArePairTexts (asn_text prefix_text : List ℕ) (prefix : MaxLenValue) (asn : ℕ) : Type 0 where
+  pub asn_is : IsAsnText asn_text asn
+  pub prefix_is : IsPrefixText prefix_text prefix.prefix
+  pub max_len : prefix.max_len ≡ Some prefix.prefix.len
+
+-- the texts of three fields denote this VRP; an empty maximum length is the length of the prefix
+abbrev pub AreFieldTexts : List ℕ → List ℕ → List ℕ → MaxLenValue × ℕ → Type 0
+AreFieldTexts asn_text prefix_text max_text vrp =
+    AreVrpTexts asn_text prefix_text max_text vrp.0 vrp.1
+    ⊎ ((max_text ≡ []) × ArePairTexts asn_text prefix_text vrp.0 vrp.1)
+
 -- the text is an AS number
 abbrev pub WritesAsn : List ℕ → Type 0
 WritesAsn text = (n : ℕ) × IsAsnText text n
@@ -36,7 +50,7 @@ WritesPrefix text = (p : FamilyPrefix) × IsPrefixText text p
 abbrev pub HaveFault : List ℕ → List ℕ → List ℕ → VrpFault → Type 0
 HaveFault asn_text prefix_text max_text NotUtf8 = ⊥
 HaveFault asn_text prefix_text max_text (TooManyFields found named) = ⊥
-HaveFault asn_text prefix_text max_text (TooFewFields found named) = ⊥
+HaveFault asn_text prefix_text max_text (TooFewFields found needed) = ⊥
 HaveFault asn_text prefix_text max_text (Asn f) = (n : ℕ) → ¬ IsAsnText asn_text n
 HaveFault asn_text prefix_text max_text (Prefix f) = WritesAsn asn_text × HasPrefixTextFault prefix_text f
 HaveFault asn_text prefix_text max_text (MaxLenFormat f) =
@@ -45,6 +59,17 @@ HaveFault asn_text prefix_text max_text (MaxLen f) =
     WritesAsn asn_text
     × ((p : FamilyPrefix) × (len : ℕ) × IsPrefixText prefix_text p × IsNumberText (2 ^ 8 - 1) max_text len
     × HasMaxLenError p (Some len) f)
+
+-- the first fault of the texts of three fields; that the maximum length is empty is no fault
+abbrev pub HaveFieldsFault : List ℕ → List ℕ → List ℕ → VrpFault → Type 0
+HaveFieldsFault asn_text prefix_text max_text NotUtf8 = ⊥
+HaveFieldsFault asn_text prefix_text max_text (TooManyFields found named) = ⊥
+HaveFieldsFault asn_text prefix_text max_text (TooFewFields found needed) = ⊥
+HaveFieldsFault asn_text prefix_text max_text (Asn f) = HaveFault asn_text prefix_text max_text (Asn f)
+HaveFieldsFault asn_text prefix_text max_text (Prefix f) = HaveFault asn_text prefix_text max_text (Prefix f)
+HaveFieldsFault asn_text prefix_text max_text (MaxLenFormat f) =
+    (f ≢ Empty) × HaveFault asn_text prefix_text max_text (MaxLenFormat f)
+HaveFieldsFault asn_text prefix_text max_text (MaxLen f) = HaveFault asn_text prefix_text max_text (MaxLen f)
 
 -- the line must be a VRP: it is UTF-8 and not blank, and doesn't name the columns
 pub record IsBody (line : List ℕ) : Type 0 where
@@ -66,13 +91,13 @@ pub record HasColumns (columns : Columns) (line : List ℕ) : Type 0 where
 abbrev pub FitsColumns : Columns → List ℕ → Type 0
 FitsColumns columns line = (¬ IsTooLong columns line) × HasColumns columns line
 
--- the fault of the number of a line's fields, with its number of fields and the number of columns
+-- the fault of the number of a line's fields, with this number and the number of columns, or of fields that it needs
 abbrev pub HasCountFault : Columns → List ℕ → VrpFault → Type 0
 HasCountFault columns line NotUtf8 = ⊥
 HasCountFault columns line (TooManyFields found named) =
     IsTooLong columns line × (found ≡ field_count line) × (named ≡ columns.count)
-HasCountFault columns line (TooFewFields found named) =
-    (¬ IsTooLong columns line) × (¬ HasColumns columns line) × (found ≡ field_count line) × (named ≡ columns.count)
+HasCountFault columns line (TooFewFields found needed) =
+    (¬ IsTooLong columns line) × (¬ HasColumns columns line) × (found ≡ field_count line) × (needed ≡ columns.needed)
 HasCountFault columns line (Asn f) = ⊥
 HasCountFault columns line (Prefix f) = ⊥
 HasCountFault columns line (MaxLenFormat f) = ⊥
@@ -81,12 +106,12 @@ HasCountFault columns line (MaxLen f) = ⊥
 -- the texts in the three columns of a line denote this VRP
 abbrev pub AreColumns : Columns → List ℕ → MaxLenValue × ℕ → Type 0
 AreColumns columns line vrp =
-    AreVrpTexts (field columns.asn line) (field columns.prefix line) (field columns.max_len line) vrp.0 vrp.1
+    AreFieldTexts (field columns.asn line) (field columns.prefix line) (field columns.max_len line) vrp
 
 -- the first fault of the texts in the three columns of a line
 abbrev pub HaveColumnsFault : Columns → List ℕ → VrpFault → Type 0
 HaveColumnsFault columns line fault =
-    HaveFault (field columns.asn line) (field columns.prefix line) (field columns.max_len line) fault
+    HaveFieldsFault (field columns.asn line) (field columns.prefix line) (field columns.max_len line) fault
 
 -- the content of a line: blank, the names of columns, or a VRP
 abbrev pub IsRow : Columns → List ℕ → Row → Type 0
@@ -99,10 +124,17 @@ abbrev pub HasRowFault : Columns → List ℕ → VrpFault → Type 0
 HasRowFault columns line NotUtf8 = ¬ IsUtf8 line
 HasRowFault columns line (TooManyFields found named) =
     IsBody line × HasCountFault columns line (TooManyFields found named)
-HasRowFault columns line (TooFewFields found named) =
-    IsBody line × HasCountFault columns line (TooFewFields found named)
+HasRowFault columns line (TooFewFields found needed) =
+    IsBody line × HasCountFault columns line (TooFewFields found needed)
 HasRowFault columns line (Asn f) = IsBody line × FitsColumns columns line × HaveColumnsFault columns line (Asn f)
 HasRowFault columns line (Prefix f) = IsBody line × FitsColumns columns line × HaveColumnsFault columns line (Prefix f)
 HasRowFault columns line (MaxLenFormat f) =
     IsBody line × FitsColumns columns line × HaveColumnsFault columns line (MaxLenFormat f)
 HasRowFault columns line (MaxLen f) = IsBody line × FitsColumns columns line × HaveColumnsFault columns line (MaxLen f)
+
+-- The line is meant to name columns, and names none that are known: it must be a VRP, but its first field is no AS
+-- number, and its second field is no prefix.
+pub record IsUnknownHeader (line : List ℕ) : Type 0 where
+  pub body : IsBody line
+  pub no_asn : ¬ WritesAsn (field 0 line)
+  pub no_prefix : ¬ WritesPrefix (field 1 line)

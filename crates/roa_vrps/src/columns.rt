@@ -1,5 +1,5 @@
 //! The columns of a CSV file.
-ghost use Rattle.std.specs.Prelude.{◌↔◌, ℕ, IsTrue, MatchOption};
+ghost use Rattle.std.specs.Prelude.{◌↔◌, ◌<◌, ℕ, IfSome, IsTrue, MatchOption, length};
 ghost use Rattle.roa_vrps.specs.Columns.{IsColumn, IsHeader, Names};
 ghost use Rattle.roa_vrps.specs.Fields.{field};
 
@@ -32,8 +32,9 @@ impl Column {
     /// Returns the index of the first field of `line` that is a name of the column, or None if no field is.
     #[tactic(auto, using(crate::proofs::ColumnLemmas::looked_none, crate::proofs::ColumnLemmas::looked_more, crate::proofs::ColumnLemmas::looked_found))]
     fn place(self, line: &str) -> Option<usize>
-        ensures { MatchOption result ((n : ℕ) → ¬ Names self (field n line.now))
+        ensures found { MatchOption result ((n : ℕ) → ¬ Names self (field n line.now))
             (IsColumn self line.now) }
+        ensures within { IfSome result (λ n. n < length line.now) }
     {
         let mut rest = line;
         let mut commas = 0;
@@ -60,6 +61,8 @@ pub struct Columns {
     pub max_len: usize,
     /// The number of columns.
     pub count: usize,
+    /// The number of fields that a line with a VRP needs to have a field in each of the three columns.
+    pub needed: usize,
     /// Whether a line has named the columns. A later line with a VRP then has at most `count` fields.
     pub is_named: bool,
 }
@@ -71,6 +74,7 @@ impl Columns {
         prefix: 1,
         max_len: 2,
         count: 3,
+        needed: 3,
         is_named: false,
     };
 
@@ -87,6 +91,7 @@ impl Columns {
             prefix,
             max_len,
             count: field_count(line),
+            needed: asn.max(prefix).max(max_len) + 1,
             is_named: true,
         })
     }

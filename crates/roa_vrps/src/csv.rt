@@ -1,12 +1,12 @@
 //! CSV files of VRPs.
-ghost use Rattle.std.specs.Prelude.{MatchResult};
+ghost use Rattle.std.specs.Prelude.{◌↔◌, IsTrue, MatchResult};
 ghost use Rattle.rpki_text.specs.Memory.{MatchOrMemory};
 ghost use Rattle.roa_vrps.specs.Asking.{HasCsvVrp};
-ghost use Rattle.roa_vrps.specs.Csv.{IsCsvFile, HasCsvFault};
+ghost use Rattle.roa_vrps.specs.Csv.{IsCsvFile, HasCsvFault, HasLineFault, HasUnknownHeader};
 
 use crate::columns::Columns;
 use crate::fault::FileFault;
-use crate::row::{Row, read_row};
+use crate::row::{Row, is_unknown_header, read_row};
 use crate::vrp::Vrp;
 use rpki_base::memory::OrMemory;
 use rpki_text::line::cut_at_line_end;
@@ -16,15 +16,38 @@ use std::alloc::Allocator;
 ///
 /// # Errors
 ///
-/// - `Refused` with [`FileFault::Line`] for the first invalid line, or with [`FileFault::NoVrp`] if no line has a VRP.
+/// - `Refused` with [`FileFault::UnknownHeader`] if the first line is meant to be a header and is none that is known.
+///   Else it has [`FileFault::Line`] for the first invalid line, or [`FileFault::NoVrp`] if no line has a VRP.
 /// - `Memory` if an allocation fails.
-#[tactic(auto, using(crate::proofs::CsvLemmas::read_none, crate::proofs::CsvLemmas::read_more, crate::proofs::CsvLemmas::read_no_vrp, crate::proofs::CsvLemmas::read_wrong, crate::proofs::CsvLemmas::read_wanting))]
 pub(crate) fn read_csv<A: Allocator>(
     alloc: A,
     text: &[u8],
 ) -> Result<Vec<Vrp, A>, OrMemory<FileFault>>
     ensures { MatchResult result (λ vrps. IsCsvFile text.now vrps.items)
         (λ error. MatchOrMemory error (HasCsvFault text.now) (HasCsvVrp text.now)) }
+{
+    if has_unknown_header(text) {
+        return Err(OrMemory::Refused(FileFault::UnknownHeader));
+    }
+    read_lines(alloc, text)
+}
+
+/// Returns whether the first line is meant to be a header, and is none that is known.
+fn has_unknown_header(text: &[u8]) -> bool
+    ensures { IsTrue result ↔ HasUnknownHeader text.now }
+{
+    if text.is_empty() {
+        return false;
+    }
+    let (line, _) = cut_at_line_end(text);
+    is_unknown_header(line)
+}
+
+/// Returns the VRPs of the lines, in their order, or the fault of the first invalid line, or that no line has a VRP.
+#[tactic(auto, using(crate::proofs::CsvLemmas::read_none, crate::proofs::CsvLemmas::read_more, crate::proofs::CsvLemmas::read_no_vrp, crate::proofs::CsvLemmas::read_wrong, crate::proofs::CsvLemmas::read_wanting))]
+fn read_lines<A: Allocator>(alloc: A, text: &[u8]) -> Result<Vec<Vrp, A>, OrMemory<FileFault>>
+    ensures { MatchResult result (λ vrps. IsCsvFile text.now vrps.items)
+        (λ error. MatchOrMemory error (HasLineFault text.now) (HasCsvVrp text.now)) }
 {
     let mut vrps = Vec::new(alloc);
     let mut columns = Columns::USUAL;

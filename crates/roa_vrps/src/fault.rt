@@ -20,8 +20,8 @@ pub enum VrpFault {
     #[error("too many fields: {0}, but the header names {1}")]
     TooManyFields(usize, usize),
     /// The line lacks a field in one of the three columns. The values are its number of fields, and the number of
-    /// columns.
-    #[error("too few fields: {0} of {1}")]
+    /// fields that it needs for a field in each of them.
+    #[error("too few fields: {0}, but at least {1} are needed")]
     TooFewFields(usize, usize),
     /// The text of the AS number is not an AS number.
     #[error("{0}")]
@@ -29,7 +29,7 @@ pub enum VrpFault {
     /// The text of the prefix is not a prefix.
     #[error("invalid prefix: {0}")]
     Prefix(ParsePrefixError),
-    /// The text of the maximum length is not a number of 8 bits.
+    /// The text of the maximum length is not a number of 8 bits. In CSV it is not empty either.
     #[error("invalid max length: {0}")]
     MaxLenFormat(ParseIntError),
     /// The number is not a maximum length of the prefix: it is below the prefix length, or above the family's number of
@@ -109,6 +109,10 @@ pub enum FileFault {
     /// The first invalid line of a CSV file: its number, counted from 1, and its first fault.
     #[error("line {0}: {1}")]
     Line(usize, VrpFault),
+    /// The first line of a CSV file is neither blank nor a known header, its first field is not an AS number, and its
+    /// second field is not a prefix.
+    #[error("line 1: neither a known header nor a VRP (AS number, prefix, maximum length)")]
+    UnknownHeader,
     /// The text opens a JSON array.
     #[error("a JSON array, where an object with the member roas is expected")]
     JsonArray,

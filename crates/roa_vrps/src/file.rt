@@ -27,10 +27,12 @@ use std::alloc::Allocator;
 /// Any other file is CSV, except one whose first such octet is `[`. A line is blank, or names the columns, or is a VRP:
 /// an AS number, a prefix and a maximum length. These are the first three fields of a line. If an earlier line names
 /// the columns, they are the fields in the columns that the last such line names. A line then has no more fields than
-/// that line.
+/// that line. An empty maximum length is the length of the prefix, as in a ROA without one (RFC 9582, 4.3.2.2).
 ///
 /// # Errors
 ///
+/// - [`FileFault::UnknownHeader`]: the first line is neither blank nor a known header, its first field is not an AS
+///   number, and its second field is not a prefix.
 /// - [`FileFault::Line`]: the first invalid line, by its number, from 1, and its first fault.
 /// - [`FileFault::Item`]: the first invalid item of `roas`, by its number, from 1, and its first fault.
 /// - [`FileFault::JsonArray`]: the text opens an array.

@@ -1,7 +1,7 @@
 //! A line of a CSV file.
 ghost use Rattle.rpki_text.specs.Reading.{Answers};
-ghost use Rattle.roa_vrps.specs.Rows.{AreColumns, AreVrpTexts, FitsColumns, HasCountFault, HasRowFault, HaveColumnsFault, HaveFault, IsRow};
-ghost use Rattle.std.specs.Prelude.{◌≡◌, ◌↔◌, [], IsTrue, MatchResult};
+ghost use Rattle.roa_vrps.specs.Rows.{AreColumns, AreFieldTexts, ArePairTexts, AreVrpTexts, FitsColumns, HasCountFault, HasRowFault, HaveColumnsFault, HaveFault, HaveFieldsFault, IsBody, IsRow, IsUnknownHeader, WritesAsn, WritesPrefix};
+ghost use Rattle.std.specs.Prelude.{◌≡◌, ◌↔◌, [], IsTrue, MatchOption, MatchResult};
 ghost use Rattle.std.specs.Str.{trim};
 
 use crate::columns::Columns;
@@ -32,7 +32,7 @@ pub enum Row {
 ///   one between quotes.
 ///
 /// A line with a VRP has a field in each of the three columns. It has no more fields than the line that names the
-/// columns, if there is one. Fields in other columns are ignored.
+/// columns, if there is one. Fields in other columns are ignored. An empty maximum length is the length of the prefix.
 ///
 /// # Errors
 ///
@@ -85,7 +85,7 @@ fn check_count(columns: Columns, line: &str) -> Result<(), VrpFault>
     if columns.asn < count && columns.prefix < count && columns.max_len < count {
         Ok(())
     } else {
-        Err(VrpFault::TooFewFields(count, columns.count))
+        Err(VrpFault::TooFewFields(count, columns.needed))
     }
 }
 
@@ -97,7 +97,19 @@ fn read_columns(columns: Columns, line: &str) -> Result<Vrp, VrpFault>
     let asn = field_at(line, columns.asn);
     let prefix = field_at(line, columns.prefix);
     let max_len = field_at(line, columns.max_len);
-    read_fields(asn, prefix, max_len)
+    read_row_fields(asn, prefix, max_len)
+}
+
+/// Returns the VRP that the texts of three fields give, or their first fault.
+fn read_row_fields(asn: &str, prefix: &str, max_len: &str) -> Result<Vrp, VrpFault>
+    ensures { MatchResult result (AreFieldTexts asn.now prefix.now max_len.now)
+        (HaveFieldsFault asn.now prefix.now max_len.now) }
+{
+    if max_len.is_empty() {
+        read_pair(asn, prefix)
+    } else {
+        read_fields(asn, prefix, max_len)
+    }
 }
 
 /// Returns whether a line is only white space.
@@ -117,4 +129,59 @@ pub(crate) fn read_fields(asn: &str, prefix: &str, max_len: &str) -> Result<Vrp,
     let len = parse_u8(max_len)?;
     let prefix = MaxLenPrefix::new(prefix, Some(len))?;
     Ok((prefix, asn))
+}
+
+/// Returns the VRP of an AS number and a prefix without a maximum length, or their first fault.
+fn read_pair(asn: &str, prefix: &str) -> Result<Vrp, VrpFault>
+    ensures { MatchResult result (λ x. ArePairTexts asn.now prefix.now x.0 x.1)
+        (HaveFieldsFault asn.now prefix.now []) }
+{
+    let asn = Asn::from_str(asn)?;
+    let whole = Prefix::from_str(prefix)?;
+    Ok((MaxLenPrefix::saturating_new(whole, Some(whole.len())), asn))
+}
+
+/// Returns whether a line is meant to be a header, and is none that is known.
+pub(crate) fn is_unknown_header(line: &[u8]) -> bool
+    ensures { IsTrue result ↔ IsUnknownHeader line.now }
+{
+    match body_of(line) {
+        Some(text) => !is_asn(field_at(text, 0)) && !is_prefix(field_at(text, 1)),
+        None => false,
+    }
+}
+
+/// Returns the text of a line that must be a VRP, or None for any other line.
+#[tactic(auto, using(crate::proofs::RowLemmas::body_of))]
+fn body_of(line: &[u8]) -> Option<&str>
+    ensures { MatchOption result (¬ IsBody line.now) (λ text. IsBody line.now × (text.now ≡ line.now)) }
+{
+    let Ok(text) = str::from_utf8(line) else {
+        return None;
+    };
+    if is_blank(text) {
+        return None;
+    }
+    match Columns::named_by(text) {
+        Some(_) => None,
+        None => Some(text),
+    }
+}
+
+/// Returns whether `text` is an AS number.
+fn is_asn(text: &str) -> bool
+    ensures { IsTrue result ↔ WritesAsn text.now }
+{
+    match Asn::from_str(text) {
+        Ok(_) => true,
+        Err(_) => false,
+    }
+}
+
+/// Returns whether `text` is a prefix.
+#[tactic(auto, using(crate::proofs::RowLemmas::no_prefix))]
+fn is_prefix(text: &str) -> bool
+    ensures { IsTrue result ↔ WritesPrefix text.now }
+{
+    Prefix::from_str(text).is_ok()
 }

@@ -1,7 +1,7 @@
-use Rattle.roa_expiry.proofs.FileLemmas.{some_dated}
+use Rattle.roa_expiry.proofs.OutcomeLemmas.{expiries_answer}
 use Rattle.roa_expiry.proofs.file.read_expiries.Goals as goal
 
-pub returns : goal.returns
-returns g c =
-    some_dated c.args.text.now c.in_ok-_vrps._vrps.items c.read_dates.result
-    (c.read_dates.ensures c.in_ok-_vrps._vrps.items c.in_ok-_vrps.ensures)
+pub returns-clause-answers : goal.returns-clause-answers
+returns-clause-answers g c =
+    expiries_answer c.args.text.now (λ expiries. expiries.items) c.read_expiries_matched.result
+    c.read_expiries_matched.ensures.found

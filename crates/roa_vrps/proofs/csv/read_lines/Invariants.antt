@@ -1,7 +1,7 @@
 -- The lines before the rest are read, and there are no more of them than octets.
 use Rattle.roa_vrps.proofs.Common.{length, ◌+◌, ◌≤◌}
 use Rattle.roa_vrps.proofs.CsvLemmas.{IsReadSo}
-use Rattle.roa_vrps.proofs.csv.read_csv.Given as goal
+use Rattle.roa_vrps.proofs.csv.read_lines.Given as goal
 
 abbrev pub invariant-loop-rest : goal.invariant-loop-rest
 invariant-loop-rest g l = record {

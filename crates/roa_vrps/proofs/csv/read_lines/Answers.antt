@@ -1,6 +1,6 @@
 use Rattle.roa_vrps.proofs.Common.{arith, refl, eqb-false, eqb-true, nil_from_length, Header, Vrp}
 use Rattle.roa_vrps.proofs.CsvLemmas.{read_more, read_over, read_some}
-use Rattle.roa_vrps.proofs.csv.read_csv.Goals as goal
+use Rattle.roa_vrps.proofs.csv.read_lines.Goals as goal
 
 -- a VRP more
 pub loop-rest-preserved-in_ok-push-in-Ok-Vrp :

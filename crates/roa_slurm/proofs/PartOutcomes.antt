@@ -1,0 +1,202 @@
+-- The members of an item of a SLURM file say one thing, or have one fault.
+use Rattle.std.proofs.Common.{List, None, Option, Some, [], ap, arith, inl, inr, refl, sym, ℕ, ◌-◌, ◌^◌, ◌∙◌, ◌≡◌, ◌≢◌}
+use Rattle.std.proofs.Common.{◌⊎◌}
+use Rattle.rpki_base.proofs.AsnLemmas.{IsAsnText-one}
+use Rattle.rpki_base.specs.declared.asn.ParseAsnError.{ParseAsnError}
+use Rattle.rpki_prefix.proofs.PrefixTextLemmas.{HasPrefixTextFault-one, IsPrefixText-no_fault, IsPrefixText-one}
+use Rattle.rpki_prefix.proofs.PrefixTextLemmas.{number_apart, same_number_fault}
+use Rattle.rpki_prefix.specs.MaxLen.{HasMaxLenError, IsMaxLenOf}
+use Rattle.rpki_prefix.specs.declared.error.MaxLenError.{MaxLenError}
+use Rattle.rpki_text.proofs.NumberTexts.{IsNumberText-one}
+use Rattle.roa_vrps.proofs.MemberLemmas.{wrong_apart, wrong_one}
+use Rattle.json.specs.Json.{Json, Members, number, string}
+use Rattle.roa_slurm.proofs.Common.{FamilyPrefix, HasValue, IsString, Lacks, GivesAsn, HasAsnMemberFault, HasLongest}
+use Rattle.roa_slurm.proofs.Common.{HasLongestFault, HasOptionalFault, HasOptionalText, GivesPrefix}
+use Rattle.roa_slurm.proofs.Common.{HasPrefixMemberFault, HasRequiredText, HasRequiredTextFault, IsMissing}
+use Rattle.roa_slurm.proofs.Common.{SlurmItemFault, SlurmMember}
+use Rattle.roa_slurm.specs.Objects.{IsNumber}
+use Rattle.roa_slurm.specs.Parts.{HasMaxLengthFault}
+use Rattle.roa_slurm.specs.declared.member.SlurmMember.TheVariants.{Asn, MaxPrefixLength, Prefix}
+use Rattle.roa_slurm.specs.declared.fault.SlurmItemFault.TheVariants.{InvalidAsn, InvalidPrefix, MaxLen, MaxLenFormat}
+
+module _ (part : SlurmMember) (members : Members) where
+  -- a member of a kind, or none, has no fault
+  lacking_apart : (IsKind : Json → Type 0) (f : SlurmItemFault) → Lacks part members
+      → HasOptionalFault part IsKind members f → ⊥
+  lacking_apart IsKind f lacks (wrong, some, is, _) = grind (arith)
+
+  value_apart : (IsKind : Json → Type 0) (f : SlurmItemFault) (value : Json) → HasValue part members value
+      → IsKind value → HasOptionalFault part IsKind members f → ⊥
+  value_apart IsKind f value has kind (wrong, _, is, _) = wrong_apart IsKind _ value wrong has kind is
+
+  optional_fault_one : (IsKind : Json → Type 0) (d e : SlurmItemFault) → HasOptionalFault part IsKind members d
+      → HasOptionalFault part IsKind members e → d ≡ e
+  optional_fault_one IsKind d e (wrong, _, is, same) (other, _, iz, equal) =
+      rw (same, equal, wrong_one IsKind _ wrong other is iz) refl
+
+  pub optional_apart : (f : SlurmItemFault) → HasOptionalText part members
+      → HasOptionalFault part IsString members f → ⊥
+  optional_apart f (inl lacks) wrong = lacking_apart IsString f lacks wrong
+  optional_apart f (inr (text, has)) wrong = value_apart IsString f (string text) has (text, refl) wrong
+
+  pub text_fault_one : (d e : SlurmItemFault) → HasOptionalFault part IsString members d
+      → HasOptionalFault part IsString members e → d ≡ e
+  text_fault_one d e h k = optional_fault_one IsString d e h k
+
+  pub required_apart : (f : SlurmItemFault) → HasRequiredText part members → HasRequiredTextFault part members f → ⊥
+  required_apart f (text, has) (wrong, is, _) = wrong_apart IsString _ (string text) wrong has (text, refl) is
+
+  pub required_fault_one : (d e : SlurmItemFault) → HasRequiredTextFault part members d
+      → HasRequiredTextFault part members e → d ≡ e
+  required_fault_one d e (wrong, is, same) (other, iz, equal) =
+      rw (same, equal, wrong_one IsString _ wrong other is iz) refl
+
+  -- a member has one text
+  same_string : (s t : List ℕ) → HasValue part members (string s) → HasValue part members (string t) → s ≡ t
+  same_string s t h k = cc
+
+  same_number : (s t : List ℕ) → HasValue part members (number s) → HasValue part members (number t) → s ≡ t
+  same_number s t h k = cc
+
+  lacks_no_value : (value : Json) → Lacks part members → HasValue part members value → ⊥
+  lacks_no_value value h k = cc (sym h ∙ k)
+
+asn_error_one : (a b : ParseAsnError) → a ≡ b
+asn_error_one a b = search (arith)
+
+max_error_apart : (p : FamilyPrefix) (n : ℕ) (f : MaxLenError) → IsMaxLenOf p (Some n) → HasMaxLenError p (Some n) f → ⊥
+max_error_apart p n f h above = grind (arith)
+
+max_error_one : (p : FamilyPrefix) (n : ℕ) (f g : MaxLenError) → HasMaxLenError p (Some n) f
+    → HasMaxLenError p (Some n) g → f ≡ g
+max_error_one p n f g h k = grind (arith)
+
+module _ (members : Members) where
+  -- ---- the prefix
+
+  pub prefix_one : (a b : Option FamilyPrefix) → GivesPrefix members a → GivesPrefix members b → a ≡ b
+  prefix_one None None h k = refl
+  prefix_one None (Some q) h (t, has, _) = absurd (lacks_no_value Prefix members (string t) h has)
+  prefix_one (Some p) None (s, has, _) k = absurd (lacks_no_value Prefix members (string s) k has)
+  prefix_one (Some p) (Some q) (s, has, is) (t, haz, iz) =
+      ap Some (IsPrefixText-one t p q (rw (same_string Prefix members s t has haz) at is) iz)
+
+  pub prefix_apart : (a : Option FamilyPrefix) (f : SlurmItemFault) → GivesPrefix members a
+      → HasPrefixMemberFault members f → ⊥
+  prefix_apart None f h (inl wrong) = lacking_apart Prefix members IsString f h wrong
+  prefix_apart None f h (inr (t, has, _, _, _)) = lacks_no_value Prefix members (string t) h has
+  prefix_apart (Some p) f (s, has, is) (inl wrong) =
+      value_apart Prefix members IsString f (string s) has (s, refl) wrong
+  prefix_apart (Some p) f (s, has, is) (inr (t, haz, wrong, fails, _)) =
+      IsPrefixText-no_fault t p wrong (rw (same_string Prefix members s t has haz) at is) fails
+
+  pub prefix_fault_one : (d e : SlurmItemFault) → HasPrefixMemberFault members d → HasPrefixMemberFault members e
+      → d ≡ e
+  prefix_fault_one d e (inl h) (inl k) = optional_fault_one Prefix members IsString d e h k
+  prefix_fault_one d e (inl h) (inr (t, has, _, _, _)) =
+      absurd (value_apart Prefix members IsString d (string t) has (t, refl) h)
+  prefix_fault_one d e (inr (s, has, _, _, _)) (inl k) =
+      absurd (value_apart Prefix members IsString e (string s) has (s, refl) k)
+  prefix_fault_one d e (inr (s, has, f, fails, same)) (inr (t, haz, g, failz, equal)) =
+      let fault = HasPrefixTextFault-one t f g (rw (same_string Prefix members s t has haz) at fails) failz in
+      rw (same, equal, fault) refl
+
+  -- ---- the AS number
+
+  pub asn_one : (a b : Option ℕ) → GivesAsn members a → GivesAsn members b → a ≡ b
+  asn_one None None h k = refl
+  asn_one None (Some n) h (t, has, _) = absurd (lacks_no_value Asn members (number t) h has)
+  asn_one (Some m) None (s, has, _) k = absurd (lacks_no_value Asn members (number s) k has)
+  asn_one (Some m) (Some n) (s, has, is) (t, haz, iz) =
+      ap Some (IsAsnText-one t m n (rw (same_number Asn members s t has haz) at is) iz)
+
+  pub asn_apart : (a : Option ℕ) (f : SlurmItemFault) → GivesAsn members a → HasAsnMemberFault members f → ⊥
+  asn_apart None f h (inl wrong) = lacking_apart Asn members IsNumber f h wrong
+  asn_apart None f h (inr (t, has, _, _, _)) = lacks_no_value Asn members (number t) h has
+  asn_apart (Some n) f (s, has, is) (inl wrong) = value_apart Asn members IsNumber f (number s) has (s, refl) wrong
+  asn_apart (Some n) f (s, has, is) (inr (t, haz, none, _, _)) =
+      none n (rw (same_number Asn members s t has haz) at is)
+
+  pub asn_fault_one : (d e : SlurmItemFault) → HasAsnMemberFault members d → HasAsnMemberFault members e → d ≡ e
+  asn_fault_one d e (inl h) (inl k) = optional_fault_one Asn members IsNumber d e h k
+  asn_fault_one d e (inl h) (inr (t, has, _, _, _)) =
+      absurd (value_apart Asn members IsNumber d (number t) has (t, refl) h)
+  asn_fault_one d e (inr (s, has, _, _, _)) (inl k) =
+      absurd (value_apart Asn members IsNumber e (number s) has (s, refl) k)
+  asn_fault_one d e (inr (_, _, _, f, same)) (inr (_, _, _, g, equal)) = rw (same, equal, asn_error_one f g) refl
+
+  -- ---- a required one
+
+  missing_one : (part : SlurmMember) (d e : SlurmItemFault) → IsMissing part members d → IsMissing part members e
+      → d ≡ e
+  missing_one part d e (_, same) (_, equal) = same ∙ sym equal
+
+  pub required_prefix_apart : (p : FamilyPrefix) (f : SlurmItemFault) → GivesPrefix members (Some p)
+      → HasPrefixMemberFault members f ⊎ IsMissing Prefix members f → ⊥
+  required_prefix_apart p f h (inl wrong) = prefix_apart (Some p) f h wrong
+  required_prefix_apart p f (s, has, _) (inr (lacks, _)) = lacks_no_value Prefix members (string s) lacks has
+
+  pub required_prefix_fault_one : (d e : SlurmItemFault)
+      → HasPrefixMemberFault members d ⊎ IsMissing Prefix members d
+      → HasPrefixMemberFault members e ⊎ IsMissing Prefix members e → d ≡ e
+  required_prefix_fault_one d e (inl h) (inl k) = prefix_fault_one d e h k
+  required_prefix_fault_one d e (inl h) (inr (lacks, _)) = absurd (prefix_apart None d lacks h)
+  required_prefix_fault_one d e (inr (lacks, _)) (inl k) = absurd (prefix_apart None e lacks k)
+  required_prefix_fault_one d e (inr h) (inr k) = missing_one Prefix d e h k
+
+  pub required_asn_apart : (n : ℕ) (f : SlurmItemFault) → GivesAsn members (Some n)
+      → HasAsnMemberFault members f ⊎ IsMissing Asn members f → ⊥
+  required_asn_apart n f h (inl wrong) = asn_apart (Some n) f h wrong
+  required_asn_apart n f (s, has, _) (inr (lacks, _)) = lacks_no_value Asn members (number s) lacks has
+
+  pub required_asn_fault_one : (d e : SlurmItemFault) → HasAsnMemberFault members d ⊎ IsMissing Asn members d
+      → HasAsnMemberFault members e ⊎ IsMissing Asn members e → d ≡ e
+  required_asn_fault_one d e (inl h) (inl k) = asn_fault_one d e h k
+  required_asn_fault_one d e (inl h) (inr (lacks, _)) = absurd (asn_apart None d lacks h)
+  required_asn_fault_one d e (inr (lacks, _)) (inl k) = absurd (asn_apart None e lacks k)
+  required_asn_fault_one d e (inr h) (inr k) = missing_one Asn d e h k
+
+  -- ---- the maximum length
+
+  module _ (prefix : FamilyPrefix) where
+    pub longest_one : (m n : ℕ) → HasLongest members prefix m → HasLongest members prefix n → m ≡ n
+    longest_one m n (inl (_, h)) (inl (_, k)) = h ∙ sym k
+    longest_one m n (inl (lacks, _)) (inr (t, has, _, _)) =
+        absurd (lacks_no_value MaxPrefixLength members (number t) lacks has)
+    longest_one m n (inr (s, has, _, _)) (inl (lacks, _)) =
+        absurd (lacks_no_value MaxPrefixLength members (number s) lacks has)
+    longest_one m n (inr (s, has, is, _)) (inr (t, haz, iz, _)) =
+        IsNumberText-one (2 ^ 8 - 1) t m n (rw (same_number MaxPrefixLength members s t has haz) at is) iz
+
+    pub longest_apart : (n : ℕ) (f : SlurmItemFault) → HasLongest members prefix n → HasLongestFault members prefix f
+        → ⊥
+    longest_apart n f (inl (lacks, _)) (inl wrong) = lacking_apart MaxPrefixLength members IsNumber f lacks wrong
+    longest_apart n f (inl (lacks, _)) (inr (t, has, _)) = lacks_no_value MaxPrefixLength members (number t) lacks has
+    longest_apart n f (inr (s, has, _, _)) (inl wrong) =
+        value_apart MaxPrefixLength members IsNumber f (number s) has (s, refl) wrong
+    longest_apart n f (inr (s, has, is, _)) (inr (t, haz, inl (wrong, fails, _))) =
+        number_apart t n wrong (rw (same_number MaxPrefixLength members s t has haz) at is) fails
+    longest_apart n f (inr (s, has, is, within)) (inr (t, haz, inr (m, iz, wrong, fails, _))) =
+        let text = same_number MaxPrefixLength members s t has haz in
+        let len = IsNumberText-one (2 ^ 8 - 1) t n m (rw text at is) iz in
+        max_error_apart prefix m wrong (rw len at within) fails
+
+    length_fault_one : (text : List ℕ) (d e : SlurmItemFault) → HasMaxLengthFault prefix text d
+        → HasMaxLengthFault prefix text e → d ≡ e
+    length_fault_one text d e (inl (f, h, same)) (inl (g, k, equal)) =
+        rw (same, equal, same_number_fault text f g h k) refl
+    length_fault_one text d e (inl (f, h, _)) (inr (n, is, _, _, _)) = absurd (number_apart text n f is h)
+    length_fault_one text d e (inr (n, is, _, _, _)) (inl (g, k, _)) = absurd (number_apart text n g is k)
+    length_fault_one text d e (inr (m, is, f, h, same)) (inr (n, iz, g, k, equal)) =
+        let len = IsNumberText-one (2 ^ 8 - 1) text m n is iz in
+        rw (same, equal, max_error_one prefix n f g (rw len at h) k) refl
+
+    pub longest_fault_one : (d e : SlurmItemFault) → HasLongestFault members prefix d
+        → HasLongestFault members prefix e → d ≡ e
+    longest_fault_one d e (inl h) (inl k) = optional_fault_one MaxPrefixLength members IsNumber d e h k
+    longest_fault_one d e (inl h) (inr (t, has, _)) =
+        absurd (value_apart MaxPrefixLength members IsNumber d (number t) has (t, refl) h)
+    longest_fault_one d e (inr (s, has, _)) (inl k) =
+        absurd (value_apart MaxPrefixLength members IsNumber e (number s) has (s, refl) k)
+    longest_fault_one d e (inr (s, has, h)) (inr (t, haz, k)) =
+        length_fault_one t d e (rw (same_number MaxPrefixLength members s t has haz) at h) k

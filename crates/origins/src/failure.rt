@@ -1,6 +1,11 @@
 //! The error messages of the program.
+use crate::options::{Input, shown};
+use crate::report::count_of;
 use lines_engine::error::RunError;
-use origins_lines::error::{ReadSlurmError, ReadUnexpiredError, ReadVrpsError};
+use origins_lines::error::{
+    InputsError, OriginsError, ReadSlurmError, ReadUnexpiredError, ReadVrpsError,
+};
+use origins_lines::unexpired::Numbers;
 use std::fmt;
 
 /// The reason why the program prints no answers, or not all of them.
@@ -12,12 +17,36 @@ pub enum Failure<'a> {
     NotOpened(&'a str),
     /// The VRPs of a file could not be read.
     Vrps(&'a str, ReadVrpsError),
-    /// The VRPs of a file that have not expired could not be read.
+    /// The VRPs of a file could not be read, or the expiries of its VRPs.
     Unexpired(&'a str, ReadUnexpiredError),
     /// The local exceptions of a SLURM file could not be read.
     Slurm(&'a str, ReadSlurmError),
+    /// Each VRP has expired, or is removed by the local exceptions of the SLURM file.
+    NoVrpLeft(Option<&'a str>, Option<Numbers>),
     /// A step after reading the files failed.
     Run(RunError),
+}
+
+impl<'a> Failure<'a> {
+    /// Returns the failure of a run with the files of `input`.
+    pub fn of(input: &Input<'a>, error: OriginsError) -> Failure<'a> {
+        match error {
+            OriginsError::Inputs(InputsError::NotOpened(index)) => {
+                Failure::NotOpened(input.shown_name(index))
+            }
+            OriginsError::Inputs(InputsError::File(index, error)) => {
+                Failure::Unexpired(input.shown_name(index), error)
+            }
+            OriginsError::Inputs(InputsError::Slurm(index, error)) => {
+                Failure::Slurm(input.shown_name(index), error)
+            }
+            OriginsError::Inputs(InputsError::NoVrpLeft(all)) => {
+                Failure::NoVrpLeft(input.slurm.map(shown), input.time.map(|_| all))
+            }
+            OriginsError::Inputs(InputsError::Memory) => Failure::Run(RunError::Memory),
+            OriginsError::Run(error) => Failure::Run(error),
+        }
+    }
 }
 
 impl fmt::Display for Failure<'_> {
@@ -36,7 +65,25 @@ impl fmt::Display for Failure<'_> {
             Failure::Slurm(name, ReadSlurmError::Read) => write!(f, "{name}: read failed"),
             Failure::Slurm(name, ReadSlurmError::File(fault)) => write!(f, "{name}: {fault}"),
             Failure::Slurm(_, ReadSlurmError::Memory) => f.write_str("out of memory"),
+            Failure::NoVrpLeft(slurm, numbers) => write_no_vrp_left(f, *slurm, *numbers),
             Failure::Run(error) => write!(f, "{error}"),
         }
     }
+}
+
+/// Writes that no VRP is left, for example `no VRP left after slurm.json: 3 of 5 expired`. `numbers` are those of all
+/// files, if a time was passed.
+fn write_no_vrp_left<W: fmt::Write>(
+    f: &mut fmt::Formatter<W>,
+    slurm: Option<&str>,
+    numbers: Option<Numbers>,
+) -> fmt::Result {
+    f.write_str("no VRP left")?;
+    if let Some(name) = slurm {
+        write!(f, " after {name}")?;
+    }
+    if let Some(numbers) = numbers {
+        write!(f, ": {} of {} expired", numbers.expired, count_of(numbers))?;
+    }
+    Ok(())
 }

@@ -48,7 +48,7 @@ Options:
                match:   the VRP matches the route
                length:  the VRP has the AS of the route, but the route is longer than the
                         maxLength of the VRP
-               as:      the VRP has another AS, or AS0
+               as:      the VRP has another AS, or AS0, or the route has no origin AS
   --json       print each answer as a JSON object in one line. The members are state, reason, prefix
                and origin_asn, or error and line. With --why an object also has the member vrps
   --check      exit with status 3 if a route is invalid or a line is not a route. Without this
@@ -78,9 +78,10 @@ Exit status:
 
   0  every line was answered, or with --table or --diff every line was printed. With --diff the
      status is 0 also if the files differ
-  1  a file or a stream could not be read or written, memory ran out, or a file of VRPs or a SLURM
-     file is invalid. For an invalid file the program reports one invalid line, item or
-     member, and answers no route
+  1  a file or a stream could not be read or written, or memory ran out. The status is 1 also if a
+     file of VRPs or a SLURM file is invalid, or if no VRP is left because each has expired or is
+     removed by the SLURM file. The program then answers no route. For an invalid file it reports
+     one invalid line, item or member
   2  wrong usage
   3  with --check: a route is invalid or a line is not a route
 

@@ -4,30 +4,28 @@
 ghost use Rattle.std.specs.Prelude.{◌≡◌, false, IfOk};
 
 mod failure;
+mod files;
 mod help;
 mod options;
 mod report;
 
 use crate::failure::Failure;
+use crate::files::{NamedFiles, selection_of};
 use crate::help::{HELP, USAGE, VERSION};
-use crate::options::{Answers, Input, STANDARD_INPUT, Task, parse};
-use crate::report::{Counted, Report};
-use lines_engine::adapters::{FromRead, IntoWrite};
+use crate::options::{Answers, Input, STANDARD_INPUT, Task, parse, shown};
+use crate::report::{Counted, Summary};
+use lines_engine::adapters::{FromRead, IntoBufWriter};
 use lines_engine::device::{Sink, Source};
 use lines_engine::error::RunError;
 use origins_lines::check::STATE;
 use origins_lines::check_sink::Watched;
-use origins_lines::error::ChangesError;
-use origins_lines::exceptions::read_exceptions;
-use origins_lines::file::add_file;
-use origins_lines::json_routes::answer_json_by;
+use origins_lines::error::{ChangesError, OriginsError};
+use origins_lines::explanation::Form;
+use origins_lines::inputs::Report;
 use origins_lines::retrying::Retrying;
-use origins_lines::routes::answer_by;
-use origins_lines::tables::{write_changes, write_listed};
-use origins_lines::unexpired::{Numbers, add_unexpired_file};
+use origins_lines::routes::answer_inputs;
+use origins_lines::tables::{list_inputs, write_changes};
 use origins_lines::until_end::UntilEnd;
-use roa_origin::Vrp;
-use roa_slurm::Slurm;
 use rpki_base::Asn;
 use rpki_base::memory::OrMemory;
 use std::fs::File;
@@ -91,18 +89,17 @@ fn status_after_print<'a>(printed: io::Result<()>) -> Result<u8, Failure<'a>> {
 /// Each file is closed before any route is read. Therefore the program doesn't read a file as its standard input if the
 /// standard input was closed when it started. Only with `--check` the program looks at each byte that it writes.
 fn answer<'a>(rt: &HostRuntime, input: &Input<'a>, answers: Answers) -> Result<u8, Failure<'a>> {
-    let (listed, report) = read_vrps(rt, input)?;
-    let mut writer = IntoWrite::new(buffered(rt)?);
-    let has_found = if answers.check {
-        let place = if answers.json { STATE } else { 0 };
-        let mut watched = Watched::with_place(writer, place);
-        write_answers(rt, listed.as_slice(), answers, &mut watched)?;
-        watched.has_found()
-    } else {
-        write_answers(rt, listed.as_slice(), answers, &mut writer)?;
-        false
-    };
-    let _ = eprintln!(rt; "origins: {report}");
+    let mut writer = IntoBufWriter::new(buffered(rt)?);
+    if !answers.check {
+        let ended = write_answers(rt, input, answers, &mut writer);
+        end_run(rt, input, writer, ended)?;
+        return Ok(0);
+    }
+    let place = if answers.json { STATE } else { 0 };
+    let mut watched = Watched::with_place(writer, place);
+    let ended = write_answers(rt, input, answers, &mut watched);
+    let has_found = watched.has_found();
+    end_run(rt, input, watched.into_inner(), ended)?;
     Ok(if has_found { 3 } else { 0 })
 }
 
@@ -111,24 +108,30 @@ fn answer<'a>(rt: &HostRuntime, input: &Input<'a>, answers: Answers) -> Result<u
 /// # Preconditions
 ///
 /// No call of `writer` has failed.
-fn write_answers<'a, W: Sink>(
+fn write_answers<W: Sink>(
     rt: &HostRuntime,
-    listed: &[Vrp],
+    input: &Input<'_>,
     answers: Answers,
     writer: &mut W,
-) -> Result<(), Failure<'a>>
+) -> Result<Report, OriginsError>
     requires { W.mark writer.old ≡ false }
 {
+    let mut files = NamedFiles::new(rt, input);
     let mut routes = standard_input(rt);
-    let ended = if answers.json {
-        answer_json_by(rt.alloc(), listed, answers.why, &mut routes, writer)
+    let form = if answers.json {
+        Form::Json
     } else {
-        answer_by(rt.alloc(), listed, answers.why, &mut routes, writer)
+        Form::Words
     };
-    match ended {
-        Ok(()) => Ok(()),
-        Err(error) => Err(Failure::Run(error)),
-    }
+    answer_inputs(
+        rt.alloc(),
+        &mut files,
+        selection_of(input),
+        form,
+        answers.why,
+        &mut routes,
+        writer,
+    )
 }
 
 /// Prints the VRPs of files. The standard input may be one of them.
@@ -137,114 +140,41 @@ fn print_table<'a>(
     input: &Input<'a>,
     of: Option<u32>,
 ) -> Result<u8, Failure<'a>> {
-    let (listed, report) = read_vrps(rt, input)?;
     let of = of.map(Asn::from_u32);
-    let mut writer = IntoWrite::new(buffered(rt)?);
-    match write_listed(rt.alloc(), listed.as_slice(), of, &mut writer) {
-        Ok(()) => {
-            let _ = eprintln!(rt; "origins: {report}");
-            Ok(0)
-        }
-        Err(error) => Err(Failure::Run(error)),
-    }
+    let mut files = NamedFiles::new(rt, input);
+    let mut writer = IntoBufWriter::new(buffered(rt)?);
+    let ended = list_inputs(rt.alloc(), &mut files, selection_of(input), of, &mut writer);
+    end_run(rt, input, writer, ended)?;
+    Ok(0)
 }
 
-/// Reads the VRPs of all files, one file after another, without the expired ones if a time was passed, and applies the
-/// local exceptions to them.
-fn read_vrps<'a>(
+/// Finishes the output of a run with the files of `input`, and reports the numbers of VRPs on standard error.
+fn end_run<'a>(
     rt: &HostRuntime,
     input: &Input<'a>,
-) -> Result<(Vec<Vrp>, Report<'a>), Failure<'a>> {
-    let mut listed = Vec::new(rt.alloc());
-    let mut files = Vec::new(rt.alloc());
-    let mut expired: usize = 0;
-    for name in &input.files {
-        let added = match input.time {
-            Some(time) => add_unexpired(rt, *name, time, &mut listed)?,
-            None => add_vrps(rt, *name, &mut listed)?,
-        };
-        expired = expired.saturating_add(added.expired);
-        let count = added.unexpired.saturating_add(added.expired);
-        if files.push((shown(*name), count)).is_err() {
-            return Err(Failure::Run(RunError::Memory));
-        }
-    }
-    let read = listed.len().saturating_add(expired);
-    let expired = input.time.map(|_| expired);
-    let Some(name) = input.slurm else {
-        let report = Report {
-            read,
-            files,
-            expired,
-            applied: None,
-        };
-        return Ok((listed, report));
-    };
-    let exceptions = exceptions_of(rt, name)?;
-    match exceptions.apply(rt.alloc(), listed.as_slice()) {
-        Ok(changed) => {
-            let applied = Some((shown(name), changed.len()));
-            let report = Report {
-                read,
-                files,
-                expired,
-                applied,
+    writer: IntoBufWriter<Stdout>,
+    ended: Result<Report, OriginsError>,
+) -> Result<(), Failure<'a>> {
+    finish(writer)?;
+    match ended {
+        Ok(report) => {
+            let summary = Summary {
+                input,
+                report: &report,
             };
-            Ok((changed, report))
+            let _ = eprintln!(rt; "origins: {summary}");
+            Ok(())
         }
-        Err(_) => Err(Failure::Run(RunError::Memory)),
+        Err(error) => Err(Failure::of(input, error)),
     }
 }
 
-/// Appends the VRPs of a file, or of the standard input, and returns their number. None of them counts as expired.
-fn add_vrps<'a>(
-    rt: &HostRuntime,
-    name: &'a str,
-    listed: &mut Vec<Vrp>,
-) -> Result<Numbers, Failure<'a>> {
-    let added = if name == STANDARD_INPUT {
-        add_file(rt.alloc(), &mut standard_input(rt), listed)
-    } else {
-        add_file(rt.alloc(), &mut open(rt, name)?, listed)
-    };
-    match added {
-        Ok(count) => Ok(Numbers {
-            unexpired: count,
-            expired: 0,
-        }),
-        Err(error) => Err(Failure::Vrps(shown(name), error)),
-    }
-}
-
-/// Appends the VRPs of a file, or of the standard input, that have not expired. Returns their number, and the number of
-/// the expired ones.
-fn add_unexpired<'a>(
-    rt: &HostRuntime,
-    name: &'a str,
-    time: u64,
-    listed: &mut Vec<Vrp>,
-) -> Result<Numbers, Failure<'a>> {
-    let added = if name == STANDARD_INPUT {
-        add_unexpired_file(rt.alloc(), &mut standard_input(rt), time, listed)
-    } else {
-        add_unexpired_file(rt.alloc(), &mut open(rt, name)?, time, listed)
-    };
-    match added {
-        Ok(numbers) => Ok(numbers),
-        Err(error) => Err(Failure::Unexpired(shown(name), error)),
-    }
-}
-
-/// Returns the local exceptions of a SLURM file, or of the standard input.
-fn exceptions_of<'a>(rt: &HostRuntime, name: &'a str) -> Result<Slurm, Failure<'a>> {
-    let exceptions = if name == STANDARD_INPUT {
-        read_exceptions(rt.alloc(), &mut standard_input(rt))
-    } else {
-        read_exceptions(rt.alloc(), &mut open(rt, name)?)
-    };
-    match exceptions {
-        Ok(slurm) => Ok(slurm),
-        Err(error) => Err(Failure::Slurm(shown(name), error)),
+/// Writes the lines that an ended run left in the buffer, unless a write has failed.
+fn finish<'a>(writer: IntoBufWriter<Stdout>) -> Result<(), Failure<'a>> {
+    let (_stdout, written) = writer.finish();
+    match written {
+        Ok(()) => Ok(()),
+        Err(error) => Err(Failure::Run(error)),
     }
 }
 
@@ -271,8 +201,10 @@ fn print_changes_of<'a, P: Source, N: Source>(
     requires after { N.mark after.old ≡ false }
 {
     let (old, new) = names;
-    let mut writer = IntoWrite::new(buffered(rt)?);
-    match write_changes(rt.alloc(), before, after, &mut writer) {
+    let mut writer = IntoBufWriter::new(buffered(rt)?);
+    let ended = write_changes(rt.alloc(), before, after, &mut writer);
+    finish(writer)?;
+    match ended {
         Ok((count, next)) => {
             let _ = eprintln!(rt; "origins: {} in {old}, {next} in {new}", Counted(count));
             Ok(0)
@@ -280,15 +212,6 @@ fn print_changes_of<'a, P: Source, N: Source>(
         Err(ChangesError::Old(error)) => Err(Failure::Vrps(old, error)),
         Err(ChangesError::New(error)) => Err(Failure::Vrps(new, error)),
         Err(ChangesError::Run(error)) => Err(Failure::Run(error)),
-    }
-}
-
-/// Returns a file name as messages have it.
-fn shown(name: &str) -> &str {
-    if name == STANDARD_INPUT {
-        "standard input"
-    } else {
-        name
     }
 }
 

@@ -19,6 +19,30 @@ pub struct Input<'a> {
     pub time: Option<u64>,
 }
 
+impl<'a> Input<'a> {
+    /// Returns the name of the file at `index`: a VRP file, or the SLURM file after them.
+    pub fn name_of(&self, index: usize) -> &'a str {
+        match self.files.get(index) {
+            Some(name) => *name,
+            None => self.slurm.unwrap_or(STANDARD_INPUT),
+        }
+    }
+
+    /// Returns the name of the file at `index` as messages have it.
+    pub fn shown_name(&self, index: usize) -> &'a str {
+        shown(self.name_of(index))
+    }
+}
+
+/// Returns a file name as messages have it.
+pub fn shown(name: &str) -> &str {
+    if name == STANDARD_INPUT {
+        "standard input"
+    } else {
+        name
+    }
+}
+
 /// How routes are answered.
 #[derive(Clone, Copy, Debug)]
 pub struct Answers {

@@ -1,4 +1,7 @@
 //! The numbers of VRPs that the program reports.
+use crate::options::{Input, shown};
+use origins_lines::inputs::Report;
+use origins_lines::unexpired::Numbers;
 use std::fmt;
 
 /// A number of VRPs, printed as `1 VRP` or `2 VRPs`.
@@ -14,38 +17,40 @@ impl fmt::Display for Counted {
     }
 }
 
+/// Returns the number of the VRPs of files, with the expired ones.
+pub fn count_of(numbers: Numbers) -> usize {
+    numbers.unexpired.saturating_add(numbers.expired)
+}
+
 /// The numbers of VRPs that were read and used, printed as
 /// `3 VRPs: 1 in a.csv, 2 in b.csv; 1 expired; 4 after slurm.json`.
 ///
 /// The files are left out if there is one, the number of expired VRPs if no time was passed, and the last part if there
 /// is no SLURM file.
-#[derive(Debug, Drop)]
-pub struct Report<'a> {
-    /// The number of VRPs that all files have, with the expired ones.
-    pub read: usize,
-    /// The files, each with the number of its VRPs.
-    pub files: Vec<(&'a str, usize)>,
-    /// The number of VRPs that have expired, if a time was passed.
-    pub expired: Option<usize>,
-    /// The SLURM file, with the number of VRPs after its filters and assertions.
-    pub applied: Option<(&'a str, usize)>,
+#[derive(Drop)]
+pub struct Summary<'input, 'names, 'report> {
+    /// The files.
+    pub input: &'input Input<'names>,
+    /// The numbers.
+    pub report: &'report Report,
 }
 
-impl fmt::Display for Report<'_> {
+impl fmt::Display for Summary<'_, '_, '_> {
     fn fmt<W: fmt::Write>(&self, f: &mut fmt::Formatter<W>) -> fmt::Result {
-        write!(f, "{}", Counted(self.read))?;
-        if self.files.len() > 1 {
+        write!(f, "{}", Counted(count_of(self.report.all)))?;
+        if self.report.files.len() > 1 {
             let mut separator = ": ";
-            for (name, count) in &self.files {
-                write!(f, "{separator}{count} in {name}")?;
+            for (index, numbers) in self.report.files.iter().enumerate() {
+                let count = count_of(*numbers);
+                write!(f, "{separator}{count} in {}", self.input.shown_name(index))?;
                 separator = ", ";
             }
         }
-        if let Some(count) = self.expired {
-            write!(f, "; {count} expired")?;
+        if self.input.time.is_some() {
+            write!(f, "; {} expired", self.report.all.expired)?;
         }
-        if let Some((name, count)) = &self.applied {
-            write!(f, "; {count} after {name}")?;
+        if let Some(name) = self.input.slurm {
+            write!(f, "; {} after {}", self.report.used, shown(name))?;
         }
         Ok(())
     }

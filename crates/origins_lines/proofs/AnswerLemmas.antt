@@ -1,7 +1,7 @@
 -- Answers by a table are answers by the list that it was made of.
 use Rattle.origins_lines.proofs.Common.{arith, Bool, List, Option, [], ℕ, ◌∷◌, ◌≡◌, IfSome, OnOk, Result, AnswersAll}
 use Rattle.origins_lines.proofs.Common.{AnswersEnded, AnswersFirst, BeginsAnswers, Err, HasAnswered, HasFileFault}
-use Rattle.origins_lines.proofs.Common.{IsJsonAnswer, IsOriginAnswer, IsVrpFile, Vrp, ByFile}
+use Rattle.origins_lines.proofs.Common.{Form, IsJsonAnswer, IsOriginAnswer, IsVrpFile, Vrp, ByFile}
 use Rattle.std.specs.List.{AllZip}
 use Rattle.std.specs.List.Sorted.{IsPermutation}
 use Rattle.std.proofs.lemmas.List.Sorted.{IsPermutation-sym}
@@ -10,8 +10,10 @@ use Rattle.rpki_text.specs.Memory.{IfRefused}
 use Rattle.rpki_text.specs.declared.memory.OrMemory.{OrMemory}
 use Rattle.roa_vrps.specs.declared.fault.FileFault.{FileFault}
 use Rattle.roa_slurm.specs.declared.fault.SlurmFault.{SlurmFault}
+use Rattle.origins_lines.specs.Forms.{IsAnswerIn}
 use Rattle.origins_lines.specs.FileResult.{file_result, slurm_result}
 use Rattle.origins_lines.specs.declared.error.ReadSlurmError.TheVariants as ReadSlurmError
+use Rattle.origins_lines.specs.declared.explanation.Form.TheVariants.{Json, Words}
 use Rattle.origins_lines.specs.declared.error.ReadVrpsError.TheVariants.{File, Read}
 use Rattle.origins_lines.proofs.OrderLemmas.{any_order, json_any_order}
 
@@ -51,10 +53,23 @@ module _ (why : Bool) (listed table : List Vrp) (moved : IsPermutation listed ta
   pub object_by_list : IsJsonAnswer why table line text → IsJsonAnswer why listed line text
   object_by_list is = json_any_order why table listed line text (IsPermutation-sym listed table moved) is
 
+-- the same for an answer in either form
+pub form_by_list : (form : Form) (why : Bool) (listed table : List Vrp) → IsPermutation listed table
+    → (line text : List ℕ) → IsAnswerIn form why table line text → IsAnswerIn form why listed line text
+form_by_list Words why listed table moved line text is = by_list why listed table moved line text is
+form_by_list Json why listed table moved line text is = object_by_list why listed table moved line text is
+
 -- a file's VRPs
 pub by_file : (file : Option (List ℕ)) (P : List Vrp → Type 0) (listed : List Vrp)
     → IfSome file (λ text. IsVrpFile text listed) → P listed → IfSome file (ByFile P)
 by_file file P listed is holds = grind (arith)
+
+-- a fault of what was read is a fault of the file
+result_wrong : {V : Type 0} (left : Option (List ℕ)) (text : List ℕ) (Is : V → Type 0)
+    (Has : List ℕ → FileFault → Type 0) (r : Result V (OrMemory FileFault)) → IfSome left (λ bytes. text ≡ bytes)
+    → MatchResult r Is (IfRefused (Has text)) → (fault : FileFault) → file_result r ≡ Err (File fault)
+    → IfSome left (λ bytes. Has bytes fault)
+result_wrong left text Is Has r is found fault written = grind (arith)
 
 -- the result for a file that was read whole
 module _ {V : Type 0} (left : Option (List ℕ)) (text : List ℕ) (vrps : V → List Vrp)
@@ -67,7 +82,8 @@ module _ {V : Type 0} (left : Option (List ℕ)) (text : List ℕ) (vrps : V →
   pub file_result_wrong : IfSome left (λ bytes. text ≡ bytes)
       → MatchResult r (λ v. IsVrpFile text (vrps v)) (IfRefused (HasFileFault text))
       → (fault : FileFault) → file_result r ≡ Err (File fault) → IfSome left (λ bytes. HasFileFault bytes fault)
-  file_result_wrong is found fault written = grind (arith)
+  file_result_wrong is found fault written =
+      result_wrong left text (λ v. IsVrpFile text (vrps v)) HasFileFault r is found fault written
 
   -- no read failed
   pub file_result_not_read : file_result r ≡ Err Read → ⊥

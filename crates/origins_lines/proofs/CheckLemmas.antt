@@ -1,10 +1,10 @@
 -- What is seen of octets when one more comes.
-use Rattle.origins_lines.proofs.Common.{Bool, List, [], ap, arith, inl, inr, ◌∙◌, length, length-append, ℕ, ◌++◌, ◌∷◌}
+use Rattle.origins_lines.proofs.Common.{List, [], ap, arith, inl, inr, ◌∙◌, length, length-append, ℕ, ◌++◌, ◌∷◌}
 use Rattle.origins_lines.proofs.Common.{◌≡◌, ◌≤◌, ◌⊎◌, IsTrue, ◌↔◌, HasFound, IsSeen, IsFaultInitial}
 use Rattle.std.proofs.lemmas.Bool.{cases_lt}
 use Rattle.std.proofs.lemmas.List.{get_or_append_left, get_or_push, take-append-le, take_all, take_more}
 use Rattle.std.proofs.Common.{append-nil, append_assoc, get_or, min, refl, take, true, ◌+◌, ◌<◌}
-use Rattle.std.specs.Prelude.{IfSome, Option, ◌&&◌, ◌==◌, if◌then◌else◌}
+use Rattle.std.specs.Prelude.{IfSome, Option, ◌==◌, if◌then◌else◌}
 use Rattle.std.specs.Io.KnownBytes.{Appends, Keeps}
 use Rattle.origins_lines.specs.Checks.{column_after, column_of, column_with, is_same_state, known_seen, seen_behind}
 use Rattle.origins_lines.specs.Checks.{seen_nothing, seen_with}

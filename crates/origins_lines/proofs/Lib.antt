@@ -3,6 +3,7 @@ pub mod AnswerLemmas
 pub mod CheckLemmas
 pub mod Common
 pub mod FieldLemmas
+pub mod InputLemmas
 pub mod JsonLemmas
 pub mod KindLemmas
 pub mod LineLemmas
@@ -11,6 +12,7 @@ pub mod OrderLemmas
 pub mod OutcomeLemmas
 pub mod RouteAnswerLemmas
 pub mod RouteLineLemmas
+pub mod StateLemmas
 pub mod UnexpiredLemmas
 pub mod VrpTextLemmas
 pub mod WhyLemmas

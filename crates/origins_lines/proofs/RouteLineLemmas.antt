@@ -1,5 +1,6 @@
 -- A line writes one route alone, or has one fault.
-use Rattle.origins_lines.proofs.Common.{Err, List, MatchResult, Ok, Option, Result, Some, [], ap, arith, inr, length, ℕ}
+use Rattle.origins_lines.proofs.Common.{Err, List, MatchResult, Ok, Option, Result, Some, [], ap, arith, inl, inr}
+use Rattle.origins_lines.proofs.Common.{length, sym, ℕ}
 use Rattle.origins_lines.proofs.Common.{◌+◌, ◌<◌, ◌∙◌, ◌≡◌, ◌⊎◌, length-append, position_or_len, is_space, IsUtf8, trim}
 use Rattle.origins_lines.proofs.Common.{AreRouteWords, HasDumpFault, HasFaultBy, HasLineFault, HasRouteFault}
 use Rattle.origins_lines.proofs.Common.{HasWordFault, HaveWordsFault, IsAsnOrigin, IsDumpRoute, IsFieldAt, IsLineOf}
@@ -10,13 +11,19 @@ use Rattle.rpki_text.specs.Reading.{Answers}
 use Rattle.rpki_text.proofs.ReadingLemmas.{Answers-from_found}
 use Rattle.rpki_base.proofs.AsnLemmas.{IsAsnText-one}
 use Rattle.rpki_prefix.proofs.PrefixTextLemmas.{IsPrefixText-one, IsPrefixText-no_fault, HasPrefixTextFault-one}
-use Rattle.origins_lines.specs.Routes.{AreDumpTexts, HasCommaForSpace, origin_part, prefix_part}
+use Rattle.rpki_prefix.specs.PrefixText.{IsPrefixText}
+use Rattle.rpki_prefix.specs.Values.{FamilyPrefix}
+use Rattle.origins_lines.specs.Routes.{AreDumpTexts, HasCommaForSpace, IsOtherWord, IsWordsFault}
+use Rattle.origins_lines.specs.Routes.{origin_part, prefix_part}
 use Rattle.rpki_base.specs.AsnText.{IsAsnText}
+use Rattle.std.specs.List.{list_any}
+use Rattle.std.specs.Prelude.{◌==◌, ◌↔◌, IsTrue, false, is_ok}
 use Rattle.std.specs.Str.Parse.{without_leading_plus}
 use Rattle.std.proofs.lemmas.List.{drop_all, nil_from_length}
 use Rattle.rpki_text.proofs.PrintedListLemmas.{trim_shown}
 use Rattle.origins_lines.specs.declared.fault.RouteFault.{RouteFault}
-use Rattle.origins_lines.specs.declared.fault.RouteFault.TheVariants.{NotUtf8, TooFewFields, CommaForSpace}
+use Rattle.origins_lines.specs.declared.fault.RouteFault.TheVariants.{Asn, CommaForSpace, NotUtf8, OtherWord, Prefix}
+use Rattle.origins_lines.specs.declared.fault.RouteFault.TheVariants.{TooFewFields}
 
 -- a text has one value or one fault at most
 pub record IsDecided {V : Type 0} (Has : V → Type 0) (Fails : RouteFault → Type 0) : Type 0 where
@@ -37,9 +44,11 @@ module _ (Origin : Option ℕ → Type 0) (NoOrigin : Type 0) (origin_one : (a b
   by_fault NotUtf8 e h k = absurd h
   by_fault TooFewFields e h k = absurd h
   by_fault CommaForSpace e h k = absurd h
+  by_fault OtherWord e h k = absurd h
   by_fault d NotUtf8 h k = absurd k
   by_fault d TooFewFields h k = absurd k
   by_fault d CommaForSpace h k = absurd k
+  by_fault d OtherWord h k = absurd k
   by_fault d e h k = search (arith, HasPrefixTextFault-one, IsPrefixText-no_fault)
 
   by_word : IsDecided (IsRouteBy Origin text) (HasFaultBy NoOrigin text)
@@ -132,8 +141,28 @@ module _ (line : List ℕ) where
         one = words.one;
         apart =
             λ a f h wrong.
-            grind (arith, words.apart a f h, λ (comma : HasCommaForSpace line). no_words comma.no_space a h);
-        same = λ d e h k. grind (arith, words.same d e);
+            elim wrong [
+              | inl (comma, is) ↦ no_words comma.no_space a h
+              | inr (inl (no_comma, other, is)) ↦ other.no_prefix a.prefix h.prefix
+              | inr (inr (no_comma, no_other, fault)) ↦ words.apart a f h fault
+            ];
+        same = λ d e h k. elim h [
+          | inl (comma, is) ↦ elim k [
+            | inl (too, same) ↦ is ∙ sym same
+            | inr (inl (no_comma, other, same)) ↦ absurd (no_comma comma)
+            | inr (inr (no_comma, no_other, fault)) ↦ absurd (no_comma comma)
+          ]
+          | inr (inl (no_comma, other, is)) ↦ elim k [
+            | inl (comma, same) ↦ absurd (no_comma comma)
+            | inr (inl (none, too, same)) ↦ is ∙ sym same
+            | inr (inr (none, no_other, fault)) ↦ absurd (no_other other)
+          ]
+          | inr (inr (no_comma, no_other, fault)) ↦ elim k [
+            | inl (comma, same) ↦ absurd (no_comma comma)
+            | inr (inl (none, other, same)) ↦ absurd (no_other other)
+            | inr (inr (none, nor, too)) ↦ words.same d e fault too
+          ]
+        ];
       }
 
   -- what stands round its first comma writes no route
@@ -194,10 +223,17 @@ pub words_found : (text prefix origin : List ℕ) (a : Route) → prefix ≡ pre
     → IsRouteBy (IsAsnOrigin origin) prefix a → AreRouteWords text a
 words_found text prefix origin a one other found = rw (one, other) at found
 
-pub words_wrong : (text prefix origin : List ℕ) (f : RouteFault) → prefix ≡ prefix_word text
-    → origin ≡ origin_word text → ¬ HasCommaForSpace text → HasFaultBy (IsNoAsnText origin) prefix f
-    → HaveWordsFault text f
-words_wrong text prefix origin f one other no_comma wrong = inr (no_comma, rw (one, other) at wrong)
+pub words_wrong : (text : List ℕ) (first fault : RouteFault) → ¬ HasCommaForSpace text
+    → HasFaultBy (IsNoAsnText (origin_word text)) (prefix_word text) first → IsWordsFault (prefix_word text) first fault
+    → HaveWordsFault text fault
+words_wrong text (Prefix f) fault no_comma wrong (inl (other, is)) =
+    let no_prefix = λ (p : FamilyPrefix) (h : IsPrefixText (prefix_word text) p). IsPrefixText-no_fault _ p f h wrong in
+    inr (inl (no_comma, record { no_prefix = no_prefix; other = other }, is))
+words_wrong text (Prefix f) fault no_comma wrong (inr (no_other, is)) =
+    inr (inr (no_comma, λ h. no_other h.other, rw is wrong))
+words_wrong text (Asn f) fault no_comma wrong is =
+    inr (inr (no_comma, λ h. h.no_prefix wrong.0.0 wrong.0.1, rw is wrong))
+words_wrong text first fault no_comma wrong is = absurd wrong
 
 pub dump_found : (n : ℕ) (line prefix path word : List ℕ) (r : Result Route RouteFault) → IsFieldAt 5 line prefix
     → IsFieldAt n line path → word ≡ last_word path
@@ -211,3 +247,15 @@ pub text_found : (line text : List ℕ) (r : Result (Option Route) RouteFault) �
     → MatchResult r (IsReadOf text) (HasReadFault text) → MatchResult r (IsReadLine line) (HasRouteFault line)
 text_found line text (Ok read) utf8 is found = (utf8, rw is at found)
 text_found line text (Err fault) utf8 is found = inr (utf8, rw is at found)
+
+-- a word without a tab that is read as an AS number, or not
+pub other_word : {E : Type 0} (word : List ℕ) (r : Result ℕ E) → list_any (λ byte. byte == 9) word ≡ false
+    → MatchResult r (IsAsnText word) (λ _. IsNoAsnText word) → IsTrue (is_ok r) ↔ IsOtherWord word
+other_word word (Ok n) no_tab found = (λ h. inr (n, found), λ h. refl)
+other_word word (Err e) no_tab found = (
+  λ h. cc,
+  λ h. elim h [
+    | inl tab ↦ cc
+    | inr (n, is) ↦ absurd (found n is)
+  ],
+)

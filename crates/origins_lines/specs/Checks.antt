@@ -1,7 +1,14 @@
 -- The lines that a check looks for: at a place they have 'i' or 'e', as the answers to invalid routes and errors do.
-use Rattle.std.specs.Prelude.{◌≡◌, ◌==◌, ◌&&◌, ◌||◌, ℕ, ◌+◌, ◌<◌, ◌⊎◌, ◌↔◌, Bool, true, false, IsTrue, List, [], ◌∷◌}
+use Rattle.std.specs.Prelude.{◌≡◌, ◌==◌, ◌&&◌, ◌||◌, ℕ, ◌+◌, ◌<◌, ◌⊎◌, ◌↔◌, Bool, false, IsTrue, List, [], ◌∷◌}
 use Rattle.std.specs.Prelude.{Option, None, Some, length, min, nat_le, not, slice_index_or, take, if◌then◌else◌}
+use Rattle.roa_origin.specs.Validities.{IsValidity}
+use Rattle.roa_origin.specs.Vrps.{Vrp}
+use Rattle.roa_origin.specs.declared.validation.Validity.TheVariants.{Invalid}
+use Rattle.origins_lines.specs.Outcomes.{asked_asn}
+use Rattle.origins_lines.specs.Routes.{HasRouteFault, IsRouteLine}
 use Rattle.origins_lines.specs.declared.check.Seen.{Seen}
+use Rattle.origins_lines.specs.declared.fault.RouteFault.{RouteFault}
+use Rattle.origins_lines.specs.declared.route.Route.{Route}
 
 -- the number of octets after the last 0a; the number before the first octet is `column`
 abbrev pub column_after : ℕ → List ℕ → ℕ
@@ -20,6 +27,12 @@ IsFaultInitial octet = (octet ≡ 105) ⊎ (octet ≡ 101)
 abbrev pub HasFound : ℕ → List ℕ → Type 0
 HasFound place octets =
     (at : ℕ) × (at < length octets) × (column_of octets at ≡ place) × IsFaultInitial (slice_index_or octets at 0)
+
+-- the line gives a route that is invalid by the VRPs (RFC 6811, 2), or it has a fault
+abbrev pub IsFaultyLine : List Vrp → List ℕ → Type 0
+IsFaultyLine vrps line =
+    ((route : Route) × IsRouteLine line route × IsValidity route.prefix (asked_asn route.origin) vrps Invalid)
+    ⊎ ((fault : RouteFault) × HasRouteFault line fault)
 
 -- the state of a check of octets: the octets of the last line, at most one more than `place`, and whether a line has
 -- 'i' or 'e' at the place

@@ -1,10 +1,18 @@
--- The result for the VRPs of a file that was read whole, and for the local exceptions of one.
-use Rattle.std.specs.Prelude.{Result, Ok, Err}
+-- The VRPs of a file, appended to a list, and the results for a file and for a SLURM file that were read whole.
+use Rattle.std.specs.Prelude.{◌≡◌, ◌++◌, ℕ, List, Option, IfSome, Result, Ok, Err, length}
+use Rattle.roa_origin.specs.Vrps.{Vrp}
+use Rattle.roa_vrps.specs.Files.{IsVrpFile}
 use Rattle.rpki_text.specs.declared.memory.OrMemory.{OrMemory}
 use Rattle.roa_vrps.specs.declared.fault.FileFault.{FileFault}
 use Rattle.roa_slurm.specs.declared.fault.SlurmFault.{SlurmFault}
 use Rattle.origins_lines.specs.declared.error.ReadSlurmError.{ReadSlurmError}
 use Rattle.origins_lines.specs.declared.error.ReadVrpsError.{ReadVrpsError}
+
+-- VRPs follow the old list in the new one, and `count` is their number. They are those of the file if its text is
+-- known.
+abbrev pub AppendsFile : Option (List ℕ) → List Vrp → List Vrp → ℕ → Type 0
+AppendsFile file old new count =
+    (more : List Vrp) × IfSome file (λ text. IsVrpFile text more) × (count ≡ length more) × (new ≡ old ++ more)
 
 -- the VRPs, the fault of the file, or the out-of-memory error, as the result for a file
 abbrev pub file_result : {V : Type 0} → Result V (OrMemory FileFault) → Result V ReadVrpsError

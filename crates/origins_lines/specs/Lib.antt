@@ -1,10 +1,12 @@
--- Definitions: the lines of routes, and their answers by VRPs. Also the rest of a reader, the result for a file, the
+-- Definitions: the lines of routes, and their answers by VRPs. Also the rest of a reader, what is read of files, the
 -- bytes that runs leave in a writer by the octets of their inputs, and the lines that a check looks for in these bytes.
 pub mod Answers
 pub mod Begun
 pub mod Checks
 pub mod Explanations
 pub mod FileResult
+pub mod Forms
+pub mod Inputs
 pub mod JsonAnswers
 pub mod Outcomes
 pub mod Readers

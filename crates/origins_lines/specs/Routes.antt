@@ -1,15 +1,21 @@
 -- The route of a line: a prefix and an AS number, or a line of `bgpdump -m`, which prints the tables and the updates of
 -- route collectors (RFC 6396, 4.2 to 4.4; RFC 8050, 3 and 4).
-use Rattle.std.specs.Prelude.{◌≡◌, ◌⊎◌, ◌==◌, ◌-◌, ◌++◌, ℕ, Bool, List, [], Option, Some, None, codes, length}
+use Rattle.std.specs.Prelude.{◌≡◌, ◌⊎◌, ◌==◌, ◌-◌, ◌++◌, ℕ, Bool, List, [], Option, Some, None, IsTrue, codes, length}
 use Rattle.std.specs.Prelude.{slice_get, slice_index}
-use Rattle.std.specs.List.{after_first, after_last, before_first, position_or_len, slice_split}
+use Rattle.std.specs.List.{after_first, after_last, before_first, list_any, position_or_len, slice_split}
 use Rattle.std.specs.Str.{IsUtf8, trim}
 use Rattle.rpki_text.specs.Cuts.{is_comma, is_space}
+use Rattle.rpki_text.specs.Numbers.{number_fault_text}
+use Rattle.rpki_addr.specs.FromStrResults.{address_fault_text}
 use Rattle.rpki_base.specs.AsnText.{IsAsnText}
-use Rattle.rpki_prefix.specs.PrefixText.{IsPrefixText, HasPrefixTextFault, prefix_fault_text}
-use Rattle.rpki_prefix.specs.Values.{FamilyPrefix}
+use Rattle.rpki_prefix.specs.PrefixText.{IsPrefixText, HasPrefixTextFault}
+use Rattle.rpki_prefix.specs.Values.{FamilyPrefix, prefix_error_text}
+use Rattle.rpki_prefix.specs.declared.error.ParsePrefixError.{ParsePrefixError}
+use Rattle.rpki_prefix.specs.declared.error.ParsePrefixError.TheVariants.{Empty, MissingLen, InvalidAddr, InvalidLen}
+use Rattle.rpki_prefix.specs.declared.error.ParsePrefixError.TheVariants.{InvalidPrefix}
 use Rattle.origins_lines.specs.declared.fault.RouteFault.{RouteFault}
-use Rattle.origins_lines.specs.declared.fault.RouteFault.TheVariants.{NotUtf8, TooFewFields, CommaForSpace, Prefix, Asn}
+use Rattle.origins_lines.specs.declared.fault.RouteFault.TheVariants.{NotUtf8, TooFewFields, CommaForSpace, OtherWord}
+use Rattle.origins_lines.specs.declared.fault.RouteFault.TheVariants.{Prefix, Asn}
 use Rattle.origins_lines.specs.declared.route.Kind.{Kind}
 use Rattle.origins_lines.specs.declared.route.Kind.TheVariants.{Dump, Skipped, Words}
 use Rattle.origins_lines.specs.declared.route.Route.{Route}
@@ -24,6 +30,7 @@ abbrev pub HasFaultBy : Type 0 → List ℕ → RouteFault → Type 0
 HasFaultBy NoOrigin prefix_text NotUtf8 = ⊥
 HasFaultBy NoOrigin prefix_text TooFewFields = ⊥
 HasFaultBy NoOrigin prefix_text CommaForSpace = ⊥
+HasFaultBy NoOrigin prefix_text OtherWord = ⊥
 HasFaultBy NoOrigin prefix_text (Prefix f) = HasPrefixTextFault prefix_text f
 HasFaultBy NoOrigin prefix_text (Asn f) = ((p : FamilyPrefix) × IsPrefixText prefix_text p) × NoOrigin
 
@@ -64,11 +71,29 @@ pub record HasCommaForSpace (line : List ℕ) : Type 0 where
   pub route : Route
   pub writes : IsRouteBy (IsAsnOrigin (origin_part line)) (prefix_part line) route
 
--- the fault of the words of a line: a comma in place of the space, or else the first fault of both words
+-- the word has a tab, or it is an AS number
+abbrev pub IsOtherWord : List ℕ → Type 0
+IsOtherWord word = IsTrue (list_any (λ byte. byte == 9) word) ⊎ ((n : ℕ) × IsAsnText word n)
+
+-- the first word of a line is not a prefix, because a tab follows the prefix or the AS precedes it
+pub record HasOtherWord (line : List ℕ) : Type 0 where
+  pub no_prefix : (p : FamilyPrefix) → ¬ IsPrefixText (prefix_word line) p
+  pub other : IsOtherWord (prefix_word line)
+
+-- the fault of a line whose first word is this one, by the first fault of both words
+abbrev pub IsWordsFault : List ℕ → RouteFault → RouteFault → Type 0
+IsWordsFault word (Prefix f) fault =
+    (IsOtherWord word × (fault ≡ OtherWord)) ⊎ ((¬ IsOtherWord word) × (fault ≡ Prefix f))
+IsWordsFault word first fault = fault ≡ first
+
+-- The fault of the words of a line: a comma in place of the space, or else another first word, or else the first fault
+-- of both words.
 abbrev pub HaveWordsFault : List ℕ → RouteFault → Type 0
 HaveWordsFault line fault =
     (HasCommaForSpace line × (fault ≡ CommaForSpace))
-    ⊎ ((¬ HasCommaForSpace line) × HasFaultBy (IsNoAsnText (origin_word line)) (prefix_word line) fault)
+    ⊎ ((¬ HasCommaForSpace line) × HasOtherWord line × (fault ≡ OtherWord))
+    ⊎ ((¬ HasCommaForSpace line) × (¬ HasOtherWord line)
+    × HasFaultBy (IsNoAsnText (origin_word line)) (prefix_word line) fault)
 
 -- ---- a line of a dump
 
@@ -214,10 +239,19 @@ IsSkippedLine line = IsReadLine line None
 abbrev pub HasRouteFault : List ℕ → RouteFault → Type 0
 HasRouteFault line fault = ((¬ IsUtf8 line) × (fault ≡ NotUtf8)) ⊎ (IsUtf8 line × HasReadFault (trim line) fault)
 
+-- the text printed for a fault of a prefix
+abbrev pub prefix_fault_text : ParsePrefixError → List ℕ
+prefix_fault_text Empty = codes "empty string"
+prefix_fault_text MissingLen = codes "missing length portion"
+prefix_fault_text (InvalidAddr f) = codes "invalid address: " ++ address_fault_text f
+prefix_fault_text (InvalidLen f) = codes "invalid length: " ++ number_fault_text f
+prefix_fault_text (InvalidPrefix f) = prefix_error_text f
+
 -- the text printed for a fault
 abbrev pub route_fault_text : RouteFault → List ℕ
 route_fault_text NotUtf8 = codes "not UTF-8"
 route_fault_text TooFewFields = codes "too few fields"
 route_fault_text CommaForSpace = codes "a comma where a space is expected"
+route_fault_text OtherWord = codes "expected: PREFIX AS"
 route_fault_text (Prefix f) = codes "invalid prefix: " ++ prefix_fault_text f
 route_fault_text (Asn f) = codes "invalid AS number"

@@ -51,6 +51,13 @@ impl<W: Sink> Watched<W> {
     {
         self.seen.has_found
     }
+
+    /// Returns the sink.
+    pub fn into_inner(self) -> W
+        ensures { result ≡ self.sink }
+    {
+        self.sink
+    }
 }
 
 impl<W: Sink> Sink for Watched<W> {

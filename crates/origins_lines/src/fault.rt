@@ -1,5 +1,7 @@
 //! Faults of lines of routes.
 ghost use Rattle.std.specs.Prelude.{◌≡◌, Some};
+ghost use Rattle.std.specs.Fmt.{WritesOnOk};
+ghost use Rattle.origins_lines.specs.Routes.{prefix_fault_text};
 
 use rpki_base::asn::ParseAsnError;
 use rpki_prefix::ParsePrefixError;
@@ -15,10 +17,28 @@ pub enum RouteFault {
     TooFewFields,
     /// The line has no space, and would be a route if its first comma were a space.
     CommaForSpace,
+    /// The first word of the line is not a prefix. It has a tab, or it is an AS number.
+    OtherWord,
     /// The text of the prefix is not a prefix.
     Prefix(ParsePrefixError),
     /// The text of the origin is not an AS number.
     Asn(ParseAsnError),
+}
+
+/// Prints the fault of a prefix in the words of its own `Display`, of which no contract tells the text.
+fn fmt_prefix_fault<W: fmt::Write>(
+    fault: &ParsePrefixError,
+    f: &mut fmt::Formatter<W>,
+) -> fmt::Result
+    ensures { WritesOnOk W.write_str_gives f.old result (prefix_fault_text fault.now) f.new }
+{
+    match fault {
+        ParsePrefixError::Empty => f.write_str("empty string"),
+        ParsePrefixError::MissingLen => f.write_str("missing length portion"),
+        ParsePrefixError::InvalidAddr(fault) => write!(f, "invalid address: {fault}"),
+        ParsePrefixError::InvalidLen(fault) => write!(f, "invalid length: {fault}"),
+        ParsePrefixError::InvalidPrefix(fault) => f.write_str(fault.static_description()),
+    }
 }
 
 /// Prints the fault without the line: `not UTF-8`, `too few fields` and so on.
@@ -32,8 +52,12 @@ impl fmt::Display for RouteFault {
             RouteFault::NotUtf8 => f.write_str("not UTF-8"),
             RouteFault::TooFewFields => f.write_str("too few fields"),
             RouteFault::CommaForSpace => f.write_str("a comma where a space is expected"),
-            RouteFault::Prefix(fault) => write!(f, "invalid prefix: {fault}"),
-            RouteFault::Asn(fault) => write!(f, "{fault}"),
+            RouteFault::OtherWord => f.write_str("expected: PREFIX AS"),
+            RouteFault::Prefix(fault) => {
+                f.write_str("invalid prefix: ")?;
+                fmt_prefix_fault(fault, f)
+            }
+            RouteFault::Asn(_) => f.write_str("invalid AS number"),
         }
     }
 }

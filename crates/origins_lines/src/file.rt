@@ -1,9 +1,8 @@
 //! Reads the VRPs of a file.
-ghost use Rattle.std.specs.Prelude.{◌≡◌, ◌++◌, false, true, length, Err, IfOk, IfSome, OnErr, OnOk, IsErrOf};
+ghost use Rattle.std.specs.Prelude.{◌≡◌, false, true, Err, IfOk, IfSome, OnErr, OnOk, IsErrOf};
 ghost use Rattle.std.specs.Io.KnownBytes.{IsAtEnd};
 ghost use Rattle.origins_lines.specs.declared.error.ReadVrpsError.TheVariants.{File};
-ghost use Rattle.origins_lines.specs.FileResult.{file_result};
-ghost use Rattle.origins_lines.specs.Runs.{ByFile};
+ghost use Rattle.origins_lines.specs.FileResult.{AppendsFile, file_result};
 ghost use Rattle.roa_vrps.specs.Files.{HasFileFault, IsVrpFile};
 
 use crate::error::ReadVrpsError;
@@ -83,11 +82,11 @@ pub fn add_file<A: Allocator + Copy, P: Source>(
     // No call of the file has failed.
     requires clear { P.mark file.old ≡ false }
 
-    // Ok: no call failed, and the file was read to its end. Its VRPs were appended, and their number is returned.
+    // Ok: no call failed, and the file was read to its end. Its VRPs were appended, and their number is returned. If
+    // the file is not modelled, some VRPs were appended, and their number is returned.
     ensures unmarked { OnOk result (P.mark file.new ≡ P.mark file.old) }
     ensures read_whole { OnOk result (IsAtEnd (P.left file.new)) }
-    ensures appended { IfOk result (λ count. IfSome (P.left file.old) (ByFile (λ more. (count ≡ length more)
-        × (listed.new.items ≡ listed.old.items ++ more)))) }
+    ensures appended { IfOk result (λ count. AppendsFile (P.left file.old) listed.old.items listed.new.items count) }
 
     // Err: nothing was appended.
     ensures kept { OnErr result (listed.new.items ≡ listed.old.items) }

@@ -16,6 +16,7 @@ pub mod exceptions;
 pub mod explanation;
 pub mod fault;
 pub mod file;
+pub mod inputs;
 pub mod json_answers;
 pub mod json_routes;
 pub mod laws;

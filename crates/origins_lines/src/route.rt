@@ -3,7 +3,7 @@ ghost use Rattle.std.specs.Prelude.{◌≡◌, ◌↔◌, ◌∷◌, [], ◌<◌
 ghost use Rattle.std.specs.List.{after_last, position_or_len};
 ghost use Rattle.rpki_text.specs.Cuts.{is_space};
 ghost use Rattle.rpki_text.specs.Reading.{Answers};
-ghost use Rattle.origins_lines.specs.Routes.{AreRouteWords, HasDumpFault, HasCommaForSpace, HasFaultBy, HasReadFault, HasRouteFault, HasWordFault, HaveWordsFault, IsAsnOrigin, IsConfedWord, IsDumpRoute, IsFieldAt, IsKindOf, IsNoAsnText, IsNoFieldAt, IsReadLine, IsReadOf, IsRouteBy, IsSetWord, IsUpdateName, IsWordOrigin, HasNoOrigin, fields_of, origin_part, prefix_part};
+ghost use Rattle.origins_lines.specs.Routes.{AreRouteWords, HasDumpFault, HasCommaForSpace, HasFaultBy, HasReadFault, HasRouteFault, HasWordFault, HaveWordsFault, IsAsnOrigin, IsConfedWord, IsDumpRoute, IsFieldAt, IsKindOf, IsNoAsnText, IsNoFieldAt, IsOtherWord, IsReadLine, IsReadOf, IsRouteBy, IsSetWord, IsUpdateName, IsWordOrigin, IsWordsFault, HasNoOrigin, fields_of, origin_part, prefix_part};
 
 use crate::fault::RouteFault;
 use rpki_base::Asn;
@@ -153,14 +153,32 @@ fn read_words(text: &str) -> Result<Route, RouteFault>
 {
     // If the line has no space, the second text is empty, which is no AS number.
     let (before, behind) = cut_at(text, ' ');
-    match read_pair(before.trim(), behind.trim()) {
+    let first = before.trim();
+    match read_pair(first, behind.trim()) {
         Ok(route) => Ok(route),
         Err(fault) => if has_comma_for_space(text) {
             Err(RouteFault::CommaForSpace)
         } else {
-            Err(fault)
+            Err(fault_of(first, fault))
         },
     }
+}
+
+/// Returns the fault of a line whose first word and its words together have this fault.
+fn fault_of(first: &str, fault: RouteFault) -> RouteFault
+    ensures { IsWordsFault first.now fault result }
+{
+    match fault {
+        RouteFault::Prefix(_) if is_other_word(first) => RouteFault::OtherWord,
+        _ => fault,
+    }
+}
+
+/// Returns whether a word has a tab or is an AS number.
+fn is_other_word(word: &str) -> bool
+    ensures { IsTrue result ↔ IsOtherWord word.now }
+{
+    word.as_bytes().contains(&b'\t') || Asn::from_str(word).is_ok()
 }
 
 /// Returns whether a line has no space, and would be a route if its first comma were a space.

@@ -1,15 +1,18 @@
-//! Lists the VRPs of a file, and compares the VRPs of two files.
+//! Lists the VRPs of files, and compares the VRPs of two files.
 ghost use Rattle.std.specs.Prelude.{◌≡◌, ◌⊎◌, ℕ, List, [], false, true, IfOk, IfSome, OnOk, IsErrOf, length};
 ghost use Rattle.std.specs.Io.KnownBytes.{IsAtEnd};
 ghost use Rattle.lines_engine.specs.declared.error.RunError.TheVariants as RunError;
+ghost use Rattle.origins_lines.specs.Inputs.{AreInputsRead, ByInputs, IsInputsError};
 ghost use Rattle.origins_lines.specs.Runs.{ByFile, WritesBetween, WritesChanges, WritesTable};
 ghost use Rattle.origins_lines.specs.declared.error.ChangesError.TheVariants as ChangesError;
+ghost use Rattle.roa_origin.specs.Vrps.{Vrp};
 ghost use Rattle.origins_lines.specs.declared.error.OriginsError.TheVariants as OriginsError;
 ghost use Rattle.origins_lines.specs.declared.error.ReadVrpsError.TheVariants as ReadVrpsError;
 ghost use Rattle.roa_vrps.specs.Files.{HasFileFault};
 
-use crate::error::{ChangesError, OriginsError, ReadVrpsError};
+use crate::error::{ChangesError, InputsError, OriginsError, ReadVrpsError};
 use crate::file::read_file;
+use crate::inputs::{InputVrps, Inputs, Report, Selection, read_inputs};
 use crate::lines::{write_both, write_vrps};
 use lines_engine::device::{Sink, Source};
 use lines_engine::engine::flush_all;
@@ -19,83 +22,74 @@ use roa_vrps::FileFault;
 use rpki_base::Asn;
 use std::alloc::Allocator;
 
-/// Reads a file of VRPs whole, then writes a line for each VRP, sorted and each once.
+/// Reads the VRPs of files, then writes a line for each VRP, sorted and each once.
 ///
-/// - `alloc`: the allocator of the table.
-/// - `vrps`: the file of VRPs.
+/// - `alloc`: the allocator of the texts, of the lists and of the table.
+/// - `inputs`: the files of VRPs and the SLURM file.
+/// - `selection`: which files are read, and at which time VRPs may have expired.
 /// - `of`: the AS whose VRPs alone are written; None for all.
 /// - `writer`: the output. The call flushes it at the end.
 ///
-/// Returns how many VRPs the file has. The call never repeats a failed call of a device.
+/// Returns the numbers of VRPs. The call never repeats a failed call of a device.
 ///
 /// # Preconditions
 ///
-/// No call of `vrps` or `writer` has failed, and no write has taken nothing.
+/// No call of `inputs` or `writer` has failed, and no write has taken nothing.
 ///
 /// # Errors
 ///
-/// - [`OriginsError::Vrps`]: the file could not be read, is invalid, or needs more memory. Nothing was written.
+/// - [`OriginsError::Inputs`]: the files give no VRPs. Nothing was written.
 /// - [`OriginsError::Run`] with [`RunError::Write`]: a write or the flush failed, or a write took nothing. A beginning
 ///   of the lines was written.
 /// - [`OriginsError::Run`] with [`RunError::Memory`]: an allocation failed. Nothing was written, or a beginning of the
 ///   lines.
-pub fn write_table<A: Allocator + Copy, P: Source, W: Sink>(
+pub fn list_inputs<A: Allocator + Copy, I: Inputs, W: Sink>(
     alloc: A,
-    vrps: &mut P,
+    inputs: &mut I,
+    selection: Selection,
     of: Option<Asn>,
     writer: &mut W,
-) -> Result<usize, OriginsError>
+) -> Result<Report<A>, OriginsError>
     // No call of a device has failed.
-    requires vrps_clear { P.mark vrps.old ≡ false }
+    requires inputs_clear { I.mark inputs.old ≡ false }
     requires writer_clear { W.mark writer.old ≡ false }
 
-    // Ok: no call failed, the file was read to its end, the table of its VRPs was written, and the writer is flushed.
-    ensures unmarked { OnOk result ((P.mark vrps.new ≡ P.mark vrps.old)
-        × (W.mark writer.new ≡ W.mark writer.old)) }
-    ensures read_whole { OnOk result (IsAtEnd (P.left vrps.new)) }
-    ensures written { IfOk result (λ count. IfSome (P.left vrps.old) (ByFile (λ listed. (count ≡ length listed)
-        × WritesTable of (W.written writer.old) (W.written writer.new) [] listed))) }
+    // Ok: no call failed, the table of the VRPs that the files give was written, and the writer is flushed. Their
+    // numbers are returned.
+    ensures unmarked { OnOk result ((I.mark inputs.new ≡ false) × (W.mark writer.new ≡ W.mark writer.old)) }
+    ensures written { IfOk result (λ report. (vrps : List Vrp)
+        × AreInputsRead (I.text inputs.old) selection vrps report.files.items report.all
+        × (report.used ≡ length vrps)
+        × WritesTable of (W.written writer.old) (W.written writer.new) [] vrps) }
     ensures flushed { OnOk result (W.flushed writer.new ≡ true) }
 
-    // Vrps: the VRPs could not be read, and nothing was written.
-    ensures untouched { (error : ReadVrpsError) → IsErrOf result (OriginsError.Vrps error) →
-        writer.new ≡ writer.old }
+    // Inputs: the files give no VRPs, and nothing was written.
+    ensures wrong { (error : InputsError) → IsErrOf result (OriginsError.Inputs error) →
+        IsInputsError (I.text inputs.old) selection (I.mark inputs.new) error × (writer.new ≡ writer.old) }
 
-    // Read: a read failed. File: the file is invalid, and was read whole. Memory: an allocation failed, and no read
-    // did.
-    ensures read { IsErrOf result (OriginsError.Vrps ReadVrpsError.Read) → P.mark vrps.new ≡ true }
-    ensures wrong { (fault : FileFault) → IsErrOf result (OriginsError.Vrps (ReadVrpsError.File fault)) →
-        IfSome (P.left vrps.old) (λ text. HasFileFault text fault) }
-    ensures wrong_unmarked { (fault : FileFault) → IsErrOf result (OriginsError.Vrps (ReadVrpsError.File fault)) →
-        (P.mark vrps.new ≡ P.mark vrps.old) × IsAtEnd (P.left vrps.new) }
-    ensures vrps_memory { IsErrOf result (OriginsError.Vrps ReadVrpsError.Memory) →
-        P.mark vrps.new ≡ P.mark vrps.old }
-
-    // Run: the run failed after the VRPs were read whole.
-    ensures vrps_read { (error : RunError) → IsErrOf result (OriginsError.Run error) →
-        (P.mark vrps.new ≡ P.mark vrps.old) × IsAtEnd (P.left vrps.new) }
+    // Run: the run failed after the files were read.
+    ensures inputs_read { (error : RunError) → IsErrOf result (OriginsError.Run error) → I.mark inputs.new ≡ false }
 
     // Memory: no call failed. Nothing was written, or a beginning of the table.
     ensures memory_unmarked { IsErrOf result (OriginsError.Run RunError.Memory) →
         W.mark writer.new ≡ W.mark writer.old }
     ensures some_if_memory { IsErrOf result (OriginsError.Run RunError.Memory) →
-        IfSome (P.left vrps.old) (ByFile (λ listed.
-        (writer.new ≡ writer.old)
-        ⊎ ((unwritten : List ℕ) × WritesTable of (W.written writer.old) (W.written writer.new) unwritten listed))) }
+        ByInputs (I.text inputs.old) selection (λ vrps. (writer.new ≡ writer.old)
+        ⊎ ((unwritten : List ℕ) × WritesTable of (W.written writer.old) (W.written writer.new) unwritten vrps)) }
 
     // Write: a write or the flush failed, or a write took nothing, and a beginning of the table was written.
     ensures write { IsErrOf result (OriginsError.Run RunError.Write) → W.mark writer.new ≡ true }
     ensures some_written { IsErrOf result (OriginsError.Run RunError.Write) →
-        IfSome (P.left vrps.old) (ByFile (λ listed.
-        (unwritten : List ℕ) × WritesTable of (W.written writer.old) (W.written writer.new) unwritten listed)) }
+        ByInputs (I.text inputs.old) selection (λ vrps.
+        (unwritten : List ℕ) × WritesTable of (W.written writer.old) (W.written writer.new) unwritten vrps) }
     ensures not_read { IsErrOf result (OriginsError.Run RunError.Read) → ⊥ }
 {
-    let listed = match read_file(alloc, vrps) {
-        Ok(listed) => listed,
-        Err(error) => return Err(OriginsError::Vrps(error)),
+    let InputVrps { vrps, report } = match read_inputs(alloc, inputs, selection) {
+        Ok(read) => read,
+        Err(error) => return Err(OriginsError::Inputs(error)),
     };
-    match write_listed(alloc, listed.as_slice(), of, writer) {
-        Ok(()) => Ok(listed.len()),
+    match write_listed(alloc, vrps.as_slice(), of, writer) {
+        Ok(()) => Ok(report),
         Err(error) => Err(OriginsError::Run(error)),
     }
 }

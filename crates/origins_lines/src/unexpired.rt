@@ -53,11 +53,12 @@ pub fn add_unexpired_file<A: Allocator + Copy, P: Source>(
     requires clear { P.mark file.old ≡ false }
 
     // Ok: no call failed, and the file was read to its end. Its VRPs that have not expired were appended, and their
-    // number and that of the expired ones are returned.
+    // number and that of the expired ones are returned. If the file is not modelled, some VRPs were appended, and their
+    // number is returned.
     ensures unmarked { OnOk result (P.mark file.new ≡ P.mark file.old) }
     ensures read_whole { OnOk result (IsAtEnd (P.left file.new)) }
-    ensures appended { IfOk result (λ numbers. IfSome (P.left file.old)
-        (AppendsUnexpired time listed.old.items listed.new.items numbers.unexpired numbers.expired)) }
+    ensures appended { IfOk result
+        (AppendsUnexpired time (P.left file.old) listed.old.items listed.new.items) }
 
     // Err: nothing was appended.
     ensures kept { OnErr result (listed.new.items ≡ listed.old.items) }

@@ -1,5 +1,7 @@
 //! A reader that is dropped at its end.
-ghost use Rattle.std.specs.Prelude.{◌≡◌, false};
+ghost use Rattle.std.specs.Prelude.{◌≡◌, ◌<◌, ◌≤◌, false, length, IfOk, None};
+ghost use Rattle.std.specs.Io.KnownBytes.{ReadConsumes};
+ghost use Rattle.lines_engine.specs.Device.{MarksFailure};
 
 use lines_engine::device::{DeviceFault, Source};
 use std::io::Read;
@@ -35,7 +37,14 @@ impl<R: Read + Drop> Source for UntilEnd<R> {
 
     ghost mark = { λ source. source.failed };
 
-    fn read(&mut self, piece: &mut [u8]) -> Result<usize, DeviceFault> {
+    /// Reads once. A read that finds the end drops the reader.
+    fn read(&mut self, piece: &mut [u8]) -> Result<usize, DeviceFault>
+        ensures bound { IfOk result (λ n. n ≤ length piece.new) }
+        ensures bytes { ReadConsumes (left_of R.remaining self.old.reader) (left_of R.remaining self.new.reader) result
+            piece.new }
+        ensures mark { MarksFailure self.old.failed self.new.failed result }
+        ensures dropped { IfOk result (λ n. n ≡ 0 → 0 < length piece.new → self.new.reader ≡ None) }
+    {
         let Some(reader) = self.reader.as_mut() else {
             return Ok(0);
         };

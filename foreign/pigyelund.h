@@ -24,8 +24,9 @@
  *   puts(pigy_status_text(status)); // overclaimed IPv4 resources
  *   // ip has the DER of 12.0.0.0/8, in out.ip_len octets
  *
- * The guide has the installation, complete programs, a table of all calls, and a table of all statuses. It is
- * docs/FOREIGN.md in the repository, and in the Debian package /usr/share/doc/libpigyelund-dev/FOREIGN.md.
+ * The guide has the installation, complete programs, and what to do after an error. It is docs/C.md in the repository.
+ * The Debian package has the guide, and each page and example that the guide names, below
+ * /usr/share/doc/libpigyelund-dev.
  *
  * SHORT FORMS. pigy_verify_set, pigy_combine and pigy_compare are at the end of this file. They take structs instead of
  * 9 to 17 parameters. A NULL pointer in these structs means length 0 or capacity 0, or an absent extension.
@@ -46,25 +47,40 @@
  * - If all outputs fit, the call writes each output at the front of its buffer, and stores its length. The rest of the
  *   buffer is unchanged.
  * - If an output does not fit, the call returns PIGY_TOO_SMALL. Then no buffer is changed, and the lengths are the
- *   required ones. Call again with the same inputs, and with buffers of these capacities. The second call does not
- *   return PIGY_TOO_SMALL.
+ *   required ones. Call again with the same inputs, and with buffers of these capacities. The second call does all the
+ *   work again, and does not return PIGY_TOO_SMALL.
  * - Pass capacity 0 to get the lengths alone. The buffer may be NULL then. An output of length 0 fits a buffer of
  *   capacity 0.
  *
  * MEMORY. Except for tables, the library keeps nothing between calls and hands out no memory. Each call frees all that
- * it takes from malloc before it returns. A table of 500,000 VRPs takes some 42 octets for each VRP. PIGY_MEMORY means
- * that malloc or realloc failed, that an array of the library would have 2^63 octets or more, or that a table would
- * have 2^32 VRPs or more. It does not say that an argument is invalid.
+ * it takes from malloc before it returns. There is no hook for another allocator.
+ *
+ * - pigy_version, pigy_version_string, pigy_status_text and pigy_table_free take no memory, and cannot fail.
+ *   pigy_table_len takes no memory either, and fails only for a NULL handle. Any other call may return PIGY_MEMORY.
+ * - A table of 500,000 VRPs takes some 42 octets for each VRP. pigy_table_new takes some 80 more for each VRP
+ *   during the call.
+ * - PIGY_MEMORY has three causes. malloc or realloc failed, or an array of the library would have 2^63 octets or more,
+ *   or a table would have 2^32 VRPs or more. Only after the first cause can the same call succeed later.
+ * - PIGY_MEMORY does not say that an argument is invalid.
  *
  * TABLES. pigy_table_new and pigy_table_changed return the handle of a table of VRPs. The caller owns the table until
  * pigy_table_free. A table never changes. With an error these two calls store NULL as the handle. For a NULL handle the
  * calls return PIGY_NO_TABLE, and pigy_table_free does nothing. The obligations for any other handle are below.
  *
- * CHECKS. Each call checks its arguments in the order that its comment lists, and returns the first error.
- * PIGY_TOO_SMALL comes after all checks. There is one exception: if the overclaimed resources of a certificate do not
- * fit, pigy_verify_path returns PIGY_TOO_SMALL before it checks the later certificates. PIGY_MEMORY can come instead of
- * any other status, with two exceptions: pigy_table_len never returns PIGY_MEMORY, and no call returns it for a NULL
- * handle. The comments of the calls do not repeat these rules.
+ * CHECKS. The comments of the calls do not repeat these rules:
+ *
+ * - Each call checks its arguments in the order that its comment lists, and returns the first error.
+ * - PIGY_TOO_SMALL comes after all checks. pigy_verify_path also returns it if the overclaimed resources of a
+ *   certificate do not fit. It has not checked the later certificates then.
+ * - PIGY_MEMORY can come instead of any status except PIGY_NO_TABLE, which comes first.
+ *
+ * A DAEMON must:
+ *
+ * - begin with an empty table (pigy_table_new with count 0), so that its handle is never NULL;
+ * - use PIGY_NOT_FOUND for a route after PIGY_MEMORY, and validate the route again later;
+ * - exchange the handle of its table, then call pigy_table_routes_changed, and then free the old table;
+ * - free a table only after all other calls with its handle have returned;
+ * - compare with the names PIGY_OK and PIGY_VALID, since both numbers are 0.
  *
  * OBLIGATIONS of the caller, which nothing checks:
  *
@@ -79,16 +95,17 @@
  *   write the memory at the handle.
  * - Outputs overlap neither inputs nor other outputs. Until the call returns, nothing else writes to inputs or outputs,
  *   and nothing else reads outputs.
- * - malloc, realloc and free belong to one allocator. It aligns each block by its size: if the size is a multiple of
- *   16, 8, 4 or 2 octets, the address is a multiple of the same number. The C library's allocator does this.
+ * - malloc, realloc and free belong to one allocator. The allocator of the C library meets this rule: if the size of a
+ *   block is a multiple of 16, 8, 4 or 2 octets, its address is a multiple of the same number. Another allocator has to
+ *   meet the rule too.
  * - The processor has the instructions of x86-64-v2: SSE3, SSSE3, SSE4.1, SSE4.2, POPCNT, CMPXCHG16B, LAHF and SAHF.
- * - The stack has 128 KiB left. The calls of foreign/c/test.c use less than 8 KiB of it, except pigy_vrps_read, which
- *   uses less than 64 KiB for the deepest JSON that it reads. This is measured on x86-64, and is not proved.
+ * - The stack has 128 KiB left. pigy_vrps_read uses less than 64 KiB for the deepest JSON that it reads.
+ *   In the tests all other calls use less than 8 KiB of it. This is measured on x86-64, and is not proved.
  * - No call is made in a signal handler, or in the forked child of a process with threads.
  *
  * THREADS. The calls share no state. Any number of them may run at the same time if each meets the obligations. Several
- * calls may read one input, and no two calls may write to one output. A test runs the calls on eight threads. There is
- * no proof that they may run at the same time.
+ * calls may read one input, and no two calls may write to one output. This is tested, and is not proved. In a test in C
+ * eight threads make calls, each with tables of its own. In tests in Rust and Python several threads use one table.
  *
  * - Any number of threads may use one table, and may make the next table from it at the same time.
  * - Pass a handle from one thread to another by a lock, by the start or join of a thread, or by an atomic object. The
@@ -172,9 +189,9 @@ extern "C" {
  * - 8: A prefix is longer than its family allows.
  * - 9: An address family is neither IPv4 nor IPv6, or has a third octet (SAFI).
  * - 10: The first bound of a range is above the second.
- * - 11: A list has no blocks.
+ * - 11: A list has no blocks (RFC 6487, 4.8.10 and 4.8.11).
  * - 12: An address family appears twice.
- * - 13: There is no address family.
+ * - 13: There is no address family (RFC 6487, 4.8.10).
  * - 14: The encoding is not canonical. Only PIGY_STRICT returns this.
  *
  * PIGY_BAD_LINE + n with n from 1 to 7, PIGY_BAD_ITEM + n with n from 4 to 16:
@@ -196,6 +213,8 @@ extern "C" {
  * - 2: The file begins with {, and is not a JSON object in UTF-8, or nests deeper than 128 levels.
  * - 3, 4, 5: The member roas is missing, is repeated, or is not an array.
  * - 6: The file has no VRP.
+ * - 7: The first line of CSV is neither blank nor a VRP, and does not name the columns. Its first field is not an AS
+ *   number, and its second field is not a prefix.
  *
  * PIGY_BAD_TEXT + n:
  *
@@ -208,16 +227,24 @@ extern "C" {
  * - 7: The first address of a range is above the second. */
 #define PIGY_FAULT(s) ((s) & 0xffu)
 
-/* Encodings. PIGY_STRICT accepts canonical DER only (RFC 3779, 2.2.3.3, 2.2.3.6, 2.2.3.9 and 3.2.3.4). PIGY_LENIENT
- * also accepts other encodings of the same resources, for example blocks in any order, and blocks that overlap or
- * touch. Both reject a SAFI and routing domain identifiers (RDI), which RFC 6487 excludes (4.8.10 and 4.8.11). */
+/* Encodings. PIGY_STRICT accepts canonical DER only (RFC 3779, 2.2.3.3, 2.2.3.6, 2.2.3.7, 2.2.3.9 and 3.2.3.4).
+ * PIGY_LENIENT also accepts these other encodings of the same resources:
+ *
+ * - Blocks are not in ascending order, overlap or touch.
+ * - A range is a prefix. A range has one AS number, which RFC 3779 allows and PIGY_STRICT refuses.
+ * - The bounds of a range have more bits than necessary, or unused bits of a BIT STRING are not 0.
+ * - IPv6 is before IPv4.
+ *
+ * The encoding applies to all DER of a call, also to the issuer's. PIGY_STRICT accepts each set that a call wrote. Both
+ * encodings refuse indefinite lengths, a SAFI and routing domain identifiers (RDI). RFC 6487 excludes the last two
+ * (4.8.10 and 4.8.11). Encodings and modes share their numbers, so no call notices if you exchange the two. */
 #define PIGY_LENIENT 0u
 #define PIGY_STRICT 1u
 
 /* Modes, for a certificate that claims more than its issuer has. PIGY_REFUSE refuses the certificate (RFC 6487, 7.2).
  * PIGY_TRIM reduces the claim to the resources that the issuer has (RFC 8360, 4). It is for certificates with the
  * policy id-cp-ipAddr-asNumber-v2, whose extensions have the OIDs of RFC 8360, 4.2. The outputs do not contain the
- * removed resources. docs/FOREIGN.md, "All overclaimed resources", says how to get the removed resources. */
+ * removed resources. docs/C.md, "All overclaimed resources", says how to get the removed resources. */
 #define PIGY_REFUSE 0u
 #define PIGY_TRIM 1u
 
@@ -226,7 +253,7 @@ extern "C" {
 #define PIGY_HAS_IP 2u
 #define PIGY_HAS_BOTH 3u
 
-/* Address families, with their numbers in IP address blocks (RFC 3779, 2.2.3.3). */
+/* Address families, with their numbers in IP address blocks (RFC 3779, 2.2.3.3). They are not AF_INET and AF_INET6. */
 #define PIGY_IPV4 1u
 #define PIGY_IPV6 2u
 
@@ -237,14 +264,16 @@ extern "C" {
  *
  * - PIGY_VALID: At least one VRP matches the route.
  * - PIGY_NOT_FOUND: No VRP covers the route.
- * - PIGY_INVALID: At least one VRP covers the route, and none matches it. */
+ * - PIGY_INVALID: At least one VRP covers the route, and none matches it.
+ *
+ * The number of PIGY_VALID is 0, so compare with the names. */
 #define PIGY_VALID 0u
 #define PIGY_NOT_FOUND 1u
 #define PIGY_INVALID 2u
 
-/* The reason why a VRP that covers a route does not match it: one of these, their sum, or 0 if it matches.
+/* The reason why a VRP that covers a route does not match it: a bit mask. If it is 0, the VRP matches.
  *
- * - PIGY_OTHER_AS: The AS of the VRP is not the route's, or is AS 0.
+ * - PIGY_OTHER_AS: The AS of the VRP is not the route's, or both are AS 0.
  * - PIGY_TOO_LONG: The route's prefix is longer than the maximum length of the VRP. */
 #define PIGY_OTHER_AS 1u
 #define PIGY_TOO_LONG 2u
@@ -314,7 +343,8 @@ uint32_t pigy_verify(const uint8_t *issuer_as, size_t issuer_as_len, const uint8
  * - present: Extensions of the certificate: PIGY_HAS_AS, PIGY_HAS_IP, PIGY_HAS_BOTH or 0.
  * - mode: PIGY_REFUSE or PIGY_TRIM.
  *
- * Both ranges lie in `run`, also the range of an absent extension. Use start 0 and length 0 for an absent extension. */
+ * Both ranges lie in `run`, also the range of an absent extension. An absent extension may have start 0 and
+ * length 0. */
 typedef struct {
   size_t as_start, as_len, ip_start, ip_len;
   uint32_t present, mode;
@@ -333,7 +363,7 @@ typedef struct {
  * @param anchor_ip_len  Length in octets; 0 if the anchor has no addresses.
  * @param run            Octets of the extensions of all certificates: DER. May be NULL if the length is 0.
  * @param run_len        Length in octets.
- * @param certificates   The certificates, the anchor's child first. May be NULL if the count is 0.
+ * @param certificates   The certificates, the anchor's child first; there may be none. May be NULL if the count is 0.
  * @param count          Number of certificates.
  * @param encoding       PIGY_LENIENT or PIGY_STRICT, for all certificates and for the anchor.
  * @param as_out         Buffer for the result's AS identifiers. Owned by the caller. May be NULL if the capacity is 0.
@@ -357,8 +387,8 @@ typedef struct {
  *   4. PIGY_TOO_SMALL, then PIGY_OK. *verified is `count`.
  *
  * With any status except PIGY_OK, PIGY_TOO_SMALL and the three of overclaimed resources, both lengths are 0 and the
- * buffers are unchanged. With PIGY_MEMORY *verified is unspecified. With PIGY_TOO_SMALL *verified is below `count` if
- * and only if the outputs that do not fit are overclaimed resources.
+ * buffers are unchanged. With PIGY_MEMORY *verified is unspecified. With PIGY_TOO_SMALL and *verified below `count` the
+ * overclaimed resources do not fit. With *verified equal to `count` the result does not fit.
  */
 uint32_t pigy_verify_path(const uint8_t *anchor_as, size_t anchor_as_len, const uint8_t *anchor_ip,
                           size_t anchor_ip_len, const uint8_t *run, size_t run_len,
@@ -545,11 +575,14 @@ uint32_t pigy_origins(const pigy_vrp *vrps, size_t vrp_count, const pigy_route *
  * 8259). Its VRPs are the items of the member roas, an array. An item is an object with the members asn (a number or a
  * string), prefix (a string) and maxLength (a number), each exactly once. Other members are ignored.
  *
- * If this character is [, the file is invalid. Any other file is CSV. A line is blank, names the columns, or is a VRP:
- * an AS number, a prefix and a maximum length. The names of a line hold for the lines after it. Before any names, a VRP
- * is the first three fields of its line. Names are ASN; IP Prefix or Prefix; Max Length or Max prefix length. Capital
- * and small letters differ. White space around a field and quotes around its text are ignored. Each comma ends a field,
- * also a comma between quotes.
+ * If this character is [, the file is invalid. Any other file is CSV:
+ *
+ * - A line is blank, names the columns, or is a VRP: an AS number, a prefix and a maximum length.
+ * - The names of a line hold for the lines after it. Before any names, a VRP is the first three fields of its line.
+ * - The names are ASN; IP Prefix or Prefix; Max Length or Max prefix length. Capital and small letters differ.
+ * - White space around a field is ignored, and so are quotes around its text.
+ * - Each comma ends a field, also a comma between quotes.
+ * - An empty maximum length is the length of the prefix (RFC 9582, 4.3.2.2).
  *
  * A byte order mark at the beginning is ignored. No line and no item is skipped: one that is invalid makes the whole
  * file invalid. The last 12 octets of an IPv4 address are 0. A VRP that the file repeats is listed again.
@@ -557,12 +590,12 @@ uint32_t pigy_origins(const pigy_vrp *vrps, size_t vrp_count, const pigy_route *
  * @param file      The octets of the whole file. May be NULL if the length is 0.
  * @param file_len  Length in octets; may be 0.
  * @param vrps      Buffer for the VRPs. Owned by the caller. May be NULL if the capacity is 0.
- * @param capacity  Capacity of `vrps` in VRPs, not in octets; may be 0.
+ * @param capacity  Capacity of `vrps` in VRPs, not in octets; may be 0. file_len / 8 + 1 always suffices.
  * @param count     Receives the number of VRPs, written or required. Not NULL.
  * @param line      Receives the number of the first invalid line of CSV or item of JSON, from 1; else 0. Not NULL.
  *
  * @return the first of these that applies:
- *   1. PIGY_BAD_FILE + n with n from 1 to 5: the file as a whole. *line is 0.
+ *   1. PIGY_BAD_FILE + n with n from 1 to 5, or n = 7: the file as a whole. *line is 0.
  *   2. PIGY_BAD_LINE + n: the first invalid line. PIGY_BAD_ITEM + n: the first invalid item.
  *   3. PIGY_BAD_FILE + 6: the file has no VRP. *line is 0.
  *   4. PIGY_TOO_SMALL, then PIGY_OK.
@@ -578,7 +611,8 @@ typedef struct pigy_table pigy_table;
 /* A VRP of a table that covers a route.
  *
  * - address, asn, family, len, max_len: The VRP. The last 12 octets of an IPv4 address are 0.
- * - mismatch: Why the VRP does not match the route: PIGY_OTHER_AS, PIGY_TOO_LONG, their sum, or 0 if it matches. */
+ * - mismatch: A bit mask of PIGY_OTHER_AS and PIGY_TOO_LONG, which say why the VRP does not match the route. If it is
+ *   0, the VRP matches. */
 typedef struct {
   uint8_t address[16];
   uint32_t asn;
@@ -612,8 +646,7 @@ uint32_t pigy_table_new(const pigy_vrp *vrps, size_t count, pigy_table **table, 
  * - The call applies all withdrawals before all announcements. In general, a response to a Serial Query has at most
  *   one withdrawal and then at most one announcement of each VRP (RFC 8210, 5.3). Pass such a response as one change.
  * - For the response to a Reset Query, pass an empty table as `table`. pigy_table_new with count 0 makes an empty
- *   table. A VRP that the response announces twice is then an error. If you pass the VRPs of the response to
- *   pigy_table_new instead, it accepts such duplicates.
+ *   table. Then this call returns an error if the response announces a VRP twice. pigy_table_new finds no such error.
  * - A withdrawal removes all copies of a VRP.
  * - Each array may list a VRP only once, even if the table lists it more than once.
  * - A VRP in both arrays has to be in the table. The next table lists it once.
@@ -645,7 +678,9 @@ uint32_t pigy_table_changed(const pigy_table *table, const pigy_vrp *announced, 
     PIGY_NODISCARD PIGY_NONNULL(6, 7);
 
 /**
- * Validates routes by a table, as pigy_origins does. It makes no table, so a call for one route is cheap.
+ * Validates routes by a table, as pigy_origins does. It makes no table. Many routes in one call take less time each.
+ *
+ * The call takes one octet for each route and less than 2 KiB from malloc, and frees them.
  *
  * @param table     The table, which is only read. The status is PIGY_NO_TABLE if it is NULL.
  * @param routes    Routes. May be NULL if the count is 0.
@@ -668,8 +703,17 @@ uint32_t pigy_table_origins(const pigy_table *table, const pigy_route *routes, s
 
 /**
  * Compares the validity of each route by two tables (RFC 6811, 4). The octet of a route is 1 if its validity differs
- * between the tables, and otherwise 0. Make the next table, then call this with all routes that you use, and then free
- * the old table.
+ * between the tables, and otherwise 0.
+ *
+ * 1. Exchange the handle, so that each later lookup uses the next table.
+ * 2. Make this call with all routes that you use. Validate each route again whose octet is 1.
+ * 3. Free the old table.
+ *
+ * If you compare first, a route that the old table validates between comparison and exchange has a wrong validity. For
+ * the first table pass an empty table as `old`, or validate all routes instead of this call. After PIGY_MEMORY validate
+ * all routes. docs/C.md, "Several caches", says what to do with several tables.
+ *
+ * The call takes three octets for each route and less than 2 KiB from malloc, and frees them.
  *
  * @param old       The one table, which is only read. The status is PIGY_NO_TABLE if it is NULL.
  * @param next      The other table, which is only read. The status is PIGY_NO_TABLE if it is NULL. May be `old`.
@@ -755,7 +799,7 @@ uint32_t pigy_table_vrps(const pigy_table *table, pigy_vrp *out, size_t capacity
 void pigy_table_free(pigy_table *table);
 
 /**
- * Returns the answer of the program respath to one line. README.md in the repository lists its commands.
+ * Returns the answer of the program respath to one line. Its manual page, respath(1), lists the commands.
  *
  * The line and the answer are UTF-8, without the end of a line. If the line is wrong, the status is still PIGY_OK, and
  * the answer begins with "error: ". A line that is not UTF-8 is wrong too.
@@ -874,7 +918,8 @@ uint32_t pigy_difference(const uint8_t *a_as, size_t a_as_len, const uint8_t *a_
                          size_t *ip_len) PIGY_NODISCARD PIGY_NONNULL(14, 15);
 
 /**
- * Returns whether the first set has each AS number and each address of the second.
+ * Returns whether the first set has each AS number and each address of the second. PIGY_OK is 0. Compare the status
+ * with PIGY_OK and PIGY_NO, since `if (status)` is true for no and for each error.
  *
  * pigy_compare is a shorter form.
  *
@@ -899,7 +944,8 @@ uint32_t pigy_contains(const uint8_t *a_as, size_t a_as_len, const uint8_t *a_ip
     PIGY_NODISCARD;
 
 /**
- * Returns whether both sets have the same AS numbers and the same addresses.
+ * Returns whether both sets have the same AS numbers and the same addresses. Compare the status with PIGY_OK and
+ * PIGY_NO.
  *
  * pigy_compare is a shorter form.
  *

@@ -5,6 +5,7 @@
 #   pigyelund           the programs, their man pages, and the prover's verdicts on them and on the library
 #   libpigyelund1       the shared library, by the number of its ABI
 #   libpigyelund-dev    the header, the static library, the link for the linker, pigyelund.pc, the examples, the guide
+#                       and what its links lead to
 #   python3-pigyelund   the Python package
 #   pigyelund-vectors   the conformance vectors
 #
@@ -148,6 +149,17 @@ Description: RPKI resource sets and route origin validation (C library)
 END_OF_TEXT
 }
 
+# put_guide FOLDER: installs the guide for C, and what its links lead to. The folder has the examples already.
+put_guide() {
+    put_pages "$1" README.md docs/C.md docs/ERRORS.md docs/PROVED.md docs/RECIPES.md docs/SPEED.md foreign/rtr/README.md \
+        packaging/README.md
+    install -d "$1/foreign/c"
+    ln -s ../../../../include/pigyelund.h "$1/foreign/pigyelund.h"
+    ln -s ../../examples "$1/foreign/c/examples"
+    ln -s ../../examples/example.c "$1/foreign/c/example.c"
+    ln -s ../../examples/router.c "$1/foreign/rtr/router.c"
+}
+
 development_package() {
     tree=$(tree_of libpigyelund-dev)
     doc=$tree/usr/share/doc/libpigyelund-dev
@@ -158,8 +170,8 @@ development_package() {
     sed 's|^prefix=.*|prefix=/usr|' "$stage/usr/lib/$triplet/pkgconfig/pigyelund.pc" >"$work/pigyelund.pc"
     install -m 644 "$work/pigyelund.pc" "$tree/usr/lib/$triplet/pkgconfig"
     ln -s "$soname" "$tree/usr/lib/$triplet/libpigyelund.so"
-    install -m 644 foreign/c/example.c foreign/rtr/router.c "$doc/examples"
-    install -m 644 docs/FOREIGN.md "$doc"
+    install -m 644 foreign/c/example.c foreign/c/examples/* foreign/rtr/router.c "$doc/examples"
+    put_guide "$doc"
     build_package libpigyelund-dev "$architecture" libdevel "Multi-Arch: same" \
         "Depends: libpigyelund1 (= $version)" <<END_OF_TEXT
 Description: RPKI resource sets and route origin validation (development files)
@@ -170,7 +182,7 @@ Description: RPKI resource sets and route origin validation (development files)
  answers is formally verified.
  .
  This package has the header, the static library, the file that pkg-config
- reads, a guide, and two examples in C.
+ reads, a guide, and examples in C.
 END_OF_TEXT
 }
 
@@ -207,6 +219,7 @@ else
 fi
 END_OF_TEXT
     chmod 755 "$tree/DEBIAN/postinst" "$tree/DEBIAN/prerm"
+    put_pages "$tree/usr/share/doc/python3-pigyelund" docs/PYTHON.md
     build_package python3-pigyelund all python \
         "Depends: python3 (>= $least), libpigyelund1 (>= $newest)" <<END_OF_TEXT
 Description: RPKI resource sets and route origin validation (Python 3)
@@ -225,6 +238,7 @@ programs_package() {
     put_programs "$tree/usr"
     gzip -9n "$tree/usr/share/man/man1/"*.1
     install -m 644 "$work/VERDICTS" "$tree/usr/share/doc/pigyelund"
+    put_pages "$tree/usr/share/doc/pigyelund" README.md docs/RECIPES.md docs/ERRORS.md
     depends=$(depends_of "$tree/usr/bin/"*)
     build_package pigyelund "$architecture" net "Multi-Arch: foreign" "Depends: $depends" \
         "Suggests: pigyelund-vectors" <<END_OF_TEXT

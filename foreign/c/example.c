@@ -1,6 +1,6 @@
 /* Verifies the IP address blocks of a certificate against those of its issuer, in both modes.
  *
- * It prints a line for each mode: the status, and the octets of the output. docs/FOREIGN.md says how to build it. */
+ * It prints a line for each mode: the status, and the octets of the output. docs/C.md says how to build it. */
 #include <pigyelund.h>
 #include <stdio.h>
 #include <stdlib.h>

@@ -34,12 +34,13 @@ static const char *text_of_input(uint32_t status) {
                                           "item of roas: maxLength is missing",
                                           "item of roas: maxLength is repeated",
                                           "item of roas: maxLength has a wrong kind of value"};
-  static const char *const of_file[6] = {"file of VRPs: a JSON array in place of an object",
+  static const char *const of_file[7] = {"file of VRPs: a JSON array in place of an object",
                                          "file of VRPs: not a JSON object",
                                          "file of VRPs: roas is missing",
                                          "file of VRPs: roas is repeated",
                                          "file of VRPs: roas has a wrong kind of value",
-                                         "file of VRPs: no VRP"};
+                                         "file of VRPs: no VRP",
+                                         "file of VRPs: first line is neither a known header nor a VRP"};
   static const char *const of_text[7] = {"text of a set: not UTF-8",
                                          "text of a set: bad AS number",
                                          "text of a set: bad range of AS numbers",
@@ -51,7 +52,7 @@ static const char *text_of_input(uint32_t status) {
   if (kind == PIGY_BAD_TEXT && fault >= 1u && fault <= 7u) return of_text[fault - 1u];
   if (kind == PIGY_BAD_LINE && fault >= 1u && fault <= 7u) return of_line[fault - 1u];
   if (kind == PIGY_BAD_ITEM && fault >= 4u && fault <= 16u) return of_item[fault - 4u];
-  if (kind == PIGY_BAD_FILE && fault >= 1u && fault <= 6u) return of_file[fault - 1u];
+  if (kind == PIGY_BAD_FILE && fault >= 1u && fault <= 7u) return of_file[fault - 1u];
   return 0;
 }
 
@@ -72,7 +73,7 @@ const char *pigy_status_text(uint32_t status) {
                                          "unknown encoding",
                                          "the certificate has neither extension",
                                          "octets of a certificate outside of the run",
-                                         "unknown number of extensions",
+                                         "unknown bit mask of extensions",
                                          "unknown family",
                                          "bad prefix of a VRP",
                                          "bad maximum length of a VRP",

@@ -134,7 +134,7 @@ def required_by(octets: bytes) -> Required:
         libraries = [elf.text(at) for at in elf.values(NEEDED)]
         has_path = bool(elf.values(RUN_PATH) or elf.values(RUN_PATH_OLD))
         return Required(elf.machine, libraries, [*elf.versions()], has_path, elf.isa())
-    except (struct.error, IndexError) as fault:
+    except (struct.error, IndexError, OverflowError) as fault:
         raise ValueError(f"it is a malformed ELF file: {fault}") from None
 
 

@@ -46,6 +46,7 @@ from pigyelund import (
 )
 from pigyelund.errors import error_for_status
 from pigyelund.raw import CallResult, Lengths, Pair, Present
+from test_misuse import OF_MISUSE
 from test_prefixes import OF_PREFIXES
 from test_tables import OF_TABLES, OtherVrp
 
@@ -290,7 +291,7 @@ def is_read(library: Pigyelund, row: Row) -> bool:
         fits = count <= capacity
         if (status, length, line) != (row.status if fits else Status.TOO_SMALL, count, row.number):
             return False
-        if vrps != (expected if fits else []) + [Vrp()] * (capacity - count if fits else capacity):
+        if [*vrps] != (expected if fits else []) + [Vrp()] * (capacity - count if fits else capacity):
             return False
     try:
         return library.read_vrps(file) == expected and row.status == Status.OK
@@ -539,9 +540,10 @@ def reasons(library: Pigyelund, _: Path) -> Iterator[str]:
         except VrpFileError as reason:
             if (reason.line, str(reason)) != (line, text) or not is_kept(reason):
                 yield f"{reason!r} in place of {text}"
-    no_memory = error_for_status(Status.MEMORY, index=0)
-    if not isinstance(no_memory, OutOfMemoryError) or str(no_memory) != "out of memory":
-        yield "want of memory"
+    for no_memory in error_for_status(Status.MEMORY, index=0), error_for_status(Status.MEMORY, verified=1):
+        found = type(no_memory), str(no_memory), no_memory.verified, no_memory.index
+        if found != (OutOfMemoryError, "out of memory", None, None):
+            yield f"out of memory: {found}"
 
 
 def tables(library: Pigyelund, _: Path) -> Iterator[str]:
@@ -602,7 +604,8 @@ def equal_fields(_: Pigyelund, __: Path) -> Iterator[str]:
             is_same = (item == other, not item != other, len({item, other}) == 1, repr(item) == repr(other))
             if is_same != (at == other_at,) * 4:
                 yield f"{item} and {other}: {is_same}"
-        behind = type(item).from_buffer_copy(bytes(item)[: item._octet_count_].ljust(len(bytes(item)), b"\7"))
+        end = raw.ranges_of_fields(type(item))[-1].stop
+        behind = type(item).from_buffer_copy(bytes(item)[:end].ljust(len(bytes(item)), b"\7"))
         if behind != item or hash(behind) != hash(item):
             yield f"octets behind {item} are looked at"
     if items()[0] == (raw.address_of(TEN), 1, 1, 8, 9) or items()[0] is None:
@@ -660,7 +663,7 @@ def copies(library: Pigyelund, _: Path) -> Iterator[str]:
 
 
 OTHERS = (names_and_numbers, same_versions, texts, no_bits_are_dropped, no_other_enumeration, defaults, lenient)
-OTHERS += (reasons, tables, equal_fields, item_texts, changes_by_sets, copies, *OF_PREFIXES, *OF_TABLES)
+OTHERS += (reasons, tables, equal_fields, item_texts, changes_by_sets, copies, *OF_PREFIXES, *OF_TABLES, *OF_MISUSE)
 
 
 def main() -> int:

@@ -17,7 +17,18 @@ from ipaddress import (
 )
 from pathlib import Path
 
-from pigyelund import Family, OriginError, Pigyelund, PigyelundError, Resources, Route, Validity, Vrp, raw
+from pigyelund import (
+    Certificate,
+    Family,
+    OriginError,
+    Pigyelund,
+    PigyelundError,
+    Resources,
+    Route,
+    Validity,
+    Vrp,
+    raw,
+)
 
 TEN = IPv4Network("10.0.0.0/8")
 SIX = IPv6Network("2001:db8::/32")
@@ -107,13 +118,18 @@ def wrong_items(library: Pigyelund, _: Path) -> Iterator[str]:
 
 
 def wrong_texts(library: Pigyelund, _: Path) -> Iterator[str]:
-    """A file that is no `bytes`, and a list that is no `str`, are refused with the name of the argument."""
+    """A file that is no `bytes`, a list that is no `str`, and a claim that is no `Extensions` are refused."""
     asked: list[tuple[Callable[[], object], str]] = [
         (lambda: library.from_text(v4=None), "v4: None is no str"),  # type: ignore[arg-type]
         (lambda: library.from_text("AS1", v6=b""), "v6: b'' is no str"),  # type: ignore[arg-type]
     ]
     for call, text in asked:
         yield from refuses(call, TypeError, text)
+    ten = library.from_text(v4="10.0.0.0/8")
+    text = "a Resources is no Extensions; for a set pass Extensions(found.asn or None, found.ip or None)"
+    yield from refuses(lambda: library.verify(ten, ten), TypeError, text)  # type: ignore[arg-type]
+    path = [Certificate(ten)]  # type: ignore[arg-type]
+    yield from refuses(lambda: library.verify_path(ten, path), TypeError, text)
     text = "file: a str is no bytes; for the name of a file pass Path(name).read_bytes()"
     yield from refuses(lambda: library.read_vrps("vrps.csv"), TypeError, text)  # type: ignore[arg-type]
 

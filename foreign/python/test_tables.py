@@ -77,8 +77,8 @@ class Counted(raw.Library):
         self.held: list[int] = []
         self.faults: list[str] = []
 
-    def _call_for_table(self, name: str, words: list[object]) -> raw.TableResult:
-        result = super()._call_for_table(name, words)
+    def _call_for_table(self, name: str, words: list[object], table: ctypes.c_void_p | None) -> raw.TableResult:
+        result = super()._call_for_table(name, words, table)
         if result.table is not None:
             self.held.append(result.table)
         return result

@@ -314,6 +314,7 @@ def refused_libraries(tree: Tree, held: list[bytes]) -> Iterator[str]:
             (whole[:16] + b"\2" + whole[17:], "it is no shared library: the type of the ELF file is 2"),
             (whole[:18] + b"\xf3" + whole[19:], "its processor has the number 243"),
             (whole[:100], "it is a malformed ELF file"),
+            (whole[:32] + b"\xff" * 8 + whole[40:], "it is a malformed ELF file"),  # the offset of the headers
         ]
     for octets, text in wrong:
         tree.put(octets)

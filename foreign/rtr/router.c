@@ -1,6 +1,6 @@
 /* router PORT TABLES SECONDS [UNIT]: the router side of the RPKI to Router protocol, versions 1 (RFC 8210) and 0 (RFC
- * 6810), with the tables of pigyelund.h. It is an example for programmers of routers and monitors. docs/FOREIGN.md says
- * how to build it. Sections without an RFC are those of RFC 8210.
+ * 6810), with the tables of pigyelund.h. It is an example for programmers of routers and monitors. README.md beside it
+ * says how to build it. Sections without an RFC are those of RFC 8210.
  *
  * The program connects to a cache at PORT of 127.0.0.1 and asks for all VRPs. It asks for the changes when the cache
  * sends a Serial Notify with a new serial, and when the Refresh Interval has passed. It asks for all VRPs after a Cache
@@ -32,6 +32,9 @@
  *   version 0. On a connection after the Retry Interval it asks for the changes of a session of version 0 in version 0,
  *   and for all VRPs in version 1.
  * - It ignores the content of Router Keys (5.10). In version 0 their type is unknown.
+ * - RFC 8210 does not say what to do if a Refresh or Retry Interval is not less than the Expire Interval. With the
+ *   defaults a router could keep its table for too long. With the intervals of the cache it would drop its table before
+ *   each query. This router lowers the two intervals: to ask too soon breaks only a SHOULD NOT (6).
  *
  * The status is 0 if it printed all tables, and 1 if it did not. It is 2 if an argument is missing, is one too many, or
  * is not a number in its range. PORT is from 1 to 65535, UNIT from 1 to 2147483647, and each other number from 0 to
@@ -275,7 +278,7 @@ static int change(router *r, pigy_table **next) {
   pigy_table *empty = 0;
   size_t index = 0;
   uint32_t status;
-  if (r->is_full && pigy_table_new(r->announced.all, 0, &empty, &index) != PIGY_OK) return refuse(r, INTERNAL);
+  if (r->is_full && pigy_table_new(0, 0, &empty, &index) != PIGY_OK) return refuse(r, INTERNAL);
   status = pigy_table_changed(r->is_full ? empty : r->table, r->announced.all, r->announced.count, r->withdrawn.all,
                               r->withdrawn.count, next, &index);
   pigy_table_free(empty);
@@ -483,8 +486,6 @@ int main(int count, char **words) {
   wanted = (unsigned)number_of(words[2], 0, INT32_MAX);
   deadline = now() + number_of(words[3], 0, INT32_MAX) * 1000;
   unit = count == 5 ? number_of(words[4], 1, INT32_MAX) : 1000;
-  /* Each array gets memory for at least one VRP, since no pointer to VRPs may be NULL. */
-  if (!add(&r.announced, &(pigy_vrp){{0}, 0, 0, 0, 0}) || !add(&r.withdrawn, r.announced.all)) return 2;
   while (r.tables < wanted && now() < deadline) {
     meet(&r, port, wanted);
     if (r.tables < wanted) rest(&r);

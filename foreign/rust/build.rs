@@ -116,7 +116,7 @@ fn main() {
     let folder = match search() {
         Ok(folder) => folder,
         Err(why) => {
-            eprintln!("{why}. README.md of the crate, Install, says how to get the library.");
+            eprintln!("{why}. docs/C.md of the repository, Install, says how to get the library.");
             std::process::exit(1);
         }
     };

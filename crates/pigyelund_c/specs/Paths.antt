@@ -26,6 +26,14 @@ IsNoCertificateStep run encoding issuer c reason =
     ⊎ ((certificate : Extensions) × IsCertificateAt run encoding c certificate
     × IsVerifyRefusal issuer certificate reason)
 
+-- The certificates have the octets of the ranges of the run, in this order.
+abbrev pub AreCertificatesAt : List ℕ → Encoding → List Certificate → List Extensions → Type 0
+AreCertificatesAt run encoding [] [] = Unit {0}
+AreCertificatesAt run encoding (c ∷ cs) (certificate ∷ certificates) =
+    IsCertificateAt run encoding c certificate × AreCertificatesAt run encoding cs certificates
+AreCertificatesAt run encoding [] (certificate ∷ certificates) = ⊥
+AreCertificatesAt run encoding (c ∷ cs) [] = ⊥
+
 -- The set is the part of the anchor's set that all certificates leave. Each is verified by the part that the
 -- certificates before it leave.
 abbrev pub IsLeftOnPath : List ℕ → Encoding → Triple → List Certificate → Triple → Type 0

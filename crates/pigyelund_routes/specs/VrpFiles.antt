@@ -3,7 +3,8 @@ use Rattle.std.specs.Prelude.{◌≡◌, ℕ, ◌+◌, List, map}
 use Rattle.roa_origin.specs.Vrps.{Vrp}
 use Rattle.roa_vrps.specs.Files.{HasFileFault, IsVrpFile}
 use Rattle.roa_vrps.specs.declared.fault.FileFault.{FileFault}
-use Rattle.roa_vrps.specs.declared.fault.FileFault.TheVariants.{Line, JsonArray, NotObject, Roas, Item, NoVrp}
+use Rattle.roa_vrps.specs.declared.fault.FileFault.TheVariants.{Line, UnknownHeader, JsonArray, NotObject, Roas, Item}
+use Rattle.roa_vrps.specs.declared.fault.FileFault.TheVariants.{NoVrp}
 use Rattle.roa_vrps.specs.declared.fault.ItemFault.{ItemFault}
 use Rattle.roa_vrps.specs.declared.fault.ItemFault.TheVariants.{Member as OfMember, Vrp as OfVrp}
 use Rattle.roa_vrps.specs.declared.fault.MemberFault.{MemberFault}
@@ -60,10 +61,12 @@ file_fault_status NotObject = 3072 + 2
 file_fault_status (Roas fault) = 3072 + 2 + member_fault_number fault
 file_fault_status (Item number fault) = 2048 + item_fault_number fault
 file_fault_status NoVrp = 3072 + 6
+file_fault_status UnknownHeader = 3072 + 7
 
 -- The number of the line or item at fault, from 1. It is 0 for a fault of the whole file.
 abbrev pub file_fault_line : FileFault → ℕ
 file_fault_line (Line number fault) = number
+file_fault_line UnknownHeader = 0
 file_fault_line JsonArray = 0
 file_fault_line NotObject = 0
 file_fault_line (Roas fault) = 0

@@ -63,6 +63,7 @@ pub fn file_fault_status(fault: FileFault) -> u32
         FileFault::Roas(fault) => status::BAD_FILE + 2 + member_fault_number(fault),
         FileFault::Item(_, fault) => status::BAD_ITEM + item_fault_number(fault),
         FileFault::NoVrp => status::BAD_FILE + 6,
+        FileFault::UnknownHeader => status::BAD_FILE + 7,
     }
 }
 
@@ -73,6 +74,10 @@ pub fn file_fault_line(fault: FileFault) -> usize
     match fault {
         FileFault::Line(number, _) => number,
         FileFault::Item(number, _) => number,
-        FileFault::JsonArray | FileFault::NotObject | FileFault::Roas(_) | FileFault::NoVrp => 0,
+        FileFault::UnknownHeader
+        | FileFault::JsonArray
+        | FileFault::NotObject
+        | FileFault::Roas(_)
+        | FileFault::NoVrp => 0,
     }
 }

@@ -87,7 +87,10 @@ impl TableOwner {
     }
 }
 
-/// A handle of a table that a call reads, or null. Any number of calls may read a table at the same time.
+/// A handle of a table that a call reads, or null. A call that reads a table doesn't write to it.
+///
+/// The proof is about one thread. It doesn't say that several threads may read a table at the same time. A test of the
+/// Python module lets four threads do so.
 #[repr(C)]
 #[derive(Drop)]
 pub struct TableRef {

@@ -2,7 +2,7 @@
 
 The package is for programs that check the resources of certificates (RFC 3779), operate on sets of resources, or
 validate route origins (RFC 6811). It calls the proved shared library through ctypes. The package itself is tested, not
-proved. `docs/FOREIGN.md` in the repository is the guide: installation, programs, arguments, errors, threads.
+proved. `docs/PYTHON.md` in the repository is the guide: installation, traps, pandas, Dask, threads.
 
 Route origins: `Pigyelund.origins` validates routes against VRPs (validated ROA payloads), and `Pigyelund.table` keeps
 the VRPs in a `Table` for many calls. `Pigyelund.read_vrps` reads the VRPs of a validator's file.
@@ -37,7 +37,9 @@ statuses and buffers of `pigyelund.h`.
 import os
 from collections.abc import Callable, Iterable
 from enum import IntEnum
+from functools import reduce
 from ipaddress import IPv4Address, IPv4Network, IPv6Address, IPv6Network
+from operator import index
 from typing import NamedTuple
 
 from . import raw
@@ -115,9 +117,9 @@ class Encoding(IntEnum):
     """The encodings that a call accepts. The choice applies to all DER that the call reads, the issuer's too.
 
     Attributes:
-        LENIENT: Canonical DER, and also other encodings, for example blocks in any order. `docs/FOREIGN.md`, "The
-            encoding", lists them.
-        STRICT: Canonical DER only (RFC 3779, 2.2.3.3, 2.2.3.6, 2.2.3.9 and 3.2.3.4).
+        LENIENT: Canonical DER, and also other encodings, for example blocks in any order. The header `pigyelund.h`
+            lists them.
+        STRICT: Canonical DER only (RFC 3779, 2.2.3.3, 2.2.3.6, 2.2.3.7, 2.2.3.9 and 3.2.3.4).
     """
 
     LENIENT = 0
@@ -184,12 +186,13 @@ def concatenate(certificates: Iterable[Certificate]) -> tuple[bytes, list[raw.Ce
         The array, and for each certificate the positions of its extensions in the array.
 
     Raises:
-        TypeError: The mode of a certificate is a member of another enumeration.
+        TypeError: The extensions of a certificate are no `Extensions`, or its mode is a member of another enumeration.
     """
     run, positions = bytearray(), []
     for extensions, mode in certificates:
+        refuse_sets(extensions)
         refuse_others(Mode, mode)
-        asn, ip = extensions.octets()
+        asn, ip = map(bytes, extensions.octets())  # a subclass of bytes may say another length
         at = len(run)
         positions.append(raw.Certificate(at, len(asn), at + len(asn), len(ip), extensions.present(), mode))
         run += asn + ip
@@ -267,11 +270,15 @@ class Pigyelund:
             NoExtensionError: The certificate has neither extension.
             OverclaimedError: The certificate overclaims, and `mode` is `Mode.REFUSE`. The attribute `excess` has the
                 overclaimed resources.
+            TypeError: `certificate` is no `Extensions`, for example a `Resources`.
         """
+        refuse_sets(certificate)
         refuse_others(Encoding, encoding)
         refuse_others(Mode, mode)
         present, octets = certificate.present(), certificate.octets()
-        return with_buffers(lambda capacities: self.raw.verify(issuer, present, octets, encoding, mode, capacities))
+        return with_buffers(
+            lambda capacities: self.raw.verify(issuer, present, octets, encoding, mode, capacities), issuer, octets
+        )
 
     def verify_path(
         self,
@@ -296,10 +303,13 @@ class Pigyelund:
         Raises:
             PigyelundError: The anchor's set or a certificate is refused. The exception is one of the subclasses that
                 `verify` raises. Its attribute `verified` is the number of verified certificates.
+            TypeError: The extensions of a certificate are no `Extensions`.
         """
         refuse_others(Encoding, encoding)
         run, positions = concatenate(certificates)
-        return with_buffers(lambda capacities: self.raw.verify_path(anchor, run, positions, encoding, capacities))
+        return with_buffers(
+            lambda capacities: self.raw.verify_path(anchor, run, positions, encoding, capacities), anchor, (run,)
+        )
 
     def cover(
         self, ip: bytes, family: Family, encoding: Encoding = Encoding.LENIENT
@@ -320,8 +330,8 @@ class Pigyelund:
         """
         refuse_others(Family, family)
         refuse_others(Encoding, encoding)
-        octets = with_buffers(lambda capacities: self.raw.cover(ip, encoding, family, capacities[0])).asn
-        if family == Family.V4:
+        octets = with_buffers(lambda capacities: self.raw.cover(ip, encoding, family, capacities[0]), (ip,)).asn
+        if index(family) == Family.V4:
             return [IPv4Network((octets[at : at + 4], octets[at + 4])) for at in range(0, len(octets), 5)]
         return [IPv6Network((octets[at : at + 16], octets[at + 16])) for at in range(0, len(octets), 17)]
 
@@ -378,19 +388,20 @@ class Pigyelund:
 
         Raises:
             SetTextError: An element of a list is invalid.
+            TypeError: A list is no `str`, for example a number.
             UnicodeEncodeError: A list has a surrogate, which UTF-8 cannot encode.
         """
-        found = Resources()
+        sets = []
         for kind, text in ((Kind.ASN, asn), (Kind.V4, v4), (Kind.V6, v6)):
             if not isinstance(text, str):
                 raise TypeError(f"{kind.name.lower()}: {text!r} is no str")
             if text:
-                found = self.union(found, self._set_of(kind, text.encode("utf-8")))
-        return found
+                sets.append(self._set_of(kind, text.encode("utf-8")))
+        return reduce(self.union, sets) if sets else Resources()
 
     def _set_of(self, kind: Kind, text: bytes) -> Resources:
         """Returns the set of a list of one kind."""
-        return with_buffers(lambda capacities: self.raw.set_from_text(kind, text, capacities))
+        return with_buffers(lambda capacities: self.raw.set_from_text(kind, text, capacities), (text, text))
 
     def as_ranges(self, resources: Resources, encoding: Encoding = Encoding.LENIENT) -> list[tuple[int, int]]:
         """Returns the ranges of the AS numbers of a set, ascending: the least and the greatest number of each.
@@ -447,7 +458,7 @@ class Pigyelund:
         if status != Status.OK:
             raise error_for_status(status)
         pairs = [(bytes(it.min), bytes(it.max)) for it in found[:length]]
-        if family == Family.V4:
+        if index(family) == Family.V4:
             return [(IPv4Address(low[:4]), IPv4Address(high[:4])) for low, high in pairs]
         return [(IPv6Address(low), IPv6Address(high)) for low, high in pairs]
 
@@ -486,8 +497,8 @@ class Pigyelund:
 
         The first character that is not white space decides how the file is read. If it is `{`, the file is JSON, with
         the VRPs in the array `roas`. If it is `[`, the file is invalid. Any other file is CSV. `pigy_vrps_read` in
-        `pigyelund.h` says what is valid. No line and no item is skipped: one that is invalid makes the whole file
-        invalid. Expired VRPs are not left out.
+        `pigyelund.h` says what is valid. An invalid line or item makes the whole file invalid. The list has expired
+        VRPs too.
 
         Args:
             file: The octets of the whole file.
@@ -511,7 +522,7 @@ class Pigyelund:
         return result.vrps[: result.length]
 
     def table(self, vrps: Vrps) -> Table:
-        """Builds a table of VRPs. Use it in a `with`, or call `close`.
+        """Builds a table of VRPs. Use the table in a `with`, or call its `close`.
 
         Args:
             vrps: The VRPs, in any order: an iterable of `Vrp`, or a buffer of C structs. The class `Table` describes
@@ -530,8 +541,8 @@ class Pigyelund:
     def answer(self, line: str) -> str:
         """Returns the answer of the program `respath` to a line.
 
-        `der v4 LIST` converts text to DER in hexadecimal, and `read v4 HEX` converts DER to text. The README of the
-        repository has all commands. A wrong line raises no exception: its answer begins with `error: `.
+        `der v4 LIST` converts text to DER in hexadecimal, and `read v4 HEX` converts DER to text. The manual page
+        respath(1) has all commands. A wrong line raises no exception: its answer begins with `error: `.
 
         Args:
             line: The line, without its line end.
@@ -543,7 +554,8 @@ class Pigyelund:
             UnicodeEncodeError: The line has a surrogate, which UTF-8 cannot encode.
         """
         octets = line.encode("utf-8")
-        return with_buffers(lambda capacities: self.raw.answer(octets, capacities[0])).asn.decode("utf-8")
+        found = with_buffers(lambda capacities: self.raw.answer(octets, capacities[0]), (octets, octets))
+        return found.asn.decode("utf-8")
 
     def combine(
         self, operation: Operation, a: Resources, b: Resources, encoding: Encoding = Encoding.LENIENT
@@ -564,7 +576,7 @@ class Pigyelund:
             InheritedError: `a` or `b` has `inherit` in place of a list of resources.
         """
         refuse_others(Encoding, encoding)
-        return with_buffers(lambda capacities: self.raw.combine(operation, a, b, encoding, capacities))
+        return with_buffers(lambda capacities: self.raw.combine(operation, a, b, encoding, capacities), a, b)
 
     def union(self, a: Resources, b: Resources, encoding: Encoding = Encoding.LENIENT) -> Resources:
         """Returns the union of `a` and `b`.
@@ -630,6 +642,13 @@ class Pigyelund:
         return self.compare(Comparison.EQUAL, a, b, encoding)
 
 
+def refuse_sets(extensions: object) -> None:
+    """Raises `TypeError` if a value is no `Extensions`, for example if it is a set."""
+    if not isinstance(extensions, Extensions):
+        kind = type(extensions).__name__
+        raise TypeError(f"a {kind} is no Extensions; for a set pass Extensions(found.asn or None, found.ip or None)")
+
+
 def refuse_others(expected: type[IntEnum], value: object) -> None:
     """Raises `TypeError` if a value is a member of another enumeration than the expected one, for example a `Mode`.
 
@@ -639,11 +658,12 @@ def refuse_others(expected: type[IntEnum], value: object) -> None:
         raise TypeError(f"{value!r} is no {expected.__name__}")
 
 
-def with_buffers(call: Callable[[Lengths], CallResult]) -> Resources:
-    """Makes a call with buffers of 256 octets, and again with larger ones if these are too small.
+def with_buffers(call: Callable[[Lengths], CallResult], *inputs: Iterable[bytes]) -> Resources:
+    """Makes a call with buffers of the capacity of all inputs, and again with larger ones if these are too small.
 
     Args:
         call: The call. It takes the capacities of both buffers in octets.
+        inputs: The octets that the call reads. Most outputs are no longer than all of them.
 
     Returns:
         The octets of both outputs.
@@ -651,7 +671,8 @@ def with_buffers(call: Callable[[Lengths], CallResult]) -> Resources:
     Raises:
         PigyelundError: The status is not `Status.OK`.
     """
-    result = call((256, 256))
+    capacity = 256 + sum(len(octets) for part in inputs for octets in part)
+    result = call((capacity, capacity))
     if result.status == Status.TOO_SMALL:
         result = call(result.lengths)
     found = Resources(result.contents[0][: result.lengths[0]], result.contents[1][: result.lengths[1]])

@@ -8,6 +8,11 @@ from .raw import Route, Status, Vrp
 class Resources(NamedTuple):
     """A set of resources, as the DER of both extensions.
 
+    A set is a named tuple, so its operators are those of a tuple: `<`, `<=` and `in` compare octets, and `+` appends.
+    For the relations of sets call `Pigyelund.contains`, `equal` and `union`. `bool` is True for each set. `==` is right
+    for two sets that calls returned. `found == Resources()` is True if `found`, which a call returned, has no
+    resources.
+
     Attributes:
         asn: The AS identifiers (RFC 3779, 3.2.3), or `b""` if the set has no AS numbers.
         ip: The IP address blocks (RFC 3779, 2.2.3), or `b""` if the set has no addresses.
@@ -30,7 +35,7 @@ TEXTS: dict[int, str] = {
     Status.BAD_ENCODING: "unknown encoding",
     Status.ABSENT: "the certificate has neither extension",
     Status.OUTSIDE: "octets of a certificate outside of the run",
-    Status.BAD_PRESENT: "unknown number of extensions",
+    Status.BAD_PRESENT: "unknown bit mask of extensions",
     Status.BAD_FAMILY: "unknown family",
     Status.BAD_PREFIX: "bad prefix of a VRP",
     Status.BAD_MAX_LEN: "bad maximum length of a VRP",
@@ -82,6 +87,7 @@ FILE_FAULTS = (
     "roas is repeated",
     "roas has a wrong kind of value",
     "no VRP",
+    "first line is neither a known header nor a VRP",
 )
 TEXT_FAULTS = (
     "not UTF-8",
@@ -125,8 +131,8 @@ class PigyelundError(Exception):
         status: The status of `pigyelund.h`: a member of `Status`, or a sum as that class describes it.
         excess: In an `OverclaimedError` the overclaimed resources. In any other error a set without resources.
         verified: For `Pigyelund.verify_path` the number of verified certificates. This is also the index, from 0, of
-            the refused certificate. It is 0 if the anchor's set is refused. It has no meaning in an
-            `OutOfMemoryError`. For any other call it is None.
+            the refused certificate. It is 0 if the anchor's set is refused. For any other call, and in an
+            `OutOfMemoryError`, it is None.
         index: For calls with VRPs or routes the index, from 0, of the refused one. For any other call, and in an
             `OutOfMemoryError`, it is None.
         line: In a `VrpFileError` the number, from 1, of the first invalid line or item, or 0 if the file is invalid as
@@ -197,7 +203,7 @@ class DerError(PigyelundError):
     def fault(self) -> int:
         """The number of the first error found, 1 to 14. The text of the exception names this error.
 
-        `docs/ERRORS.md` has an example of each number.
+        `pigyelund.h` lists the numbers at `PIGY_FAULT`.
         """
         return self.status & 0xFF
 
@@ -226,8 +232,9 @@ class ChangeError(OriginError):
 class VrpFileError(PigyelundError):
     """A validator's file of VRPs is invalid.
 
-    The attribute `line` is the number, from 1, of the first invalid line of a CSV file, or of the first invalid item of
-    the array `roas` of a JSON file. It is 0 if the file is invalid as a whole, for example because it has no VRP.
+    The attribute `line` is the number, from 1, of the first invalid line of a CSV file. For a JSON file `line` is the
+    number, from 1, of the first invalid item of the array `roas`. If the file is invalid as a whole, for example
+    because it has no VRP, `line` is 0.
     """
 
 
@@ -272,18 +279,19 @@ def error_for_status(
 ) -> PigyelundError:
     """Returns the exception for the status of a call that failed.
 
-    The `index` of an `OutOfMemoryError` is None. Only an `OriginError` has the `item`, and only a `VrpFileError` the
-    `line`.
+    An `OutOfMemoryError` has neither `verified` nor `index`: it says nothing about the input. Only an `OriginError` has
+    the `item`, and only a `VrpFileError` the `line`.
     """
     kind = ERROR_CLASSES.get(status & ~Status.SECOND, PigyelundError)
+    if kind is OutOfMemoryError:
+        return OutOfMemoryError(status, excess)
     if status & ~Status.SECOND & 0xF00 in (Status.BAD_AS, Status.BAD_IP):
         kind = DerError
     elif status & ~0xFF == Status.BAD_TEXT:
         kind = SetTextError
     elif status & ~0xFF in (Status.BAD_LINE, Status.BAD_ITEM, Status.BAD_FILE):
         return VrpFileError(status, line=line or 0)
-    elif index is not None and kind is not OutOfMemoryError:
+    elif index is not None:
         is_change = status in (Status.UNKNOWN_WITHDRAWAL, Status.DUPLICATE_ANNOUNCEMENT)
         kind = ChangeError if is_change else OriginError
-    has_item = issubclass(kind, OriginError)
-    return kind(status, excess, verified, None if kind is OutOfMemoryError else index, item if has_item else None)
+    return kind(status, excess, verified, index, item if issubclass(kind, OriginError) else None)

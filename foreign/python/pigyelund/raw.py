@@ -18,8 +18,10 @@ The calls that return a status make one check of their own: an integer that does
 
 import ctypes
 import os
+import re
 from collections.abc import Iterable, Sequence
 from enum import Enum, IntEnum, IntFlag
+from functools import cache
 from ipaddress import IPv4Address, IPv4Interface, IPv4Network, IPv6Address, IPv6Interface, IPv6Network, ip_network
 from operator import index
 from pathlib import Path
@@ -68,11 +70,11 @@ class Status(IntEnum):
         DUPLICATE_ANNOUNCEMENT: An announced VRP is in the table and is not withdrawn, or is announced twice (RFC 8210,
             12, code 7).
         BAD_KIND: The kind of a text is no `Kind`.
-        BAD_AS: The AS identifiers are invalid. The number of the first error is added: 1 to 14, as in `docs/ERRORS.md`.
+        BAD_AS: The AS identifiers are invalid. The number of the first error is added: 1 to 14, as in `pigyelund.h`.
         BAD_IP: The IP address blocks are invalid. The number of the first error is added, as to BAD_AS.
         BAD_LINE: A line of a VRP file in CSV is invalid. The number of its first error is added: 1 to 7.
         BAD_ITEM: An item of a VRP file in JSON is invalid. The number of its first error is added: 4 to 16.
-        BAD_FILE: A VRP file is invalid as a whole. The number of the error is added: 1 to 6.
+        BAD_FILE: A VRP file is invalid as a whole. The number of the error is added: 1 to 7.
         BAD_TEXT: The text of a set is invalid. The number of the first error is added: 1 to 7.
         SECOND: Added to BAD_AS, BAD_IP, INHERITED, BAD_FAMILY, BAD_PREFIX or BAD_MAX_LEN if the error is in the
             certificate, the second set, a route, or a withdrawn VRP. It is added to no other status.
@@ -113,7 +115,7 @@ class Mismatch(IntFlag):
     Test for a reason with `in`: `Mismatch.TOO_LONG in it.mismatch`.
 
     Attributes:
-        OTHER_AS: The AS of the VRP is not the route's, or the route's AS is AS 0.
+        OTHER_AS: The AS of the VRP is not the route's, or both are AS 0.
         TOO_LONG: The route's prefix is longer than the maximum length of the VRP.
     """
 
@@ -195,6 +197,25 @@ def fits(value: object, limit: int) -> bool:
     return not hasattr(value, "__index__") or 0 <= index(value) < limit
 
 
+def fields_of(kind: type[ctypes.Structure]) -> list[tuple[str, type]]:
+    """Returns the names and types of the fields of a struct, those of its base classes first."""
+    return [field[:2] for base in reversed(kind.__mro__) for field in base.__dict__.get("_fields_", ())]
+
+
+@cache
+def ranges_of_fields(kind: type[ctypes.Structure]) -> list[slice]:
+    """Returns the ranges of octets that the fields of a struct have. The padding of C is in none of them."""
+    ranges: list[slice] = []
+    for name, _ in fields_of(kind):
+        field = getattr(kind, name)
+        start, end = field.offset, field.offset + field.size
+        if ranges and ranges[-1].stop == start:
+            ranges[-1] = slice(ranges[-1].start, end)
+        else:
+            ranges.append(slice(start, end))
+    return ranges
+
+
 class Struct(ctypes.Structure):
     """A C struct of integers and arrays of integers.
 
@@ -205,16 +226,13 @@ class Struct(ctypes.Structure):
     """
 
     _limits_: ClassVar[dict[str, int]]  # for each integer field the least value that does not fit
-    _octet_count_: ClassVar[int]  # the number of octets of all fields; the padding of C comes only after them
     if TYPE_CHECKING:
         __iter__: ClassVar[None]  # a struct is no iterable; the `__getattr__` of ctypes would make it one
 
     def __init_subclass__(cls) -> None:
         super().__init_subclass__()
-        kinds = {field[0]: field[1] for field in cls._fields_}
-        numbers = {name: kind for name, kind in kinds.items() if not issubclass(kind, ctypes.Array)}
+        numbers = {name: kind for name, kind in fields_of(cls) if not issubclass(kind, ctypes.Array)}
         cls._limits_ = {name: 1 << 8 * ctypes.sizeof(kind) for name, kind in numbers.items()}
-        cls._octet_count_ = sum(map(ctypes.sizeof, kinds.values()))
 
     def __setattr__(self, name: str, value: object) -> None:
         if name in self._limits_:
@@ -233,13 +251,14 @@ class Struct(ctypes.Structure):
         return hash(self._octets())
 
     def __repr__(self) -> str:
-        values = [(name, getattr(self, name)) for name, _ in self._fields_]
+        values = [(name, getattr(self, name)) for name, _ in fields_of(type(self))]
         texts = {name: bytes(it).hex() if isinstance(it, ctypes.Array) else str(it) for name, it in values}
         return call_text(type(self).__name__, texts)
 
     def _octets(self) -> bytes:
         """Returns the octets of all fields, without padding."""
-        return bytes(self)[: self._octet_count_]
+        octets = bytes(self)
+        return b"".join(octets[it] for it in ranges_of_fields(type(self)))
 
 
 class Certificate(Struct):
@@ -560,13 +579,13 @@ class FileResult(NamedTuple):
 
     Attributes:
         status: A `Status`, or a sum as `Status` describes it.
-        vrps: The content of the buffer.
+        vrps: The content of the buffer. An object is made only for an item that you take.
         length: The number of VRPs that the call reports.
         line: The number of the invalid line or item, from 1, or 0.
     """
 
     status: int
-    vrps: list[Vrp]
+    vrps: ctypes.Array[Vrp]
     length: int
     line: int
 
@@ -589,7 +608,8 @@ def array_of(kind: type[Item], given: "Iterable[Item] | ReadableBuffer") -> tupl
         null.
 
     Raises:
-        TypeError: `given` is neither an iterable nor a buffer, or its elements are of another type.
+        TypeError: `given` is neither an iterable nor a buffer, or its elements are of another type. A buffer of Python
+            objects, such as a numpy array of the type `object`, has pointers, and is refused.
         ValueError: The length of the buffer in octets is no multiple of the size of a struct.
     """
     try:
@@ -599,6 +619,8 @@ def array_of(kind: type[Item], given: "Iterable[Item] | ReadableBuffer") -> tupl
             raise TypeError(f"{given!r} is neither an iterable of {kind.__name__} nor a buffer") from None
         listed = list(given)
         return array_of_items(kind, listed), len(listed)
+    if "O" in re.sub(":[^:]*:", "", view.format):  # a format has the names of fields between colons
+        raise TypeError(f"a buffer of Python objects (format {view.format!r}) in place of {kind.__name__}")
     element = getattr(view.obj, "_type_", type(view.obj))
     if isinstance(element, type) and issubclass(element, ctypes.Structure) and not has_layout_of(element, kind):
         raise TypeError(f"{element.__name__} in place of {kind.__name__}")
@@ -649,7 +671,12 @@ def item_at(items: "Sequence[Item] | ctypes.Array[Item]", count: int, at: int | 
 
 def arguments_of(*sets: Pair) -> list[object]:
     """Returns the arguments in C for some sets: for each extension its octets, and their number."""
-    return [argument for part in sets for octets in part for argument in (octets, len(octets))]
+    return [argument for part in sets for octets in part for argument in octets_and_length(octets)]
+
+
+def octets_and_length(octets: bytes) -> tuple[bytes, int]:
+    """Returns octets and their number, also for a subclass of `bytes` whose `len` says another one."""
+    return octets, bytes.__len__(octets)
 
 
 def find_library() -> str:
@@ -698,6 +725,18 @@ def open_library(file: str) -> ctypes.CDLL:
     return ctypes.CDLL(NAME)
 
 
+def import_error(file: str, searched: str, why: str) -> ImportError:
+    """Returns the error of a library that cannot be used. Its text names the file, and says how to get the library.
+
+    Args:
+        file: The path of the library, or its name alone.
+        searched: As in `load_library`.
+        why: What is wrong with the file.
+    """
+    texts = [f"{file}: {why}", searched, HOW_TO_GET]
+    return ImportError("; ".join(filter(None, texts)), name="pigyelund", path=file)
+
+
 def load_library(file: str, searched: str = "") -> ctypes.CDLL:
     """Loads the shared library.
 
@@ -710,20 +749,17 @@ def load_library(file: str, searched: str = "") -> ctypes.CDLL:
             names the file and PIGYELUND_LIB, the folders that were searched, and how to get the library.
     """
 
-    def import_error(why: str) -> ImportError:
-        texts = [f"{file}: {why}", searched, HOW_TO_GET]
-        return ImportError("; ".join(filter(None, texts)), name="pigyelund", path=file)
-
     try:
         library = open_library(file)
         library.pigy_version.restype, library.pigy_version.argtypes = ctypes.c_uint32, []
         version = library.pigy_version()
     except OSError as fault:
-        raise import_error(str(fault).removeprefix(f"{file}: ")) from None
+        raise import_error(file, searched, str(fault).removeprefix(f"{file}: ")) from None
     except AttributeError:
-        raise import_error("the library has no call pigy_version") from None
+        raise import_error(file, searched, "the library has no call pigy_version") from None
     if version < VERSION:
-        raise import_error(f"the library has version {version} of the calls, and this package needs version {VERSION}")
+        why = f"the library has version {version} of the calls, and this package needs version {VERSION}"
+        raise import_error(file, searched, why)
     return library
 
 
@@ -744,10 +780,19 @@ class Library:
     """
 
     def __init__(self, path: str | os.PathLike[str] | None = None) -> None:
-        if path is None:
-            self._library = load_library(find_library(), searched_folders())
-        else:
-            self._library = load_library(os.fspath(path))
+        file, searched = (find_library(), searched_folders()) if path is None else (os.fspath(path), "")
+        self._library = load_library(file, searched)
+        try:
+            self._declare_calls()
+        except AttributeError as fault:
+            raise import_error(file, searched, f"the library lacks a call: {fault}") from None
+
+    def _declare_calls(self) -> None:
+        """Tells ctypes the types of the calls.
+
+        Raises:
+            AttributeError: The library lacks a call.
+        """
         size, number = ctypes.c_size_t, ctypes.c_uint32
         octets = [ctypes.c_char_p, size] * 4
         buffers = [ctypes.c_void_p, size] * 2 + [ctypes.POINTER(size)] * 2
@@ -882,7 +927,7 @@ class Library:
         """
         count = len(certificates)
         array = (Certificate * max(count, 1))(*certificates)
-        arguments = [*arguments_of(anchor), run, len(run), array, count, encoding]
+        arguments = [*arguments_of(anchor), *octets_and_length(run), array, count, encoding]
         return self._call_with_buffers("pigy_verify_path", arguments, capacities, ctypes.c_size_t())
 
     def cover(self, ip: bytes, encoding: int, family: int, capacity: int) -> CallResult:
@@ -896,7 +941,7 @@ class Library:
             family: A `Family`.
             capacity: The capacity of the buffer in octets.
         """
-        return self._call_with_buffer("pigy_cover", [ip, len(ip), encoding, family], capacity)
+        return self._call_with_buffer("pigy_cover", [*octets_and_length(ip), encoding, family], capacity)
 
     def set_from_text(self, kind: int, text: bytes, capacities: Lengths) -> CallResult:
         """Calls `pigy_set_from_text`: makes the set of a list of AS numbers or of addresses.
@@ -906,7 +951,7 @@ class Library:
             text: The list in UTF-8.
             capacities: The capacities of the buffers in octets.
         """
-        return self._call_with_buffers("pigy_set_from_text", [kind, text, len(text)], capacities)
+        return self._call_with_buffers("pigy_set_from_text", [kind, *octets_and_length(text)], capacities)
 
     def as_ranges(self, asn: bytes, encoding: int, capacity: int) -> tuple[int, list[AsRange], int]:
         """Calls `pigy_as_ranges`: writes the ranges of the AS numbers of a set.
@@ -920,7 +965,8 @@ class Library:
             The status, the content of the buffer, and the number of ranges that the call reports.
         """
         contents, length = (AsRange * max(capacity, 1))(), ctypes.c_size_t()
-        status = self._call("pigy_as_ranges", [asn, len(asn), encoding, contents, capacity, ctypes.byref(length)])
+        arguments = [*octets_and_length(asn), encoding, contents, capacity, ctypes.byref(length)]
+        status = self._call("pigy_as_ranges", arguments)
         return status, contents[:capacity], length.value
 
     def ip_ranges(self, ip: bytes, encoding: int, family: int, capacity: int) -> tuple[int, list[IpRange], int]:
@@ -936,7 +982,7 @@ class Library:
             The status, the content of the buffer, and the number of ranges that the call reports.
         """
         contents, length = (IpRange * max(capacity, 1))(), ctypes.c_size_t()
-        arguments = [ip, len(ip), encoding, family, contents, capacity, ctypes.byref(length)]
+        arguments = [*octets_and_length(ip), encoding, family, contents, capacity, ctypes.byref(length)]
         return self._call("pigy_ip_ranges", arguments), contents[:capacity], length.value
 
     def origins(self, vrps: list[Vrp], routes: list[Route], capacity: int) -> CallResult:
@@ -950,6 +996,7 @@ class Library:
         Returns:
             The result. Its `number` is the index of the refused VRP or route.
         """
+        vrps, routes = list(vrps), list(routes)  # another thread may change the caller's lists
         listed, asked = array_of_items(Vrp, vrps), array_of_items(Route, routes)
         arguments = [listed, len(vrps), asked, len(routes)]
         return self._call_with_buffer("pigy_origins", arguments, capacity, ctypes.c_size_t())
@@ -962,21 +1009,29 @@ class Library:
             capacity: The capacity of the buffer in VRPs.
         """
         contents, length, line = (Vrp * max(capacity, 1))(), ctypes.c_size_t(), ctypes.c_size_t()
-        arguments = [file, len(file), contents, capacity, ctypes.byref(length), ctypes.byref(line)]
+        arguments = [*octets_and_length(file), contents, capacity, ctypes.byref(length), ctypes.byref(line)]
         status = self._call("pigy_vrps_read", arguments)
-        return FileResult(status, contents[:capacity], length.value, line.value)
+        return FileResult(status, (Vrp * capacity).from_buffer(contents), length.value, line.value)
 
-    def table_new(self, vrps: object, count: int) -> TableResult:
+    def table_new(self, vrps: object, count: int, table: ctypes.c_void_p | None = None) -> TableResult:
         """Calls `pigy_table_new`: builds a table of VRPs.
 
         Args:
             vrps: An array of VRPs, as `array_of` returns it.
             count: The number of VRPs.
+            table: Where the call stores the handle. Pass it if an exception, such as `KeyboardInterrupt`, may come
+                between the call and its caller: the handle is not lost then. None means a new one.
         """
-        return self._call_for_table("pigy_table_new", [vrps, count])
+        return self._call_for_table("pigy_table_new", [vrps, count], table)
 
     def table_changed(
-        self, table: int | None, announced: object, announced_count: int, withdrawn: object, withdrawn_count: int
+        self,
+        table: int | None,
+        announced: object,
+        announced_count: int,
+        withdrawn: object,
+        withdrawn_count: int,
+        following: ctypes.c_void_p | None = None,
     ) -> TableResult:
         """Calls `pigy_table_changed`: makes a table without the withdrawn VRPs, and then with the announced ones.
 
@@ -986,18 +1041,20 @@ class Library:
             announced_count: The number of announced VRPs.
             withdrawn: An array of VRPs.
             withdrawn_count: The number of withdrawn VRPs.
+            following: Where the call stores the handle of the new table, as in `table_new`.
         """
         arguments = [table, announced, announced_count, withdrawn, withdrawn_count]
-        return self._call_for_table("pigy_table_changed", arguments)
+        return self._call_for_table("pigy_table_changed", arguments, following)
 
-    def _call_for_table(self, name: str, arguments: Sequence[object]) -> TableResult:
+    def _call_for_table(self, name: str, arguments: Sequence[object], table: ctypes.c_void_p | None) -> TableResult:
         """Makes a call that returns a table.
 
         Args:
             name: The name of the C function.
             arguments: The arguments before the outputs.
+            table: Where the call stores the handle, or None.
         """
-        table, index = ctypes.c_void_p(), ctypes.c_size_t()
+        table, index = ctypes.c_void_p() if table is None else table, ctypes.c_size_t()
         status = self._call(name, [*arguments, ctypes.byref(table), ctypes.byref(index)])
         return TableResult(status, table.value, index.value)
 
@@ -1089,7 +1146,7 @@ class Library:
             line: The line in UTF-8, without its line end.
             capacity: The capacity of the buffer in octets.
         """
-        return self._call_with_buffer("pigy_answer", [line, len(line)], capacity)
+        return self._call_with_buffer("pigy_answer", [*octets_and_length(line)], capacity)
 
     def combine(self, operation: Operation, a: Pair, b: Pair, encoding: int, capacities: Lengths) -> CallResult:
         """Calls `pigy_union`, `pigy_intersection` or `pigy_difference`.

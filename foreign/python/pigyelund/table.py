@@ -1,5 +1,6 @@
 """A table of VRPs that is built once and queried many times."""
 
+import ctypes
 from collections.abc import Callable, Iterator
 from enum import IntEnum
 from typing import NamedTuple, NoReturn, TypeVar
@@ -11,6 +12,8 @@ from .raw import Mismatch, Network, Route, Routes, Status, Vrp, Vrps
 
 class Validity(IntEnum):
     """The validity of a route (RFC 6811, 2), numbered as in RFC 8097, 2.
+
+    `VALID` is 0, so it is false in an `if`. Compare with `Validity.VALID`.
 
     Attributes:
         VALID: A VRP matches the route.
@@ -43,16 +46,29 @@ Answer = TypeVar("Answer")
 
 
 class _Owner:
-    """Owns a table of the library. The table is freed when the last reference to its owner is dropped."""
+    """Owns a table of the library. The table is freed when the last reference to its owner is dropped.
 
-    __slots__ = ("_library", "handle")
+    Make the owner first, and have the call store the handle in it. An exception of a signal handler, which may come as
+    soon as the call has returned, then loses no table.
 
-    def __init__(self, library: raw.Library, handle: int) -> None:
+    Attributes:
+        stored: Where a call of the library stores the handle. It is null until then.
+    """
+
+    __slots__ = ("_library", "stored")
+
+    def __init__(self, library: raw.Library) -> None:
         self._library = library
-        self.handle = handle
+        self.stored = ctypes.c_void_p()
+
+    @property
+    def handle(self) -> int | None:
+        """The handle, or None for null."""
+        return self.stored.value
 
     def __del__(self) -> None:
-        self._library.table_free(self.handle)
+        if self.handle is not None:
+            self._library.table_free(self.handle)
 
 
 class Table:
@@ -91,8 +107,10 @@ class Table:
     def __init__(self, library: raw.Library, vrps: Vrps) -> None:
         self._library = library
         array, count = raw.array_of(Vrp, vrps)
-        found = library.table_new(array, count)
-        self._owner = _owner_of(library, found, raw.item_at(array, count, found.index))
+        owner = _Owner(library)
+        found = library.table_new(array, count, owner.stored)
+        refuse_failed(found, raw.item_at(array, count, found.index))
+        self._owner = owner
 
     @classmethod
     def _from_owner(cls, library: raw.Library, owner: _Owner) -> "Table":
@@ -101,7 +119,7 @@ class Table:
         table._library, table._owner = library, owner
         return table
 
-    def _with_handle(self, call: Callable[[int], Answer]) -> Answer:
+    def _with_handle(self, call: Callable[[int | None], Answer]) -> Answer:
         """Makes a call with the handle. The table is not freed before the call returns.
 
         Args:
@@ -130,7 +148,7 @@ class Table:
         self._owner = None
 
     def __enter__(self) -> "Table":
-        self._with_handle(int)
+        self._with_handle(bool)
         return self
 
     def __exit__(self, *_: object) -> None:
@@ -166,10 +184,12 @@ class Table:
             ValueError: The table is closed, or the length of a buffer is no multiple of 24 octets.
         """
         added, removed = raw.array_of(Vrp, announced), raw.array_of(Vrp, withdrawn)
-        found = self._with_handle(lambda handle: self._library.table_changed(handle, *added, *removed))
+        owner = _Owner(self._library)
+        found = self._with_handle(lambda handle: self._library.table_changed(handle, *added, *removed, owner.stored))
         is_withdrawn = found.status >= Status.SECOND or found.status == Status.UNKNOWN_WITHDRAWAL
         array, count = removed if is_withdrawn else added
-        return self._from_owner(self._library, _owner_of(self._library, found, raw.item_at(array, count, found.index)))
+        refuse_failed(found, raw.item_at(array, count, found.index))
+        return self._from_owner(self._library, owner)
 
     def origins(self, routes: Routes) -> list[Validity]:
         """Validates routes (RFC 6811, 2).
@@ -190,7 +210,7 @@ class Table:
     def origin_octets(self, routes: Routes) -> bytes:
         """Validates routes like `origins`, and returns one octet for each route. Use it for millions of routes.
 
-        The call copies the routes. While it runs, it needs up to 48 octets for each route beside your buffer.
+        The call copies your buffer. During the call the copies take up to 48 octets for each route.
 
         Args:
             routes: The routes: a buffer of C structs, or an iterable of `Route`.
@@ -226,7 +246,8 @@ class Table:
         Raises:
             OriginError: A route is malformed. The attribute `index` is the index, from 0, of the first one.
             TypeError: `routes` is neither an iterable nor a buffer, or an item of it is no `Route`.
-            ValueError: A table is closed, or the length of the buffer is no multiple of 24 octets.
+            ValueError: A table is closed, `following` is of another loaded library, or the length of the buffer is no
+                multiple of 24 octets.
         """
         return [at for at, octet in enumerate(self.changed_octets(following, routes)) if octet]
 
@@ -243,6 +264,8 @@ class Table:
         Raises:
             OriginError, TypeError, ValueError: As in `changed_routes`.
         """
+        if following._library is not self._library:
+            raise ValueError("following: a table of another loaded library")
         asked, count = raw.array_of(Route, routes)
         result = self._with_handle(
             lambda old: following._with_handle(
@@ -260,7 +283,7 @@ class Table:
             route: The route.
 
         Returns:
-            The validity of the route.
+            The validity of the route. Compare it with `Validity.VALID`, which is 0 and false in an `if`.
 
         Raises:
             OriginError: The route is malformed.
@@ -324,14 +347,12 @@ class Table:
 _VALIDITIES = list(Validity)
 
 
-def _owner_of(library: raw.Library, found: raw.TableResult, item: Vrp | None) -> _Owner:
-    """Returns the owner of a table that a call made. Raises a `PigyelundError` if the call made none.
+def refuse_failed(found: raw.TableResult, item: Vrp | None) -> None:
+    """Raises a `PigyelundError` if a call made no table.
 
     Args:
-        library: The library.
         found: The result of the call.
         item: The VRP that the call refused, if it refused one.
     """
     if found.status != Status.OK or found.table is None:
         raise error_for_status(found.status, index=found.index, item=item)
-    return _Owner(library, found.table)

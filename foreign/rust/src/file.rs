@@ -15,7 +15,7 @@ pub enum VrpFault {
     NotUtf8 = 1,
     /// The line has more fields than the line that names the columns.
     TooManyFields = 2,
-    /// The line has no field in one of the three columns.
+    /// The line is too short: the AS number, the prefix or the maximum length is missing.
     TooFewFields = 3,
     /// The AS number is invalid.
     Asn = 4,
@@ -115,6 +115,12 @@ pub enum FileFault {
     RoasKind = 5,
     /// The file has no VRP.
     NoVrp = 6,
+    /// The first line of CSV is none of these:
+    ///
+    /// - a blank line;
+    /// - a known header line;
+    /// - a line whose first field is an AS number, or whose second field is a prefix.
+    UnknownHeader = 7,
 }
 
 impl FileFault {
@@ -127,6 +133,7 @@ impl FileFault {
             4 => FileFault::RoasRepeated,
             5 => FileFault::RoasKind,
             6 => FileFault::NoVrp,
+            7 => FileFault::UnknownHeader,
             _ => return None,
         })
     }
@@ -139,6 +146,7 @@ impl FileFault {
             FileFault::RoasRepeated => "roas is repeated",
             FileFault::RoasKind => "roas has a wrong kind of value",
             FileFault::NoVrp => "no VRP",
+            FileFault::UnknownHeader => "first line is neither a known header nor a VRP",
         }
     }
 }

@@ -1,9 +1,9 @@
 //! Bindings to Pigyelund, a formally verified library for RPKI resource sets.
 //!
 //! The crate is for programs that check the resources of certificates (RFC 3779), operate on sets of resources, or
-//! validate route origins (RFC 6811). It is a safe wrapper around the proved static library. The wrapper itself is
-//! tested, not proved. `docs/FOREIGN.md` in the repository is the guide: installation, programs, arguments, errors,
-//! threads.
+//! validate route origins (RFC 6811). It wraps the proved static library in safe functions. [Some
+//! obligations](#obligations) remain. The wrapper itself is tested, not proved. `docs/RUST.md` in the repository is the
+//! guide: a program, how to link, and the calls of the crate `rpki` with their counterparts here.
 //!
 //! - [`verify`] computes the resources of a certificate. [`verify_path`] computes those of the last certificate of a
 //!   path.
@@ -43,6 +43,15 @@
 //!
 //! All errors implement `Error`. If an error wraps another, `source()` returns the wrapped error. Print only the outer
 //! error: its text has the reason.
+//!
+//! # Obligations
+//!
+//! No call checks these obligations. `pigyelund.h`, under OBLIGATIONS, has the details:
+//!
+//! - No call is made in a signal handler, or in the forked child of a process with threads.
+//! - `malloc`, `realloc` and `free` of the process belong to one allocator. The C library's allocator is right.
+//! - The processor has the instructions of x86-64-v2.
+//! - The stack has 128 KiB left.
 //!
 //! # VRPs, routes and prefixes
 //!
@@ -239,10 +248,10 @@ impl Resources {
 /// The encodings that a call accepts. The choice applies to all DER that the call reads, the issuer's too.
 #[derive(Clone, Copy, Debug, PartialEq, Eq, Hash)]
 pub enum Encoding {
-    /// Canonical DER, and also other encodings, for example blocks in any order, which may overlap. `docs/FOREIGN.md`,
-    /// "The encoding", lists them.
+    /// Canonical DER, and also other encodings, for example blocks in any order, which may overlap. The header
+    /// `pigyelund.h` lists them.
     Lenient = raw::LENIENT as isize,
-    /// Canonical DER only (RFC 3779, 2.2.3.3, 2.2.3.6, 2.2.3.9 and 3.2.3.4).
+    /// Canonical DER only (RFC 3779, 2.2.3.3, 2.2.3.6, 2.2.3.7, 2.2.3.9 and 3.2.3.4).
     Strict = raw::STRICT as isize,
 }
 
@@ -575,16 +584,16 @@ pub fn origins(vrps: &[Vrp], routes: &[Route]) -> Result<Vec<Validity>, OriginEr
 /// The first character that is not white space decides how the file is read. If it is `{`, the file is JSON, with the
 /// VRPs in the array `roas`. If it is `[`, the file is invalid. Any other file is CSV. `pigy_vrps_read` in
 /// `pigyelund.h` says what is valid. No line and no item is skipped: one that is invalid makes the whole file invalid.
-/// Expired VRPs are not left out.
+/// The result has expired VRPs too.
 ///
 /// # Errors
 ///
-/// [`ReadError`] has the number of the first invalid line or item, and the reason:
+/// [`ReadError`] has the reason, and the number of the first invalid line or item, from 1:
 ///
-/// - [`Reason::BadFile`]: the file is invalid as a whole.
+/// - [`Reason::BadFile`]: the file is invalid as a whole. [`ReadError::line`] is 0.
 /// - [`Reason::BadLine`], [`Reason::BadItem`]: a line of CSV or an item of JSON is invalid.
 ///
-/// The call may return [`Reason::Memory`] instead of any other result.
+/// The call may return [`Reason::Memory`] instead of any other result. [`ReadError::line`] is 0 then.
 ///
 /// # Example
 ///
@@ -612,8 +621,8 @@ pub fn read_vrps(file: &[u8]) -> Result<Vec<Vrp>, ReadError> {
 
 /// Returns the answer of the program `respath` to a line.
 ///
-/// `der v4 LIST` converts text to DER in hexadecimal, and `read v4 HEX` converts DER to text. The README of the
-/// repository has all commands. A wrong line returns `Ok`: its answer begins with `error: `.
+/// `der v4 LIST` converts text to DER in hexadecimal, and `read v4 HEX` converts DER to text. The manual page respath(1)
+/// has all commands. A wrong line returns `Ok`: its answer begins with `error: `.
 ///
 /// # Parameters
 ///

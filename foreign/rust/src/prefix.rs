@@ -292,14 +292,16 @@ pub enum ParseError {
         /// The error of `core::net`.
         source: AddrParseError,
     },
-    /// The prefix length is not a decimal number, or is above 255.
+    /// The prefix length is not a decimal number from 0 to 255. A number up to 255 that is too great for the family is
+    /// [`ValueError::PrefixLen`], in [`ParseError::Value`].
     PrefixLen {
         /// The part of the text that should be a prefix length.
         text: String,
         /// The greatest prefix length of the family, in bits.
         max: u8,
     },
-    /// The maximum length is not a decimal number, or is above 255.
+    /// The maximum length is not a decimal number from 0 to 255. A number up to 255 that does not fit the prefix is
+    /// [`ValueError::MaxLen`], in [`ParseError::Value`].
     MaxLen {
         /// The part of the text that should be a maximum length.
         text: String,
@@ -313,7 +315,7 @@ pub enum ParseError {
         /// The part of the text that should be an AS number.
         text: String,
     },
-    /// Each part of the text is valid, and the values are not valid together.
+    /// Each part of the text can be read, but the values are no valid prefix, VRP or route: `10.0.0.1/8` has host bits.
     Value(ValueError),
 }
 

@@ -20,7 +20,7 @@
 //! # Obligations
 //!
 //! You may pass any values. The library checks them, and this module does not. No call checks the obligations of the
-//! caller in `docs/FOREIGN.md`. Rust's references and [`Table`] meet the obligations about pointers, handles and
+//! caller in `pigyelund.h`. Rust's references and [`Table`] meet the obligations about pointers, handles and
 //! overlap: a `&[u8]` is never null, and a `&mut` buffer overlaps no other argument.
 use core::ffi::{c_char, CStr};
 use core::net::IpAddr;
@@ -78,7 +78,7 @@ pub const BAD_LINE: u32 = 0x400;
 /// An item of a VRP file in JSON is invalid. The number of its first error is added: 4 to 16, as in
 /// [`VrpFault`](crate::VrpFault).
 pub const BAD_ITEM: u32 = 0x800;
-/// A VRP file is invalid as a whole. The number of the error is added: 1 to 6, as in [`FileFault`](crate::FileFault).
+/// A VRP file is invalid as a whole. The number of the error is added: 1 to 7, as in [`FileFault`](crate::FileFault).
 pub const BAD_FILE: u32 = 0xc00;
 /// The text of a set is invalid. The number of the first error is added: 1 to 7, as in [`TextFault`](crate::TextFault).
 pub const BAD_TEXT: u32 = 0x2000;
@@ -88,7 +88,7 @@ pub const SECOND: u32 = 0x1000;
 
 /// Encoding: canonical DER, and also other encodings, for example blocks in any order.
 pub const LENIENT: u32 = 0;
-/// Encoding: canonical DER only (RFC 3779, 2.2.3.3, 2.2.3.6, 2.2.3.9 and 3.2.3.4).
+/// Encoding: canonical DER only (RFC 3779, 2.2.3.3, 2.2.3.6, 2.2.3.7, 2.2.3.9 and 3.2.3.4).
 pub const STRICT: u32 = 1;
 /// Mode: a certificate that overclaims is refused (RFC 6487, 7.2).
 pub const REFUSE: u32 = 0;
@@ -112,7 +112,7 @@ pub const VALID: u32 = 0;
 pub const NOT_FOUND: u32 = 1;
 /// Validity: a VRP covers the route, and no VRP matches it.
 pub const INVALID: u32 = 2;
-/// Mismatch: the AS of the covering VRP is not the route's, or the route's AS is AS 0.
+/// Mismatch: the AS of the covering VRP is not the route's, or both are AS 0.
 pub const OTHER_AS: u32 = 1;
 /// Mismatch: the route's prefix is longer than the maximum length of the covering VRP.
 pub const TOO_LONG: u32 = 2;
@@ -511,8 +511,8 @@ struct Handle {
 pub struct Table(*mut Handle);
 
 // SAFETY: no call writes to a table, and each call allocates what it needs by malloc. So any number of calls, from any
-// threads, may use one table at once. Its owner frees the table once, when nothing borrows it any more. docs/FOREIGN.md
-// says which part of this is proved.
+// threads, may use one table at once. Its owner frees the table once, when nothing borrows it any more. It is proved
+// that these calls do not write to a table.
 unsafe impl Send for Table {}
 unsafe impl Sync for Table {}
 

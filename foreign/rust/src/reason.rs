@@ -39,7 +39,7 @@ impl Side {
     }
 }
 
-/// The first error in the DER of an extension. `docs/ERRORS.md` has an example of each number.
+/// The first error in the DER of an extension.
 #[non_exhaustive]
 #[derive(Clone, Copy, Debug, PartialEq, Eq, Hash)]
 pub enum Fault {
@@ -64,11 +64,11 @@ pub enum Fault {
     BadFamily = 9,
     /// A range ends before it begins (RFC 3779, 2.2.3.9 and 3.2.3.8).
     ReversedRange = 10,
-    /// A list of blocks is empty (RFC 3779, 2.2.3.6 and 3.2.3.4).
+    /// A list of blocks is empty (RFC 6487, 4.8.10 and 4.8.11).
     EmptyBlocks = 11,
     /// A family occurs twice (RFC 3779, 2.2.3.3).
     DuplicateFamily = 12,
-    /// The IP address blocks have no family (RFC 3779, 2.2.3.2).
+    /// The IP address blocks have no family (RFC 6487, 4.8.10).
     NoFamily = 13,
     /// The encoding is not canonical; only [`Encoding::Strict`](crate::Encoding) reports this.
     NotCanonical = 14,
@@ -239,7 +239,7 @@ fn other_text(status: u32) -> &'static str {
         raw::NO => "no",
         raw::BAD_ENCODING => "unknown encoding",
         raw::OUTSIDE => "octets of a certificate outside of the run",
-        raw::BAD_PRESENT => "unknown number of extensions",
+        raw::BAD_PRESENT => "unknown bit mask of extensions",
         raw::NO_TABLE => "no table",
         raw::BAD_KIND => "unknown kind of text",
         _ => "unknown status",
@@ -350,12 +350,14 @@ impl Error for PathError {
 pub struct OriginError {
     /// The reason.
     pub reason: Reason,
-    /// The index, from 0, of the refused VRP or route.
+    /// The index, from 0, of the refused VRP or route. The reason says which list has it:
     ///
-    /// - With [`Side::Second`], [`Reason::BadWithdrawnMaxLen`] and [`Reason::UnknownWithdrawal`] it is an index of the
-    ///   list of routes, or of withdrawn VRPs.
-    /// - With [`Reason::Memory`] the index is 0 and has no meaning.
-    /// - With any other reason it is an index of the list of VRPs, or of announced VRPs.
+    /// | reason | list |
+    /// |---|---|
+    /// | [`Reason::BadWithdrawnMaxLen`], [`Reason::UnknownWithdrawal`] | the withdrawn VRPs |
+    /// | any other with [`Side::Second`] | the routes; the withdrawn VRPs of [`Table::changed`](crate::Table::changed) |
+    /// | [`Reason::Memory`] | none: the index is 0 and has no meaning |
+    /// | any other | the VRPs; the announced VRPs of `Table::changed` |
     pub index: usize,
 }
 

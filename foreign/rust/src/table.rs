@@ -272,7 +272,7 @@ impl Covering {
         self.mismatch == 0
     }
 
-    /// Returns whether the VRP's AS is not the route's, or the route's AS is AS 0.
+    /// Returns whether the VRP's AS is not the route's, or both are AS 0.
     pub fn is_other_as(&self) -> bool {
         self.mismatch & OTHER_AS != 0
     }

@@ -72,8 +72,8 @@ fn calls_of_row(words: &[&str]) -> Option<usize> {
 #[test]
 fn one_call_is_enough() {
     let top = std::env!("CARGO_MANIFEST_DIR");
-    // The repository has the rows in the folder above the crate, and the package in `tests/shared`.
-    let text = std::fs::read_to_string(std::format!("{top}/../rows.txt"))
+    // tests/foreign_rows.py of the repository makes the rows. The package has them in `tests/shared`.
+    let text = std::fs::read_to_string(std::format!("{top}/../../out/foreign/rows.txt"))
         .or_else(|_| std::fs::read_to_string(std::format!("{top}/tests/shared/rows.txt")))
         .unwrap();
     let mut found = [0; 3];

@@ -1,4 +1,4 @@
-//! Makes the golden tests of `foreign/rows.txt`, on one thread and on eight at once. Checks each named number and each
+//! Makes the golden tests of `rows.txt`, on one thread and on eight at once. Checks each named number and each
 //! status text.
 //!
 //! A golden test is a line with a call, its arguments, and the stored result. The tests in C and Python read the same
@@ -562,11 +562,11 @@ impl Row<'_> {
     }
 }
 
-/// Returns the text of a test file that all languages share. The repository has it in the folder above the crate, and
-/// the package in `tests/shared`. A copy that packing left in the repository is not read.
+/// Returns the text of a test file that all languages share. `tests/foreign_rows.py` of the repository writes it
+/// into `out/foreign`. The package has it in `tests/shared`. A copy that packing left in the repository is not read.
 fn shared(name: &str) -> String {
     let top = env!("CARGO_MANIFEST_DIR");
-    std::fs::read_to_string(format!("{top}/../{name}"))
+    std::fs::read_to_string(format!("{top}/../../out/foreign/{name}"))
         .or_else(|_| std::fs::read_to_string(format!("{top}/tests/shared/{name}")))
         .unwrap()
 }

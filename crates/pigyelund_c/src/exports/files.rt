@@ -17,7 +17,7 @@ use std::alloc::Global;
 ///
 /// Returns the first status that applies:
 ///
-/// - `PIGY_BAD_FILE` + n: the file as a whole, n from 1 to 5.
+/// - `PIGY_BAD_FILE` + n: the file as a whole, n from 1 to 5, or n = 7.
 /// - `PIGY_BAD_LINE` + n: the first invalid line of CSV. `PIGY_BAD_ITEM` + n: the first invalid item of `roas` in JSON.
 /// - `PIGY_BAD_FILE` + 6: the file has no VRP.
 /// - `PIGY_TOO_SMALL`, then `PIGY_OK`.

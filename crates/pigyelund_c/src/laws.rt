@@ -1,0 +1,25 @@
+//! Lemmas about the results of the exported calls.
+ghost use Rattle.std.specs.Prelude.{ℕ, ◌↔◌, List};
+ghost use Rattle.rpki_chain.specs.declared.path.Step.{Step};
+ghost use Rattle.rpki_extensions.specs.Kinds.{AreSteps, ClaimTriple, IsResultOfEach};
+ghost use Rattle.rpki_extensions.specs.Paths.{IsVerifiedPath};
+ghost use Rattle.rpki_extensions.specs.declared.encoding.Encoding.{Encoding};
+ghost use Rattle.rpki_extensions.specs.declared.extensions.Extensions.{Extensions};
+ghost use Rattle.rpki_resources.specs.Triples.{IsTriple, Triple};
+ghost use Rattle.pigyelund_c.specs.Paths.{AreCertificatesAt, IsLeftOnPath};
+ghost use Rattle.pigyelund_c.specs.declared.certificate.Certificate.{Certificate};
+
+/// States that the certificates of a path leave the set that the path of their extensions leaves. The set of each kind
+/// is the result of the path of the claims of that kind.
+#[tactic(auto, using(crate::proofs::CertificatePathLemmas::path_of_extensions, crate::proofs::CertificatePathLemmas::kinds_of_path))]
+pub fn laws_of_paths()
+    ensures extensions { (run : List ℕ) (encoding : Encoding) (anchor set : Triple)
+        (cs : List Certificate) → IsLeftOnPath run encoding anchor cs set
+        ↔ ((certificates : List Extensions) × AreCertificatesAt run encoding cs certificates
+        × IsVerifiedPath anchor certificates set) }
+    ensures kinds { (run : List ℕ) (encoding : Encoding) (anchor set : Triple)
+        (cs : List Certificate) → IsTriple anchor → IsLeftOnPath run encoding anchor cs set
+        → (certificates : List Extensions) × (steps : List (Step ClaimTriple))
+        × AreCertificatesAt run encoding cs certificates × AreSteps certificates steps
+        × IsResultOfEach anchor steps set }
+{}

@@ -1,0 +1,44 @@
+#!/bin/sh
+# run.sh NAME PREFIX: builds an example of this folder with the static library below PREFIX, and runs it in an empty
+# folder. NAME is update, table, table_cpp, set or openssl. NAME.txt has what the example prints. PREFIX of the Debian
+# package is /usr.
+set -eu
+here=$(cd "$(dirname "$0")" && pwd)
+name=$1
+prefix=$2
+library=$prefix/lib/libpigyelund.a
+# Debian has a folder for each architecture.
+[ -e "$library" ] || library=$prefix/lib/$(gcc -print-multiarch)/libpigyelund.a
+folder=$(mktemp -d)
+trap 'rm -rf "$folder"' EXIT
+cd "$folder"
+
+# build COMPILER FILE [OPTION ..]
+build() {
+    compiler=$1
+    file=$2
+    shift 2
+    "$compiler" -Wall -Wextra -Werror -I"$prefix/include" "$here/$file" "$library" "$@" -o program
+}
+
+# certificate NAME BLOCKS: makes a self-signed certificate with these address blocks
+certificate() {
+    openssl req -x509 -newkey rsa:2048 -nodes -keyout key.pem -subj "/CN=$1" -addext "sbgp-ipAddrBlock = critical, $2" \
+        -out "$1.pem" 2>openssl.log
+}
+
+case $name in
+update) build gcc update.c -pthread && ./program ;;
+table) build gcc table.c && ./program <"$here/vrps.csv" ;;
+table_cpp) build g++ table.cpp -std=c++11 && ./program <"$here/vrps.csv" ;;
+set) build gcc set.c && ./program ;;
+openssl)
+    certificate anchor IPv4:10.0.0.0/8
+    certificate holder IPv4:10.1.0.0/16
+    certificate other IPv4:10.0.0.0/7
+    build gcc openssl.c -lcrypto
+    ./program anchor.pem holder.pem
+    ./program anchor.pem other.pem || true
+    ;;
+*) echo "no example $name" >&2 && exit 2 ;;
+esac

@@ -1,7 +1,7 @@
 //! Runs over more octets than any intermediate buffer has: an input of more than 2^24, an answer of more than 2^16.
 use crate::observed_run::Engine;
 use crate::slices::{Habits, SliceSink, SliceSource};
-use crate::streams::{SliceReader, SliceWriter};
+use crate::streams::{AGAIN, SliceReader, SliceWriter};
 use lines_engine::adapters::{FromRead, IntoWrite};
 use std::alloc::{AllocError, Global};
 
@@ -44,6 +44,7 @@ fn is_answered(
     };
     let mut writer = SliceWriter {
         sink: SliceSink::new(buffer, Habits::GOOD),
+        kind: AGAIN,
     };
     let ended = engine.run(
         alloc,

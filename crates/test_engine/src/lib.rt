@@ -5,7 +5,11 @@
 #![tactic(auto)]
 
 #[cfg(test)]
+mod buffered;
+#[cfg(test)]
 mod errors;
+#[cfg(test)]
+mod inputs;
 #[cfg(test)]
 mod large;
 #[cfg(test)]

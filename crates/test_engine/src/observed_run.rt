@@ -1,8 +1,9 @@
 //! A run, and its observed result as plain values.
 ghost use Rattle.std.specs.Prelude.{◌≡◌, false};
 
+use crate::buffered::run_buffered;
 use crate::slices::{Habits, SliceSink, SliceSource};
-use crate::streams::{SliceReader, SliceWriter};
+use crate::streams::{AGAIN, SliceReader, SliceWriter};
 use lines_engine::adapters::{FromRead, IntoWrite};
 use lines_engine::device::{Sink, Source};
 use lines_engine::error::RunError;
@@ -75,6 +76,8 @@ pub enum Devices {
     Own,
     /// The devices of std, by the adapters.
     Std,
+    /// The same with a buffer of so many bytes in front of the writer.
+    Buffered(usize),
 }
 
 impl Devices {
@@ -90,6 +93,9 @@ impl Devices {
         match self {
             Devices::Own => run_own(heap, engine, row, reading, writing),
             Devices::Std => run_std(heap, engine, row, reading, writing),
+            Devices::Buffered(capacity) => {
+                run_buffered(heap, capacity, heap, engine, row, reading, writing)
+            }
         }
     }
 }
@@ -117,6 +123,7 @@ fn run_std(heap: Global, engine: Engine, row: &Row, reading: Habits, writing: Ha
     };
     let mut writer = SliceWriter {
         sink: SliceSink::new(&mut buffer, writing),
+        kind: AGAIN,
     };
     let ended = engine.run(
         heap,
@@ -127,7 +134,7 @@ fn run_std(heap: Global, engine: Engine, row: &Row, reading: Habits, writing: Ha
 }
 
 /// Returns the state of the devices after a run.
-fn look(
+pub fn look(
     ended: Result<(), RunError>,
     row: &Row,
     source: &SliceSource<'_>,

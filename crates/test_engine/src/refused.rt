@@ -1,5 +1,6 @@
 //! The answers that a run has written when one of its requests for memory is refused.
-use crate::observed_run::{Engine, Row, run_own};
+use crate::buffered::run_buffered;
+use crate::observed_run::{Engine, Row, Seen, run_own};
 use crate::slices::Habits;
 use lines_engine::error::RunError;
 use std::alloc::Global;
@@ -49,9 +50,32 @@ fn all_requests(heap: Global, engine: Engine) -> u64 {
 ///
 /// Returns `None` if the run ends in any other way than by `Memory`, or writes anything else than whole answers.
 fn answered(heap: Global, engine: Engine, refused: u64) -> Option<usize> {
-    let row = FIRST_LINES[LINES];
     let refusing = Refusing::new(heap, Plan::RefuseOnly(refused));
-    let seen = run_own(&refusing, engine, &row, Habits::GOOD, Habits::GOOD);
+    answers_of(&run_own(
+        &refusing,
+        engine,
+        &FIRST_LINES[LINES],
+        Habits::GOOD,
+        Habits::GOOD,
+    ))
+}
+
+/// Returns the same of a run through a buffer that holds all answers.
+fn answered_through_buffer(heap: Global, engine: Engine, refused: u64) -> Option<usize> {
+    let refusing = Refusing::new(heap, Plan::RefuseOnly(refused));
+    answers_of(&run_buffered(
+        heap,
+        1024,
+        &refusing,
+        engine,
+        &FIRST_LINES[LINES],
+        Habits::GOOD,
+        Habits::GOOD,
+    ))
+}
+
+/// Returns the number of answers that a run has written whole, if it ended by `Memory` and wrote nothing else.
+fn answers_of(seen: &Seen) -> Option<usize> {
     if !matches!(seen.ended, Err(RunError::Memory)) || seen.flushed || !seen.begins {
         return None;
     }
@@ -82,6 +106,8 @@ fn all_lines_before_the_refused_one_are_answered(rt: HostRuntime) {
         for request in 0..all_requests(rt.alloc(), *engine) {
             let expected = answered_before(rt.alloc(), *engine, request);
             let found = answered(rt.alloc(), *engine, request);
+            check(&rt, found == Some(expected), *engine, request);
+            let found = answered_through_buffer(rt.alloc(), *engine, request);
             check(&rt, found == Some(expected), *engine, request);
         }
     }

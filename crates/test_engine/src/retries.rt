@@ -4,10 +4,15 @@ use crate::routes::{ANSWERS, FILES, ROUTES};
 use crate::slices::{Habits, SliceSink};
 use lines_engine::adapters::FromRead;
 use lines_engine::error::RunError;
-use origins_lines::error::{ChangesError, OriginsError, ReadVrpsError};
+use origins_lines::error::{
+    ChangesError, InputsError, OriginsError, ReadSlurmError, ReadUnexpiredError, ReadVrpsError,
+};
+use origins_lines::file::read_file;
 use origins_lines::retrying::Retrying;
-use origins_lines::routes::answer_routes;
+use origins_lines::routes::answer_by;
+use origins_lines::unexpired::Numbers;
 use origins_lines::until_end::UntilEnd;
+use roa_expiry::ExpiryFault;
 use roa_vrps::FileFault;
 use std::alloc::Global;
 use std::io;
@@ -41,19 +46,27 @@ fn as_read(rest: &[u8], kind: ErrorKind, failures: u64) -> Retrying<Failing<'_>>
     })
 }
 
+/// The part of a run that failed.
+#[derive(Clone, Copy, Debug, PartialEq, Eq)]
+enum Failed {
+    File(ReadVrpsError),
+    Run(RunError),
+}
+
 /// Returns whether all routes are answered if so many first reads of the file, and of the routes, fail.
-fn answers(
-    heap: Global,
-    kind: ErrorKind,
-    of_file: u64,
-    of_routes: u64,
-) -> Result<bool, OriginsError> {
+fn answers(heap: Global, kind: ErrorKind, of_file: u64, of_routes: u64) -> Result<bool, Failed> {
     let mut buffer = [0u8; BUFFER_LEN];
     let mut vrps = UntilEnd::new(as_read(FILES[0], kind, of_file));
     let mut routes = FromRead::new(as_read(ROUTES, kind, of_routes));
     let mut sink = SliceSink::new(&mut buffer, Habits::GOOD);
-    let count = answer_routes(heap, &mut vrps, false, &mut routes, &mut sink)?;
-    Ok(count == 2 && sink.written() == ANSWERS && sink.is_flushed())
+    let listed = match read_file(heap, &mut vrps) {
+        Ok(listed) => listed,
+        Err(error) => return Err(Failed::File(error)),
+    };
+    match answer_by(heap, listed.as_slice(), false, &mut routes, &mut sink) {
+        Ok(()) => Ok(sink.written() == ANSWERS && sink.is_flushed()),
+        Err(error) => Err(Failed::Run(error)),
+    }
 }
 
 #[test]
@@ -74,12 +87,12 @@ fn other_failed_reads_are_not_retried(rt: HostRuntime) {
     for kind in [ErrorKind::WouldBlock, ErrorKind::TimedOut, ErrorKind::Other] {
         let of_file = answers(rt.alloc(), kind, 1, 0);
         assert!(rt;
-            of_file == Err(OriginsError::Vrps(ReadVrpsError::Read)),
+            of_file == Err(Failed::File(ReadVrpsError::Read)),
             "{of_file:?}"
         );
         let of_routes = answers(rt.alloc(), kind, 0, 1);
         assert!(rt;
-            of_routes == Err(OriginsError::Run(RunError::Read)),
+            of_routes == Err(Failed::Run(RunError::Read)),
             "{of_routes:?}"
         );
     }
@@ -107,11 +120,26 @@ fn errors_are_printed(rt: HostRuntime) {
         (ReadVrpsError::Memory, "out of memory"),
     ];
     assert!(rt; all_print(rt.alloc(), &vrps) == Ok(true));
+    let file = ReadUnexpiredError::File(ExpiryFault::Line(7));
+    let left = InputsError::NoVrpLeft(Numbers {
+        unexpired: 0,
+        expired: 2,
+    });
     let origins = [
         (
-            OriginsError::Vrps(ReadVrpsError::Memory),
-            "VRP file: out of memory",
+            OriginsError::Inputs(InputsError::NotOpened(2)),
+            "file 2: can't be opened",
         ),
+        (
+            OriginsError::Inputs(InputsError::File(3, file)),
+            "file 3: line 7: expires: not a whole number below 2^64",
+        ),
+        (
+            OriginsError::Inputs(InputsError::Slurm(4, ReadSlurmError::Read)),
+            "file 4: read failed",
+        ),
+        (OriginsError::Inputs(left), "no VRP left"),
+        (OriginsError::Inputs(InputsError::Memory), "out of memory"),
         (OriginsError::Run(RunError::Write), "write failed"),
     ];
     assert!(rt; all_print(rt.alloc(), &origins) == Ok(true));

@@ -2,8 +2,9 @@
 use crate::observed_run::BUFFER_LEN;
 use crate::slices::{Habits, SliceSink, SliceSource};
 use lines_engine::error::RunError;
-use origins_lines::error::{OriginsError, ReadVrpsError};
-use origins_lines::routes::answer_routes;
+use origins_lines::error::ReadVrpsError;
+use origins_lines::file::read_file;
+use origins_lines::routes::answer_by;
 use std::alloc::Global;
 use test_support::{Outcome, Refusing, refuse_in_turn};
 
@@ -21,19 +22,20 @@ pub const ANSWERS: &[u8] = b"valid\ninvalid-length\ninvalid-as\nnot-found\n";
 
 /// Returns the way in which a run ended that may have been refused a request.
 ///
-/// If it was refused before the VRPs are read, no route was read and nothing written. If it was refused later, nothing
-/// was flushed.
+/// If it was refused after the VRPs were read, nothing was flushed.
 fn outcome(refusing: &Refusing<Global>, file: &'static [u8]) -> Outcome {
     let mut buffer = [0u8; BUFFER_LEN];
     let mut vrps = SliceSource::new(file, Habits::GOOD);
     let mut routes = SliceSource::new(ROUTES, Habits::GOOD);
     let mut sink = SliceSink::new(&mut buffer, Habits::GOOD);
-    let ended = answer_routes(refusing, &mut vrps, false, &mut routes, &mut sink);
-    let is_untouched = routes.calls() == 0 && sink.calls() == 0;
-    match ended {
-        Ok(2) if sink.written() == ANSWERS && sink.is_flushed() => Outcome::Expected,
-        Err(OriginsError::Vrps(ReadVrpsError::Memory)) if is_untouched => Outcome::OutOfMemory,
-        Err(OriginsError::Run(RunError::Memory)) if !sink.is_flushed() => Outcome::OutOfMemory,
+    let listed = match read_file(refusing, &mut vrps) {
+        Ok(listed) => listed,
+        Err(ReadVrpsError::Memory) => return Outcome::OutOfMemory,
+        Err(_) => return Outcome::Unexpected,
+    };
+    match answer_by(refusing, listed.as_slice(), false, &mut routes, &mut sink) {
+        Ok(()) if sink.written() == ANSWERS && sink.is_flushed() => Outcome::Expected,
+        Err(RunError::Memory) if !sink.is_flushed() => Outcome::OutOfMemory,
         _ => Outcome::Unexpected,
     }
 }

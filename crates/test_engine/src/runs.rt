@@ -46,12 +46,18 @@ const LONG: Row = Row {
         error: unknown command\nerror: unknown command\nerror: unknown command\n",
 };
 
-/// Each engine over each kind of devices.
-const RUNS: [(Engine, Devices); 4] = [
+/// Each engine over each kind of devices: without a buffer, with one that holds no byte, a part of the output, and all.
+const RUNS: [(Engine, Devices); 10] = [
     (Engine::Whole, Devices::Own),
     (Engine::Whole, Devices::Std),
+    (Engine::Whole, Devices::Buffered(0)),
+    (Engine::Whole, Devices::Buffered(16)),
+    (Engine::Whole, Devices::Buffered(1024)),
     (Engine::AsRead, Devices::Own),
     (Engine::AsRead, Devices::Std),
+    (Engine::AsRead, Devices::Buffered(0)),
+    (Engine::AsRead, Devices::Buffered(16)),
+    (Engine::AsRead, Devices::Buffered(1024)),
 ];
 
 /// Stops the test if a run was not right.

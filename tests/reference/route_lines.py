@@ -60,6 +60,18 @@ def _is_route_with_comma(line: str) -> bool:
     return " " not in line
 
 
+def _has_other_word(line: str) -> bool:
+    """Returns whether the text before the first space of a line has a tab inside, or is an AS number."""
+    word = texts.trim(line.partition(" ")[0])
+    if "\t" in word:
+        return True
+    try:
+        asn.read_asn(word)
+    except Fault:
+        return False
+    return True
+
+
 def _path_place(fields: list[str]) -> int | None:
     """Returns the index of the field with the path, or None if the fields are not those of a dump's route."""
     if fields[KIND_PLACE : KIND_PLACE + 1] == ["A"] and fields[0] in PATHS_OF_UPDATES:
@@ -80,6 +92,8 @@ def read_route(line: str) -> Route | None:
         return Route(read_prefix(fields[PREFIX_PLACE]), _origin_of(fields[place]))
     if _is_route_with_comma(line):
         raise Fault("a comma where a space is expected")
+    if _has_other_word(line):
+        raise Fault("expected: PREFIX AS")
     return _words(line, " ")
 
 

@@ -2,7 +2,7 @@
 
 import json
 import re
-from collections.abc import Iterator
+from collections.abc import Callable, Iterator
 from typing import NamedTuple
 
 from . import asn, prefixes, texts
@@ -10,6 +10,7 @@ from .faults import Fault
 from .prefixes import Vrp
 
 _DEEPEST = 128
+_UNKNOWN_HEADER = "line 1: neither a known header nor a VRP (AS number, prefix, maximum length)"
 _NAMES = {
     "asn": ("ASN",),
     "prefix": ("IP Prefix", "Prefix"),
@@ -102,6 +103,19 @@ def _vrp(number: str, prefix: str, length: str) -> Vrp:
     return Vrp(prefixes.with_max_len(found, length), origin)
 
 
+def _vrp_of_row(number: str, prefix: str, length: str) -> Vrp:
+    """Returns the VRP of a row. An empty maximum length is the length of the prefix (RFC 9582, 4.3.2.2)."""
+    return _vrp(number, prefix, length or prefix.rpartition("/")[2])
+
+
+def _is_read(read: Callable[[str], object], text: str) -> bool:
+    try:
+        read(text)
+    except Fault:
+        return False
+    return True
+
+
 def _of_json(octets: bytes) -> Iterator[Vrp]:
     for place, item in enumerate(only(object_of(octets), "roas", (list,)), 1):
         try:
@@ -135,8 +149,9 @@ class _Header(NamedTuple):
         """Returns the fields of a row in the three columns."""
         if self.is_named and len(fields) > self.count:
             raise Fault(f"too many fields: {len(fields)}, but the header names {self.count}")
-        if any(column >= len(fields) for column in self.columns):
-            raise Fault(f"too few fields: {len(fields)} of {self.count}")
+        needed = max(self.columns) + 1
+        if len(fields) < needed:
+            raise Fault(f"too few fields: {len(fields)}, but at least {needed} are needed")
         return [fields[column] for column in self.columns]
 
 
@@ -155,8 +170,11 @@ def _of_lines(octets: bytes) -> Iterator[Vrp]:
         if named is not None:
             header = _Header(named, len(fields), True)
             continue
+        is_vrp = _is_read(asn.read_asn, fields[0]) or _is_read(prefixes.read_prefix, (fields + [""])[1])
+        if number == 1 and not is_vrp:
+            raise Fault(_UNKNOWN_HEADER)
         try:
-            yield _vrp(*header.wanted(fields))
+            yield _vrp_of_row(*header.wanted(fields))
         except Fault as fault:
             raise Fault(f"line {number}: {fault}") from None
 

@@ -23,7 +23,7 @@ OF_DER = {
     "TrailingData": Flag("octets follow the last element of a value", "X.690, 8.1", True),
     "WrongTag": Flag("a tag is not one that the grammar has there", "X.690, 8.1.2", True),
     "HighTag": Flag("a tag is in the form for numbers above 30", "X.690, 8.1.2.4", True),
-    "Constructed": Flag("a primitive type is in constructed form", "X.690, 10.2", True),
+    "Constructed": Flag("a primitive type is in constructed form", "X.690, 8.3.1, 8.8.1 and 10.2", True),
     "NonMinimalLength": Flag("a length has more octets than it needs", "X.690, 10.1", True),
     "IndefiniteLength": Flag("a length is indefinite", "X.690, 10.1", True),
     "LongLength": Flag("a length has more than eight octets", "X.690, 8.1.3.5 and 10.1", True),

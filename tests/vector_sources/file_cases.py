@@ -12,6 +12,7 @@ LINK = "docs/DECISIONS.md#files-of-vrps"
 OWN = "docs/DECISIONS.md, Files of VRPs"
 # The reasons of a refused file, the names that the vectors have for them, and what they say.
 FAULTS = {
+    r"line 1: neither a known header .*": ("UnknownHeader", "the first line is neither a known header nor a VRP"),
     r"line \d+: not UTF-8": ("NotUtf8", "a line is not UTF-8"),
     r"line \d+: too few fields.*": ("TooFewFields", "a line has too few fields"),
     r"line \d+: too many fields.*": ("TooManyFields", "a line has more fields than its header"),
@@ -182,6 +183,10 @@ def made_lines() -> Iterator[str]:
         for wrong in ("AS", "64496x", "4294967296", "-1", "", "AS1.1"):
             yield f"{head}\n{good}\n" + good.replace("AS64496", wrong) + "\n"
         yield f"{head}\n" + ",".join(f'"{row.get(it, "x")}"' for it in names) + "\n"
+        for empty in ("", " ", '""'):
+            lengths = {"Max Length": empty, "Max prefix length": empty}
+            yield f"{head}\n" + ",".join(lengths.get(it, row.get(it, "x")) for it in names) + f"\n{good}\n"
+        yield from (f"{head.lower()}\n{good}\n", f"# {head.replace(',', ' ')}\n{head}\n{good}\n")
     for at, wide in enumerate(("10.0.0.0/8", "192.0.2.0/24", "2001:db8::/32", "198.51.100.7/32")):
         line = f"AS{64496 + at},{wide},{wide.partition('/')[2]}"
         yield from (

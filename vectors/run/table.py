@@ -1,8 +1,9 @@
 #!/usr/bin/env python3
-"""table.py [--write PAGE] JSON ..: prints tables of what implementations answer, from what runners wrote by --json.
+"""table.py JSON ..: prints tables of what implementations answer, from what runners wrote by --json.
 
 One table has the counts of each file, and one table for each file has the answers by flag. A case counts for a rule if
-it breaks no other rule. --write puts the tables between the two marks of a page."""
+it breaks no other rule. An implementation of DER has a second column, canonical, if it says whether a value is. The
+words are accepts, refuses, aborts, and differs: the value is not the expected one."""
 
 import json
 import sys
@@ -12,7 +13,6 @@ from typing import Any
 
 from compare import files
 
-BEGIN, END = "<!-- tables: vectors/run/table.py -->", "<!-- end of the tables -->"
 READ = ("canonical", "valid", "accepts")
 WORDS = ("accepts", "refuses", "differs", "aborts")
 DER = ("der_as", "der_ip")
@@ -97,19 +97,12 @@ def tables(reports: list[dict[str, Any]]) -> str:
     return "\n\n".join(parts)
 
 
-def main(words: list[str]) -> int:
-    """Prints the tables, or writes them."""
-    page = Path(words[1]) if words[:1] == ["--write"] else None
-    paths = words[2:] if page else words
+def main(paths: list[str]) -> int:
+    """Prints the tables."""
     if not paths:
         print(__doc__)
         return 2
-    text = tables([json.loads(Path(it).read_text()) for it in paths])
-    if page is None:
-        print(text)
-        return 0
-    before, _, rest = page.read_text(encoding="utf-8").partition(BEGIN)
-    page.write_text(f"{before}{BEGIN}\n\n{text}\n\n{END}{rest.partition(END)[2]}", encoding="utf-8")
+    print(tables([json.loads(Path(it).read_text()) for it in paths]))
     return 0
 
 

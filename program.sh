@@ -1,9 +1,11 @@
 # shellcheck shell=sh
-# The scripts respath and origins read this file. It proves and builds their program if the program is missing or older
-# than a source that it needs. The script sets three variables before: `top`, the folder of the sources, `started`, the
-# name of the script, and `program_crate`, the crate of its program.
+# What the scripts respath and origins have in common: `start` runs their program with the words of the script. If the
+# program is missing or older than a source that it needs, `start` proves and builds it first. A script sets three
+# variables before it reads this file: `top`, the folder of the sources, `started`, the name of the script, and
+# `program_crate`, the crate of its program. It may set `without_words`, the crate that --try runs if there are no words.
 program=$top/crates/$program_crate/out/$program_crate
 noted=${program%/*}/proved-with # the kit that proved the program, and the sum of that program
+texts=$top/crates/$program_crate/src/help.rt
 
 # Prints the text of a constant of the source that `texts` names, by the constant's name. The text has one line or more.
 text_of() {
@@ -20,27 +22,19 @@ is_current() {
         done | head -n 1)" ]
 }
 
-# Prints the program's crate and its dependencies, lowest first: a line for each crate, with its direct dependencies.
-needed_lines() {
+# Prints the program's crate and its dependencies, lowest first.
+needed_crates() {
     awk -v started="$program_crate" '
         !/^#/ { sub(":", "", $1); names[++count] = $1; below[$1] = $0 }
         END {
-            needed[started] = 1
+            needed[started]
             for (at = count; at > 0; at--) {
                 words = split(below[names[at]], word)
-                for (one = 1; names[at] in needed && one <= words; one++) needed[word[one]] = 1
+                for (one = 1; names[at] in needed && one <= words; one++) needed[word[one]]
             }
-            for (at = 1; at <= count; at++)
-                if (names[at] in needed) {
-                    words = split(below[names[at]], word)
-                    line = names[at]
-                    for (one = 2; one <= words; one++) if (word[one] in below) line = line " " word[one]
-                    print line
-                }
+            for (at = 1; at <= count; at++) if (names[at] in needed) print names[at]
         }' "$top/crates.txt"
 }
-
-needed_crates() { needed_lines | cut -d ' ' -f 1; }
 
 # Ends the process that leads a group, with all of its group, and a second later by force what is left of it.
 end_group() {
@@ -82,128 +76,19 @@ prove_copy() {
     run_rt "$work/copy" ci && [ -x "$made" ] && mkdir -p "${program%/*}" && mv "$made" "$program"
 }
 
-# The seconds of one processor that the proof of each crate took in rt ci on 2026-11-28, beside other work. For respath
-# they add up to 44 minutes. The figures of rpki_block, rpki_text, respath_files, respath_places and origins are guesses.
-# Only the estimate of the time that is left uses this table. A crate that is missing here counts as a minute.
-seconds_of_crates() {
-    printf '%s %s\n' lines_engine 160 origins 60 origins_lines 316 respath_files 40 respath_lines 239 \
-        respath_places 120 roa_expiry 120 roa_origin 301 roa_slurm 120 roa_vrps 187 rpki_addr 135 rpki_as 167 \
-        rpki_as_block 101 rpki_base 88 rpki_block 33 rpki_chain 211 rpki_chain_core 434 rpki_cover 35 rpki_der 208 \
-        rpki_ip 166 rpki_ip_block 113 rpki_ipres 264 rpki_prefix 86 rpki_text 54
-}
+# The minutes since the build began, rounded up.
+minutes_gone() { echo "$((($(date +%s) - began + 59) / 60)) min"; }
 
-# Prints a line for each crate of the build, lowest first: its seconds, its name and its direct dependencies. A crate
-# that an earlier run proved takes a second.
-timed_lines() {
-    needed_lines | while read -r crate below; do
-        seconds=$(seconds_of_crates | sed -n "s/^$crate //p")
-        ! grep -qx "$crate" "$work/kept" || seconds=1
-        echo "${seconds:-60} $crate $below"
-    done
-}
-
-# Prints the plan of a build: a line for each crate in the order in which the crates end. The line has the name, the
-# second at which the crate ends, and the work that all crates have done by then, in seconds of one processor. The plan
-# simulates the build: crates without unproved dependencies run side by side and share the processors.
-plan() {
-    timed_lines | awk -v processors="$(nproc)" '
-        { left[$2] = $1; names[NR] = $2; for (at = 3; at <= NF; at++) needs[$2] = needs[$2] " " $at }
-        function is_open(name,    words, count, at) {
-            if (name in done) return 0
-            count = split(needs[name], words, " ")
-            for (at = 1; at <= count; at++) if (!(words[at] in done)) return 0
-            return 1
-        }
-        # How much faster a crate is proved by so many jobs.
-        function gain(jobs) { return jobs < 1.5 ? 1 : jobs < 2.5 ? 1.4 : jobs < 3.5 ? 1.65 : 1.8 }
-        END {
-            while (ended < NR) {
-                open = all = jobs = 0
-                for (at = 1; at <= NR; at++)
-                    if (is_open(names[at])) {
-                        running[++open] = names[at]
-                        all += left[names[at]]
-                    }
-                for (at = 1; at <= open; at++) {
-                    share = int(processors * left[running[at]] / all + 0.5)
-                    if (share < 1) share = 1
-                    if (share > 4) share = 4
-                    rate[at] = gain(share)
-                    jobs += share
-                }
-                slower = jobs > processors ? processors / jobs : 1
-                step = -1
-                for (at = 1; at <= open; at++) {
-                    rate[at] *= slower
-                    if (step < 0 || left[running[at]] / rate[at] < step) step = left[running[at]] / rate[at]
-                }
-                now += step
-                for (at = 1; at <= open; at++) { left[running[at]] -= step * rate[at]; worked += step * rate[at] }
-                for (at = 1; at <= open; at++)
-                    if (left[name = running[at]] < 0.001) {
-                        done[name]
-                        ended++
-                        print name, int(now + 0.5), int(worked + 0.5)
-                    }
-            }
-        }'
-}
-
-# The minutes of so many seconds, rounded up.
-in_minutes() { echo "$((($1 + 59) / 60)) min"; }
-
-# The crates that rt ci has proved up to now, and those that an earlier run proved.
-note_proved() {
-    sed -n 's/^rt: \([a-z0-9_]*\) is kept: .*/\1/p' "$work/log" >"$work/kept"
-    { cat "$work/kept" && sed -n 's/^rt: \([a-z0-9_]*\) proved$/\1/p' "$work/log"; } >"$work/proved"
-}
-
-# Prints an estimate of the seconds left, after this number of seconds. It scales the rest of the plan by the ratio of
-# the time gone to the time that the plan has for the work done. Two minutes are added to both times, so that the first
-# crates, which take seconds, do not decide the ratio.
-# The work done is that of the proved crates, and an eighth of the work of each crate in progress. The share of an
-# eighth was the best in simulated builds. The plan divides the processors better than rt does, and a crate may still
-# wait for a processor. A crate is in progress if its dependencies were proved before the last proved crate. At most as
-# many crates as there are processors are in progress, the first ones in the order of the plan.
-seconds_left() {
-    timed_lines | awk -v gone="$1" -v processors="$(nproc)" '
-        file == "proved" { proved[$1]; last = $1; next }
-        file == "crates" {
-            seconds[$2] = $1
-            for (at = 3; at <= NF; at++) if (!($at in proved) || $at == last) waits[$2]
-            next
-        }
-        {
-            whole = ends[++count] = $2
-            work[count] = $3
-            if ($1 in proved) done += seconds[$1]
-            else if (!($1 in waits) && begun++ < processors) done += seconds[$1] / 8
-        }
-        END {
-            for (at = 1; at < count && work[at] < done;) at++
-            part = (done - work[at - 1]) / (work[at] - work[at - 1])
-            planned = ends[at - 1] + (ends[at] - ends[at - 1]) * part
-            print int((gone + 120) * (whole - planned) / (planned + 120))
-        }
-    ' file=proved "$work/proved" file=crates - file=plan "$work/plan"
-}
-
-# Prints how many crates are proved, if there are more than at the last call, and an estimate of the time that is left.
-report_proved() {
-    note_proved
-    proved=$(wc -l <"$work/proved")
-    [ "$proved" -gt "$reported" ] && [ "$proved" -lt "$all" ] || return 0
-    reported=$proved
-    gone=$(($(date +%s) - began))
-    plan >"$work/plan"
-    tell "$((proved)) of $((all)) crates are proved, $(in_minutes "$gone") gone, about\
- $(in_minutes "$(seconds_left "$gone")") left"
-}
-
-# Reports the progress until this job is ended.
+# Prints how many crates are proved, each time that there are more, until this job is ended.
 report_progress() {
     reported=0
-    while sleep 1; do report_proved; done
+    while sleep 1; do
+        proved=$(grep -c '^rt: [a-z0-9_]* \(proved$\|is kept: \)' "$work/log")
+        if [ "$proved" -gt "$reported" ] && [ "$proved" -lt "$all" ]; then
+            reported=$proved
+            tell "crate $proved of $all, $(minutes_gone) gone"
+        fi
+    done
 }
 
 # Ends all that is being proved, and the script with this status.
@@ -219,14 +104,11 @@ end_build() {
 # where it stopped: rt ci keeps what was proved.
 build() {
     began=$(date +%s)
-    all=$(needed_crates | wc -l)
+    all=$(($(needed_crates | wc -l)))
     work=$(mktemp -d) || exit 1
-    : >"$work/kept"
     : >"$work/log"
-    plan >"$work/plan"
-    whole=$(awk 'END { print $2 }' "$work/plan")
-    tell "proving and building the program first: $((all)) crates, about $(in_minutes "$whole")\
- on $(nproc) processors; --try answers at once, unproved"
+    tell "proving and building the program first: $all crates, 10 to 30 minutes on four processors; --try answers\
+ unproved, after about a minute"
     ending=
     trap 'ending=130' INT
     trap 'ending=143' TERM
@@ -250,27 +132,25 @@ build() {
         tell "the program was not built"
         exit 1
     fi
-    tell "proved and built in $(in_minutes $(($(date +%s) - began)))"
+    tell "proved and built in $(minutes_gone)"
     touch "$program" && note_kit
 }
 
-# Whether the program can be built here; if not, prints why.
-can_build() {
-    can=${can-yes}
-    has_prover || can=
-    folder=${program%/*}
-    [ -d "$folder" ] || folder=${folder%/*}
-    if ! [ -w "$folder" ]; then
-        tell "the program is not built, and $folder is not writable: copy the sources, or use --try"
-        can=
-    fi
-    [ -n "$can" ]
-}
-
-has_prover() {
+# Ends the script with a message if the program can't be built or tried here.
+need_prover() {
     command -v rt >/dev/null || {
         tell "the program is not built, and rt is not on the PATH to build or try it: add the Rattle kit's bin folder"
-        return 1
+        exit 1
+    }
+}
+
+# Ends the script with a message if the program can't be written to its place.
+need_folder() {
+    folder=${program%/*}
+    [ -d "$folder" ] || folder=${folder%/*}
+    [ -w "$folder" ] || {
+        tell "the program is not built, and $folder is not writable: copy the sources, or use --try"
+        exit 1
     }
 }
 
@@ -280,6 +160,60 @@ need_current() {
         tell "the program is not built, or is older than its sources: run $0 once without --no-build"
         exit 1
     }
+}
+
+# Ends the script with status 2 at the first word that begins with - and is not in the help. The program finds all other
+# wrong usage.
+need_options() {
+    for word; do
+        case $word in
+        --) return ;;
+        -?*)
+            { text_of USAGE; text_of HELP; } | tr -s '[]|, ' '\n' | grep -qxFe "$word" && continue
+            tell "unknown option: $word"
+            text_of USAGE >&2
+            exit 2
+            ;;
+        esac
+    done
+}
+
+# Ends the script with status 2 if the first word that is no option is a command of the help in place of a file.
+need_file() {
+    for word; do
+        case $word in
+        -*) continue ;;
+        esac
+        command=$(printf '%s\n' "$word" | sed -n '1s/^\([a-z]*\)\( .*\)\{0,1\}$/\1/p')
+        if [ -n "$command" ] && ! [ -e "$word" ] && text_of HELP | grep -q "^  $command [Kv]"; then
+            tell "$word: no such file; lines come from the standard input: echo '$*' | $0"
+            exit 2
+        fi
+        return
+    done
+}
+
+# The help of the program, and the options of the script.
+help() {
+    text_of USAGE
+    text_of HELP
+    cat <<END
+
+Options of the script ./$started, beside those of the program:
+
+  --try       compile the same sources without a proof and with run-time checks, and answer with
+              them. Compiling takes about a minute each time, longer on a busy machine. Limits: 60
+              seconds for the run, 64 MiB of standard input, 1 MiB of output. The standard input is
+              read to its end. It is not read if it is a terminal and there is a FILE
+  --no-build  exit with status 1 if the program is not built or is older than its sources. Without
+              this option and --try the program is proved and built first: 10 to 30 minutes on four
+              processors
+
+The script's --version prints the revision, and which Rattle kit proved the program. The script also
+exits with status 1 if the program is not built, or if --try has no answers.
+
+docs/RECIPES.md has worked commands. docs/ERRORS.md has the cause and the fix of each message.
+END
 }
 
 sum_of_program() { sha256sum <"$program"; }
@@ -301,4 +235,126 @@ version() {
     else
         sed -n 's/^The kit that last proved all crates is `\(.*\)`\.$/not proved here; last proved whole with \1/p' "$top/README.md"
     fi
+}
+
+# Copies the standard input for --try: rt reads a pipe only up to a pause. At a terminal nothing is read if there are
+# files.
+copy_input() {
+    : >"$kept/input"
+    if [ -t 0 ] && [ "$count" -gt 0 ]; then
+        tell "--try reads no standard input from a terminal if there is a file"
+        return
+    fi
+    cat >"$kept/input" 2>/dev/null || { tell "read failed"; exit 1; }
+    [ "$(wc -c <"$kept/input")" -le 67108864 ] || { tell "no answers: --try reads at most 64 MiB"; exit 1; }
+}
+
+# Prints what the program printed on standard error, with the names of files in place of those of copies.
+tell_said() {
+    awk '
+        FILENAME != "said" { names[FILENAME] = $0; next }
+        /^(checked|interpreter): |^run=/ { next }
+        {
+            said = ""
+            while (match($0, /try-file-[0-9]+/)) {
+                said = said substr($0, 1, RSTART - 1) names["name-" substr($0, RSTART + 9, RLENGTH - 9)]
+                $0 = substr($0, RSTART + RLENGTH)
+            }
+            print said $0
+        }
+    ' "$@" said >&2
+}
+
+# Copies a file that a word names, and sets `word` to the name that the program gets for it. A name that is not below
+# the current folder is replaced by another one.
+copy_file() {
+    [ -r "$word" ] && ! [ -d "$word" ] && cat <"$word" >"$kept/file-$((count + 1))" 2>/dev/null || return 0
+    count=$((count + 1))
+    echo "$word" >"$kept/name-$count"
+    case $word in
+    /* | ../* | */../* | *=* | -* | program | stdin | stdout | stderr) word=try-file-$count ;;
+    esac
+    echo "$word" >"$kept/copy-$count"
+}
+
+# Answers with the sources, compiled without proof. rt runs the program in a folder of its own, with a copy of each file
+# that a word names.
+try_sources() (
+    kept=$(mktemp -d) && kept=$(readlink -f -- "$kept") || exit 1
+    trap 'rm -rf "$kept"' EXIT
+    trap 'exit 130' INT
+    trap 'exit 143' TERM
+    trap 'exit 129' HUP
+    tried_crate=$program_crate
+    [ $# -gt 0 ] || tried_crate=${without_words:-$program_crate}
+    count=0
+    ended=
+    left=$#
+    while [ "$left" -gt 0 ]; do
+        word=$1
+        shift
+        left=$((left - 1))
+        case $ended$word in
+        --) ended=1 ;;
+        -* | 1-) ;;
+        *) copy_file ;;
+        esac
+        set -- "$@" "$word"
+    done
+    copy_input
+    set -- -- "$@"
+    for at in $(seq "$count" -1 1); do
+        set -- --data "$(cat "$kept/copy-$at")=$kept/file-$at" "$@"
+    done
+    run_rt "$top/crates/$tried_crate" try "$@" <"$kept/input" 2>"$kept/said"
+    status=$?
+    cd "$kept" || exit 1
+    if grep -q '^run=ended ' said; then
+        # shellcheck disable=SC2046 # no name has a space
+        tell_said $(find . -name 'name-*' | cut -c 3-)
+        [ "$tried_crate" = "$program_crate" ] || ! grep -q '^run=.* runners=1 ' said ||
+            tell "one of the two runners answered alone, the other one needs too many steps"
+        exit "$status"
+    fi
+    why=$(sed -n 's/^checked: no-answer: //p' said)
+    tell "no answers: ${why:-$(tail -n 1 said)}"
+    exit 1
+)
+
+# Runs the program with the words, without the options of the script.
+start() {
+    tried=
+    unbuilt=
+    ended=
+    left=$#
+    while [ "$left" -gt 0 ]; do
+        word=$1
+        shift
+        left=$((left - 1))
+        case $ended$word in
+        -h | --help) help; exit ;;
+        --version) version; exit ;;
+        --note-kit) note_kit; exit ;; # of ./check, once rt ci has proved and built the program
+        --try) tried=1; continue ;;
+        --no-build) unbuilt=1; continue ;;
+        --) ended=1 ;;
+        esac
+        set -- "$@" "$word"
+    done
+    need_file "$@"
+    if [ -n "$tried" ]; then
+        need_prover
+        need_options "$@"
+        tell "these answers come from sources that were not proved here"
+        try_sources "$@"
+        exit
+    elif [ -n "$unbuilt" ]; then
+        need_current
+    elif ! is_current; then
+        need_options "$@"
+        need_prover
+        need_folder
+        build
+    fi
+    exec "$program" "$@"
 }

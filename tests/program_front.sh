@@ -13,6 +13,10 @@ copy="$files/a copy"
 mkdir -p "$copy/bin" "$copy/tools" "$copy/tmp" "$copy/crates/other"
 for crate in $(sed '/^#/d; s/[ :].*//' "$top/crates.txt"); do mkdir -p "$copy/crates/$crate/out"; done
 cp "$top/respath" "$top/origins" "$top/program.sh" "$top/crates.txt" "$top/HANDLES" "$copy/"
+for crate in respath_files origins; do
+    mkdir "$copy/crates/$crate/src"
+    cp -p "$top/crates/$crate/src/help.rt" "$copy/crates/$crate/src/"
+done
 echo 'The kit that last proved all crates is `a-kit logic 12`.' >"$copy/README.md"
 
 for script in respath origins; do
@@ -24,8 +28,8 @@ done
 chmod -R go+rX "$files"
 
 # The tools of the scripts, and no rt
-for tool in sh awk cat chmod cp cut date dirname find grep head id ls mkdir mktemp mv nproc readlink rm sed setsid \
-    sha256sum sleep tail tar tee touch tr wc; do
+for tool in sh awk cat chmod cp cut date dirname find grep head id ls mkdir mktemp mv readlink rm sed seq setsid \
+    sha256sum sleep tail tar touch tr wc; do
     ln -s "$(command -v "$tool")" "$copy/tools/$tool"
 done
 
@@ -52,8 +56,8 @@ is_built() {
 }
 
 # The first line of a build, with N in the place of numbers
-built_first="respath: proving and building the program first: N crates, about N min on N processors; --try answers at\
- once, unproved"
+built_first="respath: proving and building the program first: N crates, N to N minutes on four processors; --try answers\
+ unproved, after about a minute"
 
 # The second line of a script's --version: what proved the program that is in place
 version() { run "$copy/$1" --version | sed -n '2p'; }
@@ -116,10 +120,11 @@ prints "respath: names with a space and a star" 'respath "$files/a file" "$files
 [$files/a file]
 [$files/*]"
 prints "respath: options, and then a file name that begins like one" \
-    'cd "$files" && run "$files/respath.link" --where -- "a file" --check' 0 "ran
+    'cd "$files" && run "$files/respath.link" --where -- "a file" --check --try' 0 "ran
 [--where]
 [a file]
-[--check]"
+[--check]
+[--try]"
 prints "origins: a name with a space" 'cd "$files" && run "$files/origins.link" --why "a file"' 0 "ran
 [--why]
 [a file]"
@@ -134,17 +139,27 @@ prints "origins: the status of the program" 'origins --check vrps' 3 "of the pro
 prints "a line in place of a file" 'respath norm as 1' 2 "respath: norm: no such file; lines come from the standard\
  input: echo 'norm as 1' | $copy/respath"
 prints "a line in place of a file, in quotes" 'respath --check "path as 1 | refuse 2"' \
-    2 "respath: path as 1 | refuse 2: no such file; lines come from the standard input: echo 'path as 1 | refuse 2'\
- | $copy/respath"
+    2 "respath: path as 1 | refuse 2: no such file; lines come from the standard input: echo '--check path as 1 |\
+ refuse 2' | $copy/respath"
 prints "a file that is named as a command" 'cd "$files" && echo >norm && respath norm' 0 "ran
 [norm]"
 
 # A tool or a right that is missing is named before anything is proved.
 touch "$copy/crates/rpki_text/new"
 prints "no rt to try the sources" 'without_rt "$copy/respath" --try' 1 "respath: $no_rt"
-prints "files that can't be read where the program isn't built" 'respath "$files" "$files/none"' \
-    1 "respath: $files: read failed
-respath: $files/none: can't be opened"
+# A word that begins with - and is not in the help is refused before anything is proved. The program, where it is built,
+# finds all other wrong usage.
+for script in respath origins; do
+    for word in --unknown --tr --check=1 --w -x '--[^z]*' '--why --json'; do
+        prints "$script: unknown option: $word" "run '$copy/$script' '$word' none | head -n 1" 0 \
+            "$script: unknown option: $word"
+        prints "$script: unknown option under --try: $word" "run '$copy/$script' none '$word' --try | head -n 1" 0 \
+            "$script: unknown option: $word"
+    done
+    said=$(run "$copy/$script" --unknown)
+    expect "$script: the status of an unknown option, and the usage" 2 "$script: unknown option: --unknown
+$(run "$copy/$script" --help | sed '/^$/,$d')" $? "$said"
+done
 no_room="respath: the program is not built, and $copy/crates/respath_files/out is not writable: copy the sources, or use\
  --try"
 chmod a-w "$copy/crates/respath_files/out"
@@ -171,8 +186,8 @@ rt: rpki_text NOT PROVED
 respath: the program was not built" $? "$(echo "$said" | sed '/^respath: proving/s/[0-9][0-9]*/N/g' | sed '3,20d')"
 
 # A prover that makes the program where it is asked. The first crate is kept from an earlier run. Each of the next four
-# takes two seconds, and the others take none. The file `asked` gets the words, what is there of mutations and of what was
-# built, and HANDLES. Two more files get the crates of crates.txt and the folders.
+# takes until the script has reported it, and the others take no time. The file `asked` gets the words, what is there of
+# mutations and of what was built, and HANDLES. Two more files get the crates of crates.txt and the folders.
 prover "the-kit logic 12" 'asked=${0%/*}/../asked
 echo "$@" >"$asked"
 sed "/^#/d; s/[ :].*//" crates.txt >"${0%/*}/../listed"
@@ -180,9 +195,13 @@ ls crates >"${0%/*}/../copied"
 find . -name must-fail -o -name edits -o -name out >>"$asked"
 cat HANDLES >>"$asked"
 { read -r first; echo "rt: $first is kept: an earlier run on this machine proved the same files over the same libraries"
+count=1
 while read -r crate; do
+    for _ in 1 2 3 4 5 6 7 8 9 10 11 12 13 14 15 16 17 18 19 20 21 22 23 24 25 26 27 28 29 30; do
+        [ "$count" -lt 5 ] && ! grep -q "crate $count of" "${0%/*}/../said" || break
+        sleep 1
+    done
     count=$((count + 1))
-    [ "$count" -gt 4 ] || sleep 2
     echo "rt: $crate proved"
     echo "rt: $crate: its tests proved"
 done; } <"${0%/*}/../listed"
@@ -191,7 +210,7 @@ printf "#!/bin/sh\necho made\n" >crates/respath_files/out/respath_files
 chmod +x crates/respath_files/out/respath_files
 echo "1 passed, 0 failed"'
 mkdir -p "$copy/crates/rpki_text/must-fail" "$copy/crates/rpki_text/edits"
-said=$(run "$copy/respath")
+said=$(run "$copy/respath" 2>&1 | tee "$copy/said")
 expect "all that the program needs is proved" 0 "respath: proved and built in N min
 made" $? "$(echo "$said" | tail -n 2 | sed 's/in [0-9]* min/in N min/')"
 expect "rt ci is asked, over no mutations and nothing that was built" 0 "ci
@@ -201,59 +220,8 @@ expect "the copy has the crates that the program needs" 0 "$needed" $? "$(cat "$
 expect "crates.txt of the copy names them" 0 "$needed" $? "$(sort "$copy/listed")"
 all=$(echo "$needed" | wc -l)
 expect "each crate that takes its time is reported when it is proved" 0 "$(seq 1 4)" $? \
-    "$(echo "$said" | sed -n "s/^respath: \([0-9]*\) of $all crates are proved, [0-9]* min gone, about [0-9]* min left\$/\1/p")"
+    "$(echo "$said" | sed -n "s/^respath: crate \([0-9]*\) of $all, [0-9]* min gone\$/\1/p" | head -n 4)"
 expect "a program that was proved by the script" 0 "proved here with the-kit logic 12" $? "$(version respath)"
-
-# Six crates, with plans and estimates worked out by hand. On two processors the first three crates share both processors
-# up to second 1800, since they need 3600 seconds of work. `left` and `right` get one processor each. `top` gets both
-# processors, which prove it 1.4 times as fast. On one processor each second of the plan is a second of work.
-mkdir "$files/six" "$files/six/tmp"
-cat >"$files/six/crates.txt" <<'END'
-one:
-two:
-three:
-left: one
-right: two
-top: three left right
-END
-
-# Prepares a build of these crates, on so many processors, and so many seconds after the build began.
-six() {
-    top=$files/six started=six program_crate=top all=6 work=$files/six/tmp reported=0 began=0 processors=$1 gone=$2
-    . "$copy/program.sh"
-    : >"$work/kept"
-    seconds_of_crates() { printf '%s\n' 'one 1200' 'two 1200' 'three 1200' 'left 1680' 'right 1680' 'top 3360'; }
-    nproc() { echo "$processors"; }
-    date() { echo "$gone"; }
-}
-
-# Prints the minutes left. The words are the processors, the seconds gone, and the lines of the log of rt.
-estimate() (
-    six "$1" "$2"
-    shift 2
-    printf 'rt: %s\n' "$@" >"$work/log"
-    report_proved 2>&1 | sed 's/.* gone, about //'
-)
-prints "a plan of six crates" 'six 2 0 && plan' 0 "one 1800 3600
-two 1800 3600
-three 1800 3600
-left 3480 6960
-right 3480 6960
-top 5880 10320"
-# An eighth of `left` counts, and nothing of `right`, since `two` was proved last. The work of 3600 + 210 seconds is done
-# at second 1905 of the plan. The build takes twice as long as the plan, so 3930 * 3975 / 2025 seconds are left.
-prints "an estimate with work in progress" 'estimate 2 3810 "one proved" "three proved" "two proved"' 0 "129 min left"
-# The plan has `left` after `two` and `three`, of which an eighth each counts. The work of 2880 + 300 seconds is done at
-# second 1590 of the plan, so 3300 * 4290 / 1710 seconds are left.
-prints "an estimate after a crate that is late in the plan" 'estimate 2 3180 "one proved" "left proved"' \
-    0 "138 min left"
-# One processor proves one crate at a time, so an eighth of `two` counts, and nothing of `three`. The work of 1200 + 150
-# seconds took 1350 seconds, so the other 8970 seconds are left.
-prints "an estimate on one processor" 'estimate 1 1350 "one proved"' 0 "150 min left"
-# A crate that was kept counts one second, in the plan and in the work. The work of 1 + 1200 + 150 seconds took 1351
-# seconds, so the other 7770 seconds are left.
-prints "an estimate with a crate that was kept" 'estimate 1 1351 "one is kept: an earlier run" "two proved"' \
-    0 "130 min left"
 
 # Without a build
 touch "$copy/crates/rpki_text/new"
@@ -302,6 +270,60 @@ respath: one of the two runners answered alone, the other one needs too many ste
 prover "a-kit logic 12" 'printf "checked: no-answer: too long\nrun=no-answer proved=no\n" >&2; exit 6'
 prints "no runner that answers" 'respath --try' 1 "$tried
 respath: no answers: too long"
+
+# The words and the files under --try: the prover prints its words and the files, and names them in a message.
+prover "a-kit logic 12" 'echo "${PWD##*/}"; shift
+for word; do case $word in
+*=*) echo "[${word%%=*}] $(cat "${word#*=}")" ;;
+*) echo "[$word]" ;;
+esac; done
+cat
+echo "run=ended status=3 runners=1 proved=no" >&2
+for word; do case $word in --* | *=*) ;; *) echo "a-program: $word: wrong, $word" >&2 ;; esac; done
+exit 3'
+mkdir "$files/below"
+echo below >"$files/below/a file"
+echo equal >"$files/a=b"
+prints "files under --try" "cd '$files/below' &&
+    echo lines | piped '$copy/origins' 'a file' --try '../a file' --of 5 '$files/a=b' none -" 3 "origins: these answers come from sources that were not proved here
+origins
+[--data]
+[a file] below
+[--data]
+[try-file-2] line
+[--data]
+[try-file-3] equal
+[--]
+[a file]
+[try-file-2]
+[--of]
+[5]
+[try-file-3]
+[none]
+[-]
+lines
+a-program: a file: wrong, a file
+a-program: ../a file: wrong, ../a file
+a-program: 5: wrong, 5
+a-program: $files/a=b: wrong, $files/a=b
+a-program: none: wrong, none
+a-program: -: wrong, -"
+echo dashed >"$files/below/--check"
+prints "names after -- under --try" "cd '$files/below' && respath --try --check -- --check -" 3 "$tried
+respath_files
+[--data]
+[try-file-1] dashed
+[--]
+[--check]
+[--]
+[try-file-1]
+[-]
+a-program: --check: wrong, --check
+a-program: -: wrong, -"
+prints "no word under --try" "echo lines | piped '$copy/respath' --try | sed '/^respath: one of/d'" 0 "$tried
+respath
+[--]
+lines"
 
 # The limit of --try: a prover gets 64 MiB, and no octet more.
 prover "a-kit logic 12" 'wc -c; echo "run=ended status=0 runners=2 proved=no" >&2'

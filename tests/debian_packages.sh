@@ -110,6 +110,8 @@ quietly "the example is compiled" \
     'cc -Wall -Wextra -Werror example.c $(pkg-config --cflags --libs pigyelund) -o shared' && example shared
 quietly "the example is compiled with the static library" \
     'cc example.c $(pkg-config --cflags pigyelund) -l:libpigyelund.a -o static' && example static
+quietly "an example runs by its script" \
+    'doc=/usr/share/doc/libpigyelund-dev/examples && sh $doc/run.sh set /usr | diff $doc/set.txt -'
 quietly "the router is compiled" \
     'cc /usr/share/doc/libpigyelund-dev/examples/router.c $(pkg-config --cflags --libs pigyelund) -o router'
 in_root "ldconfig -p" | grep -q 'libpigyelund\.so\.1 ' || fail "the cache of the loader has the library"

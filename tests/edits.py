@@ -1,8 +1,8 @@
 #!/usr/bin/env python3
 """edits.py [CRATE ..] [CRATE/EDIT ..]: tries the mutations of `must-fail/` and `edits/` of crates by `rt ci`.
 
-The prover has to refuse each mutation. Without a name the script takes the crates whose code or mutations changed since
-the commit in tests/edits.revision, and the crates that depend on changed code. With --all it takes every crate. It
+The prover has to refuse each mutation. Without a name the script takes the crates whose code or mutations differ from
+the commit at which the branch left `main`, and the crates that depend on such code. With --all it takes every crate. It
 works in a copy. rt ci takes proofs and results that it stored on this machine, and stores new ones.
 
 The script prints one of these results for each mutation, with the prover's line:
@@ -14,8 +14,7 @@ The script prints one of these results for each mutation, with the prover's line
   NOT TRIED                 a fault: the crate is not proved without the mutation, or the check had no result
 
 The last line counts the results, for example '9 refused (8 at a goal, 1 for a name alone), 0 not'. The status is 1 if
-a mutation is not refused. With --write and no names the script writes the commit into tests/edits.revision, if each
-mutation was refused. RT_JOBS limits how many checks rt ci runs side by side."""
+a mutation is not refused. RT_JOBS limits how many checks rt ci runs side by side."""
 
 import os
 import re
@@ -33,7 +32,6 @@ from types import SimpleNamespace
 from groups import below, stands_on
 from source_edits import FOLDERS, TOP, TRIED_BY_THE_KIT, edits_of
 
-REVISION = TOP / "tests" / "edits.revision"
 CODE = ("src", "specs", "proofs")
 # Each result, and the beginning of what rt ci prints of such a mutation. Any other text is that of the last result.
 RESULTS = {
@@ -55,9 +53,15 @@ def git(*words: str) -> list[str]:
     return ran.stdout.splitlines()
 
 
+def start() -> str:
+    """Returns the commit at which the branch left `main`, that of `origin` if there is one."""
+    mains = git("for-each-ref", "--format=%(refname)", "refs/remotes/origin/main", "refs/heads/main")
+    return git("merge-base", "HEAD", *mains[-1:])[0]
+
+
 def changed() -> set[str]:
-    """Returns the crates whose code or mutations changed since the revision, and those that depend on changed code."""
-    files = git("diff", "--name-only", "--no-renames", REVISION.read_text().strip(), "--", "crates")
+    """Returns the crates whose code or mutations changed since `main`, and those that depend on changed code."""
+    files = git("diff", "--name-only", "--no-renames", start(), "--", "crates")
     files += git("ls-files", "--others", "--exclude-standard", "--", "crates")
     parts = [it.split("/")[1:3] for it in files if it.count("/") > 1]
     code = {crate for crate, part in parts if part in CODE}
@@ -135,16 +139,12 @@ def main(words: list[str]) -> int:
         return 0
     for it in (signal.SIGINT, signal.SIGTERM, signal.SIGHUP):
         signal.signal(it, lambda number, _: sys.exit(128 + number))
-    names = [it for it in words if it not in ("--all", "--write")]
-    if "--write" in words and (names or git("status", "--porcelain", "--", "crates", "crates.txt")):
-        sys.exit("edits.py: --write takes no names, and all changes of crates must be committed")
+    names = [it for it in words if it != "--all"]
     picked = chosen(names, "--all" in words)
     print(f"trying the mutations of {len(picked)} crates: {' '.join(picked)}", flush=True)
     counts = tried_in_copy(picked)
     refused = {it: counts[it] for it in RESULTS if it.startswith("refused ") and counts[it]}
     left = counts.total() - sum(refused.values())
-    if "--write" in words and not left:
-        REVISION.write_text(git("rev-parse", "HEAD")[0] + "\n")
     kinds = ", ".join(f"{count} {it.removeprefix('refused ')}" for it, count in refused.items())
     print(f"{sum(refused.values())} refused{f' ({kinds})' if kinds else ''}, {left} not")
     return 1 if left else 0

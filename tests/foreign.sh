@@ -1,7 +1,7 @@
 #!/usr/bin/env bash
 # foreign.sh [LIBRARY]: tests the static library from C, Rust and Python. It builds the library by rt lib, or takes the
-# file LIBRARY. The tests are the rows of foreign/rows.txt, names, numbers and texts, the programs of docs/FOREIGN.md,
-# and packages that are installed. The script names the tools that are missing, and leaves out the tests that need them.
+# file LIBRARY. The tests are the rows that tests/foreign_rows.py makes, names, numbers and texts, the programs of the
+# pages, and packages that are installed. The script names the tools that are missing, and leaves out the tests that need them.
 # The status is 0 if nothing failed.
 cd "$(dirname "$0")/.." || exit 1
 export KIT=${KIT:-$(dirname "$(dirname "$(readlink -f "$(command -v rt)")")")}
@@ -184,15 +184,24 @@ of_c() {
     fi
     has_python && { tests/foreign_rtr.py "$spaced/libpigyelund.a" || fail "a router against a cache"; }
     if has "C under valgrind" valgrind; then
-        valgrind -q --error-exitcode=9 --leak-check=full "$spaced/test" foreign >/dev/null || fail "valgrind"
+        valgrind -q --error-exitcode=9 --leak-check=full "$spaced/test" out/foreign >/dev/null || fail "valgrind"
     fi
 }
 
-# The program of the page for certificates of OpenSSL, if there are the command and the headers.
+# on_page PAGE SECTION: the program of a section of docs/ prints what its page says
+on_page() { tests/foreign_page.py "docs/$1" "$2" "$prefix" || fail "docs/$1: $2"; }
+
+# example NAME: the example of foreign/c/examples prints what it should
+example() {
+    foreign/c/examples/run.sh "$1" "$prefix" >"$out/example.txt" &&
+        diff "foreign/c/examples/$1.txt" "$out/example.txt" || fail "the example $1"
+}
+
+# The example for certificates of OpenSSL, if there are the command and the headers.
 of_openssl() {
     has "certificates of OpenSSL" openssl || return
     if echo '#include <openssl/x509v3.h>' | gcc -E - >/dev/null 2>&1; then
-        tests/foreign_page.py "Extensions of an OpenSSL certificate" "$prefix" || fail "certificates of OpenSSL"
+        example openssl
     else
         echo "left out: certificates of OpenSSL need its headers (libssl-dev)"
     fi
@@ -375,7 +384,7 @@ of_each_python() {
         if ! "python$version" -c '' 2>/dev/null; then
             echo "left out: the test of the package in Python $version needs python$version"
         elif ! PYTHONPATH=foreign/python "python$version" foreign/python/test.py "$prefix/lib/libpigyelund.so" \
-            foreign; then
+            out/foreign; then
             fail "the test in Python $version"
         fi
     done
@@ -388,7 +397,7 @@ of_each_python() {
 }
 
 of_python() {
-    PYTHONPATH=foreign/python python3 foreign/python/test.py "$prefix/lib/libpigyelund.so" foreign ||
+    PYTHONPATH=foreign/python python3 foreign/python/test.py "$prefix/lib/libpigyelund.so" out/foreign ||
         fail "the test in Python"
     of_each_python
     python3 -c 'import ensurepip, venv' 2>/dev/null || { echo "left out: pip needs python3-venv"; return; }
@@ -396,8 +405,15 @@ of_python() {
     of_python_search
     of_python_types
     of_python_wheels
-    tests/foreign_page.py Python "$prefix" || fail "the program in Python"
-    tests/foreign_page.py "A table in Python" "$prefix" || fail "the table in Python"
+    on_page PYTHON.md "First program"
+    PIGYELUND_LIB="$prefix/lib" PYTHONPATH=foreign/python python3 foreign/python/examples/table.py \
+        <foreign/c/examples/vrps.csv >"$out/example.txt" &&
+        diff foreign/python/examples/table.txt "$out/example.txt" || fail "the example table.py"
+    if /usr/bin/python3 -c 'import pandas' 2>/dev/null; then
+        on_page PYTHON.md "Many routes"
+    else
+        echo "left out: many routes in Python need python3-pandas"
+    fi
     tests/foreign_dask.py "$prefix/lib" || fail "routes in partitions by Dask"
 }
 
@@ -471,7 +487,7 @@ END
 # Copies the test files that all languages share into the crate, where cargo package takes them.
 make_rust_shared() {
     mkdir -p foreign/rust/tests/shared &&
-        cp foreign/rows.txt foreign/texts.txt foreign/numbers.txt foreign/rust/tests/shared
+        cp out/foreign/*.txt foreign/rust/tests/shared
 }
 
 # The package for crates.io is made without a warning, has the files of the repository, and passes its tests alone.
@@ -487,7 +503,7 @@ of_rust_package() {
         { fail "the package is unpacked"; return; }
     cmp LICENSE "$out/unpacked/LICENSE" || fail "the package has the licence"
     for name in rows texts numbers; do
-        cmp "foreign/$name.txt" "$out/unpacked/tests/shared/$name.txt" || fail "the package has $name.txt"
+        cmp "out/foreign/$name.txt" "$out/unpacked/tests/shared/$name.txt" || fail "the package has $name.txt"
     done
     cargo test -q --offline --manifest-path "$out/unpacked/Cargo.toml" >"$out/log" 2>&1 ||
         { cat "$out/log"; fail "the test in Rust"; }
@@ -517,27 +533,24 @@ of_rust() {
     of_rust_docs
     of_rust_style
     of_rust_dependent
-    has_python && { tests/foreign_page.py "The examples" "$prefix" || fail "the examples"; }
-    has_python && { tests/foreign_page.py Rust "$prefix" || fail "the program in Rust"; }
-    has_python && { tests/foreign_page.py "A table in Rust" "$prefix" || fail "the table in Rust"; }
+    rust run --example path | diff foreign/rust/examples/path.txt - || fail "the example path in Rust"
+    has_python && on_page RUST.md "First program"
     of_rust_package
 }
 
 if has_python; then
     tests/foreign_page.py || fail "numbers and names"
-    tests/foreign_rows.py || fail "the rows"
+    tests/foreign_rows.py || fail "the rows are made"
 else
-    echo "left out: numbers, names, Python and the programs of docs/FOREIGN.md need python3, from 3.10 on"
+    echo "left out: numbers, names, Python and the programs of pages need python3, from 3.10 on"
 fi
 if has "C, and all that is installed," gcc make ar objcopy nm readelf; then
     of_c
     of_install
-    has_python && { tests/foreign_page.py C "$prefix" || fail "the program in C"; of_python; }
-    has_python && { tests/foreign_page.py "A table in C" "$prefix" || fail "the table in C"; }
-    has_python && { tests/foreign_page.py "A set from text in C" "$prefix" || fail "the set in C"; }
-    has_python && has "the vectors in C++" g++ &&
-        { tests/foreign_page.py "Vectors in C++" "$prefix" || fail "the vectors in C++"; }
-    has_python && of_openssl
+    has_python && { on_page C.md "First program"; on_page C.md "Verify a path"; of_python; }
+    for name in update table set; do example "$name"; done
+    has "the example in C++" g++ && example table_cpp
+    of_openssl
     has "Rust" cargo cc tar && of_rust
 fi
 if [ $# -eq 0 ]; then

@@ -1,10 +1,10 @@
 #!/usr/bin/env python3
-"""Tests the recipe "Validate routes on more than one machine" of docs/RECIPES.md: foreign_dask.py LIBRARY [ROUTES].
+"""Tests the section "More than one machine" of docs/PYTHON.md: foreign_dask.py LIBRARY [ROUTES].
 
-A scheduler and workers of Dask run the recipe's two programs. They are processes of this machine. LIBRARY is the folder
-of the shared library. The test needs Debian's python3-distributed, and is left out by name without it.
+A scheduler and workers of Dask run the two programs of the section. They are processes of this machine. LIBRARY is the
+folder of the shared library. The test needs Debian's python3-distributed, and is left out by name without it.
 
-* With the files of the page's first recipe, the program has to print what the page shows.
+* With the files of the section "Many routes", the program has to print what the page shows.
 * With made VRPs and routes, one worker, two workers and four workers have to print the same lines. The validities have
   to be those of the reference (tests/reference). Each worker has to make the table once.
 
@@ -26,9 +26,9 @@ from random import Random
 
 from blocks import TOP, blocks_of, told
 
-RECIPES = "docs/RECIPES.md"
-FIRST_TITLE = "## Validate routes (`origins`)"
-TITLE = "## Validate routes on more than one machine (`origins`)"
+PAGE = "docs/PYTHON.md"
+FILES_TITLE = "## Many routes"
+TITLE = "## More than one machine"
 SYSTEM = "/usr/bin/python3"  # Debian's packages are for this Python
 WORKERS = 1, 2, 4
 # Prints how often each worker process made a table.
@@ -46,19 +46,21 @@ with Client(sys.argv[1]) as client:
 
 
 def write_programs(folder: Path) -> None:
-    """Writes the recipe's programs into a folder."""
-    for block in blocks_of(RECIPES, TITLE):
+    """Writes the programs of the section into a folder."""
+    for block in blocks_of(PAGE, TITLE):
         if block.kind.startswith("python "):
             (folder / block.kind.removeprefix("python ")).write_text(block.text)
     (folder / "misses.py").write_text(MISSES)
 
 
 def write_example(folder: Path) -> str:
-    """Writes the files of the page's first recipe. Returns what the page shows for them."""
-    first = "".join(it.text for it in blocks_of(RECIPES, FIRST_TITLE))
-    for name, text in re.findall(r"^cat >(\w+) <<'END'\n(.*?)^END$", first, re.MULTILINE | re.DOTALL):
-        (folder / name).write_text(text)
-    return next(it.shown for it in blocks_of(RECIPES, TITLE) if "python3 validate_routes.py " in it.text)
+    """Writes the files of the section before, a route as a prefix and an AS. Returns what the page shows for them."""
+    commands = "".join(it.text for it in blocks_of(PAGE, FILES_TITLE) if it.kind == "sh")
+    files = dict(re.findall(r"^cat >(\S+) <<END\n(.*?)^END$", commands, re.MULTILINE | re.DOTALL))
+    (folder / "csv").write_text(files["vrps.csv"])
+    routes = (line.split(",") for line in files["routes.csv"].splitlines()[1:])
+    (folder / "routes").write_text("".join(f"{prefix} AS{asn}\n" for prefix, asn in routes))
+    return next(it.shown for it in blocks_of(PAGE, TITLE) if "python3 validate_routes.py " in it.text)
 
 
 def network(source: Random, length: int) -> IPv4Network | IPv6Network:
@@ -140,7 +142,7 @@ def run(folder: Path, environment: dict[str, str], *words: str) -> subprocess.Co
 
 
 def faults_of(folder: Path, environment: dict[str, str], count: int | None) -> Iterator[str]:
-    """Runs the recipe with one, two and four workers. Yields what differs."""
+    """Runs the programs with one, two and four workers. Yields what differs."""
     shown = write_example(folder)
     files = [str(folder / "csv"), str(folder / "routes")]
     with cluster(folder, environment, 2) as scheduler:
@@ -170,7 +172,7 @@ def faults_of(folder: Path, environment: dict[str, str], count: int | None) -> I
 
 
 def main() -> int:
-    """Tests the recipe."""
+    """Tests the section."""
     library, *rest = sys.argv[1:]
     if subprocess.run([SYSTEM, "-c", "import dask.bag, distributed"], capture_output=True, check=False).returncode:
         print("left out: routes in partitions by Dask need python3-distributed")

@@ -1,21 +1,20 @@
 #!/usr/bin/env python3
-"""Compares the numbers of the foreign calls in the library and on the page about them, and runs the page's programs.
+"""Compares the numbers of the foreign calls in the library and in the header, and runs the programs of pages.
 
 Without arguments it checks these things:
 
 * foreign/numbers.txt has each number of the library.
 * The header defines the names of foreign/numbers.txt and no others.
-* Each row of the table of statuses in docs/FOREIGN.md has the number of its name.
 * The package for Python requires the first Python that has all that its sources use.
-* Pages and tests name the same Python.
-* The header and the page state the stack on which foreign/c/test.c makes its calls.
+* The package and tests/foreign.sh name the same Python.
+* The header states the stack on which foreign/c/test.c makes its calls.
 * The package of the shared library lists the symbols of foreign/c/exports.map. Each has the first version with it.
 
 tests/source_versions.py compares the versions.
 
-With SECTION PREFIX it runs the program of that section, for example C or `A table in C`. The section's commands build
-the program in an empty folder, with the library that is installed under PREFIX. The program has to print what the page
-says. The status is 1 if something differs.
+With PAGE SECTION PREFIX it runs the program of that section of a page, for example docs/C.md and `Verify a path`. The
+section's commands build the program in an empty folder, with the library that is installed under PREFIX. The program
+has to print what the page says. The status is 1 if something differs.
 """
 
 import ast
@@ -27,7 +26,6 @@ from pathlib import Path
 
 from blocks import TOP, Report, blocks_of, run, told
 
-PAGE = TOP / "docs" / "FOREIGN.md"
 HEADER = TOP / "foreign" / "pigyelund.h"
 CRATE = TOP / "crates" / "pigyelund_c"
 ROUTES = TOP / "crates" / "pigyelund_routes"
@@ -71,20 +69,6 @@ def of_header() -> set[str]:
     return set(re.findall(r"^#define PIGY_(\w+) \w+u\b", text, re.MULTILINE))
 
 
-def of_page(numbers: dict[str, int]) -> list[str]:
-    """Returns what differs in the page's table of statuses."""
-    text = PAGE.read_text()
-    rows = re.findall(r"^\| (\d\w*)(?: \+ n)? \| ([A-Z_0-9]+(?: \+ [A-Z_0-9]+)?) \|", text, re.MULTILINE)
-    faults = [
-        f"{PAGE.name} has {number} for {names}"
-        for number, names in rows
-        if int(number, 0) != sum(numbers.get(name, -1) for name in names.split(" + "))
-    ]
-    named = {name for _, names in rows for name in names.split(" + ")}
-    missing = numbers.keys() - CHOICES.keys() - MISMATCHES.keys() - {"VERSION"} - named
-    return faults + [f"{PAGE.name} has no status {name}" for name in sorted(missing)]
-
-
 # Names of the standard library that the package may use, by the first minor version of Python 3 that has them.
 NEW_IN = {
     10: "pairwise ParamSpec TypeAlias TypeGuard",
@@ -125,7 +109,6 @@ def of_python() -> list[str]:
     used = max(first_of_node(node) for file in sources for node in ast.walk(ast.parse(file.read_text())))
     wanted = {
         folder / "pyproject.toml": f'requires-python = ">=3.{used}"',
-        PAGE: f"`python3` 3.{used} or later",
         TOP / "tests" / "foreign.sh": f"sys.version_info < (3, {used})",
     }
     faults = [
@@ -157,9 +140,8 @@ def of_stack() -> list[str]:
         f"use less than {used[1]} KiB of it",
         f"uses less than {to_read[1]} KiB for the deepest JSON that it reads",
     )
-    return [
-        f"{file.name} doesn't say: {text}" for file in (HEADER, PAGE) for text in wanted if text not in file.read_text()
-    ]
+    said = HEADER.read_text()
+    return [f"{HEADER.name} doesn't say: {text}" for text in wanted if text not in said]
 
 
 def of_symbols() -> list[str]:
@@ -186,12 +168,14 @@ def numbers_differ() -> list[str]:
         if own.get(name) != numbers.get(name)
     ]
     faults += [f"pigyelund.h and numbers.txt: {name} is in one alone" for name in sorted(of_header() ^ numbers.keys())]
-    return faults + of_page(numbers) + of_python() + of_stack() + of_symbols()
+    return faults + of_python() + of_stack() + of_symbols()
 
 
-def compare_program(title: str, prefix: str) -> int:
+def compare_program(page: str, title: str, prefix: str) -> int:
     """Runs the program of a section, and compares what it prints with the page. Returns the status of the test."""
-    report, blocks = Report(), blocks_of("docs/FOREIGN.md", f"### {title}")
+    report, blocks = Report(), blocks_of(page, f"## {title}") or blocks_of(page, f"### {title}")
+    if not blocks:
+        return told([f"{page} has no section {title} with a program"])
     commands, shown = "".join(it.text for it in blocks if it.kind == "sh"), "".join(it.shown for it in blocks)
     with tempfile.TemporaryDirectory() as folder:
         for block in (it for it in blocks if it.kind not in ("sh", "text")):

@@ -1,7 +1,7 @@
 #!/usr/bin/env python3
-"""Compares foreign/rows.txt, the test vectors of the packages for C, Rust and Python, with the reference.
+"""foreign_rows.py [FOLDER]: makes rows.txt, the golden tests of the packages for C, Rust and Python, by the reference.
 
-With --write the script writes the file anew. The status is 1 if the file differs.
+FOLDER is out/foreign if none is named. The script copies foreign/numbers.txt and foreign/texts.txt there too.
 
 A row has nine words with spaces between them. Octets are in hexadecimal. A word without octets is `-`.
 
@@ -33,8 +33,10 @@ The input and the output depend on the call:
 * `answer`: a line for `respath`. The output is the line that it prints.
 """
 
+import shutil
 import sys
 from collections.abc import Iterable, Iterator
+from itertools import islice
 from operator import eq
 from pathlib import Path
 from random import Random
@@ -49,7 +51,7 @@ from reference.random_lines import Maker
 from reference.resources import INHERIT, Claim, Families
 from reference.sets import Set, difference, has_all, intersection, merged, union
 
-ROWS = Path(__file__).resolve().parent.parent / "foreign" / "rows.txt"
+TOP = Path(__file__).resolve().parent.parent
 Octets = tuple[bytes, bytes]
 Triple = tuple[Set, Set, Set]
 
@@ -378,6 +380,8 @@ def file_answer(question: Question) -> Answer:
         vrps = vrp_files.read(question.first[0])
     except Fault as fault:
         text = str(fault)
+        if text.startswith("line 1: neither a known header nor a VRP"):
+            return Answer(BAD_FILE + 7, (b"", b""), 0)
         if found := fullmatch(r"(line|item) (\d+): (.*)", text):
             base = BAD_LINE if found[1] == "line" else BAD_ITEM
             return Answer(base + fault_number(found[3]), (b"", b""), int(found[2]))
@@ -708,12 +712,13 @@ LINES = [
     b' "AS0" , "0.0.0.0/0" ,32\n',
     b"AS4294967295,ffff:ffff::/32,128,,\n",
     b"AS1,255.255.255.255/32,32\n",
+    b"AS2,10.0.0.0/8,\n",
 ]
 # Invalid lines, each with another fault.
 WRONG_LINES = [
     *(b"\xff\n", b"AS1,10.0.0.0/8,8,ripe,0,more\n", b"AS1,10.0.0.0/8\n", b"ASX,10.0.0.0/8,8\n"),
     *(b"AS4294967296,10.0.0.0/8,8\n", b"AS1,10.0.0.0/33,8\n", b"AS1,10.0.0.1/8,8\n"),
-    *(b"AS1,10.0.0.0/8,256\n", b"AS1,10.0.0.0/8,\n", b"AS1,10.0.0.0/8,7\n", b"AS1,10.0.0.0/8,33\n"),
+    *(b"AS1,10.0.0.0/8,256\n", b"AS1,10.0.0.0/8,x\n", b"AS1,10.0.0.0/8,7\n", b"AS1,10.0.0.0/8,33\n"),
 ]
 ITEMS = [
     b'{"asn": 64496, "prefix": "10.0.0.0/8", "maxLength": 16, "ta": "ripe"}',
@@ -739,6 +744,7 @@ WRONG_ITEMS = [
 WRONG_FILES = [
     *(b"", b"\n \n", HEADER, b" [1]", b"[", b"{", b"{}"),
     *(b'{"roas": []} x', b'{"roas": []}', b'{"roas": [], "roas": []}', b'{"roas": {}}'),
+    *(b"asn,ip prefix,max length\n", b"roa-set {\n", b"AS1;10.0.0.0/8;8\n", HEADER.lower() + LINES[0]),
     *(b'{"roas": ' + b"[" * 200 + b"]" * 200 + b"}", b'{"roas": ["\xff"]}', b"\xef\xbb\xbf", b"\xef\xbb\xbf{}"),
 ]
 
@@ -894,17 +900,13 @@ def rows() -> Iterator[str]:
         yield " ".join((*words, str(found.status), *map(hexadecimal, found.written), verified))
 
 
-def main() -> int:
-    """Writes the file, or compares it."""
-    made = list(rows())
-    if sys.argv[1:] == ["--write"]:
-        ROWS.write_text("".join(f"{row}\n" for row in made))
-        return 0
-    stored = ROWS.read_text().splitlines()
-    differing = sum(one != other for one, other in zip(stored, made)) + abs(len(stored) - len(made))
-    print(f"foreign/rows.txt: {len(stored)} rows, {differing} differ from the reference")
-    return 1 if differing else 0
+def write(folder: Path, count: int | None = None) -> None:
+    """Writes the rows into a folder, or only this number of them, beside the numbers and the texts of foreign/."""
+    folder.mkdir(parents=True, exist_ok=True)
+    (folder / "rows.txt").write_text("".join(f"{row}\n" for row in islice(rows(), count)))
+    for name in ("numbers.txt", "texts.txt"):
+        shutil.copy(TOP / "foreign" / name, folder)
 
 
 if __name__ == "__main__":
-    sys.exit(main())
+    write(Path(sys.argv[1]) if sys.argv[1:] else TOP / "out" / "foreign")

@@ -91,9 +91,6 @@ RUNS = (
     (("small", "small/moon"), None, "", "", "no crate, and no mutation of a crate: small/moon", ""),
     (("--moon",), None, "", "", "no crate, and no mutation of a crate: --moon", ""),
     (("low",), "crates/low/must-fail/turned.edit", "", "", "low has two mutations with one name: turned.edit", ""),
-    (("--write", "low"), None, "", "", "--write takes no names", ""),
-    (("--write",), "crates/low/src/lib.rt", "", "", "all changes of crates must be committed", ""),
-    (("--write", "--all"), None, "", "low(1) small(9)", "", ALL),
 )
 
 
@@ -103,11 +100,10 @@ def git(copy: Path, *words: str) -> str:
     return subprocess.run(["git", *own, *words], cwd=copy, capture_output=True, text=True, check=True).stdout.strip()
 
 
-def commit(copy: Path) -> str:
-    """Commits all changes of crates. Returns the commit."""
+def commit(copy: Path) -> None:
+    """Commits all changes of crates."""
     git(copy, "add", "-A", "crates", "crates.txt")
-    git(copy, "commit", "-q", "--allow-empty", "-m", "crates")
-    return git(copy, "rev-parse", "HEAD")
+    git(copy, "commit", "-q", "-m", "crates")
 
 
 def made(copy: Path) -> None:
@@ -120,8 +116,8 @@ def made(copy: Path) -> None:
     files |= {"crates.txt": "# NAME: its dependencies\nsmall: low json\nlow:\nother:\n", "HANDLES": ""}
     written(copy, files | {".gitignore": "out"})
     written(copy.parent, {"bin/rt": STUB})
-    git(copy, "init", "-q")
-    (copy / "tests" / "edits.revision").write_text(commit(copy) + "\n")
+    git(copy, "init", "-q", "-b", "main")
+    commit(copy)
 
 
 def calls(copy: Path) -> Iterator[str]:
@@ -166,20 +162,17 @@ def of_runs(copy: Path) -> Iterator[tuple[str, str | None]]:
         yield f"{' '.join(words)} {file} {unproved}", None if is_right else f"status {status}, rt for {called}: {said}"
 
 
-def of_write(copy: Path) -> Iterator[tuple[str, str | None]]:
-    """Yields what --write has to write, and what is wrong with it."""
-    revision = copy / "tests" / "edits.revision"
-    before = revision.read_text()
+def of_branch(copy: Path) -> Iterator[tuple[str, str | None]]:
+    """Yields that a branch is compared with the commit at which it left `main`, and what is wrong with it."""
+    [*calls(copy)]  # those of the tests before
+    git(copy, "checkout", "-q", "-b", "change")
+    written(copy, {"crates/low/edits/turned.edit": f"{REFUSED}: {GOAL}; changed\n"})
     commit(copy)
-    run(copy, "--write", "--all")
-    yield "--write if a mutation is not refused", None if revision.read_text() == before else "writes the commit"
-    for name, _, line in RESULTS:
-        if not line.startswith("refused "):
-            (copy / "crates" / "small" / f"{name}.edit").unlink()
-    last = commit(copy)
-    status, said, _ = run(copy, "--write")
-    is_right = status == 0 and revision.read_text() == f"{last}\n" != before
-    yield "--write if each mutation is refused", None if is_right else f"status {status}: {said}"
+    _, said, called = run(copy)
+    yield "a branch", None if called == "low(1)" else f"rt for {called}: {said}"
+    git(copy, "branch", "-q", "-D", "main")
+    status, said, called = run(copy)
+    yield "no branch main", None if (status, called) == (1, "") and "pass --all" in said else f"rt for {called}: {said}"
 
 
 def of_signals(copy: Path) -> Iterator[tuple[str, str | None]]:
@@ -205,7 +198,7 @@ def main() -> int:
     with tempfile.TemporaryDirectory(prefix="of-edits-") as name:
         copy = Path(name, "copy")
         made(copy)
-        found = [it for part in (of_results, of_runs, of_signals, of_write) for it in part(copy)]
+        found = [it for part in (of_results, of_runs, of_signals, of_branch) for it in part(copy)]
     faults = (f"FAILED  {what}: {fault}" for what, fault in found if fault)
     return told(faults, f"{len(found)} runs of tests/edits.py: {{}} wrong")
 

@@ -1,7 +1,8 @@
 #!/usr/bin/env python3
 """program_help.py: compares the help of a script with the help of its program and with its manual page.
 
-It also shows that `./respath` and `./origins` answer help, version and wrong usage at once, without a build.
+It also shows that `./respath` and `./origins` answer help, version and an unknown option at once, without a build, and
+that the programs refuse wrong usage.
 
 An entry of a help is a line with two spaces, a term, two or more spaces and its description. The description may
 continue on the next lines. The manual page has to contain the description of each entry word for word. The script
@@ -20,11 +21,13 @@ from blocks import TOP, Report, manual, program
 
 SECONDS = 0.2
 # The tools of the scripts, without rt.
-TOOLS = "awk cat cut date dirname find git grep head readlink rm sed sha256sum".split()
+TOOLS = "awk cat cut date dirname find git grep head readlink rm sed sha256sum tr".split()
 # The program whose texts are those of the script.
 PROGRAMS = {"respath": "respath_files", "origins": "origins"}
+# What the scripts refuse before a build.
+REFUSED = {"respath": (["--strange"], ["norm as 1"]), "origins": (["--strange"], ["vrps", "--slur", "file"])}
 WRONG = {
-    "respath": (["--strange"], ["norm as 1"]),
+    "respath": (["--strange"], ["one", "--chec"]),
     "origins": (
         [], ["--strange"], ["--table"], ["--table", "--of", "ASX", "a"], ["--diff", "a"], ["a", "b"], ["a", "b", "c"],
         ["--table", "--of"], ["--of", "1", "a"], ["--table", "--diff", "a", "b"], ["--why", "--table", "a"],
@@ -81,27 +84,25 @@ def faults_of(name: str) -> Iterator[str]:
     for term, description in said.items():
         if " ".join(description.replace('"', "").split()) not in page:
             yield f"docs/{name}.1 does not say of {term}: {description}"
-    for words, wanted in ((["--help"], 0), (["-h"], 0), (["--version"], 0), *((it, 2) for it in WRONG[name])):
+    for words, wanted in ((["--help"], 0), (["-h"], 0), (["--version"], 0), *((it, 2) for it in REFUSED[name])):
         status, text, took = asked(name, *words)
         what = f"{name} {' '.join(words)}"
         if status != wanted or not text:
             yield f"{what}: status {status} in place of {wanted}: {text}"
         if took > SECONDS:
             yield f"{what}: {took:.2f} seconds of the processor, more than {SECONDS}"
-        if wanted == 2 and "origins" in what and "\nusage: " not in text:
-            yield f"{what}: no usage in {text!r}"
 
 
 def faults_of_program(name: str) -> Iterator[str]:
-    """Yields the differences between the texts of a script and those of its program."""
+    """Yields the differences between the help of a script and that of its program, and wrong usage that is taken."""
     built, helped = program(PROGRAMS[name]), asked(name, "--help")[1]
     usage, _, own = subprocess.run([built, "--help"], capture_output=True, text=True).stdout.partition("\n\n")
-    if own.rstrip("\n") not in helped or (name == "origins" and not helped.startswith(usage)):
+    if own.rstrip("\n") not in helped or not helped.startswith(usage):
         yield f"./{name} --help does not have the help of the program"
-    for words in WRONG[name] if name == "origins" else ():
+    for words in WRONG[name]:
         ran = subprocess.run([built, *words], capture_output=True, text=True, stdin=subprocess.DEVNULL)
-        if (ran.returncode, ran.stderr) != asked(name, *words)[:2]:
-            yield f"origins {' '.join(words)}: the script and the program answer differently"
+        if ran.returncode != 2 or ran.stdout or not re.match(rf"{name}: .*\nusage: ", ran.stderr):
+            yield f"{name} {' '.join(words)}: status {ran.returncode}: {ran.stdout}{ran.stderr}"
 
 
 def main() -> int:

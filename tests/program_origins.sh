@@ -19,6 +19,7 @@ printf 'AS64496,192.0.2.0/23,24\nAS64496,192.0.2.0/23,24\nAS64498,198.51.100.0/2
 printf 'AS64496,192.0.2.0/23,24\nAS64496,192.0.2.1/24,24\n' >wrong
 printf '192.0.2.0/24 AS64496\n192.0.2.0/25 AS64496\n192.0.3.0/24 AS7\n10.0.0.0/8 AS1\n192.0.2.1/24 AS3' >routes
 printf '192.0.2.0/24 AS64496\n10.0.0.0/8 AS1\n' >fine
+tab=$(printf '\t')
 usage=$(origins --help | sed -n '1,/^$/p' | sed '$d')
 
 # Routes
@@ -42,6 +43,23 @@ valid" <<'END'
 TABLE_DUMP2|1732579200|B|203.0.113.1|64500|192.0.2.0/24|64500 (64512 64496)|IGP
 TABLE_DUMP2|1732579200|B|203.0.113.1|64500|192.0.2.0/24|64500 [64496]|IGP
 TABLE_DUMP2|1732579200|B|203.0.113.1|64500|192.0.2.0/24|(64512 64513) 64496|IGP
+END
+prints "a tab for the space, and the AS first" 'origins vrps 2>/dev/null' 0 "error: expected: PREFIX AS
+error: expected: PREFIX AS
+error: expected: PREFIX AS
+error: expected: PREFIX AS
+error: expected: PREFIX AS
+valid
+error: invalid AS number
+error: invalid prefix: missing length portion" <<END
+192.0.2.0/24${tab}AS64496
+192.0.2.0/24${tab}${tab}AS64496 x
+AS64496 192.0.2.0/24
+64496 192.0.2.0/24
+AS64496
+${tab}192.0.2.0/24${tab} ${tab}AS64496
+192.0.2.0/24
+192.0.2.0 AS64496
 END
 prints "a check of updates and of an older table" 'origins --check vrps 2>/dev/null' 0 "valid
 skipped
@@ -189,9 +207,10 @@ prints "no standard input with exceptions" 'origins --table --slurm - vrps 2>&1 
 prints "a read fails after exceptions" 'origins --slurm slurm.json vrps <&- 2>&1 >/dev/null' 1 "origins: read failed"
 printf '{"slurmVersion":1,"validationOutputFilters":{"prefixFilters":[%s],"bgpsecFilters":[]},
 "locallyAddedAssertions":{"prefixAssertions":[],"bgpsecAssertions":[]}}' '{"asn":64496},{"asn":64497}' >none.json
-prints "exceptions that leave no VRP" 'origins --slurm none.json vrps 2>&1 <fine' 0 "not-found
-not-found
-origins: 2 VRPs; 0 after none.json"
+prints "exceptions that leave no VRP" 'origins --slurm none.json vrps 2>&1 <fine' \
+    1 "origins: no VRP left after none.json"
+prints "the table after exceptions that leave no VRP" 'origins --table --slurm - vrps 2>&1 <none.json' \
+    1 "origins: no VRP left after standard input"
 
 # VRPs that have expired. A VRP is valid through the second of its expiry.
 printf 'ASN,IP Prefix,Max Length,Trust Anchor,Expires\n%s\n' 'AS64496,192.0.2.0/23,24,x,1732600000
@@ -229,6 +248,24 @@ prints "exceptions apply after expired VRPs are left out" \
 198.51.100.0/24-24 AS64498
 203.0.113.0/24-24 AS64500
 origins: 5 VRPs: 2 in dated.json, 3 in dated; 2 expired; 4 after slurm.json"
+printf 'ASN,IP Prefix,Max Length,Trust Anchor,Expires\n%s\n' 'AS64496,192.0.2.0/23,24,x,1732600000
+AS64497,2001:db8::/32,48,x,1732600001' >old
+for words in "--check" "--table" "--json --why"; do
+    prints "all VRPs have expired: $words" 'origins $words --now 1732600002 old 2>&1 <fine' \
+        1 "origins: no VRP left: 2 of 2 expired"
+done
+prints "all VRPs of several files have expired" 'origins --now 1732600002 old --vrps old 2>&1 <fine' \
+    1 "origins: no VRP left: 4 of 4 expired"
+prints "all VRPs of one file have expired" 'origins --now 1732600002 old --vrps vrps 2>&1 <fine' 0 "valid
+not-found
+origins: 4 VRPs: 2 in old, 2 in vrps; 2 expired"
+prints "some VRPs have expired, and exceptions leave none" \
+    'origins --now 1732600001 --slurm none.json old 2>&1 <fine' \
+    1 "origins: no VRP left after none.json: 1 of 2 expired"
+prints "all VRPs have expired, and exceptions add some" 'origins --now 1732600002 --slurm slurm.json old 2>&1 <fine' \
+    0 "invalid-as
+invalid-as
+origins: 2 VRPs; 2 expired; 2 after slurm.json"
 sed 's/1732600001/never/' dated >dated.wrong
 prints "a wrong expiry of a line" 'origins --now 0 dated.wrong 2>&1 <fine' \
     1 "origins: dated.wrong: line 3: expires: not a whole number below 2^64"
@@ -308,7 +345,28 @@ printf 'ASN,IP Prefix,Max Length,TA\nAS1,10.0.0.0/8,8,x\nAS1,11.0.0.0/8,8,x,y,z\
 prints "a row with more fields than the header" 'origins long <routes 2>&1' \
     1 "origins: long: line 3: too many fields: 6, but the header names 4"
 printf 'AS1,10.0.0.0/8,8\nAS1,10.0.0.0/8\n' >short
-prints "a row with too few fields" 'origins --table short 2>&1' 1 "origins: short: line 2: too few fields: 2 of 3"
+prints "a row with too few fields" 'origins --table short 2>&1' \
+    1 "origins: short: line 2: too few fields: 2, but at least 3 are needed"
+printf 'URI,ASN,IP Prefix,Max Length,Not Before,Not After\nrsync://x/,AS1,10.0.0.0/8\n' >few
+prints "a row with too few fields for its header" 'origins --table few 2>&1' \
+    1 "origins: few: line 2: too few fields: 3, but at least 4 are needed"
+for header in "asn,ip prefix,max length" "roa-set {" "# VRPs" "ASN,IP Prefix,Length" "AS1 10.0.0.0/8 8" \
+    "10.0.0.0/8,8,AS1"; do
+    printf '%s\nAS1,10.0.0.0/8,8\n' "$header" >unknown
+    prints "an unknown header: $header" 'origins --table unknown 2>&1' \
+        1 "origins: unknown: line 1: neither a known header nor a VRP (AS number, prefix, maximum length)"
+done
+printf 'AS1x,10.0.0.0/8,8\n' >first
+prints "a first row with a wrong AS number" 'origins --table first 2>&1' 1 "origins: first: line 1: invalid AS number"
+printf 'ASN,IP Prefix,Max Length\nasn,ip prefix,max length\n' >second
+prints "a second header that is unknown" 'origins --table second 2>&1' \
+    1 "origins: second: line 2: invalid AS number"
+printf 'URI,ASN,IP Prefix,Max Length,Not Before,Not After\nx,AS1,10.0.0.0/8,,a,b\nx,AS2,2001:db8::/32,33,a,b\n' >ripe
+prints "an empty maximum length is the prefix length" 'origins --table ripe 2>/dev/null' 0 "10.0.0.0/8-8 AS1
+2001:db8::/32-33 AS2"
+prints "an empty maximum length allows no longer route" \
+    'printf "10.0.0.0/8 AS1\n10.0.0.0/9 AS1\n" | origins ripe 2>/dev/null' 0 "valid
+invalid-length"
 printf ' [{"asn":1,"prefix":"10.0.0.0/8","maxLength":8}]\n' >array
 prints "a JSON array" 'origins --diff next array 2>&1' \
     1 "origins: array: a JSON array, where an object with the member roas is expected"
@@ -441,6 +499,15 @@ vrps --slurm -: - needs --table or --diff: the standard input has the routes
 END
 prints "an unknown option" 'origins --strange vrps <routes 2>&1' 2 "origins: unknown option: --strange
 $usage"
+prints "an AS number above 32 bits" 'origins --table --of 4294967296 vrps 2>&1' \
+    2 "origins: invalid AS number: 4294967296
+$usage"
+for start in origins '"$top/origins"'; do
+    prints "an AS number and an end of line: $start" "$start"' --table --of "1
+" vrps 2>&1' 2 "origins: invalid AS number: 1
+
+$usage"
+done
 prints "no AS number" 'origins --table --of ASX vrps 2>&1' 2 "origins: invalid AS number: ASX
 $usage"
 cp vrps ./--table

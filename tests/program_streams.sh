@@ -18,6 +18,7 @@ cd "$files" || exit 1
 printf 'norm as 2,1' >one
 printf 'norm v4 10.0.0.1\n' >"the other"
 printf 'norm as 9' >--check
+echo 'norm as x' >wrong
 
 # Runs ./respath, or the program that `tested` names.
 respath() { "$tested" "$@"; }
@@ -52,7 +53,7 @@ fi
 
 tested=$top/respath
 prints "an unknown option" 'respath --strange 2>&1 >/dev/null </dev/null' 2 "respath: unknown option: --strange
-usage: respath [--check] [--where] [--try | --no-build] [--] [FILE ..] | --help | --version"
+usage: respath [--check] [--where] [--] [FILE ..] | --help | --version"
 revision=$(git -C "$top" rev-parse --short=12 HEAD 2>/dev/null) || revision=unknown
 prints "the version" 'respath --version | head -n 1' 0 "respath, revision $revision"
 prints "sources that are not proved" 'printf "norm as 2,1\nnorm v4 x\n" | respath --try --check 2>&1' \
@@ -80,6 +81,8 @@ of_files() {
 respath: none: can't be opened
 AS1-AS2"
     prints "$2answers of a file that can't be written" 'respath one 2>&1 >/dev/full' 1 "respath: write failed"
+    prints "$2answers of two files that can't be written" 'respath one "the other" 2>&1 >/dev/full' \
+        1 "respath: write failed"
     prints "$2the standard input among files" 'echo "norm as 7" | respath one -' 0 "AS1-AS2
 AS7"
     prints "$2a file named as an option" 'respath -- --check' 0 "AS9"
@@ -94,6 +97,12 @@ AS1"
         'echo "path as 1 | inherit | trim 2 | refuse 3" | respath --check' \
         3 "refused at step 2: overclaimed AS resources: AS3"
     prints "$2a check of no file" 'respath --check none 2>&1' 1 "respath: none: can't be opened"
+    prints "$2a check of no file, and of a wrong line" 'respath --check none wrong 2>&1' \
+        1 "respath: none: can't be opened
+error: Bad AS number. Expected format: AS#"
+    prints "$2a check of a wrong line, and of no file" 'respath --check wrong none 2>&1' \
+        1 "error: Bad AS number. Expected format: AS#
+respath: none: can't be opened"
     prints "$2a check that can't be written" 'respath --check one 2>&1 >/dev/full' 1 "respath: write failed"
     prints "$2places of errors" \
         'printf "norm as 1\npath as 1 | trim 2 | refuse , 2" | respath --where --check one - 2>&1' 3 "AS1-AS2

@@ -75,6 +75,11 @@ class Maker:
         more = self.random.choice(("", "x", '"a,b"', ",,"))
         return self.random.choice((",".join((row, more)), ",".join(fields[:-1]), fields[0], f"x,{row}"))
 
+    def max_length(self, prefix: MaxLenPrefix) -> str:
+        """Returns the field of a maximum length. It may be empty for the length of the prefix (RFC 9582, 4.3.2.2)."""
+        is_own = prefix.max_length == prefix.prefix.length
+        return "" if is_own and self.one_in(3) else str(prefix.max_length)
+
     def file(self, vrps: list[Vrp]) -> bytes:
         """Returns a file of VRPs in one of the forms that validators write."""
         return self.random.choice((self._plain, self._quoted, self._later, self._json, self._json))(vrps)
@@ -84,17 +89,17 @@ class Maker:
         names = ("ASN,IP Prefix,Max Length,Trust Anchor", "ASN,Prefix,Max prefix length", "")
         name = self.random.choice(names)
         head, last = f"{name}{end}" if name else "", "" if name == names[1] else ",ripe"
-        lines = [f"AS{asn},{prefix.prefix.text()},{prefix.max_length}{last}" for prefix, asn in vrps]
+        lines = [f"AS{asn},{prefix.prefix.text()},{self.max_length(prefix)}{last}" for prefix, asn in vrps]
         return (head + end.join(lines) + self.random.choice(("", end, end + end))).encode()
 
     def _quoted(self, vrps: list[Vrp]) -> bytes:
         head = '"ASN","IP Prefix","Max Length","Trust Anchor"\n'
-        lines = [f'"{asn}","{prefix.prefix.text()}","{prefix.max_length}","x"\n' for prefix, asn in vrps]
+        lines = [f'"{asn}","{prefix.prefix.text()}","{self.max_length(prefix)}","x"\n' for prefix, asn in vrps]
         return (head + "".join(lines)).encode()
 
     def _later(self, vrps: list[Vrp]) -> bytes:
         head = "URI,ASN,IP Prefix,Max Length,Not Before,Not After\n"
-        lines = [f"rsync://x/,AS{asn},{prefix.prefix.text()},{prefix.max_length},a,b\n" for prefix, asn in vrps]
+        lines = [f"rsync://x/,AS{asn},{prefix.prefix.text()},{self.max_length(prefix)},a,b\n" for prefix, asn in vrps]
         return (head + "".join(lines)).encode()
 
     def _json(self, vrps: list[Vrp]) -> bytes:
@@ -279,8 +284,11 @@ class Questions(Comparison):
             try:
                 listed = slurm.read(exceptions.read_bytes()).applied(listed)
                 said += f"; {len(listed)} after {exceptions}"
+                refused = "" if listed else f"no VRP left after {exceptions}"
             except Fault as fault:
-                wanted = (1, [], f"origins: {exceptions}: {fault}\n")
+                refused = f"{exceptions}: {fault}"
+            if refused:
+                wanted = (1, [], f"origins: {refused}\n")
                 self.add(repr(exceptions.read_bytes()), wanted, run(self.program, ["--table", *words]))
                 self.add(repr(exceptions.read_bytes()), wanted, run(self.program, words, b"10.0.0.0/8 AS1\n"))
                 return
@@ -299,6 +307,8 @@ class Questions(Comparison):
         try:
             kept, expired = expiry.unexpired(file.read_bytes(), now)
             wanted = (0, [text(one) for one in table(kept)], f"origins: {counted(vrps)}; {expired} expired\n")
+            if not kept:
+                wanted = (1, [], f"origins: no VRP left: {expired} of {len(vrps)} expired\n")
         except Fault as fault:
             wanted = (1, [], f"origins: {file}: {fault}\n")
         self.add(repr(file.read_bytes()), wanted, run(self.program, ["--table", "--now", str(now), file]))

@@ -70,14 +70,13 @@ END
 make_copy() {
     rm -rf "$copy" "$out/made" "$kit/meanwhile" "$kit/tools"
     mkdir -p "$copy" "$kit/tools"
-    tar -cf - --exclude=out --exclude=rows.txt --exclude=__pycache__ .gitignore HANDLES release program.sh respath origins \
+    tar -cf - --exclude=out --exclude=__pycache__ .gitignore HANDLES release program.sh respath origins \
         README.md CHANGELOG.md LICENSE VERSION foreign packaging tests/blocks.py tests/foreign_page.py tests/foreign.sh \
-        tests/page_logic.sh tests/source_versions.py tests/release.sh crates/origins/src crates/respath_files \
-        docs/PROVED.md docs/FOREIGN.md docs/CONFORMANCE.md docs/respath.1 docs/origins.1 crates/pigyelund_c/src crates/pigyelund_c/specs crates/pigyelund_routes/src \
-        crates/pigyelund_routes/specs vectors | tar -xf - -C "$copy"
+        tests/page_logic.sh tests/source_versions.py tests/release.sh tests/api_*.py tests/groups.py docs vectors \
+        crates/origins/src crates/respath_files crates/pigyelund_c/{src,specs} crates/pigyelund_routes/{src,specs} | tar -xf - -C "$copy"
     (
         cd "$copy" || exit
-        printf 'respath_files:\norigins:\n' >crates.txt
+        printf '#: programs\nrespath_files:\norigins:\n' >crates.txt
         git init -q && git add -A &&
             GIT_COMMITTER_DATE=@1700000000 git -c user.name=Nobody -c user.email=nobody@rpki.net commit -q -m copy ||
             exit
@@ -291,6 +290,16 @@ field() { dpkg-deb -f "$made/$1"_*.deb "$2"; }
 # member PACKAGE FILE: prints a control file of a package
 member() { dpkg-deb --ctrl-tarfile "$made/$1"_*.deb | tar -xOf - "./$2"; }
 
+# guide_leads PAGE: each relative link of an installed page leads to a file
+guide_leads() {
+    local link
+    grep -o '](\(\.\./\)*[A-Za-z][^):# ]*[)#]' "$1" | tr -d '](#)' | sort -u >"$out/links"
+    [ -s "$out/links" ] || fail "$1 has no links"
+    while IFS= read -r link; do
+        [ -e "$(dirname "$1")/$link" ] || fail "${1##*/} links to $link, which the package lacks"
+    done <"$out/links"
+}
+
 # try_packages FOLDER: each package installs; the fields, control files, copyright and changelogs are as they should be.
 try_packages() {
     made=$1
@@ -314,6 +323,7 @@ try_packages() {
     rm -rf "$out/lib" && dpkg-deb -x "$made"/libpigyelund1_*.deb "$out/lib" &&
         dpkg-deb -x "$made"/libpigyelund-dev_*.deb "$out/lib" || fail "the files of the library"
     lib=$out/lib/usr/lib/$(gcc -print-multiarch)
+    guide_leads "$out/lib/usr/share/doc/libpigyelund-dev/docs/C.md"
     [ "$(objdump -p "$lib/$so" | sed -n 's/^  SONAME *//p')" = "$so" ] || fail "the soname"
     [ "$(readlink "$lib/libpigyelund.so")" = "$so" ] || fail "the link for the linker"
     grep -qx "Version: $version" "$lib/pkgconfig/pigyelund.pc" || fail "the version of pigyelund.pc"
@@ -420,7 +430,9 @@ of_archive() {
     cmp LICENSE "$tree/share/doc/pigyelund/LICENSE" || fail "the licence"
     modes "$tree" bin || fail "modes of the archive"
     ! grep -rlF "$top" "$tree" || fail "the archive names the folder in which it was made"
-    if has "a program in C" gcc; then tests/foreign_page.py C "$tree" || fail "a program in C"; fi
+    if has "a program in C" gcc; then
+        tests/foreign_page.py docs/C.md "First program" "$tree" || fail "a program in C"
+    fi
     if has "the manual's pages" groff; then
         [ -z "$(groff -man -ww -z "$tree"/share/man/man1/*.1 2>&1)" ] || fail "the manual's pages"
     fi

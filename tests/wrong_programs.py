@@ -24,15 +24,8 @@ LC_ALL=C exec sed '/[\x80-\xff]/{s/.*/error: not UTF-8/;b}; /^path .*|/{s/.*/ref
 WITHOUT_PLACES = "#!/bin/sh\nLC_ALL=C exec sed 's/.*/error/'\n"
 
 
-# Cases about what the test itself expects, or about program.sh: no program changes them.
-OF_THE_TEST = (
-    "the last answer is longer than 64 KiB",
-    "a plan of six crates",
-    "an estimate with work in progress",
-    "an estimate after a crate that is late in the plan",
-    "an estimate on one processor",
-    "an estimate with a crate that was kept",
-)
+# Cases about what the test itself expects: no program changes them.
+OF_THE_TEST = ("the last answer is longer than 64 KiB",)
 
 
 def program(name: str) -> str:
@@ -56,6 +49,8 @@ STUBBED = (
     Stubbed(("tests/program_streams.sh",),
             SCRIPTS | {program(it): WRONG for it in ("respath", "respath_files", "origins")}, ALL_FAIL),
     Stubbed(("tests/program_origins.sh",), SCRIPTS | {program("origins"): WRONG}, ALL_FAIL),
+    Stubbed(("tests/program_failed_write.py",), {program(it): WRONG for it in ("respath", "respath_files", "origins")},
+            r": (\d\d+) runs, \1 differ\n"),
     Stubbed(("tests/program_holdings.sh",), {program("example_holdings"): WRONG}, r"(FAILED .*\n[^\0]*){6}"),
     Stubbed(("tests/program_verified_set.py",), {program("example_verified_set"): WRONG},
             r": (\d\d+) runs, .* \1 differ\n"),
@@ -79,13 +74,15 @@ KEPT = ("sh", "kept=4"), ("sh", "echo $kept"), ("text", "5")
 RECIPES = page_of(*ONE, *TWO, *KEPT, ("sh", "echo more"))
 SESSIONS = ("console", "$ echo one\none"), ("console", "$ echo two\nthree")
 COMMANDS = page_of(*SESSIONS, ("sh", "echo 4 | ./respath   # 4"), ("sh", "echo 5 | ./respath   # 6"), ("sh", "false"))
-FOREIGN = f"\n### C\n{page_of(('c', 'one'), ('sh', 'cat program.c'), ('text', 'one'))}\n### Rust\n{page_of(*TWO)}"
+FOREIGN = f"\n## C\n{page_of(('c', 'one'), ('sh', 'cat program.c'), ('text', 'one'))}\n### Rust\n{page_of(*TWO)}"
 # A script with its words, its page, the text of this page, the lines of the examples that fail, and the counts.
 OF_PAGES = (
     (("tests/page_recipes.py",), "docs/RECIPES.md", RECIPES, ["7", "16", "22"], "5 examples, 3 differ, 0 left out"),
     (("tests/page_commands.py",), "README.md", COMMANDS, ["5", "12", "15"], "5 examples, 3 differ, 0 left out"),
-    (("tests/foreign_page.py", "C", "usr"), "docs/FOREIGN.md", FOREIGN, [], "1 examples, 0 differ, 0 left out"),
-    (("tests/foreign_page.py", "Rust", "usr"), "docs/FOREIGN.md", FOREIGN, ["14"], "1 examples, 1 differ, 0 left out"),
+    (("tests/foreign_page.py", "docs/C.md", "C", "usr"), "docs/C.md", FOREIGN, [],
+     "1 examples, 0 differ, 0 left out"),
+    (("tests/foreign_page.py", "docs/C.md", "Rust", "usr"), "docs/C.md", FOREIGN, ["14"],
+     "1 examples, 1 differ, 0 left out"),
 )
 
 
@@ -157,7 +154,7 @@ def of_exchanged(folder: Path) -> Iterator[tuple[str, str | None]]:
 def of_blocks(folder: Path) -> Iterator[tuple[str, str | None]]:
     """Runs the tests of commands on pages with right and wrong outputs, beside a `respath` that prints its input."""
     copy = copied(folder)
-    written(copy, {"respath": "#!/bin/sh\nexec cat\n", "origins": NOTHING, "docs/CALLING.md": ""})
+    written(copy, {"respath": "#!/bin/sh\nexec cat\n", "origins": NOTHING, "docs/CALLING.md": "", "docs/LAYERS.md": ""})
     for test, page, text, wrong, counts in OF_PAGES:
         written(copy, {page: text})
         status, said = said_by(test, copy)

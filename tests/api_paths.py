@@ -1,6 +1,6 @@
 """Finds the public paths of a library's items, from its `mod` and `pub use` lines.
 
-tests/page_api.py shows these paths as headings, and writes a `use` line of each one into `crates/test_paths`, which
+tests/api_pages.py shows these paths as headings, and writes a `use` line of each one into `crates/test_paths`, which
 `rt ci` compiles.
 """
 

@@ -21,6 +21,7 @@ from functools import partial
 from pathlib import Path
 from queue import SimpleQueue
 
+import foreign_rows
 import source_versions
 import wrong_checks
 import wrong_programs
@@ -32,10 +33,10 @@ from quick import parts_of_check
 COPIES = min(4, os.cpu_count() or 1)
 RESPATH, ORIGINS = built("respath_files"), built("origins")
 LIBRARY = Path("crates", "pigyelund_c", "out", "libpigyelund_c.a")
+ROWS_OF_CALLS = Path("out", "foreign", "rows.txt")
 # How many of the first lines of a file a copy has.
 PROGRAMS = "rows_values", "rows_sets", "rows_claims", "rows_calls"
 KEPT = {f"crates/{name}/{file}": 6 for name in PROGRAMS for file in ("stdin", "stdout")}
-KEPT |= {"foreign/rows.txt": 14}
 # The tests that need what is built, and how each is asked then.
 OF_C, OF_PYTHON, OF_RUST = "foreign/c/test.c", "foreign/python/test.py", "foreign/rust/tests/rows.rs"
 # The test in C is compiled anew, with the library, only if the text of C code is made wrong.
@@ -44,16 +45,13 @@ OF_ARRAYS = "tests/foreign_arrays.py"
 ARRAYS, HEADER = "foreign/c/arrays.c", "foreign/pigyelund.h"
 MANUAL = "tests/page_manuals.py"
 BUILT = {
-    OF_C: ("built/test", "foreign"),
-    OF_REFUSALS: ("sh", "-c", "make -s -C foreign/c CC=gcc OUT=$PWD/anew LIB=$LIB KIT=$KIT all && anew/test foreign"),
-    OF_PYTHON: ("python3", OF_PYTHON, "built/libpigyelund.so", "foreign"),
+    OF_C: ("built/test", "out/foreign"),
+    OF_REFUSALS: ("sh", "-c", "make -s -C foreign/c CC=gcc OUT=$PWD/anew LIB=$LIB KIT=$KIT all && anew/test out/foreign"),
+    OF_PYTHON: ("python3", OF_PYTHON, "built/libpigyelund.so", "out/foreign"),
 }
 
 
-ROWS = "tests/rows.py"
-PROVED = "tests/page_proved.py"
-NAMES = "tests/page_names.py"
-API = "tests/page_api.py"
+ROWS, CODE, CRATES = "tests/rows.py", "tests/page_code.py", "tests/source_crates.py"
 CASES = (
     Case(ROWS, "crates/rows_values/stdout", "AS7-AS7 ", "AS7-AS8 ", "rows_values/stdin:1: "),
     Case(ROWS, "crates/rows_sets/stdout", "AS7, ", "", "rows_sets/stdin:1: "),
@@ -66,60 +64,35 @@ CASES = (
     Case(ROWS, "crates/example_holdings/stdout", "Added: asn: AS65001", "Added: asn: AS65000", "stdout:1: "),
     Case(ROWS, "crates/example_verified_set/stdout", "AS64502", "AS64503", "example_verified_set/args: "),
     Case(ROWS, "crates/bench_growth/stdout", "2 routes: 2 Valid", "2 routes: 1 Valid", "bench_growth/args: 1 2"),
-    Case("tests/program_front.sh", "program.sh", "(gone + 120) * (whole - planned)", "(gone + 120) * whole",
-         "FAILED  an estimate with work in progress"),
-    Case("tests/program_front.sh", "program.sh", "done += seconds[$1] / 8", "done += 0",
-         "FAILED  an estimate with work in progress"),
-    # The last proved crate in the order of the plan decides.
-    Case("tests/program_front.sh", "program.sh", "if ($1 in proved) done += seconds[$1]",
-         "if ($1 in proved) done = $3", "FAILED  an estimate after a crate that is late in the plan"),
+    Case("tests/program_front.sh", "program.sh", "/* | ../* |", "/* |", "FAILED  files under --try"),
     Case("tests/page_links.py", "docs/LAYERS.md", "README.md#glossary", "README.md#words",
          "no such heading: ../README.md#words"),
     Case("tests/page_links.py", "README.md", "](docs/RECIPES.md)", "](docs/RECIPE.md)", "no such file: docs/RECIPE.md"),
-    Case("tests/page_prose.py", "README.md", "## Install\n", "## Install\n\nThe answer stands here at once.\n",
-         "README.md: 1 findings of the kind words"),
-    Case("tests/page_prose.py", "crates/rpki_cover/src/cover.rt", "//! ",
-         "//! What is here is none of it. What is more, it is so.\n//! ",
-         "crates/rpki_cover/src: 2 findings of the kind inverted"),
+    Case("tests/page_budgets.py", "docs/TESTS.md", "# Tests", "# Tests" + "\n" * 9000, "docs/TESTS.md: 9"),
+    Case("tests/page_budgets.py", "docs/TESTS.md", "# Tests", f"# Tests {'and ' * 30000}", "docs/TESTS.md: 3"),
+    Case("tests/page_budgets.py", "docs/TESTS.md", "# Tests", f"# Tests {'and ' * 30}", "docs/TESTS.md:1: more than 120"),
+    Case("tests/page_budgets.py", "tests/page_budgets.py", '    "docs/TESTS.md":', '    "docs/TEST.md":',
+         "docs/TESTS.md: this page has no budget"),
+    Case(CODE, "crates/respath_lines/ADDING.md", "=> norm_as(", "=> moon_as(", "respath_lines/ADDING.md:"),
+    Case(CODE, "crates/rpki_cover/src/lib.rt", "//!     list.push(", "//!     moon.push(", "rpki_cover/src/lib.rt:"),
+    Case(CRATES, "docs/layers.svg", "<title>rpki_text</title>", "<title>moon</title>", "layers.svg is not what"),
+    Case(CRATES, "crates.txt", "\nrpki_cover:\n", "\nrpki_cover: rpki_addr\n", "layers.svg is not what"),
+    Case(CRATES, "crates.txt", "\nrpki_block:\n", "\nrpki_block: rpki_cover\n", "rpki_cover, which comes after it"),
+    Case(CRATES, "crates/rpki_cover/src/lib.rt", "//! ", "//! Moons. ", "crates/README.md is not what"),
     Case("tests/program_help.py", "docs/respath.1", "set in canonical form", "set", "respath.1 does not say of norm"),
     Case("tests/page_errors.py", "docs/ERRORS.md", "error: bad hex", "error: bad hexa", "+ error: bad hex\n"),
-    Case("tests/page_errors.py", "README.md", "\n    10.0.0.0/8\n", "\n    10.0.0.0/9\n", "+ 10.0.0.0/8\n"),
-    Case(PROVED, "docs/PROVED.md", "`run` `flushed`", "`run` `flooded`", "no call has the clause flooded"),
-    Case(PROVED, "docs/PROVED.md", "`Source::read`,", "`Source::reads`,", "has no call Source::reads"),
-    Case(PROVED, "docs/PROVED.md", "`Run.AnswersAll`", "`Run.AnswersNone`", "has no AnswersNone"),
-    Case(PROVED, "docs/PROVED.md", "`Run.AnswersFirst`", "`Run.AnswersAll`", "no clause of the row uses AnswersAll"),
-    Case(PROVED, "crates/lines_engine/src/engine.rt", "ensures flushed", "ensures flooded",
-         "no call has the clause flushed"),
-    Case(PROVED, "README.md", "|---|---|\n", f"|---|---|\n| {'x' * 201} | |\n", "a cell of 201 characters"),
-    Case(NAMES, "docs/CALLING.md", "## Preconditions", "`rpki_moon`\n\n## Preconditions", "no crate rpki_moon"),
-    Case(NAMES, "docs/TESTS.md", "# Tests", "# Tests\n\n`tests/moon.py` `moon_rises`", "no file tests/moon.py"),
-    Case(NAMES, "CONTRIBUTING.md", "# Contrib", "`tests/moon.py`\n# Contrib", "CONTRIBUTING.md:1: no file tests/moon"),
-    Case(NAMES, "docs/TESTS.md", "# Tests", "# Tests\n\n`tests/rows.py` `moon_rises`", "no moon_rises"),
-    Case(NAMES, "docs/CALLING.md", "Ok(_) => Ok(None),", "Ok(_) => Ok(Moon),", "isn't in crates/example_calls/"),
-    Case(NAMES, "docs/CALLING.md", "| `Asn::add` ", "| `Asn::moon` ", "the condition of Asn::add stands nowhere"),
-    Case(NAMES, "crates/rpki_cover/src/lib.rt", "//!     list.push(", "//!     moon.push(", "rpki_cover/src/lib.rt:"),
-    Case("tests/source_words.py", "crates/rpki_cover/specs/Walk.antt", "pub free_bits :", "pub Ascends :",
-         "Ascends: crates/"),
     Case("tests/source_imports.py", "crates/rpki_cover/src/cover.rt", "{IsShortestCover}", "{IsShortestCover, Moon}",
          "Moon is used by no clause"),
-    Case("tests/page_api.py", "docs/api/rpki_cover.md", "ascending", "descending", "docs/api/rpki_cover.md is not"),
-    Case(API, "crates/rpki_cover/src/cover.rt", "/// Returns the first number", "/// Returns the first moon",
-         "docs/api/rpki_cover.md is not"),
-    Case("tests/page_api.py", "tests/page_api.py", "line, list, number", "line, moon, number", "is no rpki_text::moon"),
-    Case("tests/page_layers.py", "docs/layers.svg", "<line x1=", "<line x2=", "is not what crates.txt says"),
-    Case("tests/page_layers.py", "crates.txt", "\nrpki_cover:\n", "\nrpki_cover: rpki_addr\n", "is not what crates"),
-    Case("tests/page_layers.py", "crates.txt", "\nrpki_text: memchr\n", "\nrpki_text: memchr\nmoon:\n",
-         "moon is in no group"),
     Case("tests/source_edits.py", "crates/rpki_cover/must-fail/cover_by_one_enclosing_prefix.edit", "old: ", "old: moon",
          "cover_by_one_enclosing_prefix.edit: "),
     Case("tests/source_edits.py", "crates/rpki_cover/edits/last_number_is_left_out.edit", "file: ", "file: moon/",
          "last_number_is_left_out.edit: "),
-    Case("tests/source_comments.py", "crates/rpki_cover/src/cover.rt", "/// Returns the first number",
-         f"/// Returns the first number, {'far ' * 30}", "rpki_cover/src/cover.rt: comments wider"),
+    Case("tests/source_lines.py", "crates/rpki_cover/src/cover.rt", "/// Returns the first number",
+         f"/// Returns the first number, {'far ' * 30}", "rpki_cover/src/cover.rt:"),
     Case("tests/source_lines.py", "crates/rpki_cover/specs/Walk.antt", "pub free_bits : ",
          f"pub free_bits : {'(n : ℕ) → ' * 12}", "more than 120 columns"),
-    Case(OF_C, "foreign/rows.txt", " 10 - - -\n", " 11 - - -\n", "row 1: another status"),
-    Case(OF_C, "foreign/texts.txt", "out of memory", "out of mind", "another text of a status"),
+    Case(OF_C, str(ROWS_OF_CALLS), " 10 - - -\n", " 11 - - -\n", "row 1: another status"),
+    Case(OF_C, "out/foreign/texts.txt", "out of memory", "out of mind", "another text of a status"),
     Case(OF_REFUSALS, OF_C, "found == PIGY_MEMORY, q->row", "found != PIGY_MEMORY, q->row",
          "row 1: another status where memory is refused"),
     Case(OF_REFUSALS, ARRAYS, "ARRAY(issuer_as, issuer_as_len), ARRAY(issuer_ip, issuer_ip_len)",
@@ -134,70 +107,40 @@ CASES = (
     Case(OF_ARRAYS, ARRAYS, "uint32_t pigy_answer(", "uint32_t other(", "pigy_answer"),
     Case(OF_ARRAYS, HEADER, "PIGY_NONNULL(16, 17)", "PIGY_NONNULL(1, 16, 17)", "pigy_verify: PIGY_NONNULL(1, 16, 17), "),
     Case(OF_ARRAYS, HEADER, "May be NULL if the length is 0.", "Not NULL.", "pigy_verify: the comment of issuer_as "),
-    Case(OF_PYTHON, "foreign/rows.txt", " 10 - - -\n", " 11 - - -\n", "another answer: verify 0,0,0"),
-    Case(OF_PYTHON, "foreign/texts.txt", "out of memory", "out of mind", "status 2 is "),
-    Case(API, "crates/test_paths/src/lib.rt", "use rpki_der::Cursor as _;\n", "", "test_paths/src/lib.rt is not"),
-    Case(API, "crates/rpki_der/src/lib.rt", "pub mod sequences;", "mod sequences;", "docs/api/rpki_der.md is not"),
-    Case(API, "crates/rpki_base/src/asn.rt", "PartialOrd, Ord, Hash)]", "PartialOrd, Ord)]", "api/rpki_base.md is not"),
-    Case(API, "crates/rpki_base/src/asn.rt", "pub const MIN: Asn", "pub const LEAST: Asn", "api/rpki_base.md is not"),
-    Case(API, "crates/rpki_base/src/asn.rt", "type Err = ParseAsnError;", "type Err = Asn;", "api/rpki_base.md is not"),
-    Case(API, "crates/rpki_as/src/blocks.rt", "/// Returns the empty set as the default.\nimpl", "impl",
-         "api/rpki_as.md is not"),
-    Case(API, "foreign/pigyelund.h", "PIGY_ABSENT 10u", "PIGY_ABSENT 11u", "api/pigyelund_routes.md is not"),
+    Case(OF_PYTHON, str(ROWS_OF_CALLS), " 10 - - -\n", " 11 - - -\n", "another answer: verify 0,0,0"),
+    Case(OF_PYTHON, "out/foreign/texts.txt", "out of memory", "out of mind", "status 2 is "),
 )
 
 
-# Numbers of pages, whose files are whole.
-NUMBERS = "tests/page_numbers.py"
 PAGES = (
-    Case(NUMBERS, "docs/TESTS.md", "`rows_sets`, 6", "`rows_sets`, 7", "docs/TESTS.md: 7"),
-    Case(NUMBERS, "docs/TESTS.md", "`rows_claims`, 8", "`rows_claims`, 5", "docs/TESTS.md: 5"),
-    Case(NUMBERS, "docs/TESTS.md", "`foreign/texts.txt`, ", "`foreign/texts.txt`, 1", "docs/TESTS.md: 1"),
-    Case(NUMBERS, "docs/TESTS.md", "`long build 262144`", "`long build 262145`", "no row `long build 262145`"),
-    Case(NUMBERS, "README.md", " 23,000 calls", " 32,000 calls", "README.md: 32000, and there are"),
-    Case(NUMBERS, "CONTRIBUTING.md", "20,000 random lines", "2,000 random lines", "CONTRIBUTING.md: 2000, and check"),
-    Case(NUMBERS, "README.md", "commands and 20,000", "commands and 2,000", "README.md: 2000, and check asks"),
-    Case(NUMBERS, "check", "tests/rows.py --random 1 20000", "tests/rows.py --random 1 200", "and check asks 200\n"),
     Case(MANUAL, "docs/respath.1", "\n10.0.0.0/8\n", "\n10.0.0.0/9\n", "- 10.0.0.0/9\n"),
-    Case(MANUAL, "respath", "        exit 2\n", "        exit 3\n", "respath --help: names status 2 for 'usage'"),
+    Case(MANUAL, "program.sh", "USAGE >&2\n            exit 2\n", "USAGE >&2\n            exit 3\n",
+         "respath --help: names status 2 for 'usage'"),
     Case(MANUAL, "crates/respath_files/src/help.rt", "  3  with --check", "  2  with --check",
          "respath --help: names status 2 for 'check'"),
-    Case(MANUAL, "respath", '$options -- "$@"', '$options -- "./$@"', "is the standard input"),
+    Case(MANUAL, "program.sh", 'exec "$program" "$@"', 'exec "$program" "./$@"', "is the standard input"),
 )
-# A version in each of its places: another one, or none.
 VERSIONS = "tests/source_versions.py"
-NONE = "no version at "
+
+
+def another(name: str, pattern: str) -> Case:
+    """Returns the case of another version at the first place where a pattern finds it in a file."""
+    there = re.search(pattern, (TOP / name).read_text(), re.MULTILINE)
+    wrong = there[0][: there.start(1) - there.start()] + "9" + there[0][there.start(1) - there.start() :]
+    return Case(VERSIONS, name, there[0], wrong, f"{name}: version ")
+
+
 OF_VERSIONS = (
     Case(VERSIONS, "VERSION", "", "9", "CHANGELOG.md: version "),
     Case(VERSIONS, "VERSION", ".", "-", "three numbers with dots"),
     Case(VERSIONS, "VERSION", "\n", "", "and the end of the line"),
-    Case(VERSIONS, "CHANGELOG.md", "\n## ", "\n## 9", "CHANGELOG.md: version 9"),
-    Case(VERSIONS, "CHANGELOG.md", "\n## ", "\n## 0.9.0, unreleased\n\n## ", "CHANGELOG.md: version 0.9.0"),
-    Case(VERSIONS, "README.md", "| Version ", "| Version 9", "README.md: version 9"),
-    Case(VERSIONS, "README.md", "./release 0", "./release 90", "README.md: version 9"),
-    Case(VERSIONS, "README.md", "./release --deb ", "./release --deb 9", "README.md: version 9"),
-    Case(VERSIONS, "README.md", "pigyelund_", "pigyelund_9", "README.md: version 9"),
-    Case(VERSIONS, "README.md", "/pigyelund-0", "/pigyelund-90", "README.md: version 9"),
-    Case(VERSIONS, "crates/origins/src/help.rt", 'VERSION: &str = "', 'VERSION: &str = "9', "help.rt: version 9"),
-    Case(VERSIONS, "crates/respath_files/src/help.rt", 'VERSION: &str = "', 'VERSION: &str = "9', "help.rt: version 9"),
-    Case(VERSIONS, "crates/origins/src/help.rt", "pub const VERSION", "const VERSION", f"help.rt: {NONE}"),
-    Case(VERSIONS, "foreign/rust/Cargo.toml", '\nversion = "', '\nversion = "9', "rust/Cargo.toml: version 9"),
-    Case(VERSIONS, "foreign/rust/Cargo.toml", "\nversion = ", "\nversions = ", f"rust/Cargo.toml: {NONE}"),
-    Case(VERSIONS, "foreign/python/pyproject.toml", '\nversion = "', '\nversion = "9', "pyproject.toml: version 9"),
-    Case(VERSIONS, "foreign/python/pigyelund/__init__.py", '__version__ = "', '__version__ = "9', "__.py: version 9"),
-    Case(VERSIONS, "foreign/pigyelund.pc", "\nVersion: ", "\nVersion: 9", "foreign/pigyelund.pc: version 9"),
-    Case(VERSIONS, "docs/respath.1", "@VERSION@", "0.1.0", "docs/respath.1: version 0.1.0"),
-    Case(VERSIONS, "docs/origins.1", "@VERSION@", "0.1.0", "docs/origins.1: version 0.1.0"),
+    Case(VERSIONS, "crates/origins/src/help.rt", "pub const VERSION", "const VERSION", "help.rt: no version at "),
     Case(VERSIONS, "vectors/text_as.json", '\n "version": "', '\n "version": "9', "vectors/text_as.json: version 9"),
     Case(VERSIONS, "foreign/numbers.txt", "(VERSION, ", "(VERSION, 9", "foreign/pigyelund.h: version of the calls 5"),
-    Case(VERSIONS, "foreign/pigyelund.h", "PIGY_VERSION 5", "PIGY_VERSION 95", "pigyelund.h: version of the calls 95"),
-    Case(VERSIONS, "foreign/python/pigyelund/raw.py", "\nVERSION = ", "\nVERSION = 9", "raw.py: version of the calls"),
-    Case(VERSIONS, "crates/pigyelund_c/src/exports/verify.rt", "result ≡ ", "result ≡ 9", "verify.rt: version"),
-    Case(VERSIONS, "docs/PROVED.md", "5: `pigy_version`", "6: `pigy_version`", "PROVED.md: version of the calls 6"),
-    Case(VERSIONS, "tests/foreign.sh", "package needs version ", "package needs version 9", "foreign.sh: version of the"),
-    Case(VERSIONS, "tests/release.sh", "{ return ", "{ return 9", "release.sh: version of the calls 9"),
     Case(VERSIONS, "foreign/rust/LICENSE", "2018", "2019", "foreign/rust/LICENSE: not the text of LICENSE"),
     Case(VERSIONS, "LICENSE", "2018", "2019", "foreign/python/LICENSE: not the text of LICENSE"),
+    *(another(*it) for places in (source_versions.PLACES, source_versions.MADE) for it in places.items()),
+    *(another(*it) for it in source_versions.CALLS.items() if it[0] != "foreign/numbers.txt"),
 )
 OF_ORIGINS = (
     # The help is in the program, and is replaced by as many octets.
@@ -235,10 +178,7 @@ def make_first(copy: Path, is_foreign: bool) -> None:
     for name, count in KEPT.items():
         lines = (copy / name).read_bytes().splitlines(keepends=True)
         (copy / name).write_bytes(b"".join(lines[:count]))
-    page = copy / "docs" / "PROVED.md"
-    page.write_text(page.read_text().partition("\n## `respath_lines`")[0])
-    # Its words would be words that are there.
-    (copy / "tests" / "of_tests.py").write_text("")
+    foreign_rows.write(copy / ROWS_OF_CALLS.parent, 14)
     # A thousand VRPs take the reference seconds, so the first two questions about origins are kept alone.
     growth = copy / "crates" / "bench_growth"
     asked, stored = ((growth / file).read_text() for file in ("args", "stdout"))
@@ -284,20 +224,18 @@ def of_cases(folder: Path) -> Iterator[tuple[str, str | None]]:
 def of_pages(folder: Path) -> Iterator[tuple[str, str | None]]:
     """The tests that compare pages with whole files and with the programs: they pass, and tell what is made wrong."""
     copied(folder, "respath_files", "origins")
-    cases = [*OF_VERSIONS, *(it for it in PAGES if it.test == NUMBERS)]
-    for program, more in ((RESPATH, [it for it in PAGES if it.test == MANUAL]), (ORIGINS, OF_ORIGINS)):
+    cases = [*OF_VERSIONS]
+    for program, more in ((RESPATH, PAGES), (ORIGINS, OF_ORIGINS)):
         if (TOP / program).is_file():
             cases += more
         else:
             print(f"left out: {MANUAL} needs {program}")
-    for test in (NUMBERS, VERSIONS, MANUAL):
+    for test in (VERSIONS, MANUAL):
         status, said = said_by((test,), folder)
         yield f"{test} passes", None if status == 0 else said
     status, said = said_by((VERSIONS, "0.0.9"), folder)
     there = "VERSION: version " in said and ", expected 0.0.9\n" in said
     yield f"{VERSIONS} 0.0.9", None if status == 1 and there else said
-    untried = {*source_versions.PLACES, *source_versions.MADE, *source_versions.CALLS} - {it.file for it in OF_VERSIONS}
-    yield f"{VERSIONS}: each place is made wrong", f"not {sorted(untried)}" if untried else None
     for case in cases:
         yield f"{case.test}: {case.file}, {case.new[:60]!r}", fault_of(case, folder)
     if (TOP / ORIGINS).is_file():
@@ -318,9 +256,9 @@ def of_statuses(folder: Path) -> Iterator[tuple[str, str | None]]:
 
 
 RUST = (
-    Case("rows_are_answered", "foreign/rows.txt", " 10 - - -\n", " 11 - - -\n", "rows_are_answered"),
-    Case("names_have_their_numbers", "foreign/numbers.txt", "NUMBER(OK, 0)", "NUMBER(OK, 1)", "names_have_their"),
-    Case("statuses_have_their_texts", "foreign/texts.txt", "out of memory", "out of mind", "statuses_have_their_texts"),
+    Case("rows_are_answered", str(ROWS_OF_CALLS), " 10 - - -\n", " 11 - - -\n", "rows_are_answered"),
+    Case("names_have_their_numbers", "out/foreign/numbers.txt", "NUMBER(OK, 0)", "NUMBER(OK, 1)", "names_have_their"),
+    Case("statuses_have_their_texts", "out/foreign/texts.txt", "out of memory", "out of mind", "statuses_have_their_texts"),
 )
 
 
@@ -334,6 +272,7 @@ def of_rust(folder: Path) -> Iterator[tuple[str, str | None]]:
         print(f"left out: {OF_RUST} needs {LIBRARY}, which rt lib builds there")
         return
     shutil.copytree(TOP / "foreign", folder / "foreign", symlinks=True)
+    foreign_rows.write(folder / ROWS_OF_CALLS.parent)
     for file in ("LICENSE", "VERSION"):
         shutil.copy(TOP / file, folder)
     where = [f"OUT={folder}", f"LIB={TOP / LIBRARY}", f"KIT={kit()}"]
@@ -356,12 +295,12 @@ def of_check(folder: Path) -> Iterator[tuple[str, str | None]]:
     parts = parts_of_check(TOP)
     folder.mkdir()
     shutil.copy(TOP / "check", folder)
-    foreign = "tests/foreign.sh"
-    fakes = {it: PART for it in (*parts, f"tests/{Path(ROWS).name}", foreign) if it != "reference"}
+    more = ["tests/foreign.sh", "tests/edits.py"]
+    fakes = {it: PART for it in (*parts, f"tests/{Path(ROWS).name}", *more) if it != "reference"}
     fakes |= dict.fromkeys(("respath", "origins"), '#!/bin/sh\nexit "${NOTED-0}"\n')
     written(folder, fakes | {"bin/rt": '#!/bin/sh\necho "$TOTAL"\nexit "${PROVED-0}"\n'})
     one, many = "program_places.py", " ".join([*(Path(it).name for it in parts), "rows.py"])
-    whole, no_words, every = [*parts, foreign], (), ("--all",)
+    whole, no_words, every = [*parts, *more], (), ("--all",)
     # The words of check, the parts that run, the names that fail, and the parts that fail then.
     failing = (
         (no_words, parts, "", []),
@@ -371,8 +310,9 @@ def of_check(folder: Path) -> Iterator[tuple[str, str | None]]:
         (no_words, parts, "foreign.sh", []),
         (every, whole, "", []),
         (every, whole, one, [f"tests/{one}"]),
-        (every, whole, "foreign.sh", [foreign]),
-        (every, whole, f"{many} foreign.sh", whole),
+        (every, whole, "foreign.sh", more[:1]),
+        (every, whole, "edits.py", more[1:]),
+        (every, whole, f"{many} foreign.sh edits.py", whole),
     )
     for words, run_parts, names, wanted in failing:
         total = f"3 passed, {len(wanted)} failed"
@@ -406,7 +346,7 @@ def checked(folder: Path, words: tuple[str, ...] = (), **more: str) -> subproces
     """A run of the copy of `check` with these words, with the prover beside it."""
     paths = {"PATH": f"{folder / 'bin'}:{os.environ['PATH']}", "TMPDIR": str(folder)}
     env = {name: value for name, value in os.environ.items() if name not in ("FAILING", "PROVED", "NOTED", "TOTAL")}
-    return subprocess.run([folder / "check", *words], env=env | paths | more, capture_output=True, text=True, timeout=60)
+    return subprocess.run([folder / "check", *words], env=env | paths | more, capture_output=True, text=True, timeout=600)
 
 
 def all_cases(folder: Path) -> Iterator[tuple[str, str | None]]:

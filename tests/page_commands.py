@@ -1,5 +1,5 @@
 #!/usr/bin/env python3
-"""Runs the commands of README.md and docs/CALLING.md in a copy of the sources, and compares what they print.
+"""Runs the commands of three pages in a copy of the sources, and compares what they print.
 
 It compares what each block prints on standard output, if the page shows the output. It leaves out ./check and
 `rt check`, and names them. `rt check` proves the dependencies of a crate. With --prove the script runs it too. A block
@@ -19,6 +19,7 @@ from pathlib import Path
 from blocks import Report, blocks_of, run, write_programs, write_script
 from copies import copied
 
+PAGES = "README.md", "docs/CALLING.md", "docs/LAYERS.md"
 CHECK = 'echo "left out  ./check $*: it is what runs this, and takes minutes" >&2'
 RT_CHECK = 'echo "left out  rt check: it proves what the crate stands on" >&2'
 
@@ -33,7 +34,7 @@ def main() -> int:
         bin_folder.mkdir()
         if rt and sys.argv[1:] != ["--prove"]:
             write_script(bin_folder / "rt", f'[ "$1" = check ] || exec "{rt}" "$@"\n{RT_CHECK}')
-        for block in (*blocks_of("README.md"), *blocks_of("docs/CALLING.md")):
+        for block in (it for page in PAGES for it in blocks_of(page)):
             if block.kind == "sh" and not rt and re.search(r"\brt\b", block.text):
                 report.leave_out(block.place, "there is no rt")
             elif block.kind in ("sh", "console"):

@@ -1,52 +1,61 @@
 #!/usr/bin/env python3
-"""Asks the built respath each line that docs/ERRORS.md and the README show, and compares its answer with the page's.
+"""Asks the built programs each line that docs/ERRORS.md shows, and compares the answer with the page's.
 
-An item of docs/ERRORS.md shows a line and its answer as `LINE`: `ANSWER`. The line begins with a command, or the answer
-is an error. The words `with CR behind it` and `in front of` in an item name octets that are added to its lines. In the
-README each line is followed by its answer, four blanks further in. The status is 1 if an answer differs.
+A row shows a line and its answer in its first two cells. `respath` is asked the lines of the sections `respath: ..`, and
+`origins` those of `origins: routes`. The words `with CR behind it` and `in front of` in the first cell name octets that
+are added to the line. The status is 1 if an answer differs.
 """
 
 import re
 import subprocess
 import sys
+import tempfile
 from collections.abc import Iterator
+from pathlib import Path
 
-from blocks import TOP, Report, blocks_of, program
+from blocks import TOP, Report, program
 
-COMMAND = re.compile(r"(?:norm|cover|der|read|path) ")
-SHOWN = re.compile(r"`([^`]+)`: (?:`([^`]*)`|an empty line)")
+ROW = re.compile(r"\| ([^`|]*)`((?:[^`|]|\\\|)+)`([^`|]*) \| (?:`([^`]*)`|an empty line) \|")
 BYTE_ORDER_MARK = b"\xef\xbb\xbf"
+VRPS = "AS64496,192.0.2.0/23,24\n"
+
+
+def lines_of(section: str) -> Iterator[tuple[str, bytes, str]]:
+    """Yields the lines of the sections whose titles begin so with their answers, each after its place on the page."""
+    title = ""
+    for number, line in enumerate((TOP / "docs" / "ERRORS.md").read_text().split("\n"), 1):
+        title = line.removeprefix("## ") if line.startswith("## ") else title
+        if title.startswith(section) and (row := ROW.match(line)):
+            before = BYTE_ORDER_MARK if "in front of" in row[1] else b""
+            behind = b"\r" if "with CR behind it" in row[3] else b""
+            asked = row[2].replace("\\|", "|").encode()
+            yield f"docs/ERRORS.md:{number}", before + asked + behind, row[4] or ""
 
 
 def of_errors() -> Iterator[tuple[str, bytes, str]]:
-    """Yields the lines of docs/ERRORS.md with their answers, each after its place on the page."""
-    for number, line in enumerate((TOP / "docs" / "ERRORS.md").read_text().split("\n"), 1):
-        before = BYTE_ORDER_MARK if "in front of `" in line else b""
-        behind = b"\r" if "with CR behind it" in line else b""
-        for asked, answer in SHOWN.findall(line) if line.startswith("- ") else []:
-            if COMMAND.match(asked) or answer.startswith("error: "):
-                yield f"docs/ERRORS.md:{number}", before + asked.encode() + behind, answer
+    """Yields the lines of `respath` with their answers, each after its place on the page."""
+    return lines_of("respath: ")
 
 
-def of_readme() -> Iterator[tuple[str, bytes, str]]:
-    """Yields the lines of the README's first block with their answers."""
-    block = blocks_of("README.md")[0]
-    lines = block.text.splitlines()
-    for asked, answer in zip(lines[::2], lines[1::2], strict=True):
-        yield block.place, asked.encode(), answer.strip()
+def compare(report: Report, name: str, options: tuple[str, ...], shown: list[tuple[str, bytes, str]]) -> None:
+    """Asks a program all lines at once, and compares its answers."""
+    if not program(name).exists():
+        report.leave_out(f"the lines of docs/ERRORS.md for {name}", f"{name} is not built")
+        return
+    asked = b"".join(line + b"\n" for _, line, _ in shown)
+    ran = subprocess.run([program(name), *options], input=asked, capture_output=True, check=True)
+    for (place, line, wanted), answer in zip(shown, ran.stdout.decode().split("\n")[:-1], strict=True):
+        report.compare(f"{place}: {line!r}", wanted, answer)
 
 
 def main() -> int:
-    """Asks all lines at once."""
+    """Asks both programs."""
     report = Report()
-    if not program("respath_files").exists():
-        report.leave_out("the lines of docs/ERRORS.md and README.md", "respath is not built")
-        return report.status()
-    shown = [*of_errors(), *of_readme()]
-    asked = b"".join(line + b"\n" for _, line, _ in shown)
-    ran = subprocess.run([program("respath_files")], input=asked, stdout=subprocess.PIPE, check=True)
-    for (place, line, wanted), answer in zip(shown, ran.stdout.decode().split("\n")[:-1], strict=True):
-        report.compare(f"{place}: {line!r}", wanted, answer)
+    compare(report, "respath_files", (), [*of_errors()])
+    with tempfile.TemporaryDirectory() as folder:
+        vrps = Path(folder, "vrps")
+        vrps.write_text(VRPS)
+        compare(report, "origins", (str(vrps),), [*lines_of("origins: routes")])
     return report.status()
 
 

@@ -1,7 +1,7 @@
 #!/usr/bin/env python3
 """page_links.py: finds relative links of the pages whose file or heading does not exist.
 
-The pages are README.md, CONTRIBUTING.md, CHANGELOG.md and the pages below docs/. A heading has the anchor that hosting
+The pages are those of tests/page_budgets.py, and crates/README.md. A heading has the anchor that hosting
 sites give it. This is its text in lower case without marks, with '-' for each space. It also has a number if the page
 has the heading twice. The status is 1 if a link leads nowhere.
 """
@@ -11,6 +11,7 @@ import sys
 from collections import Counter
 from pathlib import Path
 
+import page_budgets
 from blocks import TOP, told
 
 HEADING = re.compile(r"#{1,6} (.*)")
@@ -20,8 +21,7 @@ INLINE_CODE = re.compile(r"`[^`]*`")
 
 def pages() -> list[Path]:
     """Returns the pages."""
-    at_top = [TOP / name for name in ("README.md", "CONTRIBUTING.md", "CHANGELOG.md")]
-    return [*at_top, *sorted((TOP / "docs").glob("**/*.md"))]
+    return [TOP / "crates" / "README.md", *(TOP / name for name in page_budgets.pages())]
 
 
 def prose(page: Path) -> list[tuple[int, str]]:

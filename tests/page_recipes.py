@@ -1,32 +1,35 @@
 #!/usr/bin/env python3
 """Runs each command of docs/RECIPES.md in order, in one empty folder, and compares the output with the page.
 
-A command whose tool is missing is left out by name. The status is 1 if an output differs.
+The page shows the output of a block of commands in the block of text after it, or else in the comments at the end of
+the block. A command whose tool is missing is left out by name. The status is 1 if an output differs.
 """
 
 import re
 import shutil
 import sys
 import tempfile
+from dataclasses import replace
 from itertools import zip_longest
 from pathlib import Path
 
-from blocks import Report, blocks_of, run, write_programs
+from blocks import Block, Report, blocks_of, run, write_programs
 
-TOOLS = "openssl", "parallel", "xargs", "split", "nproc", "paste", "awk", "cksum", "jq"
+TOOLS = "paste", "awk", "jq"
+COMMENTS = re.compile(r"(?:^#(?: .*)?\n)+\Z", re.MULTILINE)
 
 
-def has(tool: str) -> bool:
-    """Returns whether a tool is there. A program other than GNU's is also called parallel, and has no --pipe."""
-    is_there = shutil.which(tool) is not None
-    return is_there and (tool != "parallel" or run("parallel --version", Path("/")).stdout.startswith("GNU parallel"))
+def with_comments(block: Block) -> Block:
+    """Returns a block with the comments at its end as its output, if no output follows the block."""
+    found = None if block.shown else COMMENTS.search(block.text)
+    return replace(block, shown=re.sub(r"^# ?", "", found[0], flags=re.MULTILINE)) if found else block
 
 
 def main() -> int:
     """Runs all commands in one shell, because later ones use what earlier ones set. Compares the output."""
     report, recipes = Report(), []
-    for block in (it for it in blocks_of("docs/RECIPES.md") if it.kind == "sh"):
-        missing = next((it for it in TOOLS if re.search(rf"\b{it}\b", block.text) and not has(it)), None)
+    for block in (with_comments(it) for it in blocks_of("docs/RECIPES.md") if it.kind == "sh"):
+        missing = next((it for it in TOOLS if re.search(rf"\b{it}\b", block.text) and not shutil.which(it)), None)
         if missing:
             report.leave_out(block.place, f"there is no {missing}")
         else:

@@ -2,7 +2,7 @@
 """source_edits.py: finds edits in the folders `must-fail/` and `edits/` of the crates that cannot be applied.
 
 It reads them with the kit's own reader, so each `old:` has to be in its file exactly once. It also checks that
-`must-fail/` is small: at most ninety edits, in at most twenty libraries. Programs and static libraries may have no
+`must-fail/` is small: at most thirty edits, in at most twelve libraries. Programs and static libraries may have no
 edits there. It asks no prover; tests/edits.py does. The status is 1 if there is a fault.
 """
 
@@ -19,7 +19,7 @@ from blocks import TOP, told
 TRIED_BY_THE_KIT = "must-fail"
 FOLDERS = (TRIED_BY_THE_KIT, "edits")
 NAME = re.compile(r"\w[\w.-]*\.edit", re.ASCII)
-MOST_EDITS, MOST_CRATES = 90, 20
+MOST_EDITS, MOST_CRATES = 30, 12
 
 
 def the_kit():

@@ -10,10 +10,24 @@ import re
 import sys
 
 from blocks import TOP, told
-from page_proved import behind_braces, without_comments
 
 ROOT = TOP / "crates"
 WIDTH = 100
+
+
+def without_comments(text):
+    """Returns the text with its comments blanked, so that indexes stay the same."""
+    return re.sub(r"//[^\n]*", lambda it: " " * len(it[0]), text)
+
+
+def behind_braces(text, start):
+    """Returns the index after the brace that closes the first open brace from `start` on."""
+    at, depth = text.index("{", start), 0
+    while True:
+        depth += {"{": 1, "}": -1}.get(text[at], 0)
+        at += 1
+        if depth == 0:
+            return at
 
 
 def clauses(text):

@@ -1,6 +1,6 @@
 #!/usr/bin/env python3
-"""source_lines.py [--write] [CRATE..]: finds lines of `specs/` and `proofs/` with more than 120 columns, and with --write
-breaks them.
+"""source_lines.py [--write] [CRATE..]: finds lines with more than 120 columns in `specs/` and `proofs/`, and comments of
+sources with more. With --write it breaks lines of `specs/` and `proofs/`.
 
 A list of imports becomes several lists of the same module. Other lines break between two words, so the prover reads the
 same text: a definition after its `=` or before its loosest operators, a term before its arguments. `rt fmt` then indents
@@ -19,14 +19,15 @@ OPENS, CLOSES = "({[⟦", ")}]⟧"
 OPERATORS = (("→",), ("↔",), ("⊎",), ("×",), ("≡", "≢", "≤", "<"), ("∷", "++", "∙"), ("+", "-", "*", "/"))  # loosest first
 EACH_OPERATOR = {it for operators in OPERATORS for it in operators}
 WORD = re.compile(r'(?:"(?:[^"\\]|\\.)*"|[^\s"])+')
+COMMENT = re.compile(r"\s*//(?![/!]?\s*\|)")  # a table is as wide as its rows
 IMPORT = re.compile(r"( *(?:pub |unfoldable )*use [^{]*\{)(.*)\}")
 
 
 def files(names: list[str]) -> Iterator[Path]:
-    """The files of specs and proofs of these crates, or of all crates if none is named."""
-    for folder in ("specs", "proofs"):
+    """The files of specs, proofs and sources of these crates, or of all crates if none is named."""
+    for pattern in ("specs/**/*.antt", "proofs/**/*.antt", "src/**/*.rt"):
         for name in names or ["*"]:
-            yield from sorted((TOP / "crates").glob(f"{name}/{folder}/**/*.antt"))
+            yield from sorted((TOP / "crates").glob(f"{name}/{pattern}"))
 
 
 def depths(words: list[str]) -> list[int]:
@@ -139,14 +140,16 @@ def main() -> int:
     found = 0
     for path in files([it for it in sys.argv[1:] if it != "--write"]):
         text = path.read_text()
-        if "--write" in sys.argv:
+        is_source = path.suffix == ".rt"
+        if "--write" in sys.argv and not is_source:
             new = "\n".join(it for line in text.split("\n") for it in broken(line))
             if names_of(new) != names_of(text):
                 sys.exit(f"{path.relative_to(TOP)}: a break would change the text")
             if new != text:
                 path.write_text(new)
             text = new
-        wide = [at for at, line in enumerate(text.split("\n"), 1) if len(line) > WIDTH]
+        lines = [line if not is_source or COMMENT.match(line) else "" for line in text.split("\n")]
+        wide = [at for at, line in enumerate(lines, 1) if len(line) > WIDTH]
         for at in wide:
             print(f"{path.relative_to(TOP)}:{at}: more than {WIDTH} columns")
         found += len(wide)

@@ -38,7 +38,6 @@ MADE = {
 # The files with the version of the calls.
 CALLS = {
     "crates/pigyelund_c/src/exports/verify.rt": r"fn pigy_version\(\) -> u32\n    ensures \{ result ≡ (\d+) \}",
-    "docs/PROVED.md": r"(\d+): `pigy_version`",
     "foreign/numbers.txt": r"^NUMBER\(VERSION, (\d+)\)$",
     "foreign/pigyelund.h": r"^#define PIGY_VERSION (\d+)u$",
     "foreign/python/pigyelund/raw.py": r"^VERSION = (\d+)\b",

@@ -23,7 +23,7 @@ sys.path.insert(0, str(TOP / "foreign" / "python"))
 
 from pigyelund import Certificate, Encoding, Extensions, Pigyelund, Resources, concatenate  # noqa: E402
 
-RESPATH = TOP / "crates" / "respath_files" / "out" / "respath_files"
+RESPATH = TOP / "crates" / "respath_program" / "out" / "respath_program"
 LIBRARY, KINDS = regress.LIBRARY, regress.KINDS
 STEPS = 10
 RUNS = 15

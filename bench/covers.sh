@@ -10,4 +10,4 @@
 top=$(CDPATH='' cd -- "$(dirname -- "$0")/.." && pwd) || exit 1
 printf '' | "$top/respath" || exit 1
 [ $# -gt 0 ] || set -- 10000 30000 100000 1000000
-exec python3 "$top/bench/covers.py" "$top/crates/respath_files/out/respath_files" "$@"
+exec python3 "$top/bench/covers.py" "$top/crates/respath_program/out/respath_program" "$@"

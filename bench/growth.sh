@@ -5,4 +5,4 @@
 # about twice the time. bench/growth.py makes the inputs and measures.
 top=$(CDPATH= cd -- "$(dirname -- "$0")/.." && pwd) || exit 1
 printf '' | "$top/respath" || exit 1
-exec python3 "$top/bench/growth.py" "$top/crates/respath_files/out/respath_files"
+exec python3 "$top/bench/growth.py" "$top/crates/respath_program/out/respath_program"

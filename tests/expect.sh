@@ -31,7 +31,7 @@ prints() {
 }
 
 # The crate of the program that a script starts, by the name of the script
-crate_of() { echo "$1" | sed 's/^respath$/respath_files/'; }
+crate_of() { echo "$1" | sed 's/^respath$/respath_program/'; }
 
 # Counts equal lines that follow each other, as uniq -c does, without blanks in front.
 counted() { uniq -c | sed 's/^ *//'; }

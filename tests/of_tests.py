@@ -31,7 +31,7 @@ from copies import TOP, Case, built, copied, fault_of, said_by, written
 from quick import parts_of_check
 
 COPIES = min(4, os.cpu_count() or 1)
-RESPATH, ORIGINS = built("respath_files"), built("origins")
+RESPATH, ORIGINS = built("respath_program"), built("origins")
 LIBRARY = Path("crates", "pigyelund_c", "out", "libpigyelund_c.a")
 ROWS_OF_CALLS = Path("out", "foreign", "rows.txt")
 # How many of the first lines of a file a copy has.
@@ -116,7 +116,7 @@ PAGES = (
     Case(MANUAL, "docs/respath.1", "\n10.0.0.0/8\n", "\n10.0.0.0/9\n", "- 10.0.0.0/9\n"),
     Case(MANUAL, "program.sh", "USAGE >&2\n            exit 2\n", "USAGE >&2\n            exit 3\n",
          "respath --help: names status 2 for 'usage'"),
-    Case(MANUAL, "crates/respath_files/src/help.rt", "  3  with --check", "  2  with --check",
+    Case(MANUAL, "crates/respath_program/src/help.rt", "  3  with --check", "  2  with --check",
          "respath --help: names status 2 for 'check'"),
     Case(MANUAL, "program.sh", 'exec "$program" "$@"', 'exec "$program" "./$@"', "is the standard input"),
 )
@@ -174,7 +174,7 @@ def left_out() -> Iterator[tuple[str, str]]:
 
 def make_first(copy: Path, is_foreign: bool) -> None:
     """Makes the copy that the others are copied from, where it is asked with what C and Python need."""
-    copied(copy, "respath_files")
+    copied(copy, "respath_program")
     for name, count in KEPT.items():
         lines = (copy / name).read_bytes().splitlines(keepends=True)
         (copy / name).write_bytes(b"".join(lines[:count]))
@@ -223,7 +223,7 @@ def of_cases(folder: Path) -> Iterator[tuple[str, str | None]]:
 
 def of_pages(folder: Path) -> Iterator[tuple[str, str | None]]:
     """The tests that compare pages with whole files and with the programs: they pass, and tell what is made wrong."""
-    copied(folder, "respath_files", "origins")
+    copied(folder, "respath_program", "origins")
     cases = [*OF_VERSIONS]
     for program, more in ((RESPATH, PAGES), (ORIGINS, OF_ORIGINS)):
         if (TOP / program).is_file():

@@ -51,7 +51,7 @@ def compare(report: Report, name: str, options: tuple[str, ...], shown: list[tup
 def main() -> int:
     """Asks both programs."""
     report = Report()
-    compare(report, "respath_files", (), [*of_errors()])
+    compare(report, "respath_program", (), [*of_errors()])
     with tempfile.TemporaryDirectory() as folder:
         vrps = Path(folder, "vrps")
         vrps.write_text(VRPS)

@@ -80,7 +80,7 @@ def script_of(folder: Path) -> Path:
 
     The script builds nothing there.
     """
-    built, texts = program("respath_files").relative_to(TOP), Path("crates", "respath_files", "src", "help.rt")
+    built, texts = program("respath_program").relative_to(TOP), Path("crates", "respath_program", "src", "help.rt")
     for name in (Path("respath"), Path("program.sh"), Path("crates.txt"), texts, built):
         (folder / name).parent.mkdir(parents=True, exist_ok=True)
         shutil.copy(TOP / name, folder / name)
@@ -128,8 +128,8 @@ def faults_of_dashes(page: Page, folder: Path) -> Iterator[str]:
 
 
 def pages(folder: Path) -> Iterator[Page]:
-    """Yields the pages of the programs that are built. A release installs respath_files as `respath`."""
-    if (built := program("respath_files")).is_file():
+    """Yields the pages of the programs that are built. A release installs respath_program as `respath`."""
+    if (built := program("respath_program")).is_file():
         script = script_of(folder)
         yield Page("respath --help", help_of(script, folder), script, RESPATH, DASHES_OF_RESPATH)
         yield Page("docs/respath.1", manual("docs/respath.1"), built, INSTALLED)
@@ -163,7 +163,7 @@ def main() -> int:
             (folder / file).write_text(f"AS{asn},10.0.0.0/8,8\n")
         for page in pages(folder):
             report.add(page.name, faults_of(page, folder))
-        for name, crate in (("respath", "respath_files"), ("origins", "origins")):
+        for name, crate in (("respath", "respath_program"), ("origins", "origins")):
             if program(crate).is_file():
                 compare_examples(report, name, program(crate), Path(tempfile.mkdtemp(dir=folder)))
             else:

@@ -22,7 +22,7 @@ VRPS = b"AS64496,192.0.2.0/23,24\n"
 # outputs are small: a datagram holds less than the buffer of a program.
 RUNS = (
     ("respath", "", LINES),
-    *(("respath_files", words, LINES) for words in ("", "-", "one two", "--check", "--where", "--check --where one -")),
+    *(("respath_program", words, LINES) for words in ("", "-", "one two", "--check", "--where", "--check --where one -")),
     *(("origins", words, ROUTES) for words in ("one", "--check one", "--why one", "--json one", "--json --check one")),
     *(("origins", words, b"") for words in ("--table one", "--diff one two")),
 )

@@ -13,7 +13,7 @@ copy="$files/a copy"
 mkdir -p "$copy/bin" "$copy/tools" "$copy/tmp" "$copy/crates/other"
 for crate in $(sed '/^#/d; s/[ :].*//' "$top/crates.txt"); do mkdir -p "$copy/crates/$crate/out"; done
 cp "$top/respath" "$top/origins" "$top/program.sh" "$top/crates.txt" "$top/HANDLES" "$copy/"
-for crate in respath_files origins; do
+for crate in respath_program origins; do
     mkdir "$copy/crates/$crate/src"
     cp "$top/crates/$crate/src/help.rt" "$copy/crates/$crate/src/"
     touch -d '1 hour ago' "$copy/crates/$crate/src/help.rt" # a new checkout is newer than the program of is_built
@@ -161,10 +161,10 @@ for script in respath origins; do
     expect "$script: the status of an unknown option, and the usage" 2 "$script: unknown option: --unknown
 $(run "$copy/$script" --help | sed '/^$/,$d')" $? "$said"
 done
-no_room="respath: the program is not built, and $copy/crates/respath_files/out is not writable: copy the sources, or use\
+no_room="respath: the program is not built, and $copy/crates/respath_program/out is not writable: copy the sources, or use\
  --try"
-chmod a-w "$copy/crates/respath_files/out"
-if [ -w "$copy/crates/respath_files/out" ]; then
+chmod a-w "$copy/crates/respath_program/out"
+if [ -w "$copy/crates/respath_program/out" ]; then
     nobody='setpriv --reuid=65534 --regid=65534 --clear-groups'
     if $nobody true 2>/dev/null; then
         prints "a folder that can't be written" \
@@ -175,7 +175,7 @@ if [ -w "$copy/crates/respath_files/out" ]; then
 else
     prints "a folder that can't be written" 'respath' 1 "$no_room"
 fi
-chmod u+w "$copy/crates/respath_files/out"
+chmod u+w "$copy/crates/respath_program/out"
 
 # A proof fails: the lines about the failure are shown, and no later line.
 prover "a-kit logic 12" 'for at in 1 2 3 4 5 6 7 8 9 10 11 12 13 14 15 16 17 18 19 20; do echo "proving $at"; done
@@ -206,9 +206,9 @@ while read -r crate; do
     echo "rt: $crate proved"
     echo "rt: $crate: its tests proved"
 done; } <"${0%/*}/../listed"
-mkdir crates/respath_files/out
-printf "#!/bin/sh\necho made\n" >crates/respath_files/out/respath_files
-chmod +x crates/respath_files/out/respath_files
+mkdir crates/respath_program/out
+printf "#!/bin/sh\necho made\n" >crates/respath_program/out/respath_program
+chmod +x crates/respath_program/out/respath_program
 echo "1 passed, 0 failed"'
 mkdir -p "$copy/crates/rpki_text/must-fail" "$copy/crates/rpki_text/edits"
 said=$(run "$copy/respath" 2>&1 | tee "$copy/said")
@@ -216,7 +216,7 @@ expect "all that the program needs is proved" 0 "respath: proved and built in N 
 made" $? "$(echo "$said" | tail -n 2 | sed 's/in [0-9]* min/in N min/')"
 expect "rt ci is asked, over no mutations and nothing that was built" 0 "ci
 $(cat "$copy/HANDLES")" $? "$(cat "$copy/asked")"
-needed=$( (top=$copy started=respath program_crate=respath_files && . "$top/program.sh" && needed_crates) | sort)
+needed=$( (top=$copy started=respath program_crate=respath_program && . "$top/program.sh" && needed_crates) | sort)
 expect "the copy has the crates that the program needs" 0 "$needed" $? "$(cat "$copy/copied")"
 expect "crates.txt of the copy names them" 0 "$needed" $? "$(sort "$copy/listed")"
 all=$(echo "$needed" | wc -l)
@@ -228,7 +228,7 @@ expect "a program that was proved by the script" 0 "proved here with the-kit log
 touch "$copy/crates/rpki_text/new"
 unbuilt="respath: the program is not built, or is older than its sources: run $copy/respath once without --no-build"
 prints "a program that is older than its sources, and no build" 'respath --no-build' 1 "$unbuilt"
-touch "$copy/crates/respath_files/out/respath_files"
+touch "$copy/crates/respath_program/out/respath_program"
 prints "a program that is current, and no build" 'respath --no-build' 0 "made"
 
 # Signals while it is proved, by a prover that waits for a child of its own; one of them doesn't heed the signal.
@@ -311,7 +311,7 @@ a-program: none: wrong, none
 a-program: -: wrong, -"
 echo dashed >"$files/below/--check"
 prints "names after -- under --try" "cd '$files/below' && respath --try --check -- --check -" 3 "$tried
-respath_files
+respath_program
 [--data]
 [try-file-1] dashed
 [--]

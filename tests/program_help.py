@@ -23,7 +23,7 @@ SECONDS = 0.2
 # The tools of the scripts, without rt.
 TOOLS = "awk cat cut date dirname find git grep head readlink rm sed sha256sum tr".split()
 # The program whose texts are those of the script.
-PROGRAMS = {"respath": "respath_files", "origins": "origins"}
+PROGRAMS = {"respath": "respath_program", "origins": "origins"}
 # What the scripts refuse before a build.
 REFUSED = {"respath": (["--strange"], ["norm as 1"]), "origins": (["--strange"], ["vrps", "--slur", "file"])}
 WRONG = {

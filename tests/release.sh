@@ -29,7 +29,7 @@ crate=${PWD##*/}
 case $1 in
 version) cat "$kit/identity"; exit ;;
 ci)
-    for crate in respath_files origins; do
+    for crate in respath_program origins; do
         mkdir -p "crates/$crate/out" && cp -p "$kit/proved/$crate" "crates/$crate/out"
     done
     exit
@@ -46,10 +46,10 @@ END
     sed -n 's/^The kit that last proved all crates is `\(.*\)`\.$/\1/p' README.md >"$kit/identity"
     local name
     sum=$(sed 's/.* //' "$kit/identity")
-    for name in respath_files origins pigyelund_c; do
+    for name in respath_program origins pigyelund_c; do
         printf 'axioms %s\nlogic=proved axioms=6 sum=%s native=nat\n' "$name" "$sum" >"$kit/said/$name"
     done
-    for name in respath_files origins; do
+    for name in respath_program origins; do
         printf '#!/bin/sh\necho %s\n' "$name" >"$kit/proved/$name"
         chmod +x "$kit/proved/$name"
     done
@@ -73,10 +73,10 @@ make_copy() {
     tar -cf - --exclude=out --exclude=__pycache__ .gitignore HANDLES release program.sh respath origins \
         README.md CHANGELOG.md LICENSE VERSION foreign packaging tests/blocks.py tests/foreign_page.py tests/foreign.sh \
         tests/page_logic.sh tests/source_versions.py tests/release.sh tests/api_*.py tests/groups.py docs vectors \
-        crates/origins/src crates/respath_files crates/pigyelund_c/{src,specs} crates/pigyelund_routes/{src,specs} | tar -xf - -C "$copy"
+        crates/origins/src crates/respath_program crates/pigyelund_c/{src,specs} crates/pigyelund_routes/{src,specs} | tar -xf - -C "$copy"
     (
         cd "$copy" || exit
-        printf '#: programs\nrespath_files:\norigins:\n' >crates.txt
+        printf '#: programs\nrespath_program:\norigins:\n' >crates.txt
         git init -q && git add -A &&
             GIT_COMMITTER_DATE=@1700000000 git -c user.name=Nobody -c user.email=nobody@rpki.net commit -q -m copy ||
             exit
@@ -120,7 +120,7 @@ refuses_what_is_not_proved() {
     refuses "a library that the prover didn't make" "rt lib made no libpigyelund_c.a" \
         "mkdir -p crates/pigyelund_c/out && mv '$kit/proved/libpigyelund_c.a' crates/pigyelund_c/out"
     mv "$copy/crates/pigyelund_c/out/libpigyelund_c.a" "$kit/proved" 2>/dev/null || make_kit
-    for crate in respath_files origins pigyelund_c; do
+    for crate in respath_program origins pigyelund_c; do
         verb=check
         [ "$crate" != pigyelund_c ] || verb=lib
         for verdict in "logic=not-proved sum=$sum" "logic=built proved sum=$sum" "proved" ""; do
@@ -204,7 +204,7 @@ makes_the_same() {
         fail "the first line: $(head -n 1 "$out/said")"
     mv "$out/made" "$out/first"
     sleep 1.1
-    printf '#!/bin/sh\necho planted\n' >"$copy/crates/respath_files/out/respath_files"
+    printf '#!/bin/sh\necho planted\n' >"$copy/crates/respath_program/out/respath_program"
     (cd "$copy" && PATH=$kit/bin:$PATH ./respath --note-kit)
     rm -r "$copy/crates/origins/out"
     cp "$out/first/pigyelund-$version/lib/libpigyelund.a" "$out/other.a" && ar r "$out/other.a" LICENSE 2>/dev/null
@@ -457,7 +457,7 @@ of_packages() {
         fail "the same tree makes the same packages"
 }
 
-if [ ! -x crates/respath_files/out/respath_files ]; then
+if [ ! -x crates/respath_program/out/respath_program ]; then
     echo "left out: a release needs respath, which ./respath proves and builds"
 elif [ -n "$(git status --porcelain 2>&1)" ]; then
     echo "left out: a release needs a tree without changes"

@@ -2,7 +2,7 @@
 """Compares stored answers, or the answers of a built program, with those of the reference beside this file.
 
 Without options it compares the stored answers of the programs `rows_*`, `example_holdings`, `example_verified_set`,
-`respath_files`, and those of `bench_growth` about origins.
+`respath_program`, and those of `bench_growth` about origins.
 
 With --write it also replaces each stored answer that differs by the reference's answer, and prints all of them. Use it
 after you have changed a text in the reference. It does not write the answers of `bench_growth`, and no answer that the
@@ -28,7 +28,7 @@ from reference.calls_of_callers import NotSaid
 
 TOP = Path(__file__).resolve().parent.parent
 CRATES = TOP / "crates"
-PROGRAM = CRATES / "respath_files" / "out" / "respath_files"
+PROGRAM = CRATES / "respath_program" / "out" / "respath_program"
 AT_ONCE = 50_000
 SHOWN = 20
 
@@ -183,13 +183,13 @@ def compare_growth() -> bool:
 
 
 def compare_files(writes: bool) -> bool:
-    """Compares the output of `respath_files` for the file and the standard input of its stored run, with --where."""
-    comparison = of_stored("respath_files", writes)
-    folder = CRATES / "respath_files"
+    """Compares the output of `respath_program` for the file and the standard input of its stored run, with --where."""
+    comparison = of_stored("respath_program", writes)
+    folder = CRATES / "respath_program"
     asked = lines_of(folder / "data" / "lines") + lines_of(folder / "stdin")
     for line, found in zip(asked, lines_of(folder / "stdout"), strict=True):
-        comparison.add(f"respath_files/stdout: {line}", places.answer(line.encode()), found)
-    return comparison.report("respath_files")
+        comparison.add(f"respath_program/stdout: {line}", places.answer(line.encode()), found)
+    return comparison.report("respath_program")
 
 
 def compare_stored(writes: bool) -> bool:

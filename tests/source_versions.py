@@ -24,7 +24,7 @@ PLACES = {
     "CHANGELOG.md": r"\A(?:(?!## ).*\n)*## ([^,\n]*)",
     "README.md": r"(?:\bVersion |\./release (?:--deb )?|[a-z\d]_|pigyelund-)(\d+(?:\.\d+)+)",
     "crates/origins/src/help.rt": r'^pub const VERSION: &str = "(.*)";$',
-    "crates/respath_files/src/help.rt": r'^pub const VERSION: &str = "(.*)";$',
+    "crates/respath_program/src/help.rt": r'^pub const VERSION: &str = "(.*)";$',
     "foreign/python/pigyelund/__init__.py": r'^__version__ = "(.*)"$',
     "foreign/python/pyproject.toml": r'^version = "(.*)"$',
     "foreign/rust/Cargo.toml": r'^version = "(.*)"$',

@@ -47,9 +47,9 @@ ALL_FAIL = r"(FAILED .*\n[^\0]*){10}"
 STUBBED = (
     Stubbed(("tests/program_front.sh",), {"respath": WRONG, "origins": WRONG, "tests/page_logic.sh": WRONG}, ALL_FAIL),
     Stubbed(("tests/program_streams.sh",),
-            SCRIPTS | {program(it): WRONG for it in ("respath", "respath_files", "origins")}, ALL_FAIL),
+            SCRIPTS | {program(it): WRONG for it in ("respath", "respath_program", "origins")}, ALL_FAIL),
     Stubbed(("tests/program_origins.sh",), SCRIPTS | {program("origins"): WRONG}, ALL_FAIL),
-    Stubbed(("tests/program_failed_write.py",), {program(it): WRONG for it in ("respath", "respath_files", "origins")},
+    Stubbed(("tests/program_failed_write.py",), {program(it): WRONG for it in ("respath", "respath_program", "origins")},
             r": (\d\d+) runs, \1 differ\n"),
     Stubbed(("tests/program_holdings.sh",), {program("example_holdings"): WRONG}, r"(FAILED .*\n[^\0]*){6}"),
     Stubbed(("tests/program_verified_set.py",), {program("example_verified_set"): WRONG},
@@ -59,7 +59,7 @@ STUBBED = (
             r": (\d\d+) runs, .* \1 differ\n"),
     Stubbed(("tests/random_origins.py", "1", "40"), {program("origins"): WRONG},
             r": (\d\d+) answers compared, \1 differ\n"),
-    Stubbed(("tests/program_places.py",), {program("respath_files"): ANSWERS_WRONG, "respath": WITHOUT_PLACES},
+    Stubbed(("tests/program_places.py",), {program("respath_program"): ANSWERS_WRONG, "respath": WITHOUT_PLACES},
             r": (\d\d+) lines are wrong or refused, .* \1 differ\n"),
 )
 

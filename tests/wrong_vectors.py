@@ -9,7 +9,7 @@ from copies import TOP, Case, built, copied, fault_of, said_by
 
 SOURCES, ASKED = "tests/source_vectors.py", "tests/program_vectors.py"
 OF_AS, OF_TEXT, OF_SETS = f"{ASKED} der_as", f"{ASKED} text_as", "crates/rows_sets/stdout"
-PROGRAMS = "respath_files", "origins"
+PROGRAMS = "respath_program", "origins"
 # No other programs than those of the copy.
 OWN = {"RESPATH": "", "ORIGINS": ""}
 DER_AS, TEXT_IP, PAGE = "vectors/der_as.json", "vectors/text_ip.json", "docs/CONFORMANCE.md"

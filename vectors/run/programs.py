@@ -20,7 +20,7 @@ from compare import NOT_APPLICABLE, Answer, Case, octets_of_file, run, skip, vrp
 TOP = Path(__file__).resolve().parent.parent.parent
 REFUSED = "refused at step "
 # The crates of the programs.
-CRATES = {"respath": "respath_files", "origins": "origins"}
+CRATES = {"respath": "respath_program", "origins": "origins"}
 
 
 def program(name: str) -> str:

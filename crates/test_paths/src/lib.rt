@@ -1,4 +1,4 @@
-//! A `use` line of each public path of the libraries. `tests/api_pages.py --paths` makes this file.
+//! A `use` line of each public path of the libraries. `tests/run/api_pages.py --paths` makes this file.
 #![tactic(auto)]
 
 use box_pointer::BoxPointer as _;

@@ -72,7 +72,7 @@ fn calls_of_row(words: &[&str]) -> Option<usize> {
 #[test]
 fn one_call_is_enough() {
     let top = std::env!("CARGO_MANIFEST_DIR");
-    // tests/foreign_rows.py of the repository makes the rows. The package has them in `tests/shared`.
+    // tests/run/foreign_rows.py of the repository makes the rows. The package has them in `tests/shared`.
     let text = std::fs::read_to_string(std::format!("{top}/../../out/foreign/rows.txt"))
         .or_else(|_| std::fs::read_to_string(std::format!("{top}/tests/shared/rows.txt")))
         .unwrap();

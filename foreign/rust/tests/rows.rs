@@ -562,7 +562,7 @@ impl Row<'_> {
     }
 }
 
-/// Returns the text of a test file that all languages share. `tests/foreign_rows.py` of the repository writes it
+/// Returns the text of a test file that all languages share. `tests/run/foreign_rows.py` of the repository writes it
 /// into `out/foreign`. The package has it in `tests/shared`. A copy that packing left in the repository is not read.
 fn shared(name: &str) -> String {
     let top = env!("CARGO_MANIFEST_DIR");

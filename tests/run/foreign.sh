@@ -1,0 +1,559 @@
+#!/usr/bin/env bash
+# foreign.sh [LIBRARY]: tests the static library from C, Rust and Python. It builds the library by rt lib, or takes the
+# file LIBRARY. The tests are the rows that tests/run/foreign_rows.py makes, names, numbers and texts, the programs of the
+# pages, and packages that are installed. The script names the tools that are missing, and leaves out the tests that need them.
+# The status is 0 if nothing failed.
+cd "$(dirname "$0")/../.." || exit 1
+export KIT=${KIT:-$(dirname "$(dirname "$(readlink -f "$(command -v rt)")")")}
+export LIB=${1:-$PWD/crates/pigyelund_c/out/libpigyelund_c.a}
+out=$(mktemp -d) || exit 1
+trap 'rm -rf "$out"' EXIT
+spaced="$out/a folder"
+prefix="$spaced/usr local"
+mkdir "$spaced"
+. tests/lib/expect.sh
+
+# same WHAT COMMAND ..: the example's program prints what it should
+same() {
+    what=$1
+    shift
+    "$@" >"$out/example.txt" && diff foreign/c/example.txt "$out/example.txt" || fail "$what"
+}
+has_python() { python3 -c 'import sys; sys.exit(sys.version_info < (3, 10))' 2>/dev/null; }
+
+if [ $# -eq 0 ]; then
+    (cd crates/pigyelund_c && rt lib >"$out/log" 2>&1) || { tail -n 20 "$out/log"; echo "FAILED: rt lib"; exit 1; }
+fi
+
+# made [VARIABLE=VALUE ..] TARGET ..: runs make with the C compiler and the folder of this test
+made() { make -s -C foreign/c CC=gcc CFLAGS="-O2 -Wall -Wextra -Werror" OUT="$spaced" "$@"; }
+
+# Each call of the header is in exports.map. The static library defines no other global symbols, and the shared library
+# exports no others. The static library has the proved function of each call in arrays.c under its local name.
+of_symbols() {
+    sed -n 's/^ *\(pigy_[a-z_]*\);.*/\1/p' foreign/c/exports.map | sort >"$out/exports"
+    grep -v '^static\|^typedef' foreign/pigyelund.h | sed -n 's/^[a-z].* \**\(pigy_[a-z_]*\)(.*/\1/p' |
+        sort >"$out/declared"
+    diff "$out/declared" "$out/exports" || fail "exports.map has the calls of pigyelund.h"
+    nm -g --defined-only "$spaced/libpigyelund.a" | awk 'NF == 3 { print $3 }' | sort | diff "$out/exports" - ||
+        fail "the global symbols of the static library are its calls"
+    nm -D --defined-only "$spaced/libpigyelund.so" | awk '$2 != "A" { print $3 }' | sed 's/@@PIGYELUND_1$//' | sort |
+        diff "$out/exports" - || fail "the shared library exports its calls, with the version PIGYELUND_1"
+    sed -n 's/^PROVED(\([a-z_]*\));$/proved_\1/p' foreign/c/arrays.c | sort >"$out/proved"
+    nm --defined-only "$spaced/libpigyelund.a" | awk '$2 == "t" && $3 ~ /^proved_/ { print $3 }' | sort |
+        diff "$out/proved" - || fail "the static library has the proved functions under local names"
+}
+
+# warns TEXT WARNING: each compiler refuses this statement, by this warning
+warns() {
+    printf '#include <pigyelund.h>\nuint32_t f(pigy_table *table, pigy_set set, size_t *len, pigy_buffers *out);\n%s\n' \
+        "uint32_t f(pigy_table *table, pigy_set set, size_t *len, pigy_buffers *out) { (void)out; (void)set; $1 }" \
+        >"$out/warns.c"
+    for compiler in gcc clang; do
+        command -v "$compiler" >/dev/null || continue
+        "$compiler" -Iforeign -Wall -Wextra -c "$out/warns.c" -o "$out/warns.o" 2>"$out/log" || fail "$compiler: $1"
+        grep -q "\[-W$2\]" "$out/log" || fail "$compiler warns by -W$2: $1"
+    done
+}
+
+# The header compiles as each language, without warnings, and also without the attributes. Its names begin with pigy_ or
+# PIGY. The attributes make warnings.
+of_header() {
+    echo '#include "pigyelund.h"
+        uint32_t f(pigy_set a, pigy_set b, pigy_buffers *out);
+        uint32_t f(pigy_set a, pigy_set b, pigy_buffers *out) {
+          pigy_operation *operation = pigy_version() ? pigy_union : pigy_difference;
+          uint32_t status = pigy_combine(operation, a, b, PIGY_STRICT, out);
+          return status ? status : pigy_compare(&pigy_equal, a, b, PIGY_STRICT);
+        }' >"$out/header.c"
+    for language in c99 c11 c17 c++11 c++17; do
+        case $language in c++*) compilers="g++ clang++" ;; *) compilers="gcc clang" ;; esac
+        for compiler in $compilers; do
+            has "the header as $language" "$compiler" || continue
+            for words in "-Wshadow -Wconversion" -U__GNUC__; do
+                # shellcheck disable=SC2086 # several words
+                "$compiler" -x "${language%%[0-9]*}" -std="$language" $words -O2 -pedantic -Wall -Wextra -Werror \
+                    -Iforeign -c "$out/header.c" -o "$out/header.o" || fail "the header: $compiler, $language, $words"
+            done
+        done
+    done
+    printf '#include <stddef.h>\n#include <stdint.h>\n' | gcc -dM -E - | sort >"$out/macros_before"
+    gcc -dM -E foreign/pigyelund.h | sort | comm -13 "$out/macros_before" - | grep -v '^#define PIGY' &&
+        fail "the header defines a macro without PIGY"
+    gcc -E -P foreign/pigyelund.h | sed -n '/pigy_/,$p' | grep -E '^(typedef .*[;(]|\} .*;)' | grep -v '[ *]pigy_' &&
+        fail "the header defines a type without pigy_"
+    warns "(void)table; (void)len; return pigy_answer(0, 0, 0, 0, 0);" nonnull
+    warns "pigy_table_vrps(table, 0, 0, len); return 0;" unused-result
+    warns "(void)len; return pigy_table_vrps(table, 0, 0, 0);" nonnull
+    warns "return pigy_table_covering(table, 0, 0, 0, len);" nonnull
+    warns "(void)table; (void)len; pigy_verify_set(set, set, 0, 0, out); return 0;" unused-result
+    warns "(void)table; (void)len; return pigy_verify_set(set, set, 0, 0, 0);" nonnull
+    warns "(void)table; return pigy_table_len(0, 0) + *len;" nonnull
+    echo '#include "foreign/pigyelund.h"
+        uint32_t f(size_t *len) { pigy_table_free(0); pigy_table_len(0, len); return pigy_version(); }' |
+        gcc -x c -Wall -Wextra -Werror -I. -c - -o "$out/warns.o" || fail "a NULL handle without a warning"
+}
+
+# arrays.c compiles without warnings, by each compiler. It passes each argument on.
+of_arrays() {
+    for language in c99 c11 c17; do
+        for compiler in gcc clang; do
+            has "arrays.c as $language" "$compiler" || continue
+            "$compiler" -std="$language" -O2 -pedantic -Wall -Wextra -Wshadow -Wconversion -Werror \
+                -c foreign/c/arrays.c -o "$out/arrays.o" || fail "arrays.c: $compiler, $language"
+        done
+    done
+    has_python && { tests/run/foreign_arrays.py || fail "arrays.c passes each argument on"; }
+    has "empty vectors in C++" g++ && of_vectors
+}
+
+# A program in C++ passes data() of empty vectors. With UndefinedBehaviorSanitizer, if it is installed, the program ends
+# if it passes a null pointer to a parameter that must not be NULL.
+of_vectors() {
+    cat >"$out/vectors.cpp" <<'END'
+#include <pigyelund.h>
+#include <vector>
+
+int main() {
+  std::vector<uint8_t> octets, line{'n', 'o', 'r', 'm', ' ', 'a', 's', ' ', '1'};
+  std::vector<pigy_vrp> vrps;
+  std::vector<pigy_route> routes;
+  std::vector<pigy_certificate> certificates;
+  std::vector<pigy_ip_range> ranges;
+  pigy_table *table;
+  size_t len, other, index;
+  uint32_t status = pigy_table_new(vrps.data(), vrps.size(), &table, &index);
+  if (status == PIGY_OK)
+    status = pigy_table_origins(table, routes.data(), routes.size(), octets.data(), octets.size(), &len, &index);
+  if (status == PIGY_OK) status = pigy_table_vrps(table, vrps.data(), vrps.size(), &len);
+  pigy_table_free(table);
+  if (status == PIGY_OK)
+    status = pigy_verify_path(octets.data(), 0, octets.data(), 0, octets.data(), 0, certificates.data(),
+                              certificates.size(), PIGY_STRICT, octets.data(), 0, octets.data(), 0, &len, &other,
+                              &index);
+  if (status == PIGY_OK)
+    status = pigy_ip_ranges(octets.data(), 0, PIGY_STRICT, PIGY_IPV4, ranges.data(), ranges.size(), &len);
+  if (status != PIGY_OK || len) return 1;
+  if (pigy_answer(line.data(), line.size(), octets.data(), octets.size(), &len) != PIGY_TOO_SMALL) return 2;
+  octets.resize(len);
+  return pigy_answer(line.data(), line.size(), octets.data(), octets.size(), &len) == PIGY_OK && len == 3 ? 0 : 3;
+}
+END
+    sanitize="-fsanitize=undefined -fno-sanitize-recover=all"
+    # shellcheck disable=SC2086 # two words
+    echo 'int main() {}' | g++ -x c++ $sanitize - -o "$out/vectors" 2>"$out/log" ||
+        { sanitize=; echo "left out: null pointers of vectors need the library of -fsanitize=undefined"; }
+    # shellcheck disable=SC2086 # two words
+    g++ -std=c++11 -Wall -Wextra -Werror $sanitize -Iforeign "$out/vectors.cpp" "$spaced/libpigyelund.a" \
+        -o "$out/vectors" && "$out/vectors" || fail "empty vectors in C++"
+}
+
+# A program may define the symbols that the kit has, and functions with the local names of the proved ones. The static
+# library does not use them.
+of_collisions() {
+    {
+        echo '#include <pigyelund.h>'
+        nm -g --defined-only "$LIB" "$KIT/c/liblibc_c.a" 2>/dev/null |
+            awk 'NF == 3 && $3 ~ /^[A-Za-z_][A-Za-z_0-9]*$/ && $3 !~ /^pigy_/ { print $3 }' | sort -u >"$out/of_kit"
+        [ -s "$out/of_kit" ] && cat "$out/proved" >>"$out/of_kit"
+        sed 's/.*/int &_of_program(void) __asm__("&"); int &_of_program(void) { __builtin_trap(); }/' "$out/of_kit"
+        echo 'int main(void) { uint8_t text[64]; size_t len;'
+        echo 'return (int)pigy_answer((const uint8_t *)"norm as 1", 9, text, sizeof text, &len); }'
+    } >"$out/collisions.c"
+    [ -s "$out/of_kit" ] || fail "the kit has global symbols"
+    gcc -Wno-builtin-declaration-mismatch -Iforeign "$out/collisions.c" "$spaced/libpigyelund.a" -o "$out/collisions" &&
+        "$out/collisions" || fail "a program with the names of the kit's symbols"
+}
+
+of_c() {
+    made all || fail "C is compiled"
+    made check || fail "make check: the example and the test in C"
+    of_header
+    echo '#include <pigyelund.h>
+        int puts(const char *);
+        int main(void) { return puts(pigy_version_string()) < 0; }' |
+        gcc -x c -Iforeign - -x none "$spaced/libpigyelund.a" -o "$out/version" || fail "the version is compiled"
+    [ "$("$out/version")" = "$(cat VERSION)" ] || fail "pigy_version_string returns the text of VERSION"
+    of_symbols
+    of_arrays
+    of_collisions
+    if has "the example as C++" g++; then
+        g++ -x c++ -std=c++11 -Wall -Wextra -Werror -Iforeign foreign/c/example.c -x none "$spaced/libpigyelund.a" \
+            -o "$out/as_cpp" || fail "the example is C++"
+        same "the example in C++" "$out/as_cpp"
+    fi
+    has_python && { tests/run/foreign_rtr.py "$spaced/libpigyelund.a" || fail "a router against a cache"; }
+    if has "C under valgrind" valgrind; then
+        valgrind -q --error-exitcode=9 --leak-check=full "$spaced/test" out/foreign >/dev/null || fail "valgrind"
+    fi
+}
+
+# on_page PAGE SECTION: the program of a section of docs/ prints what its page says
+on_page() { tests/run/foreign_page.py "docs/$1" "$2" "$prefix" || fail "docs/$1: $2"; }
+
+# example NAME: the example of foreign/c/examples prints what it should
+example() {
+    foreign/c/examples/run.sh "$1" "$prefix" >"$out/example.txt" &&
+        diff "foreign/c/examples/$1.txt" "$out/example.txt" || fail "the example $1"
+}
+
+# The example for certificates of OpenSSL, if there are the command and the headers.
+of_openssl() {
+    has "certificates of OpenSSL" openssl || return
+    if echo '#include <openssl/x509v3.h>' | gcc -E - >/dev/null 2>&1; then
+        example openssl
+    else
+        echo "left out: certificates of OpenSSL need its headers (libssl-dev)"
+    fi
+}
+
+# by_pkg_config FOLDER: the example is built by the pigyelund.pc of that folder, and runs with the shared library
+by_pkg_config() {
+    flags=$(PKG_CONFIG_PATH="$1" pkg-config --cflags --libs pigyelund) || fail "pkg-config $1"
+    # pkg-config prints a backslash before each space.
+    eval "gcc foreign/c/example.c -o '$out/by_pkg_config' $flags" || fail "the example by pkg-config $1"
+    LD_LIBRARY_PATH="${1%/pkgconfig}" same "the example by pkg-config $1" "$out/by_pkg_config"
+}
+
+# of_folders NAME [VARIABLE=FOLDER ..]: installs into a prefix of that name that has files of others, also with DESTDIR,
+# and uninstalls. The files of others are left, and no other file.
+of_folders() {
+    own="$spaced/$1" staged="$spaced/staged $1"
+    shift
+    for there in include lib/pkgconfig share/doc/other; do
+        mkdir -p "$own/$there" && echo other >"$own/$there/other.h"
+    done
+    find "$spaced" -path "$staged" -prune -o ! -type d -print | sort >"$out/others"
+    made install DESTDIR="$staged" PREFIX="$own" "$@" || fail "make install with DESTDIR $*"
+    made install PREFIX="$own" "$@" || fail "make install $*"
+    [ "$(cd "$staged" && find . ! -type d -exec cmp {} "/{}" \; -print | wc -l)" -eq 7 ] || fail "DESTDIR: $*"
+    if has "pigyelund.pc" pkg-config; then
+        by_pkg_config "$(dirname "$(find "$staged" -name pigyelund.pc | sed "s|^$staged||")")"
+    fi
+    made uninstall DESTDIR="$staged" PREFIX="$own" "$@" || fail "make uninstall with DESTDIR $*"
+    left=$(find "$staged" ! -type d -o -name pigyelund)
+    [ -z "$left" ] || fail "make uninstall with DESTDIR leaves $left"
+    made uninstall PREFIX="$own" "$@" || fail "make uninstall $*"
+    find "$spaced" -path "$staged" -prune -o ! -type d -print | sort | diff "$out/others" - || fail "make uninstall $*"
+}
+
+# of_level FILE: the file notes that it needs x86-64-v2. If it notes a level that no processor has, the loader does not
+# start the example.
+of_level() {
+    LC_ALL=C readelf -nW "$1" | grep -q "x86 ISA needed: .*x86-64-v2" || fail "$1 notes that it needs x86-64-v2"
+    cp "$1" "$out/of_level" && python3 - "$1" <<'END' || fail "the level that $1 notes"
+import struct
+import sys
+from pathlib import Path
+
+file = Path(sys.argv[1])
+octets = bytearray(file.read_bytes())
+# GNU_PROPERTY_X86_ISA_1_NEEDED, the length of its value, and the value
+octets[octets.index(struct.pack("<II", 0xC0008002, 4)) + 11] |= 0x80
+file.write_bytes(octets)
+END
+    LC_ALL=C LD_LIBRARY_PATH="$prefix/lib" "$out/by_pkg_config" 2>&1 | grep -q "CPU ISA level is lower" ||
+        fail "the loader refuses the level that $1 notes"
+    cp "$out/of_level" "$1"
+}
+
+# The tools and all options are those of the command.
+of_variables() {
+    made -n all install CC="a-cc -x" AR=an-ar OBJCOPY=an-objcopy INSTALL=an-install CPPFLAGS=-Dcpp CFLAGS=-Dc \
+        LDFLAGS=-Wl,ld >"$out/commands" || fail "make -n"
+    for text in "^a-cc -x -Dc -shared" "-Wl,-z,relro -Wl,-z,now -Wl,ld" "^a-cc -x -Dcpp -Dc .*example.c .*-Wl,ld$" \
+        "^a-cc -x -nostdlib -r" "^an-ar rcs" "^an-objcopy --keep" "^an-install -m 644"; do
+        grep -qe "$text" "$out/commands" || fail "make obeys its variables: $text"
+    done
+    grep -Ee "^(cc|gcc|ar|objcopy|install) " "$out/commands" && fail "make names a tool of its own"
+}
+
+# Installs it below a folder, and under the prefix, which both have spaces; the sources stay as they were.
+of_install() {
+    git status --porcelain >"$out/before" 2>/dev/null
+    made install DESTDIR="$spaced/stage" PREFIX="/usr local" &&
+        (umask 077 && made install PREFIX="$prefix") || fail "make install"
+    diff -r "$spaced/stage/usr local" "$prefix" || fail "DESTDIR has what PREFIX has"
+    git status --porcelain 2>/dev/null | diff "$out/before" - || fail "make install leaves the sources"
+    cmp LICENSE "$prefix/share/doc/pigyelund/LICENSE" || fail "the licence is installed"
+    modes=$(cd "$prefix" && find . -type f ! -perm 644 -o -type d ! -perm 755)
+    [ -z "$modes" ] || fail "files are installed with mode 644, folders with 755: $modes"
+    [ "$(readlink "$prefix/lib/libpigyelund.so")" = libpigyelund.so.1 ] &&
+        [ "$(readlink "$prefix/lib/libpigyelund.so.1")" = "libpigyelund.so.1.$(cat VERSION)" ] ||
+        fail "the links of the shared library"
+    readelf -dW "$prefix/lib/libpigyelund.so" >"$out/dynamic" || fail "readelf"
+    for text in '(SONAME) .*\[libpigyelund.so.1\]' '(FLAGS).*BIND_NOW' '(FLAGS_1).*NOW'; do
+        grep -q "$text" "$out/dynamic" || fail "the shared library has $text"
+    done
+    grep -q TEXTREL "$out/dynamic" && fail "the shared library has text relocations"
+    readelf -lW "$prefix/lib/libpigyelund.so" | awk '/GNU_RELRO/ { relro = 1 } /GNU_STACK/ { stack = $7 }
+        END { exit !(relro && stack == "RW") }' || fail "the shared library has relro, and no executable stack"
+    if has "pigyelund.pc" pkg-config && by_pkg_config "$prefix/lib/pkgconfig" && has_python; then
+        of_level "$prefix/lib/libpigyelund.so"
+        gcc -Iforeign foreign/c/example.c "$prefix/lib/libpigyelund.a" -o "$out/by_pkg_config" || fail "a static example"
+        of_level "$out/by_pkg_config"
+    fi
+    of_variables
+    of_folders "own prefix"
+    of_folders "multiarch" LIBDIR="$spaced/multiarch/lib/x86_64-linux-gnu"
+    of_folders "below" LIBDIR="$spaced/below/elsewhere/lib 64" INCLUDEDIR="$spaced/below/elsewhere/include of it"
+    of_folders "apart" LIBDIR="$spaced/elsewhere/lib 64" INCLUDEDIR="$spaced/elsewhere/include" \
+        DOCDIR="$spaced/elsewhere/doc"
+}
+
+# Makes a library of that name in a folder, whose calls are of version 4.
+older() {
+    mkdir -p "$1" && echo 'unsigned pigy_version(void) { return 4; }' |
+        gcc -shared -fPIC -x c - -o "$1/libpigyelund.so" || fail "an older library"
+}
+
+# finds COMMAND ..: Python takes the library that answers
+finds() { [ "$("$@" "$out/there/bin/python" "$out/finds.py" 2>&1)" = AS1 ] || fail "Python finds the library: $*"; }
+# names FOLDER COMMAND ..: Python takes the older library of a folder, and says in one line that it is older
+names() {
+    text="ImportError: $1/libpigyelund.so: the library has version 4 of the calls, and this package needs version 5; "
+    shift
+    "$@" "$out/there/bin/python" "$out/finds.py" 2>&1 | tail -n 1 | grep -qF "$text" || fail "Python names: $*: $text"
+}
+
+# Python takes the library in the folder PIGYELUND_LIB, else that of the package, else that of the loader.
+of_python_search() {
+    cat >"$out/finds.py" <<'END'
+import pigyelund
+print(pigyelund.Pigyelund().answer("norm as 1"))
+END
+    package=$(echo "$out"/there/lib/python3*/site-packages/pigyelund)
+    older "$out/older"
+    finds env PIGYELUND_LIB="$prefix/lib"
+    finds env -C "$prefix/lib" PIGYELUND_LIB=.
+    finds env -u PIGYELUND_LIB LD_LIBRARY_PATH="$prefix/lib"
+    mkdir "$out/runtime" && cp "$prefix/lib/libpigyelund.so" "$out/runtime/libpigyelund.so.1" || fail "a library alone"
+    finds env PIGYELUND_LIB="$out/runtime"
+    finds env -u PIGYELUND_LIB LD_LIBRARY_PATH="$out/runtime"
+    older "$out/runtime"
+    finds env -u PIGYELUND_LIB LD_LIBRARY_PATH="$out/runtime"
+    names "$out/older" env PIGYELUND_LIB="$out/older" LD_LIBRARY_PATH="$prefix/lib"
+    cp "$out/older/libpigyelund.so" "$package"
+    finds env PIGYELUND_LIB="$prefix/lib"
+    names "$package" env -u PIGYELUND_LIB LD_LIBRARY_PATH="$prefix/lib"
+    cp "$prefix/lib/libpigyelund.so" "$package"
+    finds env -u PIGYELUND_LIB LD_LIBRARY_PATH="$out/older"
+    names "$out/older" env PIGYELUND_LIB="$out/older"
+}
+
+# mypy accepts the package and right calls of it, and refuses wrong calls: those of the sources, and as pip installs it.
+of_python_types() {
+    has "the type hints of Python" mypy || return
+    foreign/python/test_types.py || fail "the type hints of the sources"
+    foreign/python/test_types.py "$out/there/bin/python" || fail "the type hints of the installed package"
+}
+
+# The files that the backend makes have the right metadata, sums and tags, and are the same octets each time. pip
+# installs the package in place, the source archive, and a wheel with the library inside. This wheel finds the library
+# by itself.
+of_python_wheels() {
+    PYTHONDONTWRITEBYTECODE=1 python3 foreign/python/test_wheel.py "$prefix/lib/libpigyelund.so" || fail "the wheels"
+    cp -rL foreign/python "$out/package" || { fail "a copy of the package"; return; }
+    pip_installs -e "$out/package" && finds env PIGYELUND_LIB="$prefix/lib"
+    imported=$("$out/there/bin/python" -c 'import pigyelund; print(pigyelund.__file__)')
+    [ "$imported" = "$out/package/pigyelund/__init__.py" ] ||
+        fail "pip install -e imports the package in place"
+    python3 -c 'import sys; sys.path[0] = sys.argv[1]; import wheel_of; wheel_of.build_sdist(sys.argv[2])' \
+        "$out/package" "$out" || fail "build_sdist"
+    pip_installs "$out"/pigyelund-*.tar.gz && finds env PIGYELUND_LIB="$prefix/lib"
+    cp "$prefix/lib/libpigyelund.so" "$out/package/pigyelund"
+    "$out/there/bin/pip" wheel -q --no-deps --config-settings=processor=x86-64-v2 -w "$out/wheels" "$out/package" ||
+        fail "pip wheel"
+    ls "$out"/wheels/pigyelund-*-py3-none-manylinux_*.whl >/dev/null ||
+        fail "the wheel with the library has a manylinux tag"
+    pip_installs "$out"/wheels/pigyelund-*.whl && finds env -u PIGYELUND_LIB LD_LIBRARY_PATH="$out/older"
+}
+
+# pip_installs ARGUMENT ..: pip installs the package from there, in place of the one that is installed
+pip_installs() {
+    "$out/there/bin/pip" uninstall -q -y pigyelund && rm -rf "$package" && "$out/there/bin/pip" install -q "$@" ||
+        fail "pip install $*"
+}
+
+# Each Python that the package names runs its test, and the one before the first can't import it.
+of_each_python() {
+    least=$(sed -n 's/^requires-python = ">=3\.\(.*\)"$/\1/p' foreign/python/pyproject.toml)
+    named=$(sed -n 's/^ *"Programming Language :: Python :: \(3\.[0-9]*\)",$/\1/p' foreign/python/pyproject.toml)
+    [ "$(echo "$named" | head -n 1)" = "3.$least" ] || fail "the first Python of the package is 3.$least: $named"
+    for version in $named; do
+        if ! "python$version" -c '' 2>/dev/null; then
+            echo "left out: the test of the package in Python $version needs python$version"
+        elif ! PYTHONPATH=foreign/python "python$version" foreign/python/test.py "$prefix/lib/libpigyelund.so" \
+            out/foreign; then
+            fail "the test in Python $version"
+        fi
+    done
+    before=python3.$((least - 1))
+    if ! "$before" -c '' 2>/dev/null; then
+        echo "left out: the Python before the package's first needs $before"
+    elif PYTHONPATH=foreign/python "$before" -c 'import pigyelund' 2>/dev/null; then
+        fail "$before imports the package, which wants python3.$least"
+    fi
+}
+
+of_python() {
+    PYTHONPATH=foreign/python python3 foreign/python/test.py "$prefix/lib/libpigyelund.so" out/foreign ||
+        fail "the test in Python"
+    of_each_python
+    python3 -c 'import ensurepip, venv' 2>/dev/null || { echo "left out: pip needs python3-venv"; return; }
+    python3 -m venv "$out/there" && "$out/there/bin/pip" install -q foreign/python || { fail "pip install"; return; }
+    of_python_search
+    of_python_types
+    of_python_wheels
+    on_page PYTHON.md "First program"
+    PIGYELUND_LIB="$prefix/lib" PYTHONPATH=foreign/python python3 foreign/python/examples/table.py \
+        <foreign/c/examples/vrps.csv >"$out/example.txt" &&
+        diff foreign/python/examples/table.txt "$out/example.txt" || fail "the example table.py"
+    if /usr/bin/python3 -c 'import pandas' 2>/dev/null; then
+        on_page PYTHON.md "Many routes"
+    else
+        echo "left out: many routes in Python need python3-pandas"
+    fi
+    tests/run/foreign_dask.py "$prefix/lib" || fail "routes in partitions by Dask"
+}
+
+# rust COMMAND ..: cargo runs a command on the package of Rust, without a network
+rust() {
+    command=$1
+    shift
+    cargo "$command" -q --offline --manifest-path foreign/rust/Cargo.toml "$@"
+}
+
+# says TEXT VALUE: the package of Rust isn't built with that value of PIGYELUND_LIB, and says why
+says() {
+    PIGYELUND_LIB=$2 rust check >"$out/log" 2>&1
+    [ $? -ne 0 ] && grep -qF "PIGYELUND_LIB=$2 $1: expected " "$out/log" || fail "cargo says: PIGYELUND_LIB=$2 $1"
+}
+
+# Once it was built, cargo asks build.rs again where a variable that build.rs reads has changed.
+of_rust_variables() {
+    variables=$(grep -oE '"[A-Z]+(_[A-Z]+)+"' foreign/rust/build.rs | tr -d '"')
+    [ -n "$variables" ] || fail "build.rs reads no variable by its name"
+    for variable in $variables; do
+        grep -qx "cargo:rerun-if-env-changed=$variable" "$CARGO_TARGET_DIR"/debug/build/pigyelund-*/output ||
+            fail "build.rs names $variable to cargo"
+    done
+    says "does not exist" "$spaced/another"
+}
+
+# The documentation is built without the library, as on docs.rs, and without a warning with it.
+of_rust_docs() {
+    RUSTDOCFLAGS=-Dwarnings rust doc --no-deps || fail "cargo doc"
+    for variable in DOCS_RS=1 RUSTFLAGS="--cfg docsrs"; do
+        env "$variable" PIGYELUND_LIB="$spaced/none" RUSTDOCFLAGS="-Dwarnings --cfg docsrs" CARGO_TARGET_DIR="$out/docs" \
+            cargo doc -q --offline --no-deps --manifest-path foreign/rust/Cargo.toml ||
+            fail "cargo doc with $variable and without the library"
+    done
+}
+
+# A crate that depends on the package gets the installed header, its number, and the version of the library.
+of_rust_dependent() {
+    mkdir -p "$out/dependent/src"
+    cat >"$out/dependent/Cargo.toml" <<END
+[package]
+name = "dependent"
+version = "0.1.0"
+edition = "2021"
+
+[dependencies]
+pigyelund = { path = "$PWD/foreign/rust" }
+END
+    cat >"$out/dependent/build.rs" <<'END'
+use std::env::var;
+
+fn main() {
+    for name in ["LIB", "ROOT", "INCLUDE", "CALLS", "VERSION"] {
+        println!("cargo:rustc-env={name}={}", var(format!("DEP_PIGYELUND_{name}")).unwrap());
+    }
+}
+END
+    cat >"$out/dependent/src/main.rs" <<'END'
+fn main() {
+    assert!(std::path::Path::new(env!("INCLUDE")).join("pigyelund.h").is_file());
+    assert_eq!(env!("CALLS"), pigyelund::version().to_string());
+    assert_eq!(env!("VERSION"), pigyelund::version_string());
+    println!("{} {} {}", env!("ROOT"), env!("LIB"), env!("VERSION"));
+}
+END
+    said=$(cargo run -q --offline --manifest-path "$out/dependent/Cargo.toml")
+    [ "$said" = "$prefix $prefix/lib $(cat VERSION)" ] || fail "a crate that depends on the package gets DEP_PIGYELUND_.."
+}
+
+# Copies the test files that all languages share into the crate, where cargo package takes them.
+make_rust_shared() {
+    mkdir -p foreign/rust/tests/shared &&
+        cp out/foreign/*.txt foreign/rust/tests/shared
+}
+
+# The package for crates.io is made without a warning, has the files of the repository, and passes its tests alone.
+of_rust_package() {
+    export CARGO_TARGET_DIR="$out/packed"
+    make_rust_shared || { fail "the shared test files are copied"; return; }
+    for option in --no-verify ""; do
+        cargo package --offline --allow-dirty $option --manifest-path foreign/rust/Cargo.toml >"$out/log" 2>&1 ||
+            fail "cargo package $option"
+        ! grep '^warning' "$out/log" || fail "cargo package $option prints no warning"
+    done
+    mkdir "$out/unpacked" && tar -xzf "$out"/packed/package/pigyelund-*.crate -C "$out/unpacked" --strip-components=1 ||
+        { fail "the package is unpacked"; return; }
+    cmp LICENSE "$out/unpacked/LICENSE" || fail "the package has the licence"
+    for name in rows texts numbers; do
+        cmp "out/foreign/$name.txt" "$out/unpacked/tests/shared/$name.txt" || fail "the package has $name.txt"
+    done
+    cargo test -q --offline --manifest-path "$out/unpacked/Cargo.toml" >"$out/log" 2>&1 ||
+        { cat "$out/log"; fail "the test in Rust"; }
+}
+
+of_rust_style() {
+    if cargo fmt --version >/dev/null 2>&1; then
+        cargo fmt --check --manifest-path foreign/rust/Cargo.toml || fail "cargo fmt"
+    else
+        echo "left out: the format of the package of Rust needs cargo fmt"
+    fi
+    if cargo clippy --version >/dev/null 2>&1; then
+        rust clippy --all-targets -- -D warnings || fail "cargo clippy"
+    else
+        echo "left out: the lints of the package of Rust need cargo clippy"
+    fi
+}
+
+of_rust() {
+    export PIGYELUND_LIB="$prefix/lib" CARGO_TARGET_DIR="$out/rust"
+    says "is a relative path" lib
+    says "does not exist" "$spaced/none"
+    says "has no file libpigyelund.a" "$prefix/include"
+    says "is a file" "$prefix/lib/libpigyelund.a"
+    same "the example in Rust" rust run --example verify
+    of_rust_variables
+    of_rust_docs
+    of_rust_style
+    of_rust_dependent
+    rust run --example path | diff foreign/rust/examples/path.txt - || fail "the example path in Rust"
+    has_python && on_page RUST.md "First program"
+    of_rust_package
+}
+
+if has_python; then
+    tests/run/foreign_page.py || fail "numbers and names"
+    tests/run/foreign_rows.py || fail "the rows are made"
+else
+    echo "left out: numbers, names, Python and the programs of pages need python3, from 3.10 on"
+fi
+if has "C, and all that is installed," gcc make ar objcopy nm readelf; then
+    of_c
+    of_install
+    has_python && { on_page C.md "First program"; on_page C.md "Verify a path"; of_python; }
+    for name in update table set; do example "$name"; done
+    has "the example in C++" g++ && example table_cpp
+    of_openssl
+    has "Rust" cargo cc tar && of_rust
+fi
+if [ $# -eq 0 ]; then
+    tests/run/release.sh || fail "a release"
+fi
+exit "$failed"

@@ -1,0 +1,199 @@
+#!/usr/bin/env python3
+"""Compares the numbers of the foreign calls in the library and in the header, and runs the programs of pages.
+
+Without arguments it checks these things:
+
+* foreign/numbers.txt has each number of the library.
+* The header defines the names of foreign/numbers.txt and no others.
+* The package for Python requires the first Python that has all that its sources use.
+* The package and tests/run/foreign.sh name the same Python.
+* The header states the stack on which foreign/c/test.c makes its calls.
+* The package of the shared library lists the symbols of foreign/c/exports.map. Each has the first version with it.
+
+tests/run/source_versions.py compares the versions.
+
+With PAGE SECTION PREFIX it runs the program of that section of a page, for example docs/C.md and `Verify a path`. The
+section's commands build the program in an empty folder, with the library that is installed under PREFIX. The program
+has to print what the page says. The status is 1 if something differs.
+"""
+
+import ast
+import re
+import subprocess
+import sys
+import tempfile
+from pathlib import Path
+
+from top import TOP
+from blocks import Report, blocks_of, run, told
+
+HEADER = TOP / "foreign" / "pigyelund.h"
+CRATE = TOP / "crates" / "pigyelund_c"
+ROUTES = TOP / "crates" / "pigyelund_routes"
+SYMBOLS = TOP / "packaging" / "libpigyelund1.symbols"
+# The names in pigyelund.h, each with its name in the library's definitions.
+CHOICES = dict(
+    LENIENT="encoding_number Any", STRICT="encoding_number Canonical",
+    REFUSE="mode_number Refuse", TRIM="mode_number Trim",
+    HAS_AS="present_number Numbers", HAS_IP="present_number Addresses", HAS_BOTH="present_number Both",
+    ASN="kind_number Numbers", IPV4="family_number Ipv4", IPV6="family_number Ipv6",
+    VALID="validity_number Valid", NOT_FOUND="validity_number NotFound", INVALID="validity_number Invalid",
+)  # fmt: skip
+# The reasons why a covering VRP does not match a route: two cases of IsMismatch. Their sum is the third case.
+MISMATCHES = {"OTHER_AS": 1, "TOO_LONG": 2}
+SOURCES = {"c": "program.c", "cpp": "program.cpp", "toml": "Cargo.toml", "rust": "src/main.rs", "python": "program.py"}
+
+
+def stored() -> dict[str, int]:
+    """Returns the numbers of foreign/numbers.txt, which the tests in each language share."""
+    text = (TOP / "foreign" / "numbers.txt").read_text()
+    return {name: int(number) for name, number in re.findall(r"^NUMBER\((\w+), (\d+)\)$", text, re.MULTILINE)}
+
+
+def of_library() -> dict[str, int]:
+    """Returns the library's own numbers: its statuses, its other constants, and the version of the calls."""
+    statuses = (ROUTES / "src" / "status.rt").read_text()
+    constants = re.findall(r"^pub const (\w+): u32 = (\d+);$", statuses, re.MULTILINE)
+    found = {name: int(number) for name, number in constants}
+    named = CRATE / "specs/Numbers", CRATE / "specs/Texts", ROUTES / "specs/Families", ROUTES / "specs/Origins"
+    specs = "".join(file.with_suffix(".antt").read_text() for file in named)
+    choices = dict(re.findall(r"^(\w+_number \w+) = (\d+)$", specs, re.MULTILINE))
+    found |= {name: int(choices[of]) for name, of in CHOICES.items()} | MISMATCHES
+    calls = (CRATE / "src" / "exports" / "verify.rt").read_text()
+    version = re.search(r"fn pigy_version\(\) -> u32\s+ensures \{ result ≡ (\d+) \}", calls)
+    return found | {"VERSION": int(version[1])} if version else found
+
+
+def of_header() -> set[str]:
+    """Returns the names that the header defines as numbers."""
+    text = HEADER.read_text()
+    return set(re.findall(r"^#define PIGY_(\w+) \w+u\b", text, re.MULTILINE))
+
+
+# Names of the standard library that the package may use, by the first minor version of Python 3 that has them.
+NEW_IN = {
+    10: "pairwise ParamSpec TypeAlias TypeGuard",
+    11: "StrEnum Self Never assert_never LiteralString tomllib ExceptionGroup",
+    12: "batched override Buffer",
+    13: "deprecated TypeIs",
+}
+NEW_NAMES = {name: minor for minor, names in NEW_IN.items() for name in names.split()}
+# The first minor version of Python 3 that has a form of the syntax.
+NEW_FORMS = {"Match": 10, "TryStar": 11, "TypeAlias": 12}
+
+
+def is_union(node: ast.AST) -> bool:
+    """Returns whether a node is a type written with a bar."""
+    return any(isinstance(it, ast.BinOp) and isinstance(it.op, ast.BitOr) for it in ast.walk(node))
+
+
+def first_of_node(node: ast.AST) -> int:
+    """Returns the first minor version of Python 3 that has what a node uses."""
+    found = NEW_FORMS.get(type(node).__name__, 0)
+    if isinstance(node, ast.ImportFrom | ast.Import):
+        names = [getattr(node, "module", None), *(it.name for it in node.names)]
+        found = max(NEW_NAMES.get(name or "", 0) for name in names)
+    elif isinstance(node, ast.Call) and isinstance(node.func, ast.Name) and node.func.id == "zip":
+        found = 10 if any(it.arg == "strict" for it in node.keywords) else 0
+    elif isinstance(node, ast.arg | ast.AnnAssign) and node.annotation and is_union(node.annotation):
+        found = 10
+    elif isinstance(node, ast.FunctionDef):
+        found = 10 if node.returns and is_union(node.returns) else 0
+        found = max(found, 12 if getattr(node, "type_params", None) else 0)
+    return found
+
+
+def of_python() -> list[str]:
+    """Returns what differs in the first Python that the package requires."""
+    folder = TOP / "foreign" / "python"
+    sources = [*sorted((folder / "pigyelund").glob("*.py")), *sorted(folder.glob("*_of.py"))]
+    used = max(first_of_node(node) for file in sources for node in ast.walk(ast.parse(file.read_text())))
+    wanted = {
+        folder / "pyproject.toml": f'requires-python = ">=3.{used}"',
+        TOP / "tests" / "run" / "foreign.sh": f"sys.version_info < (3, {used})",
+    }
+    faults = [
+        f"{file.relative_to(TOP)} doesn't have {text!r}, and the sources use Python 3.{used}"
+        for file, text in wanted.items()
+        if text not in file.read_text()
+    ]
+    words = [sys.executable, "-c", "import wheel_of; print(wheel_of.metadata())"]
+    made = subprocess.run(words, cwd=folder, capture_output=True, text=True, check=False)
+    if f"Requires-Python: >=3.{used}\n" not in made.stdout:
+        faults.append(f"the wheel doesn't require Python 3.{used}: {made.stdout}{made.stderr}")
+    for file in sources:
+        try:
+            ast.parse(file.read_text(), feature_version=(3, used))
+        except SyntaxError as fault:
+            faults.append(f"{file.relative_to(TOP)} is not Python 3.{used}: {fault}")
+    return faults
+
+
+def of_stack() -> list[str]:
+    """Returns the places that state another stack than the one on which foreign/c/test.c makes its calls."""
+    test = (TOP / "foreign" / "c" / "test.c").read_text()
+    names = ("STACK", "USED", "USED_TO_READ")
+    stack, used, to_read = (re.search(rf"\b{name} = (\d+) << 10\b", test) for name in names)
+    if not stack or not used or not to_read:
+        return [f"foreign/c/test.c lacks one of {', '.join(names)}"]
+    wanted = (
+        f"The stack has {stack[1]} KiB left.",
+        f"use less than {used[1]} KiB of it",
+        f"uses less than {to_read[1]} KiB for the deepest JSON that it reads",
+    )
+    said = HEADER.read_text()
+    return [f"{HEADER.name} doesn't say: {text}" for text in wanted if text not in said]
+
+
+def of_symbols() -> list[str]:
+    """Returns what differs between the symbols that the linker exports and those that the package lists."""
+    nodes = re.findall(r"^(\w[\w.]*) \{(.*?)\}", (TOP / "foreign" / "c" / "exports.map").read_text(), re.M | re.S)
+    exported = {f"{name}@{node}" for node, body in nodes for name in (node, *re.findall(r"^ *(pigy_\w+);", body, re.M))}
+    lines = re.findall(r"^ (\S+) (\S+)$", SYMBOLS.read_text(), re.MULTILINE)
+    file, last = SYMBOLS.relative_to(TOP), numbered((TOP / "VERSION").read_text())
+    faults = [f"{file} and exports.map: {it} is in one alone" for it in sorted(exported ^ {name for name, _ in lines})]
+    return faults + [f"{file}: {name} is new in {it}, after VERSION" for name, it in lines if numbered(it) > last]
+
+
+def numbered(version: str) -> list[int]:
+    """Returns the numbers of a version."""
+    return [int(it) for it in version.strip().split(".")]
+
+
+def numbers_differ() -> list[str]:
+    """Returns what differs in numbers and names."""
+    numbers, own = stored(), of_library()
+    faults = [
+        f"{name} is {own.get(name)} in the library and {numbers.get(name)} in numbers.txt"
+        for name in sorted(numbers.keys() | own.keys())
+        if own.get(name) != numbers.get(name)
+    ]
+    faults += [f"pigyelund.h and numbers.txt: {name} is in one alone" for name in sorted(of_header() ^ numbers.keys())]
+    return faults + of_python() + of_stack() + of_symbols()
+
+
+def compare_program(page: str, title: str, prefix: str) -> int:
+    """Runs the program of a section, and compares what it prints with the page. Returns the status of the test."""
+    report, blocks = Report(), blocks_of(page, f"## {title}") or blocks_of(page, f"### {title}")
+    if not blocks:
+        return told([f"{page} has no section {title} with a program"])
+    commands, shown = "".join(it.text for it in blocks if it.kind == "sh"), "".join(it.shown for it in blocks)
+    with tempfile.TemporaryDirectory() as folder:
+        for block in (it for it in blocks if it.kind not in ("sh", "text")):
+            file = Path(folder) / SOURCES[block.kind]
+            file.parent.mkdir(exist_ok=True)
+            file.write_text(block.text.replace('"REPOSITORY/', f'"{TOP}/'))
+        ran = run(commands or "exit 1", Path(folder), PREFIX=prefix, REPOSITORY=str(TOP))
+    report.compare(blocks[0].place, f"status 0\n{shown}", f"status {ran.returncode}\n{ran.stdout}", ran.stderr)
+    return report.status()
+
+
+def main() -> int:
+    """Compares the numbers, or runs the program that the arguments name."""
+    if sys.argv[1:]:
+        return compare_program(*sys.argv[1:])
+    return told(numbers_differ())
+
+
+if __name__ == "__main__":
+    sys.exit(main())

@@ -1,0 +1,912 @@
+#!/usr/bin/env python3
+"""foreign_rows.py [FOLDER]: makes rows.txt, the golden tests of the packages for C, Rust and Python, by the reference.
+
+FOLDER is out/foreign if none is named. The script copies foreign/numbers.txt and foreign/texts.txt there too.
+
+A row has nine words with spaces between them. Octets are in hexadecimal. A word without octets is `-`.
+
+1. The first word is the call and its numbers, joined by commas.
+2. The second to the fifth word are the input.
+3. The sixth word is the status.
+4. The seventh and the eighth word are the output.
+5. The last word is a count, an index, the number of a line or item, or `-`. It depends on the call.
+
+The input and the output depend on the call:
+
+* `verify` and the calls on two sets: a set or a certificate is two words, its AS extension and its IP extension. The
+  output is a set. The tests `contains` and `equal` have no output.
+* `path`: the anchor's set, the octets of all extensions, and the certificates. A certificate is six numbers. The last
+  word is the number of certificates that are verified.
+* `cover`: the octets of an IP extension. The output has each prefix's address and length.
+* `as_ranges` and `ip_ranges`: the octets of an extension. The output has two numbers for each range. A number has 4
+  octets for AS numbers and 16 for addresses.
+* `origins`: VRPs of 23 octets each, and routes of 22 octets each. Both have an address, an AS number, a family and a
+  length. A VRP also has a maximum length. The last word is the index of the first VRP or route that is invalid.
+* `covering`: the VRPs of a table, and a route. The output has 24 octets for each VRP that covers the route. The last
+  octet says why the VRP does not match.
+* `vrps`: the VRPs of a table. The output is the same VRPs in the order of a table.
+* `changed`: the VRPs of a table, the announced VRPs and the withdrawn VRPs. The output is all VRPs of the next table.
+* `differ`: the VRPs of two tables, and routes. The output is 1 for each route whose validity differs, and 0 for any
+  other route.
+* `read`: a file of VRPs. The output is its VRPs. The last word is the number of the first line or item that is invalid.
+* `text`: a list of resources as text. The output is a set.
+* `answer`: a line for `respath`. The output is the line that it prints.
+"""
+
+import shutil
+import sys
+from collections.abc import Iterable, Iterator
+from itertools import islice
+from operator import eq
+from pathlib import Path
+from random import Random
+from re import fullmatch
+from typing import NamedTuple
+
+from top import TOP
+from reference import asn, ip, lines, paths, prefixes, resources, vrp_files
+from reference.addresses import Family
+from reference.faults import BAD_AS_NUMBER, BAD_AS_RANGE, BAD_RANGE, FAMILY_MISMATCH, DerFault, Fault
+from reference.paths import Refused, Step
+from reference.random_lines import Maker
+from reference.resources import INHERIT, Claim, Families
+from reference.sets import Set, difference, has_all, intersection, merged, union
+
+Octets = tuple[bytes, bytes]
+Triple = tuple[Set, Set, Set]
+
+OK, INHERITED, BAD_MODE, OVERCLAIM_AS, NO, BAD_ENCODING = 0, 3, 4, 5, 8, 9
+ABSENT, OUTSIDE, BAD_PRESENT, BAD_FAMILY, BAD_PREFIX, BAD_MAX_LEN = 10, 11, 12, 13, 14, 15
+UNKNOWN_WITHDRAWAL, DUPLICATE_ANNOUNCEMENT, BAD_KIND = 17, 18, 19
+OTHER_AS, TOO_LONG = 1, 2
+BAD_AS, BAD_IP, SECOND = 0x100, 0x200, 0x1000
+BAD_LINE, BAD_ITEM, BAD_FILE, BAD_TEXT = 0x400, 0x800, 0xC00, 0x2000
+LENIENT, STRICT = 0, 1
+REFUSE, TRIM = 0, 1
+NUMBERS, ADDRESSES, BOTH = 1, 2, 3
+FAMILIES = {1: Family.V4, 2: Family.V6}
+VALIDITIES = {"Valid": 0, "NotFound": 1, "Invalid": 2}
+OPERATIONS = {"union": union, "intersection": intersection, "difference": difference}
+TESTS = {"contains": has_all, "equal": eq}
+ON_SETS = [*OPERATIONS, *TESTS]
+
+
+class Place(NamedTuple):
+    """A certificate of a path.
+
+    It has the start and the length of each extension in the octets, the number of the extensions that are present, and
+    the mode.
+    """
+
+    as_start: int
+    as_len: int
+    ip_start: int
+    ip_len: int
+    present: int
+    mode: int
+
+
+class Question(NamedTuple):
+    """A call, its numbers and its input."""
+
+    call: str
+    numbers: tuple[int, ...]
+    first: Octets
+    second: Octets = (b"", b"")
+    places: tuple[Place, ...] = ()
+
+
+class Answer(NamedTuple):
+    """A status, the output, and the last word of the row: a count, an index or a number of a line, or no number."""
+
+    status: int
+    written: Octets
+    verified: int | None = None
+
+
+class Status(Exception):
+    """A refusal, with its number, the overclaimed resources, and the index of an invalid VRP or route."""
+
+    def __init__(self, number: int, excess: Triple = ([], [], []), place: int | None = None) -> None:
+        super().__init__(number)
+        self.number, self.excess, self.place = number, excess, place
+
+
+def read_numbers(octets: bytes | None, strict: bool, base: int) -> Claim:
+    """Reads the claim on AS numbers. Returns None if the extension is absent."""
+    if octets is None:
+        return None
+    try:
+        return resources.all_of(resources.read_as_claim(octets, strict))
+    except DerFault as fault:
+        raise Status(base + BAD_AS + fault.number) from None
+
+
+def read_addresses(octets: bytes | None, strict: bool, base: int) -> Families:
+    """Reads the claims on addresses. Returns no claims if the extension is absent."""
+    if octets is None:
+        return Families(None, None)
+    try:
+        return resources.all_of(resources.read_families(octets, strict))
+    except DerFault as fault:
+        raise Status(base + BAD_IP + fault.number) from None
+
+
+def read_set(octets: Octets, strict: bool, base: int = 0) -> Triple:
+    """Reads a set from the octets of both extensions. Empty octets mean that an extension is absent."""
+    claims = read_numbers(octets[0] or None, strict, base), *read_addresses(octets[1] or None, strict, base)
+    if INHERIT in claims:
+        raise Status(base + INHERITED)
+    return claims[0] or [], claims[1] or [], claims[2] or []
+
+
+def left(kind: int, root: Set, claim: Claim, mode: int) -> Set:
+    """Returns the resources of one kind that a certificate has: its claim on the issuer's set `root`."""
+    try:
+        return paths.left(root, [Step(claim, mode == TRIM)])
+    except Refused as refused:
+        excess: list[Set] = [[], [], []]
+        excess[kind] = refused.excess
+        raise Status(OVERCLAIM_AS + kind, (excess[0], excess[1], excess[2])) from None
+
+
+def is_strict(encoding: int) -> bool:
+    """Returns whether an encoding takes only canonical DER."""
+    if encoding not in (LENIENT, STRICT):
+        raise Status(BAD_ENCODING)
+    return encoding == STRICT
+
+
+def expect_numbers(present: int, mode: int) -> None:
+    """Refuses a wrong value of `present`, or else a wrong mode."""
+    if present not in range(BOTH + 1):
+        raise Status(BAD_PRESENT)
+    if mode not in (REFUSE, TRIM):
+        raise Status(BAD_MODE)
+
+
+def issued(issuer: Triple, present: int, octets: Octets, strict: bool, mode: int) -> Triple:
+    """Returns the verified resources of a certificate under an issuer's set."""
+    if not present:
+        raise Status(ABSENT)
+    asn_claim = read_numbers(octets[0] if present & NUMBERS else None, strict, SECOND)
+    families = read_addresses(octets[1] if present & ADDRESSES else None, strict, SECOND)
+    numbers = left(0, issuer[0], asn_claim, mode)
+    v4 = left(1, issuer[1], families.v4, mode)
+    return numbers, v4, left(2, issuer[2], families.v6, mode)
+
+
+def verified(question: Question) -> Triple:
+    """Returns the result of the call `verify`."""
+    encoding, present, mode = question.numbers
+    strict = is_strict(encoding)
+    expect_numbers(present, mode)
+    return issued(read_set(question.first, strict), present, question.second, strict, mode)
+
+
+def issued_at(issuer: Triple, place: Place, run: bytes, strict: bool) -> Triple:
+    """Returns the verified resources of a certificate whose extensions are parts of `run`."""
+    ends = place.as_start + place.as_len, place.ip_start + place.ip_len
+    if max(ends) > len(run):
+        raise Status(OUTSIDE)
+    expect_numbers(place.present, place.mode)
+    octets = run[place.as_start : ends[0]], run[place.ip_start : ends[1]]
+    return issued(issuer, place.present, octets, strict, place.mode)
+
+
+def path_answer(question: Question) -> Answer:
+    """Returns the answer of the call `path`: the verified resources of the last certificate."""
+    count = 0
+    try:
+        strict = is_strict(question.numbers[0])
+        issuer = read_set(question.first, strict)
+        for place in question.places:
+            issuer = issued_at(issuer, place, question.second[0], strict)
+            count += 1
+    except Status as refusal:
+        return Answer(refusal.number, written(refusal.excess), count)
+    return Answer(OK, written(issuer), count)
+
+
+def cover_octets(question: Question) -> bytes:
+    """Returns the shortest cover of the addresses of a family: the octets of each prefix's address, and its length."""
+    encoding, number = question.numbers
+    strict = is_strict(encoding)
+    if number not in FAMILIES:
+        raise Status(BAD_FAMILY)
+    family, found = FAMILIES[number], read_set((b"", question.first[0]), strict)[number]
+    behind = 128 - family.bits
+    bounds = [(low >> behind, high >> behind) for low, high in found]
+    cover = prefixes.cover(bounds, family.bits)
+    return b"".join(first.to_bytes(family.bits // 8, "big") + bytes([length]) for first, length in cover)
+
+
+# The text of the fault of an element of a list, and its number. Any other text is that of a wrong address.
+TEXT_FAULTS = {BAD_AS_NUMBER: 2, BAD_AS_RANGE: 3, FAMILY_MISMATCH: 6, BAD_RANGE: 7}
+
+
+def text_set(question: Question) -> Triple:
+    """Returns the set of one kind that a list as text describes."""
+    (kind,), octets = question.numbers, question.first[0]
+    if kind not in (0, *FAMILIES):
+        raise Status(BAD_KIND)
+    found: list[Set] = [[], [], []]
+    try:
+        text = octets.decode("utf-8")
+        found[kind] = ip.read_set(text, FAMILIES[kind]) if kind else asn.read_set(text)
+    except UnicodeDecodeError:
+        raise Status(BAD_TEXT + 1) from None
+    except Fault as fault:
+        number = 5 if str(fault).startswith("bad prefix length: ") else TEXT_FAULTS.get(str(fault), 4)
+        raise Status(BAD_TEXT + number) from None
+    return found[0], found[1], found[2]
+
+
+def range_octets(question: Question) -> bytes:
+    """Returns the ranges of the AS numbers, or of the addresses of a family, as two numbers each."""
+    encoding, *family = question.numbers
+    strict = is_strict(encoding)
+    if not family:
+        found = read_set((question.first[0], b""), strict)[0]
+        return b"".join(low.to_bytes(4, "big") + high.to_bytes(4, "big") for low, high in found)
+    if family[0] not in FAMILIES:
+        raise Status(BAD_FAMILY)
+    bits = FAMILIES[family[0]].bits
+    pairs = read_set((b"", question.first[0]), strict)[family[0]]
+    ends = [end >> 128 - bits for pair in pairs for end in pair]
+    return b"".join(end.to_bytes(bits // 8, "big").ljust(16, b"\0") for end in ends)
+
+
+def prefix_of(octets: bytes, base: int, place: int) -> prefixes.Prefix:
+    """Reads the prefix of a VRP or of a route, which is at an index."""
+    number, length = octets[20:22]
+    if number not in FAMILIES:
+        raise Status(base + BAD_FAMILY, place=place)
+    family = FAMILIES[number]
+    address = int.from_bytes(octets[: family.bits // 8], "big")
+    if length > family.bits or address % (1 << family.bits - length):
+        raise Status(base + BAD_PREFIX, place=place)
+    return prefixes.Prefix(family, address, length)
+
+
+def vrp_of(octets: bytes, base: int = 0, place: int = 0) -> prefixes.Vrp:
+    """Reads a VRP, which is at an index."""
+    prefix = prefix_of(octets, base, place)
+    if not prefix.length <= octets[22] <= prefix.family.bits:
+        raise Status(base + BAD_MAX_LEN, place=place)
+    return prefixes.Vrp(prefixes.MaxLenPrefix(prefix, octets[22]), int.from_bytes(octets[16:20], "big"))
+
+
+def vrps_in(octets: bytes, base: int = 0) -> list[prefixes.Vrp]:
+    """Reads the VRPs of an array."""
+    return [vrp_of(each, base, place) for place, each in enumerate(cut(octets, 23))]
+
+
+def routes_in(octets: bytes) -> list[tuple[prefixes.Prefix, int]]:
+    """Reads the routes of an array: the prefix and the AS number of each."""
+    found = enumerate(cut(octets, 22))
+    return [(prefix_of(each, SECOND, place), int.from_bytes(each[16:20], "big")) for place, each in found]
+
+
+def origins_answer(question: Question) -> Answer:
+    """Returns the validity of each route under the VRPs."""
+    vrps = vrps_in(question.first[0])
+    found = [VALIDITIES[prefixes.validity(*route, vrps)] for route in routes_in(question.second[0])]
+    return Answer(OK, (bytes(found), b""), 0)
+
+
+def vrp_octets(vrp: prefixes.Vrp) -> bytes:
+    """Returns the octets of a VRP."""
+    family, address, length = vrp.prefix.prefix
+    octets = address.to_bytes(family.bits // 8, "big").ljust(16, b"\0") + vrp.asn.to_bytes(4, "big")
+    return octets + bytes([1 if family is Family.V4 else 2, length, vrp.prefix.resolved()])
+
+
+def table_place(vrp: prefixes.Vrp) -> tuple[int, ...]:
+    """Returns the sort key of a VRP in a table.
+
+    The order is by family, address and length, then by AS number from the largest, then by maximum length.
+    """
+    family, address, length = vrp.prefix.prefix
+    return family.bits, address, length, -vrp.asn, vrp.prefix.resolved()
+
+
+def covering_octets(route: bytes, vrps: list[prefixes.Vrp]) -> bytes:
+    """Returns the VRPs that cover a route, the longest prefix first, each with why it does not match (RFC 6811, 2)."""
+    ((prefix, number),) = routes_in(route)
+    found = sorted((one for one in vrps if one.prefix.prefix.covers(prefix)), key=table_place, reverse=True)
+    octets = b""
+    for vrp in found:
+        why = OTHER_AS * (vrp.asn != number or number == 0) + TOO_LONG * (prefix.length > vrp.prefix.resolved())
+        octets += vrp_octets(vrp) + bytes([why])
+    return octets
+
+
+def changed_vrps(
+    vrps: list[prefixes.Vrp], announced: list[prefixes.Vrp], withdrawn: list[prefixes.Vrp]
+) -> list[prefixes.Vrp]:
+    """Returns the VRPs that a router has after changes (RFC 8210, 5.3 and 12). Checks withdrawals first."""
+    left = set(vrps)
+    for place, vrp in enumerate(withdrawn):
+        if vrp not in left:
+            raise Status(UNKNOWN_WITHDRAWAL, place=place)
+        left.remove(vrp)
+    for place, vrp in enumerate(announced):
+        if vrp in left:
+            raise Status(DUPLICATE_ANNOUNCEMENT, place=place)
+        left.add(vrp)
+    return [one for one in vrps if one in left and one not in announced] + announced
+
+
+def differ_answer(question: Question) -> Answer:
+    """Returns for each route whether its validity differs between two lists of VRPs."""
+    old, new = map(vrps_in, question.first)
+    routes = routes_in(question.second[0])
+    found = [prefixes.validity(*route, old) != prefixes.validity(*route, new) for route in routes]
+    return Answer(OK, (bytes(found), b""), 0)
+
+
+def table_answer(question: Question) -> Answer:
+    """Returns the answer of a call on a table: the VRPs that cover a route, its VRPs, or the VRPs of the next table."""
+    vrps = vrps_in(question.first[0])
+    match question.call:
+        case "covering":
+            return Answer(OK, (covering_octets(question.second[0], vrps), b""), 0)
+        case "changed":
+            announced, withdrawn = vrps_in(question.second[0]), vrps_in(question.second[1], SECOND)
+            vrps = changed_vrps(vrps, announced, withdrawn)
+    return Answer(OK, (b"".join(map(vrp_octets, sorted(vrps, key=table_place))), b""), 0)
+
+
+# How the text of the fault of a VRP begins, and its number. Any other text is that of a wrong AS number.
+VRP_FAULTS = {"not UTF-8": 1, "too many fields: ": 2, "too few fields: ": 3}
+VRP_FAULTS |= {"invalid prefix: ": 5, "invalid max length: ": 6, "max-length ": 7}
+FIRST_OF_MEMBER = {"asn": 8, "prefix": 11, "maxLength": 14, "roas": 3}
+MEMBER_FAULTS = ("missing", "repeated", "wrong kind of value")
+FILE_FAULTS = {"a JSON array, where an object with the member roas is expected": 1, "not a JSON object": 2, "no VRP": 6}
+
+
+def fault_number(text: str) -> int:
+    """Returns the number of the fault of a line, of an item, or of the member `roas`."""
+    name, _, rest = text.partition(": ")
+    if name in FIRST_OF_MEMBER:
+        return FIRST_OF_MEMBER[name] + MEMBER_FAULTS.index(rest)
+    return next((number for begin, number in VRP_FAULTS.items() if text.startswith(begin)), 4)
+
+
+def file_answer(question: Question) -> Answer:
+    """Returns the VRPs of a file, or its first fault."""
+    try:
+        vrps = vrp_files.read(question.first[0])
+    except Fault as fault:
+        text = str(fault)
+        if text.startswith("line 1: neither a known header nor a VRP"):
+            return Answer(BAD_FILE + 7, (b"", b""), 0)
+        if found := fullmatch(r"(line|item) (\d+): (.*)", text):
+            base = BAD_LINE if found[1] == "line" else BAD_ITEM
+            return Answer(base + fault_number(found[3]), (b"", b""), int(found[2]))
+        return Answer(BAD_FILE + (FILE_FAULTS.get(text) or fault_number(text)), (b"", b""), 0)
+    return Answer(OK, (b"".join(map(vrp_octets, vrps)), b""), 0)
+
+
+def cut(octets: bytes, length: int) -> list[bytes]:
+    """Splits octets into parts of a length."""
+    return [octets[at : at + length] for at in range(0, len(octets), length)]
+
+
+def asked_of_sets(question: Question) -> Triple:
+    """Returns the result of an operation on two sets.
+
+    A test of two sets that holds returns no resources. A test that does not hold raises the status NO.
+    """
+    strict = is_strict(question.numbers[0])
+    first, second = read_set(question.first, strict), read_set(question.second, strict, SECOND)
+    if operation := OPERATIONS.get(question.call):
+        asn, v4, v6 = map(operation, first, second)
+        return asn, v4, v6
+    if not all(map(TESTS[question.call], first, second)):
+        raise Status(NO)
+    return [], [], []
+
+
+def written(found: Triple) -> Octets:
+    """Returns the values of both extensions of a set."""
+    families = Families(paths.claim_of(found[1]), paths.claim_of(found[2]))
+    return resources.written_as_claim(paths.claim_of(found[0])), resources.written_families(families)
+
+
+def written_by(question: Question) -> Octets:
+    """Returns the output of a call that succeeds."""
+    match question.call:
+        case "verify":
+            return written(verified(question))
+        case "cover":
+            return cover_octets(question), b""
+        case "text":
+            return written(text_set(question))
+        case "as_ranges" | "ip_ranges":
+            return range_octets(question), b""
+        case "answer":
+            return lines.answer(question.first[0]).encode("utf-8"), b""
+    return written(asked_of_sets(question))
+
+
+# The calls whose answer has a last word.
+ANSWERS = {"path": path_answer, "origins": origins_answer, "differ": differ_answer, "read": file_answer}
+ANSWERS |= dict.fromkeys(("covering", "vrps", "changed"), table_answer)
+
+
+def answer(question: Question) -> Answer:
+    """Returns the answer of a call."""
+    try:
+        if question.call in ANSWERS:
+            return ANSWERS[question.call](question)
+        return Answer(OK, written_by(question))
+    except Status as refusal:
+        return Answer(refusal.number, written(refusal.excess), refusal.place)
+
+
+# ---- questions
+
+
+def listed(numbers: str, v4: str, v6: str) -> Octets:
+    """Returns the octets of the set that three lists describe."""
+    return written((asn.read_set(numbers), ip.read_set(v4, Family.V4), ip.read_set(v6, Family.V6)))
+
+
+ISSUER = listed("AS1-AS10, AS64496", "10.0.0.0/8, 192.0.2.0-192.0.2.9", "2001:db8::/32")
+ALL = listed("AS0-AS4294967295", "0.0.0.0/0", "::/0")
+NOTHING: Octets = (b"", b"")
+INHERITS: Octets = (bytes.fromhex("3004a0020500"), bytes.fromhex("301030060402000105003006040200020500"))
+CERTIFICATES: list[Octets] = [
+    NOTHING,
+    INHERITS,
+    (INHERITS[0], b""),
+    (b"", INHERITS[1]),
+    ISSUER,
+    ALL,
+    listed("AS2-AS7", "10.2.0.0/16, 192.0.2.4", "2001:db8:7::/48"),
+    listed("AS9-AS12", "", ""),
+    listed("", "12.0.0.0/8", "fd00::/8"),
+    listed("", "10.9.0.0-10.9.0.77", "fd00::/8, 2001:db8::1"),
+    listed("AS3", "", "2001:db8::5-2001:db8::9"),
+    # blocks that touch, overlap or come in another order, and IPv6 before IPv4
+    (
+        bytes.fromhex("300da00b3009020105020104020104"),
+        bytes.fromhex("3020300d04020002300703050020010db8300f0402000130090303000a020302000a"),
+    ),
+    (bytes.fromhex("300fa00d300b3006020104020105020106"), bytes.fromhex("3011300f0402000130090303000a020302000a")),
+]
+
+
+def altered(certificate: Octets, source: Random) -> Iterator[Octets]:
+    """Yields altered copies of a certificate.
+
+    Each extension is cut at each index, gets one more octet, and gets another octet at each index.
+    """
+    for at in range(2):
+        octets = certificate[at]
+        others = [octets[:end] for end in range(1, len(octets))] + [octets + b"\0"] * bool(octets)
+        for place in range(len(octets)):
+            others.append(octets[:place] + bytes([source.randrange(256)]) + octets[place + 1 :])
+        for other in others:
+            yield (other, certificate[1]) if at == 0 else (certificate[0], other)
+
+
+def random_set(source: Random) -> Octets:
+    """Returns a random set with a few ranges of each kind."""
+    found = []
+    for width, whole in ((32, 1), (32, 2**96), (128, 1)):
+        starts = [source.randrange(2**width) >> source.randrange(width) for _ in range(source.randrange(4))]
+        ends = [min(start + source.randrange(2 ** source.randrange(width)), 2**width - 1) for start in starts]
+        runs = zip(starts, ends, strict=True)
+        found.append(merged((start * whole, (end + 1) * whole - 1) for start, end in runs))
+    return written((found[0], found[1], found[2]))
+
+
+def present_in(certificate: Octets) -> int:
+    """Returns the value of `present` for the extensions that have octets."""
+    return NUMBERS * bool(certificate[0]) | ADDRESSES * bool(certificate[1])
+
+
+def of_certificates() -> Iterator[Question]:
+    """Yields `verify` for each certificate, issuer, encoding and mode, wrong numbers, and altered and random sets."""
+    source = Random(3779)
+
+    def asked(encoding: int, mode: int, issuer: Octets, certificate: Octets) -> Question:
+        return Question("verify", (encoding, present_in(certificate), mode), issuer, certificate)
+
+    for certificate in CERTIFICATES:
+        for issuer in (ISSUER, ALL, NOTHING):
+            for encoding in (LENIENT, STRICT):
+                for mode in (REFUSE, TRIM):
+                    yield asked(encoding, mode, issuer, certificate)
+        yield asked(LENIENT, REFUSE, certificate, ISSUER)
+        yield asked(STRICT, TRIM, certificate, INHERITS)
+    for encoding, mode in ((2, REFUSE), (STRICT, 2), (2**32 - 1, 2**32 - 1), (LENIENT, 256), (256, LENIENT)):
+        yield asked(encoding, mode, ISSUER, ISSUER)
+        yield asked(encoding, mode, (b"\0", b"\0"), NOTHING)
+    for other in altered(CERTIFICATES[6], source):
+        yield asked(source.randrange(2), source.randrange(2), ISSUER, other)
+        yield asked(source.randrange(2), source.randrange(2), other, NOTHING)
+    for _ in range(300):
+        yield asked(source.randrange(2), source.randrange(2), random_set(source), random_set(source))
+
+
+def of_absence() -> Iterator[Question]:
+    """Yields `verify` for each value of `present`, with and without octets."""
+    bad = b"\0"
+    for present in (0, 1, 2, 3, 4, 2**32 - 1):
+        for numbers in (ISSUER[0], b"", bad):
+            for addresses in (ISSUER[1], b"", bad):
+                yield Question("verify", (LENIENT, present, REFUSE), ISSUER, (numbers, addresses))
+        yield Question("verify", (STRICT, present, 2), ISSUER, INHERITS)
+        yield Question("verify", (STRICT, present, TRIM), (bad, bad), NOTHING)
+
+
+def packed(certificates: list[tuple[Octets, int, int]], source: Random) -> tuple[bytes, tuple[Place, ...]]:
+    """Returns the octets of certificates, with other octets between their extensions, and their places."""
+    run, places = b"", []
+    for octets, present, mode in certificates:
+        found = []
+        for extension in octets:
+            run += source.randbytes(source.randrange(3))
+            found += [len(run), len(extension)]
+            run += extension
+        places.append(Place(*found, present, mode))
+    return run, tuple(places)
+
+
+def of_paths() -> Iterator[Question]:
+    """Yields paths of no, one and several certificates, places outside of the octets, and wrong numbers."""
+    source = Random(8360)
+
+    def asked(encoding: int, anchor: Octets, run: bytes, places: tuple[Place, ...]) -> Question:
+        return Question("path", (encoding,), anchor, (run, b""), places)
+
+    for anchor in CERTIFICATES:
+        yield asked(LENIENT, anchor, b"", ())
+    for length in (1, 2, 3, 4, 6) * 60:
+        chosen = [source.choice(CERTIFICATES[source.choice((1, 2, 4, 6)) :]) for _ in range(length)]
+        steps = [(octets, present_in(octets), source.randrange(2)) for octets in chosen]
+        anchor = source.choice((ALL, ALL, ISSUER, CERTIFICATES[6]))
+        yield asked(source.randrange(2), anchor, *packed(steps, source))
+    run, places = packed([(ALL, BOTH, TRIM), (CERTIFICATES[6], BOTH, REFUSE)], source)
+    first, second = places
+    for place in (
+        second._replace(as_start=len(run) - second.as_len + 1),
+        second._replace(ip_len=second.ip_len + len(run)),
+        second._replace(as_start=2**64 - 1),
+        second._replace(as_len=2**64 - 1),
+        second._replace(ip_start=2**64 - 1, ip_len=2, present=NUMBERS),
+        second._replace(ip_start=0, ip_len=0, present=NUMBERS),
+        second._replace(as_start=len(run), as_len=0, present=ADDRESSES),
+        second._replace(as_start=len(run), as_len=0),
+        second._replace(present=0),
+        second._replace(present=4),
+        second._replace(present=2**32 - 1, mode=2),
+        second._replace(mode=2),
+        second._replace(as_start=first.as_start, as_len=first.as_len),
+    ):
+        for encoding in (LENIENT, STRICT):
+            yield asked(encoding, ISSUER, run, (first, place))
+            yield asked(encoding, ALL, run, (place, first))
+    for encoding in (2, 2**32 - 1):
+        yield asked(encoding, (b"\0", b""), run, places)
+    for anchor in ((b"\0", b""), (b"", b"\0"), INHERITS):
+        yield asked(STRICT, anchor, run, places)
+    yield asked(STRICT, ISSUER, b"", places)
+
+
+def of_covers() -> Iterator[Question]:
+    """Yields covers of both families for sets and for invalid octets, and wrong numbers."""
+    source = Random(4632)
+
+    def asked(encoding: int, family: int, octets: bytes) -> Question:
+        return Question("cover", (encoding, family), (octets, b""))
+
+    for octets in (*CERTIFICATES, *(random_set(source) for _ in range(40))):
+        for family in (1, 2):
+            yield asked(source.randrange(2), family, octets[1])
+    for encoding, family in ((2, 1), (STRICT, 0), (STRICT, 3), (2**32 - 1, 2**32 - 1), (LENIENT, 257)):
+        yield asked(encoding, family, ISSUER[1])
+        yield asked(encoding, family, b"\0")
+    for other in altered((b"", CERTIFICATES[6][1]), source):
+        yield asked(source.randrange(2), source.choice((1, 2)), other[1])
+
+
+def routed(family: int, address: int, length: int, number: int, max_len: int | None = None) -> bytes:
+    """Returns the octets of a VRP, or those of a route if there is no `max_len`."""
+    width = 4 if family == 1 else 16
+    octets = address.to_bytes(width, "big").ljust(16, b"\xff") + number.to_bytes(4, "big") + bytes([family, length])
+    return octets if max_len is None else octets + bytes([max_len])
+
+
+def random_routed(source: Random, is_vrp: bool) -> bytes:
+    """Returns a random VRP or route. Few addresses and AS numbers occur, so that many VRPs cover a route."""
+    family = source.choice((1, 2))
+    bits = 32 if family == 1 else 128
+    length = source.choice((0, 8, 9, 16, 24, bits - 1, bits))
+    address = source.choice((10, 11, 0x20)) << bits - 8 | source.randrange(4) << bits - 16 | source.randrange(2)
+    max_len = source.randrange(length, bits + 1) if is_vrp else None
+    return routed(family, address >> bits - length << bits - length, length, source.randrange(4), max_len)
+
+
+def of_origins() -> Iterator[Question]:
+    """Yields VRPs and routes, an invalid VRP or route at each index, and extreme numbers."""
+    source = Random(6811)
+
+    def asked(vrps: list[bytes], routes: list[bytes]) -> Question:
+        return Question("origins", (), (b"".join(vrps), b""), (b"".join(routes), b""))
+
+    for count in (0, 1, 2, 3, 5, 9, 40) * 10:
+        vrps = [random_routed(source, True) for _ in range(count)]
+        yield asked(vrps, [random_routed(source, False) for _ in range(source.randrange(12))])
+    good = routed(1, 10 << 24, 8, 64496, 24)
+    fine = routed(1, 10 << 24, 24, 64496)
+    ends = [routed(1, 0, 0, 1, 32), routed(2, 0, 0, 2**32 - 1, 128), routed(2, 2**128 - 1, 128, 7, 128)]
+    yield asked(ends, [routed(2, 2**128 - 1, 128, 7), routed(1, 2**32 - 1, 32, 1), routed(1, 0, 0, 0), routed(2, 0, 0, 1)])
+    ten = 10 << 24
+    families = (0, 0, 0, 1, 0), (3, 0, 0, 1, 0), (255, 1, 255, 1, 0)
+    lengths = (1, ten, 33, 1, 33), (1, ten, 6, 1, 32), (1, 1, 31, 1, 0), (2, 1, 127, 1, 128), (2, 0, 129, 1, 255)
+    most_lengths = (1, ten, 8, 1, 7), (1, ten, 8, 1, 33), (2, 0, 128, 1, 127), (2, 0, 0, 1, 129)
+    for bad in (routed(*it) for it in (*families, *lengths, *most_lengths)):
+        for place in (0, 1, 2):
+            vrps, routes = [good, good], [fine, fine]
+            yield asked(vrps[:place] + [bad] + vrps[place:], routes)
+            yield asked(vrps, routes[:place] + [bad[:22]] + routes[place:])
+            yield asked([bad, *vrps], [bad[:22]])
+
+
+def of_tables() -> Iterator[Question]:
+    """Yields calls on tables: covered routes, lists of VRPs, and valid and invalid changes."""
+    source = Random(8210)
+
+    def asked(call: str, vrps: list[bytes], *others: list[bytes]) -> Question:
+        second, fourth = (*map(b"".join, others), b"", b"")[:2]
+        return Question(call, (), (b"".join(vrps), b""), (second, fourth))
+
+    def distinct(count: int) -> list[bytes]:
+        """Returns VRPs that all differ from each other."""
+        found: dict[prefixes.Vrp, bytes] = {}
+        while len(found) < count:
+            octets = random_routed(source, True)
+            found.setdefault(vrp_of(octets), octets)
+        return list(found.values())
+
+    for count in (0, 1, 2, 3, 5, 9, 40) * 4:
+        vrps = [random_routed(source, True) for _ in range(count)]
+        yield asked("vrps", vrps)
+        for _ in range(3):
+            yield asked("covering", vrps, [random_routed(source, False)])
+    for count in (1, 2, 4, 8, 24) * 4:
+        all_of = distinct(count + 4)
+        table, fresh = all_of[:count], all_of[count:]
+        gone = source.sample(table, source.randrange(count + 1))
+        yield asked("changed", table, fresh, gone)
+        yield asked("changed", table, fresh + gone[:1], gone)
+        yield asked("changed", table + gone, fresh, gone)
+        yield asked("changed", table, fresh, gone + fresh[:1])
+        yield asked("changed", table, fresh, [*gone, *gone[:1]])
+        yield asked("changed", table, fresh + [one for one in table if one not in gone][:1], gone)
+        yield asked("changed", table, fresh + fresh[:1], gone)
+        yield asked("changed", table, fresh + fresh[:1], gone + fresh[:1])
+    good, fine = routed(1, 10 << 24, 8, 64496, 24), routed(1, 10 << 24, 24, 64496)
+    chain = [routed(1, 0, length, asn, 24) for length in range(25) for asn in (0, 1, 2)]
+    for asn in range(3):
+        for length in (0, 24, 25, 32):
+            yield asked("covering", chain, [routed(1, 0, length, asn)])
+    for bad in (routed(0, 0, 0, 1, 0), routed(1, 1, 31, 1, 31), routed(1, 10 << 24, 8, 1, 33)):
+        yield asked("vrps", [good, bad])
+        yield asked("covering", [bad], [fine])
+        yield asked("covering", [good], [bad[:22]])
+        yield asked("changed", [good], [bad], [bad])
+        yield asked("changed", [good], [], [good, bad])
+        yield asked("changed", [good], [good, bad], [bad])
+
+
+HEADER = b"ASN,IP Prefix,Max Length,Trust Anchor,Expires\n"
+LINES = [
+    b"AS64496,10.0.0.0/8,16,ripe,1732600000\n",
+    b"64497,2001:db8::/32,48,apnic,0\r\n",
+    b' "AS0" , "0.0.0.0/0" ,32\n',
+    b"AS4294967295,ffff:ffff::/32,128,,\n",
+    b"AS1,255.255.255.255/32,32\n",
+    b"AS2,10.0.0.0/8,\n",
+]
+# Invalid lines, each with another fault.
+WRONG_LINES = [
+    *(b"\xff\n", b"AS1,10.0.0.0/8,8,ripe,0,more\n", b"AS1,10.0.0.0/8\n", b"ASX,10.0.0.0/8,8\n"),
+    *(b"AS4294967296,10.0.0.0/8,8\n", b"AS1,10.0.0.0/33,8\n", b"AS1,10.0.0.1/8,8\n"),
+    *(b"AS1,10.0.0.0/8,256\n", b"AS1,10.0.0.0/8,x\n", b"AS1,10.0.0.0/8,7\n", b"AS1,10.0.0.0/8,33\n"),
+]
+ITEMS = [
+    b'{"asn": 64496, "prefix": "10.0.0.0/8", "maxLength": 16, "ta": "ripe"}',
+    b'{"asn": "AS64497", "prefix": "2001:db8::/32", "maxLength": 48}',
+    b'{"maxLength": 32, "prefix": "0.0.0.0/0", "asn": 0, "expires": [{"at": null}]}',
+]
+WRONG_ITEMS = [
+    b"17",
+    b'{"prefix": "10.0.0.0/8", "maxLength": 16}',
+    b'{"asn": 1, "asn": 1, "prefix": "10.0.0.0/8", "maxLength": 16}',
+    b'{"asn": null, "prefix": "10.0.0.0/8", "maxLength": 16}',
+    b'{"asn": 1, "maxLength": 16}',
+    b'{"asn": 1, "prefix": "10.0.0.0/8", "prefix": "10.0.0.0/8", "maxLength": 16}',
+    b'{"asn": 1, "prefix": 10, "maxLength": 16}',
+    b'{"asn": 1, "prefix": "10.0.0.0/8"}',
+    b'{"asn": 1, "prefix": "10.0.0.0/8", "maxLength": 16, "maxLength": 16}',
+    b'{"asn": 1, "prefix": "10.0.0.0/8", "maxLength": "16"}',
+    b'{"asn": 1.5, "prefix": "10.0.0.0/8", "maxLength": 16}',
+    b'{"asn": 1, "prefix": "10.0.0.0", "maxLength": 16}',
+    b'{"asn": 1, "prefix": "10.0.0.0/8", "maxLength": 256}',
+    b'{"asn": 1, "prefix": "10.0.0.0/8", "maxLength": 7}',
+]
+WRONG_FILES = [
+    *(b"", b"\n \n", HEADER, b" [1]", b"[", b"{", b"{}"),
+    *(b'{"roas": []} x', b'{"roas": []}', b'{"roas": [], "roas": []}', b'{"roas": {}}'),
+    *(b"asn,ip prefix,max length\n", b"roa-set {\n", b"AS1;10.0.0.0/8;8\n", HEADER.lower() + LINES[0]),
+    *(b'{"roas": ' + b"[" * 200 + b"]" * 200 + b"}", b'{"roas": ["\xff"]}', b"\xef\xbb\xbf", b"\xef\xbb\xbf{}"),
+]
+
+
+def of_texts() -> Iterator[Question]:
+    """Yields valid and damaged lists of each kind, octets that are not UTF-8, and unknown kinds."""
+
+    def asked(kind: int, text: bytes) -> Question:
+        return Question("text", (kind,), (text, b""))
+
+    for kind in (0, 1, 2, 3, 256, 2**32 - 1):
+        for text in (b"", b" , ,", b"\xff", b"AS1", b"10.0.0.1", b"::1", b"AS2-AS1", b"10.0.0.2-10.0.0.1", b"10.0.0.0/33"):
+            yield asked(kind, text)
+    for command in ("norm", "der"):
+        maker = Maker(command, 35)
+        for _ in range(120):
+            _, kind, text = maker.line().split(b" ", 2)
+            yield asked({b"as": 0, b"v4": 1, b"v6": 2}.get(kind, 3), text)
+
+
+def of_ranges() -> Iterator[Question]:
+    """Yields ranges of AS numbers and addresses for sets and for invalid octets, and wrong numbers."""
+    source = Random(3779_2)
+    for octets in (*CERTIFICATES, *(random_set(source) for _ in range(40))):
+        yield Question("as_ranges", (source.randrange(2),), (octets[0], b""))
+        for family in (1, 2):
+            yield Question("ip_ranges", (source.randrange(2), family), (octets[1], b""))
+    for encoding, family in ((2, 1), (STRICT, 0), (STRICT, 3), (2**32 - 1, 2**32 - 1), (LENIENT, 257)):
+        for octets in (ISSUER, (b"\0", b"\0")):
+            yield Question("as_ranges", (encoding,), (octets[0], b""))
+            yield Question("ip_ranges", (encoding, family), (octets[1], b""))
+    for other in altered((CERTIFICATES[6][0], b""), source):
+        yield Question("as_ranges", (source.randrange(2),), (other[0], b""))
+    for other in altered((b"", CERTIFICATES[6][1]), source):
+        yield Question("ip_ranges", (source.randrange(2), source.choice((1, 2))), (other[1], b""))
+
+
+def of_files() -> Iterator[Question]:
+    """Yields valid files, files with an invalid line or item at each index, and files that are invalid as a whole."""
+    source = Random(9582)
+
+    def asked(file: bytes) -> Question:
+        return Question("read", (), (file, b""))
+
+    def of_json(items: list[bytes]) -> bytes:
+        return b'{"metadata": {"counts": 2}, "roas": [' + b", ".join(items) + b"]}\n"
+
+    for mark in (b"", b"\xef\xbb\xbf"):
+        yield asked(mark + HEADER + b"".join(LINES))
+        yield asked(mark + b"".join(LINES).removesuffix(b"\n"))
+        yield asked(mark + b" \n" + of_json(ITEMS))
+    yield asked(b"ASN,Prefix,Max prefix length\n" + LINES[0][:21] + b"\n")
+    yield asked(b"Max Length,x,ASN,IP Prefix\n16,,AS5,10.0.0.0/8\n" + HEADER + LINES[1])
+    for wrong in WRONG_LINES:
+        for place in range(3):
+            lines_of = [LINES[0], b"\n", LINES[1]]
+            yield asked(HEADER + b"".join([*lines_of[:place], wrong, *lines_of[place:]]))
+        yield asked(wrong)
+    for wrong in WRONG_ITEMS:
+        for place in range(3):
+            yield asked(of_json([*ITEMS[:place], wrong, *ITEMS[place:]]))
+    for wrong in WRONG_FILES:
+        yield asked(wrong)
+    # The deepest texts that are read, and some that are deeper, in an item and beside the array.
+    for depth in (124, 125, 126, 127, 128):
+        for opens, closes in ((b"[", b"]"), (b'{"a":', b"}")):
+            nested = opens * depth + b"0" + closes * depth
+            yield asked(of_json([ITEMS[0][:-1] + b', "x": ' + nested + b"}"]))
+            yield asked(b'{"x": ' + nested + b', "roas": [' + ITEMS[0] + b"]}")
+    for count in (1, 2, 3, 9, 41) * 4:
+        chosen = [vrp_of(random_routed(source, True)) for _ in range(count)]
+        fields = [(vrp.asn, str(vrp.prefix.prefix.text()), vrp.prefix.resolved()) for vrp in chosen]
+        yield asked(b"".join(f"AS{asn},{text},{most}\n".encode() for asn, text, most in fields))
+        yield asked(of_json([f'{{"asn": {asn}, "prefix": "{text}", "maxLength": {most}}}'.encode() for asn, text, most in fields]))
+
+
+def of_differences() -> Iterator[Question]:
+    """Yields routes under two tables with few, many, the same or no VRPs, and an invalid route at several indexes."""
+    source = Random(6811_4)
+
+    def asked(old: list[bytes], new: list[bytes], routes: list[bytes]) -> Question:
+        return Question("differ", (), (b"".join(old), b"".join(new)), (b"".join(routes), b""))
+
+    for count in (0, 1, 2, 3, 9, 40) * 6:
+        old = [random_routed(source, True) for _ in range(count)]
+        kept = source.sample(old, source.randrange(count + 1))
+        new = kept + [random_routed(source, True) for _ in range(source.randrange(4))]
+        yield asked(old, new, [random_routed(source, False) for _ in range(source.choice((0, 1, 5, 11, 12, 13, 30)))])
+        yield asked(old, old[::-1], [random_routed(source, False) for _ in range(3)])
+    good, fine = routed(1, 10 << 24, 8, 64496, 24), routed(1, 10 << 24, 24, 64496)
+    for bad in (routed(0, 0, 0, 1), routed(1, 1, 31, 1), routed(2, 0, 129, 1), routed(1, 10 << 24, 33, 1)):
+        for count in (2, 11, 12, 13, 25):
+            for place in (0, 1, count):
+                routes = [fine] * count
+                yield asked([good], [], routes[:place] + [bad] + routes[place:])
+
+
+def of_lines() -> Iterator[Question]:
+    """Yields valid and damaged lines of each command, and lines without a known command."""
+    for line in (b"", b" ", b"\xff", b"norm", b"norm v5 0.0.0.0", b"cover as AS1", b"NORM as AS1", b"der as inherit\0"):
+        yield Question("answer", (), (line, b""))
+    for command in ("norm", "cover", "der", "read", "path"):
+        maker = Maker(command, 34)
+        for _ in range(60):
+            yield Question("answer", (), (maker.line(), b""))
+
+
+def of_sets() -> Iterator[Question]:
+    """Yields each pair of sets, each set with itself, unknown encodings, and altered and random sets."""
+    source = Random(6487)
+
+    def asked(call: str, encoding: int, first: Octets, second: Octets) -> Question:
+        return Question(call, (encoding,), first, second)
+
+    pairs = [(first, second) for first in CERTIFICATES for second in CERTIFICATES]
+    for at, (first, second) in enumerate(pairs):
+        yield asked(ON_SETS[at % len(ON_SETS)], at // len(ON_SETS) % 2, first, second)
+    for call in ON_SETS:
+        for octets in CERTIFICATES:
+            yield asked(call, LENIENT, octets, octets)
+        yield asked(call, 2, ISSUER, ISSUER)
+        yield asked(call, 2**32 - 1, (b"\0", b"\0"), NOTHING)
+    for other in altered(CERTIFICATES[6], source):
+        yield asked(source.choice(ON_SETS), source.randrange(2), ISSUER, other)
+        yield asked(source.choice(ON_SETS), source.randrange(2), other, ISSUER)
+    for at in range(200):
+        first, second = random_set(source), random_set(source)
+        if at % 2:  # the first set contains the second
+            first = answer(asked("union", LENIENT, first, second)).written
+        yield asked(ON_SETS[at % len(ON_SETS)], source.randrange(2), first, second)
+
+
+def hexadecimal(octets: bytes) -> str:
+    """Returns octets as a word of a row."""
+    return octets.hex() or "-"
+
+
+def joined(parts: Iterable[object], by: str) -> str:
+    """Returns parts as one word of a row."""
+    return by.join(map(str, parts)) or "-"
+
+
+def rows() -> Iterator[str]:
+    """Yields the rows of the file."""
+    parts = of_certificates, of_absence, of_paths, of_sets, of_covers, of_origins, of_tables, of_differences, of_lines
+    parts = *parts, of_files, of_texts, of_ranges
+    for question in (question for part in parts for question in part()):
+        found = answer(question)
+        words = [question.call, joined(question.numbers, ","), *map(hexadecimal, (*question.first, *question.second))]
+        if question.call == "path":
+            words[-1] = joined((joined(place, ":") for place in question.places), ";")
+        verified = "-" if found.verified is None else str(found.verified)
+        yield " ".join((*words, str(found.status), *map(hexadecimal, found.written), verified))
+
+
+def write(folder: Path, count: int | None = None) -> None:
+    """Writes the rows into a folder, or only this number of them, beside the numbers and the texts of foreign/."""
+    folder.mkdir(parents=True, exist_ok=True)
+    (folder / "rows.txt").write_text("".join(f"{row}\n" for row in islice(rows(), count)))
+    for name in ("numbers.txt", "texts.txt"):
+        shutil.copy(TOP / "foreign" / name, folder)
+
+
+if __name__ == "__main__":
+    write(Path(sys.argv[1]) if sys.argv[1:] else TOP / "out" / "foreign")

@@ -1,0 +1,468 @@
+#!/usr/bin/env bash
+# Tests release in two parts. The first part runs it in a copy of the tree, beside a kit that proves nothing: what
+# release refuses, and that the same commit makes the same archive and the same Debian packages. The second part makes a
+# release and the packages of this tree, if its programs are built and it has no changes: the sums hold, each line of
+# the manual's examples gives the output that the page shows, a program in C builds by what is unpacked. In both parts
+# each package installs below a clean root, and lintian finds no error and no warning. The script names the tools that
+# are missing. The status is 0 if nothing failed. tests/hand/debian_packages.sh installs the packages in a Debian system.
+cd "$(dirname "$0")/../.." || exit 1
+unset LIB KIT MAINTAINER deb
+top=$PWD
+out=$(mktemp -d) || exit 1
+trap 'rm -rf "$out"' EXIT
+version=$(cat VERSION)
+. tests/lib/expect.sh
+
+# ---- in a copy, beside a kit that proves nothing
+
+copy="$out/a copy"
+kit=$out/kit
+archive=pigyelund-$version.tar.gz
+
+# Makes the kit: rt says what the files of its folder say, and takes programs and the library from there.
+make_kit() {
+    mkdir -p "$kit/bin" "$kit/c" "$kit/proved" "$kit/said" "$kit/tools"
+    cat >"$kit/bin/rt" <<'END'
+#!/bin/sh
+kit=$(dirname "$(dirname "$(readlink -f "$0")")")
+crate=${PWD##*/}
+case $1 in
+version) cat "$kit/identity"; exit ;;
+ci)
+    for crate in respath_program origins; do
+        mkdir -p "crates/$crate/out" && cp -p "$kit/proved/$crate" "crates/$crate/out"
+    done
+    exit
+    ;;
+lib) file=out/lib$crate.a ;;
+run) file=out/$crate ;;
+check) file= ;;
+esac
+[ ! -e "$kit/meanwhile" ] || . "$kit/meanwhile"
+[ -z "$file" ] || [ ! -e "$kit/proved/${file#out/}" ] || { mkdir -p out && cp -p "$kit/proved/${file#out/}" "$file"; }
+cat "$kit/said/$crate"
+END
+    chmod +x "$kit/bin/rt"
+    sed -n 's/^The kit that last proved all crates is `\(.*\)`\.$/\1/p' README.md >"$kit/identity"
+    local name
+    sum=$(sed 's/.* //' "$kit/identity")
+    for name in respath_program origins pigyelund_c; do
+        printf 'axioms %s\nlogic=proved axioms=6 sum=%s native=nat\n' "$name" "$sum" >"$kit/said/$name"
+    done
+    for name in respath_program origins; do
+        printf '#!/bin/sh\necho %s\n' "$name" >"$kit/proved/$name"
+        chmod +x "$kit/proved/$name"
+    done
+    # The calls of the library, except those of texts.c, which the Makefile adds.
+    {
+        echo 'unsigned pigy_version(void) { return 5; }'
+        sed -n 's/^ \(pigy_[a-z_]*\)@.*/\1/p' packaging/libpigyelund1.symbols | while IFS= read -r name; do
+            [ "$name" = pigy_version ] || grep -q "^[a-z][a-z0-9_ *]*\b$name(" foreign/c/texts.c ||
+                echo "void $name(void) {}"
+        done
+    } | gcc -fPIC -c -x c - -o "$out/one.o" &&
+        printf '#include <stdlib.h>\nvoid *of_kit(size_t n) { return malloc(n); }\n' |
+        gcc -fPIC -c -x c - -o "$out/two.o" &&
+        ar rcs "$kit/proved/libpigyelund_c.a" "$out/one.o" && ar rcs "$kit/c/liblibc_c.a" "$out/two.o"
+}
+
+# Makes the copy anew, of the files that a release reads, with the programs that are proved there.
+make_copy() {
+    rm -rf "$copy" "$out/made" "$kit/meanwhile" "$kit/tools"
+    mkdir -p "$copy" "$kit/tools"
+    tar -cf - --exclude=out --exclude=__pycache__ .gitignore HANDLES release program.sh respath origins \
+        README.md CHANGELOG.md LICENSE VERSION foreign packaging tests/lib/blocks.py tests/run/foreign_page.py tests/run/foreign.sh \
+        tests/run/page_logic.sh tests/run/source_versions.py tests/run/release.sh tests/run/api_pages.py tests/run/top.py tests/lib/api_paths.py tests/lib/groups.py docs vectors \
+        crates/origins/src crates/respath_program crates/pigyelund_c/{src,specs} crates/pigyelund_routes/{src,specs} | tar -xf - -C "$copy"
+    (
+        cd "$copy" || exit
+        printf '#: programs\nrespath_program:\norigins:\n' >crates.txt
+        git init -q && git add -A &&
+            GIT_COMMITTER_DATE=@1700000000 git -c user.name=Nobody -c user.email=nobody@rpki.net commit -q -m copy ||
+            exit
+        for program in respath origins; do
+            crate=$(crate_of "$program")
+            mkdir -p "crates/$crate/out" && cp "$kit/proved/$crate" "crates/$crate/out/$crate" &&
+                PATH=$kit/bin:$PATH "./$program" --note-kit
+        done
+    )
+}
+
+# In the copy: runs a release with these variables, to out/made. If `deb` is set, it makes the packages.
+released() {
+    (cd "$copy" && PATH=$kit/tools:$kit/bin:$PATH env "$@" ./release ${deb:+--deb} "$version" "$out/made" 2>&1)
+}
+
+# refuses WHAT TEXT COMMAND: after the command in the copy the release says this and makes nothing
+refuses() {
+    local said status
+    make_copy || { fail "a copy for $1"; return; }
+    (cd "$copy" && eval "$3") || fail "what should make a refusal: $1"
+    said=$(released)
+    status=$?
+    [ "$status" -eq 1 ] && [ "$(printf '%s\n' "$said" | tail -n 1)" = "release: $2" ] ||
+        fail "$1: status $status, $said"
+    [ -z "$(ls "$out/made" 2>/dev/null)" ] || fail "$1: $(ls "$out/made") is made"
+}
+
+# Refuses a program that is not proved: another file in its place, no note, another file with a note of its own.
+refuses_what_is_not_proved() {
+    local program crate verb verdict
+    for program in respath origins; do
+        crate=$(crate_of "$program")
+        refuses "another $program" "$program isn't the one that was proved here" "echo >>crates/$crate/out/$crate"
+        refuses "no note of $program" "$program isn't the one that was proved here" "rm crates/$crate/out/proved-with"
+        refuses "$program by another logic" "$program isn't the one that was proved here" \
+            "sed -i 's/logic .*/logic 0123456789abcdef/' crates/$crate/out/proved-with"
+        refuses "no $crate of the prover" "rt run made no $crate" "mv '$kit/proved/$crate' '$out/away'"
+        mv "$out/away" "$kit/proved/$crate"
+    done
+    refuses "a library that the prover didn't make" "rt lib made no libpigyelund_c.a" \
+        "mkdir -p crates/pigyelund_c/out && mv '$kit/proved/libpigyelund_c.a' crates/pigyelund_c/out"
+    mv "$copy/crates/pigyelund_c/out/libpigyelund_c.a" "$kit/proved" 2>/dev/null || make_kit
+    for crate in respath_program origins pigyelund_c; do
+        verb=check
+        [ "$crate" != pigyelund_c ] || verb=lib
+        for verdict in "logic=not-proved sum=$sum" "logic=built proved sum=$sum" "proved" ""; do
+            refuses "$crate with the verdict '$verdict'" "rt $verb gives no verdict of $crate" \
+                "printf 'axioms\n%s\n' '$verdict' >'$kit/said/$crate'"
+            make_kit
+        done
+        refuses "$crate with two verdicts" "rt $verb gives another verdict of $crate" \
+            "echo logic=not-proved >>'$kit/said/$crate'"
+        make_kit
+        for verdict in "sum=0123456789abcdef" "sum=${sum}0" "other-sum=$sum" ""; do
+            refuses "$crate by another logic: '$verdict'" "rt $verb proves $crate by another logic" \
+                "echo 'logic=proved axioms=6 $verdict' >'$kit/said/$crate'"
+        done
+        make_kit
+    done
+    refuses "another logic of the prover" "the README names $(sed 's/^[^ ]* //' "$kit/identity"), and rt has logic 0" \
+        "echo 'a-kit logic 0' >'$kit/identity'"
+    make_kit
+}
+
+# Refuses what is not committed: changed, new, staged or hidden files, a change meanwhile, and a folder without a
+# repository.
+refuses_what_is_not_committed() {
+    changed="files were changed since the last commit"
+    refuses "a changed file" "$changed" 'echo >>README.md'
+    refuses "a new file" "$changed" 'echo >crates/pigyelund_routes/src/new.rt'
+    refuses "a new file that the configuration hides" "$changed" \
+        'git config status.showUntrackedFiles no && echo >crates/pigyelund_routes/src/new.rt'
+    refuses "a staged file" "$changed" 'echo >>README.md && git add README.md'
+    refuses "a change while it is proved" "$changed" "echo 'echo >>\"$copy/README.md\"' >'$kit/meanwhile'"
+    refuses "another commit while it is proved" "there is another commit" \
+        "echo 'git -C \"$copy\" -c user.name=n -c user.email=e commit -q --allow-empty -m more' >'$kit/meanwhile'"
+    refuses "another version of the program origins" "versions differ" \
+        "sed -i 's/VERSION: &str = \"/&9/' crates/origins/src/help.rt"
+    refuses "another version in the changes" "versions differ" "sed -i 's/^## /&9/' CHANGELOG.md"
+    refuses "another number of a status" "numbers or names differ" "sed -i 's/(OK, 0)/(OK, 9)/' foreign/numbers.txt"
+    refuses "no repository" "$copy is no git repository" 'rm -rf .git'
+    refuses "a folder in another repository" "$copy is no git repository" \
+        'rm -rf .git && git init -q .. && rm -rf "$copy/out"'
+    rm -rf "$out/.git"
+}
+
+# tool NAME PATTERN FILE: makes a tool that the release finds in place of another one. If its words match the pattern it
+# does the same, and then adds a line to a file, in which LAST is its last word.
+tool() {
+    cat >"$kit/tools/$1" <<END
+#!/bin/sh
+"$(command -v "$1")" "\$@" || exit
+case \$* in
+$2) for LAST; do :; done; echo other >>"$3" ;;
+esac
+END
+    chmod +x "$kit/tools/$1"
+}
+
+# Refuses a file that changes after its sum was noted: a program as it is installed, the library, and the archive.
+refuses_other_sums() {
+    local program noted="the archive doesn't have the files whose sums were noted"
+    for program in respath origins; do
+        refuses "a $program that is changed as it is installed" "$program isn't the one that was proved here" \
+            "tool install '*out/$program*/bin/$program*' '\$LAST'"
+    done
+    refuses "a library that is changed meanwhile" "libpigyelund_c.a isn't the one that was proved here" \
+        "tool make '*install*' '$copy/crates/pigyelund_c/out/libpigyelund_c.a'"
+    refuses "an archive with another file" "$noted" \
+        "tool tar '*-xzf*' '\$LAST/${archive%.tar.gz}/share/doc/pigyelund/LICENSE'"
+    refuses "an archive with one file more" "$noted" "tool tar '*-xzf*' '\$LAST/${archive%.tar.gz}/more'"
+    refuses "an archive without its sums" "$noted" "tool sha256sum '*/LICENSE*' /dev/stdout"
+    refuses "an archive that can't be read" "$noted" \
+        "tool gzip '*.tar' '\$LAST.gz' && printf 'printf x >\"\$LAST.gz\"\n' >>'$kit/tools/gzip'"
+}
+
+# The same commit makes the same archive: at another time, in another zone, with another mask, by another owner, with
+# another library in the variables, and after a planted program whose note is right. A missing program is built first.
+makes_the_same() {
+    make_copy
+    released >"$out/said" || { cat "$out/said"; fail "a release in a copy"; return; }
+    [ "$(tail -n 1 "$out/said")" = "$out/made/$archive" ] || fail "the last line: $(tail -n 1 "$out/said")"
+    head -n 1 "$out/said" | grep -qx 'release: ./check --all has to pass at this commit, [0-9a-f]*' ||
+        fail "the first line: $(head -n 1 "$out/said")"
+    mv "$out/made" "$out/first"
+    sleep 1.1
+    printf '#!/bin/sh\necho planted\n' >"$copy/crates/respath_program/out/respath_program"
+    (cd "$copy" && PATH=$kit/bin:$PATH ./respath --note-kit)
+    rm -r "$copy/crates/origins/out"
+    cp "$out/first/pigyelund-$version/lib/libpigyelund.a" "$out/other.a" && ar r "$out/other.a" LICENSE 2>/dev/null
+    find "$copy" -name .git -prune -o -type f -exec touch -d '2001-01-01' {} +
+    chmod g+s "$copy" && [ "$(id -u)" -ne 0 ] || chown -R 12345:12345 "$copy"
+    (umask 077 && released TZ=Asia/Tokyo LANG=C.UTF-8 LIB="$out/other.a" KIT="$out" GZIP=-1 \
+        TAR_OPTIONS=--owner=me GIT_CONFIG_COUNT=1 GIT_CONFIG_KEY_0=safe.directory GIT_CONFIG_VALUE_0='*') \
+        >"$out/said" || { cat "$out/said"; fail "a second release"; return; }
+    cmp "$out/first/$archive" "$out/made/$archive" || fail "the same commit makes the same archive"
+    tar --numeric-owner --full-time -tvzf "$out/made/$archive" >"$out/list"
+    [ -s "$out/list" ] && ! grep -v ' 0/0 .* 2023-11-14 22:13:20 ' "$out/list" ||
+        fail "owners are 0, and times that of the commit"
+    tar -tzf "$out/made/$archive" | LC_ALL=C sort -c || fail "files in the archive are in order"
+    modes "$out/made/pigyelund-$version" bin || fail "modes of the release"
+    ! grep -rlF -e "$copy" -e "$top" -e "$(uname -n)" "$out/made/pigyelund-$version" ||
+        fail "a release names its builder"
+}
+
+# modes FOLDER BIN: programs and folders have mode 755, other files 644; runners of the vectors have one of the two
+modes() {
+    [ "$2" = none ] || [ -n "$(find "$1/$2" -type f)" ] && [ -z "$(find "$1" -type d ! -perm 0755 -print -o \
+        -type f -path "*/vectors/run/*" ! -perm 0755 ! -perm 0644 -print -o -path "*/vectors/run/*" -o \
+        -type f -path "*/$2/*" ! -perm 0755 -print -o -type f ! -path "*/$2/*" ! -perm 0644 -print)" ]
+}
+
+# try_package PACKAGE NAME BIN: its fields, owners and modes; and it installs below a clean root, whose libc6 and
+# python3 are this system's. dpkg --verify finds nothing wrong there, and finds each file that is changed.
+try_package() {
+    local package=$1 name=$2 bin=$3 said file
+    [ "$(dpkg-deb -f "$package" Package Version)" = "Package: $name
+Version: $version" ] || fail "the fields of the package $name"
+    dpkg-deb -c "$package" >"$out/list"
+    [ -s "$out/list" ] && ! grep -Ev '^(drwxr-xr-x|-rw-r--r--|-rwxr-xr-x|lrwxrwxrwx) root/root ' "$out/list" ||
+        fail "owners and modes in the package"
+    rm -rf "$out/root"
+    mkdir -p "$out/root/var/lib/dpkg/info" "$out/root/var/lib/dpkg/updates" "$out/no" &&
+        : >"$out/root/var/lib/dpkg/status"
+    # There is no Python in the root, so its modules are not compiled there.
+    ln -sf "$(type -P true)" "$out/no/py3compile"
+    to_root() {
+        PATH=$out/no:$PATH dpkg --root="$out/root" --log="$out/dpkg" --force-not-root --force-depends \
+            --force-script-chrootless "$@"
+    }
+    to_root -i "$package" >"$out/log" 2>&1 || { cat "$out/log"; fail "dpkg --install"; }
+    said=$(to_root --verify "$name" 2>&1) && [ -z "$said" ] || fail "dpkg --verify: $said"
+    modes "$out/root/usr" "$bin" || fail "modes of the installed files of $name"
+    find "$out/root/usr" -type f | while IFS= read -r file; do
+        cp -p "$file" "$out/kept" && echo >>"$file"
+        to_root --verify "$name" 2>&1 | grep -qF "${file#"$out/root"}" || echo "dpkg --verify doesn't see ${file##*/}"
+        cp -p "$out/kept" "$file"
+    done >"$out/unseen"
+    [ ! -s "$out/unseen" ] || { cat "$out/unseen"; fail "dpkg --verify sees each changed file"; }
+}
+
+# try_vectors PACKAGE: it installs, its files are those of the tree, and its runner validates them.
+try_vectors() {
+    try_package "$1" pigyelund-vectors share/pigyelund/vectors/run
+    local file
+    [ "$(dpkg-deb -f "$1" Architecture)" = all ] || fail "the vectors are a package of one architecture"
+    for file in vectors/*.json vectors/schemas/*.json vectors/README.md vectors/run/*.*; do
+        cmp "$file" "$out/root/usr/share/pigyelund/$file" || fail "$file in the package"
+    done
+    "$out/root/usr/share/pigyelund/vectors/run/validate.py" >"$out/log" ||
+        { cat "$out/log"; fail "the installed vectors"; }
+}
+
+# Makes a tool that installs files of another owner, as whoever isn't root does.
+install_as_other() {
+    [ "$(id -u)" -eq 0 ] || return 0
+    cat >"$kit/tools/install" <<END
+#!/bin/sh
+"$(command -v install)" "\$@" && for LAST; do :; done && chown -R 12345:12345 "\$LAST"
+END
+    chmod +x "$kit/tools/install"
+}
+
+# same_packages FOLDER OTHER: both have the same packages, and there are five of them.
+same_packages() { diff -r "$1" "$2" && [ "$(cd "$1" && echo *.deb | sed 's/_[^ ]*//g')" = "$packages" ]; }
+packages="libpigyelund-dev libpigyelund1 pigyelund-vectors pigyelund python3-pigyelund"
+
+# field PACKAGE FIELD: prints a field of a package
+field() { dpkg-deb -f "$made/$1"_*.deb "$2"; }
+# member PACKAGE FILE: prints a control file of a package
+member() { dpkg-deb --ctrl-tarfile "$made/$1"_*.deb | tar -xOf - "./$2"; }
+
+# guide_leads PAGE: each relative link of an installed page leads to a file
+guide_leads() {
+    local link
+    grep -o '](\(\.\./\)*[A-Za-z][^):# ]*[)#]' "$1" | tr -d '](#)' | sort -u >"$out/links"
+    [ -s "$out/links" ] || fail "$1 has no links"
+    while IFS= read -r link; do
+        [ -e "$(dirname "$1")/$link" ] || fail "${1##*/} links to $link, which the package lacks"
+    done <"$out/links"
+}
+
+# try_packages FOLDER: each package installs; the fields, control files, copyright and changelogs are as they should be.
+try_packages() {
+    made=$1
+    local name folder lib so=libpigyelund.so.1
+    for name in $packages; do
+        folder=none
+        [ "$name" != pigyelund ] || folder=bin
+        [ "$name" = pigyelund-vectors ] || try_package "$made/${name}"_*.deb "$name" "$folder"
+        [ "$(field "$name" Source)" = pigyelund ] || [ "$name" = pigyelund ] || fail "the source of $name"
+        dpkg-deb --fsys-tarfile "$made/$name"_*.deb | tar -xOf - "./usr/share/doc/$name/changelog.gz" |
+            gzip -d >"$out/changelog" && dpkg-parsechangelog -l "$out/changelog" >"$out/parsed" 2>&1 &&
+            grep -qx "Version: $version" "$out/parsed" && ! grep -q warning "$out/parsed" ||
+            { cat "$out/parsed"; fail "the changelog of $name"; }
+        dpkg-deb --fsys-tarfile "$made/$name"_*.deb | tar -xOf - "./usr/share/doc/$name/copyright" >"$out/copyright" &&
+            grep -q '^Copyright: 2026, the Pigyelund authors$' "$out/copyright" &&
+            grep -q '^           2018, NLnet Labs' "$out/copyright" &&
+            [ "$(grep -c '^License: ' "$out/copyright")" -eq 3 ] || fail "the copyright of $name"
+    done
+    try_vectors "$made"/pigyelund-vectors_*.deb
+    # The library, and what is computed of it.
+    rm -rf "$out/lib" && dpkg-deb -x "$made"/libpigyelund1_*.deb "$out/lib" &&
+        dpkg-deb -x "$made"/libpigyelund-dev_*.deb "$out/lib" || fail "the files of the library"
+    lib=$out/lib/usr/lib/$(gcc -print-multiarch)
+    guide_leads "$out/lib/usr/share/doc/libpigyelund-dev/docs/C.md"
+    [ "$(objdump -p "$lib/$so" | sed -n 's/^  SONAME *//p')" = "$so" ] || fail "the soname"
+    [ "$(readlink "$lib/libpigyelund.so")" = "$so" ] || fail "the link for the linker"
+    grep -qx "Version: $version" "$lib/pkgconfig/pigyelund.pc" || fail "the version of pigyelund.pc"
+    grep -qx "prefix=/usr" "$lib/pkgconfig/pigyelund.pc" || fail "the prefix of pigyelund.pc"
+    [ "$(member libpigyelund1 shlibs)" = "libpigyelund 1 libpigyelund1 (>= 0.2.0)" ] || fail "shlibs"
+    [ "$(member libpigyelund1 triggers)" = "activate-noawait ldconfig" ] || fail "triggers"
+    case $(field libpigyelund1 Depends) in "libc6 (>= 2."*) ;; *) fail "Depends of the library" ;; esac
+    [ "$(field libpigyelund-dev Depends)" = "libpigyelund1 (= $version)" ] || fail "Depends of libpigyelund-dev"
+    [ "$(field python3-pigyelund Depends)" = "python3 (>= 3.10), libpigyelund1 (>= 0.2.0)" ] ||
+        fail "Depends of python3-pigyelund"
+    [ "$(field libpigyelund1 Multi-Arch) $(field libpigyelund-dev Multi-Arch) $(field pigyelund Multi-Arch)" = \
+        "same same foreign" ] || fail "Multi-Arch"
+    if has "the symbols of the library" dpkg-gensymbols; then
+        mkdir -p "$out/symbols/debian"
+        printf 'Source: x\n\nPackage: libpigyelund1\nArchitecture: any\n' >"$out/symbols/debian/control"
+        member libpigyelund1 symbols >"$out/symbols/there"
+        (cd "$out/symbols" && dpkg-gensymbols -plibpigyelund1 -v"$version" -e"$lib/$so" -Ithere -O -c4 -q >made) &&
+            diff "$out/symbols/there" "$out/symbols/made" || fail "symbols"
+    fi
+    # Both ways to compute what a library requires.
+    if has "what a library requires" dpkg-shlibdeps; then
+        (
+            # shellcheck disable=SC2034,SC2030 # debian.sh reads these
+            top=$PWD work=$out/computed
+            mkdir -p "$work"
+            stop() { echo "$1"; exit 1; }
+            # shellcheck source=packaging/debian.sh
+            . packaging/debian.sh
+            [ "$(by_dpkg "$lib/$so")" = "$(by_objdump "$lib/$so")" ] &&
+                [ "$(by_dpkg "$lib/$so")" = "$(field libpigyelund1 Depends)" ]
+        ) || fail "dpkg-shlibdeps and objdump differ"
+    fi
+    if has "the rules of Debian" lintian; then
+        lintian --allow-root --fail-on error,warning "$made"/*.deb >"$out/log" 2>&1 ||
+            { cat "$out/log"; fail "lintian"; }
+    fi
+}
+
+# The same commit makes the same packages.
+makes_the_same_packages() {
+    local deb=1
+    make_copy
+    released >"$out/said" && mv "$out/made" "$out/first_packages" && sleep 1.1 && install_as_other &&
+        find "$copy" -name .git -prune -o -type f -exec touch -d '2001-01-01' {} + &&
+        (umask 077 && released TZ=Asia/Tokyo LANG=C.UTF-8 GZIP=-1 XZ_OPT=-0 taskset -c 0) >"$out/said" ||
+        { cat "$out/said"; fail "packages in a copy"; return; }
+    same_packages "$out/first_packages" "$out/made" || fail "the same commit makes the same packages"
+    try_packages "$out/made"
+}
+
+# Other symbols or another soname than those of the symbols file.
+refuses_other_symbols() {
+    local file=packaging/libpigyelund1.symbols commit="git -c user.name=n -c user.email=e commit -q -a -m more" deb=1
+    refuses "a library without a call" "libpigyelund.so.1 has other symbols than $file" \
+        "sed -i 's/^ *pigy_union;/    pigy_more;\n&/' foreign/c/exports.map &&
+        echo ' pigy_more@PIGYELUND_1 0.2.0' >>$file && $commit"
+    refuses "a call without its line" "numbers or names differ" "sed -i '/ pigy_union@/d' $file && $commit"
+    refuses "a line without its call" "numbers or names differ" \
+        "sed -i '/ pigy_union;/d' foreign/c/exports.map && $commit"
+    refuses "a call of a later version" "numbers or names differ" \
+        "sed -i '/ pigy_union@/s/0[.]/1000./' $file && $commit"
+    refuses "another soname" "the shared library isn't libpigyelund.so.2" \
+        "sed -i '1s/so.1/so.2/' $file && $commit"
+}
+
+if has "what a release refuses" git gcc make ar tar gzip python3; then
+    make_kit || fail "a kit"
+    said=$(./release "$version.1" "$out/made" 2>&1) && fail "another version is made"
+    [ "$said" = "VERSION: version $version, expected $version.1
+versions: 1 differ
+release: versions differ" ] || fail "another version is refused: $said"
+    makes_the_same
+    refuses_what_is_not_proved
+    refuses_what_is_not_committed
+    refuses_other_sums
+    if has "the packages of Debian" dpkg-deb dpkg dpkg-parsechangelog taskset; then
+        makes_the_same_packages
+        refuses_other_symbols
+    fi
+fi
+rm -rf "$copy" "$out/made"
+
+# ---- of this tree
+
+# run_line FOLDER LINE: runs a line of the shell with the programs of a folder
+run_line() {
+    mkdir -p "$out/examples"
+    (cd "$out/examples" && PATH="$1:$PATH" sh -c "$2")
+}
+
+of_archive() {
+    ./release "$version" "$out/one" >"$out/log" 2>&1 || { cat "$out/log"; echo "FAILED: release"; exit 1; }
+    (cd "$out/one" && sha256sum --quiet -c "$archive.sha256") || fail "the sum of the archive"
+    mkdir "$out/un packed" && tar -xzf "$out/one/$archive" -C "$out/un packed" || fail "tar"
+    tree="$out/un packed/pigyelund-$version"
+    (cd "$tree" && sha256sum --quiet -c SHA256SUMS) || fail "the sums of the files"
+    for program in respath origins; do
+        examples "the manual's examples of $program" "$tree/share/man/man1/$program.1" run_line "$tree/bin"
+        crate=$(crate_of "$program")
+        cmp "crates/$crate/out/$crate" "$tree/bin/$program" || fail "the program $program"
+        "./$program" --version | grep -q '^proved here' || fail "$program is noted"
+    done
+    grep -q '^logic=proved .*axioms=' "$tree/share/doc/pigyelund/VERDICTS" || fail "the verdicts"
+    cmp LICENSE "$tree/share/doc/pigyelund/LICENSE" || fail "the licence"
+    modes "$tree" bin || fail "modes of the archive"
+    ! grep -rlF "$top" "$tree" || fail "the archive names the folder in which it was made"
+    if has "a program in C" gcc; then
+        tests/run/foreign_page.py docs/C.md "First program" "$tree" || fail "a program in C"
+    fi
+    if has "the manual's pages" groff; then
+        [ -z "$(groff -man -ww -z "$tree"/share/man/man1/*.1 2>&1)" ] || fail "the manual's pages"
+    fi
+}
+
+# Makes the packages, and compares them with the archive and with a second run.
+of_packages() {
+    local part
+    ./release --deb "$version" "$out/deb" >"$out/log" 2>&1 || { cat "$out/log"; fail "release --deb"; return; }
+    try_packages "$out/deb"
+    diff -r "$tree/share/pigyelund" "$out/root/usr/share/pigyelund" || fail "the same tree makes the same vectors"
+    diff -r "$tree/include" "$out/lib/usr/include" || fail "the same tree makes the same header"
+    cmp "$tree/lib/libpigyelund.a" "$out/lib/usr/lib/$(gcc -print-multiarch)/libpigyelund.a" ||
+        fail "the same tree makes the same static library"
+    try_package "$out"/deb/pigyelund_*.deb pigyelund bin
+    diff -r "$tree/bin" "$out/root/usr/bin" || fail "the same tree makes the same programs"
+    for program in respath origins; do
+        gzip -d <"$out/root/usr/share/man/man1/$program.1.gz" >"$out/page"
+        examples "the installed $program" "$out/page" run_line "$out/root/usr/bin"
+    done
+    ./release --deb "$version" "$out/again" >"$out/log" 2>&1 && same_packages "$out/deb" "$out/again" ||
+        fail "the same tree makes the same packages"
+}
+
+if [ ! -x crates/respath_program/out/respath_program ]; then
+    echo "left out: a release needs respath, which ./respath proves and builds"
+elif [ -n "$(git status --porcelain 2>&1)" ]; then
+    echo "left out: a release needs a tree without changes"
+else
+    of_archive
+    if has "the packages of Debian" dpkg-deb dpkg dpkg-parsechangelog; then of_packages; fi
+fi
+exit "$failed"

@@ -157,7 +157,7 @@ put_guide() {
     ln -s ../../../../include/pigyelund.h "$1/foreign/pigyelund.h"
     ln -s ../../examples "$1/foreign/c/examples"
     ln -s ../../examples/example.c "$1/foreign/c/example.c"
-    ln -s ../../examples/router.c "$1/foreign/rtr/router.c"
+    ln -s ../../examples/client.c "$1/foreign/rtr/client.c"
 }
 
 development_package() {
@@ -170,7 +170,7 @@ development_package() {
     sed 's|^prefix=.*|prefix=/usr|' "$stage/usr/lib/$triplet/pkgconfig/pigyelund.pc" >"$work/pigyelund.pc"
     install -m 644 "$work/pigyelund.pc" "$tree/usr/lib/$triplet/pkgconfig"
     ln -s "$soname" "$tree/usr/lib/$triplet/libpigyelund.so"
-    install -m 644 foreign/c/example.c foreign/c/examples/* foreign/rtr/router.c "$doc/examples"
+    install -m 644 foreign/c/example.c foreign/c/examples/* foreign/rtr/client.c "$doc/examples"
     put_guide "$doc"
     build_package libpigyelund-dev "$architecture" libdevel "Multi-Arch: same" \
         "Depends: libpigyelund1 (= $version)" <<END_OF_TEXT

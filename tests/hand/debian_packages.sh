@@ -112,8 +112,8 @@ quietly "the example is compiled with the static library" \
     'cc example.c $(pkg-config --cflags pigyelund) -l:libpigyelund.a -o static' && example static
 quietly "an example runs by its script" \
     'doc=/usr/share/doc/libpigyelund-dev/examples && sh $doc/run.sh set /usr | diff $doc/set.txt -'
-quietly "the router is compiled" \
-    'cc /usr/share/doc/libpigyelund-dev/examples/router.c $(pkg-config --cflags --libs pigyelund) -o router'
+quietly "the RTR client is compiled" "$apt librtr-dev &&
+    cc /usr/share/doc/libpigyelund-dev/examples/client.c \$(pkg-config --cflags --libs pigyelund rtrlib) -lpthread -o client"
 in_root "ldconfig -p" | grep -q 'libpigyelund\.so\.1 ' || fail "the cache of the loader has the library"
 in_root "objdump -p shared" | grep -q 'NEEDED *libpigyelund\.so\.1$' || fail "the example needs the soname"
 in_root "objdump -p static" | grep -q 'NEEDED *libpigyelund' && fail "the static example needs the shared library"

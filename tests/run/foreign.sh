@@ -182,7 +182,7 @@ of_c() {
             -o "$out/as_cpp" || fail "the example is C++"
         same "the example in C++" "$out/as_cpp"
     fi
-    has_python && { tests/run/foreign_rtr.py "$spaced/libpigyelund.a" || fail "a router against a cache"; }
+    has_python && { tests/run/foreign_rtr.py "$spaced/libpigyelund.a" || fail "an RTR client against a cache"; }
     if has "C under valgrind" valgrind; then
         valgrind -q --error-exitcode=9 --leak-check=full "$spaced/test" out/foreign >/dev/null || fail "valgrind"
     fi

@@ -10,6 +10,7 @@ import subprocess
 from collections.abc import Iterator
 from pathlib import Path
 
+from groups import below
 from top import TOP
 
 FUNCTION = re.compile(r"^(#\[test\]\n(?:#.*\n)*)?(?:pub )?fn (\w+)(.*?)^\}", re.MULTILINE | re.DOTALL)
@@ -73,11 +74,13 @@ def of_assertions(folder: Path) -> Iterator[tuple[str, str | None]]:
 
 
 def made_crate(folder: Path) -> dict[str, bool]:
-    """Makes a crate of these tests beside the crate that `checks.rt` stands on; which tests have to fail."""
-    shutil.copytree(TOP / "crates" / "test_support", folder / "crates" / "test_support",
-                    ignore=shutil.ignore_patterns("out"))
+    """Makes a crate of these tests beside the crates that `checks.rt` stands on; which tests have to fail."""
+    needed = below("test_support") | {"test_support"}
+    for name in needed:
+        shutil.copytree(TOP / "crates" / name, folder / "crates" / name, ignore=shutil.ignore_patterns("out"))
     shutil.copy(TOP / "HANDLES", folder)
-    (folder / "crates.txt").write_text("test_support:\nwrong: test_support\n")
+    rows = [row for row in (TOP / "crates.txt").read_text().splitlines() if row.split(":")[0] in needed]
+    (folder / "crates.txt").write_text("\n".join([*rows, "wrong: test_support\n"]))
     sources = folder / "crates" / "wrong" / "src"
     sources.mkdir(parents=True)
     names, asked, fails = [], [], {}

@@ -1,8 +1,6 @@
 //! Answers about chains over pairs of `u64`.
 use crate::lists::Lists;
 use crate::pairs::Pair;
-use rows_support::names::named;
-use rows_support::print::{self, cut_at};
 use rpki_base::memory::OrMemory;
 use rpki_chain::block::Block;
 use rpki_chain::chain::Chain;
@@ -10,6 +8,8 @@ use rpki_chain::owned::OwnedChain;
 use rpki_chain::shared::SharedChain;
 use std::alloc::{AllocError, Allocator};
 use std::str::FromStr;
+use test_support::names::named;
+use test_support::print::{self, cut_at};
 
 /// A question about the chain of a list.
 #[derive(Clone, Copy)]

@@ -1,9 +1,9 @@
 //! The two lists of a line.
-use rows_support::print::cut_at;
 use rpki_base::list::read_list;
 use rpki_base::memory::OrMemory;
 use std::alloc::Allocator;
 use std::str::FromStr;
+use test_support::print::cut_at;
 
 /// The values of the lists `A` and `B` in `A|B`. If there is only `A`, the second is empty.
 #[derive(Drop)]

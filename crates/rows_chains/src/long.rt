@@ -1,11 +1,11 @@
 //! Chains of many blocks. The first has each fourth number from 0 on, the second the numbers greater by 2.
 use crate::chains::{Shown, owned_text, trim};
 use crate::pairs::Pair;
-use rows_support::print;
 use rpki_chain::block::Block;
 use rpki_chain::chain::Chain;
 use rpki_chain::owned::OwnedChain;
 use std::alloc::{AllocError, Allocator};
+use test_support::print;
 
 /// Answers a question about two chains of `count` blocks each.
 pub fn answer<A: Allocator + Copy>(

@@ -2,12 +2,12 @@
 ghost use Rattle.std.specs.Iterator.{IsFinite};
 
 use crate::lists::Lists;
-use rows_support::names::order_word;
-use rows_support::print;
-use rows_support::unchanged::kept;
 use rpki_base::asn::Asn;
 use rpki_base::small_set::SmallAsnSet;
 use std::alloc::{AllocError, Allocator};
+use test_support::names::order_word;
+use test_support::print;
+use test_support::unchanged::kept;
 
 /// Answers `small OPERATION X|Y`.
 pub fn answer<A: Allocator + Copy>(

@@ -1,16 +1,15 @@
 //! Answers about claims: the resources that they list, their copies, and what they leave of an issuer's set.
-use rows_support::print::{self, cut_at};
 use rpki_as::blocks::AsBlocks;
 use rpki_as::resources::AsResources;
 use rpki_as::verify::OverclaimedAsResources;
 use rpki_base::memory::OrMemory;
 use rpki_chain::path::Overclaim;
-use rpki_ip::family::AddressFamily;
 use rpki_ipres::blocks::IpBlocks;
 use rpki_ipres::overclaim::OverclaimedIpResources;
 use rpki_ipres::resources::IpResources;
 use std::alloc::{AllocError, Allocator};
 use std::fmt;
+use test_support::print::{self, cut_at};
 
 /// Answers `claim QUESTION A` and `claim QUESTION A|B`.
 pub fn answer<A: Allocator + Copy>(
@@ -99,7 +98,7 @@ fn copy_listed<A: Allocator + Copy>(
 /// Prints the addresses that a claim lists.
 fn listed<A: Allocator + Copy>(alloc: A, claim: &IpResources<A>) -> Result<String<A>, AllocError> {
     match claim.to_blocks() {
-        Ok(set) => print::ip_set(alloc, AddressFamily::Ipv6, &set),
+        Ok(set) => print::value(alloc, set.as_v6()),
         Err(error) => print::refused(alloc, error),
     }
 }
@@ -174,7 +173,7 @@ fn ip_left<A: Allocator + Copy>(
     claim: &IpResources<A>,
 ) -> Result<String<A>, AllocError> {
     match issuer.verify_issued(alloc, claim, mode) {
-        Ok(set) => print::ip_set(alloc, AddressFamily::Ipv6, &set),
+        Ok(set) => print::value(alloc, set.as_v6()),
         Err(error) => ip_refused(alloc, error),
     }
 }
@@ -283,7 +282,7 @@ fn either_copy<A: Allocator + Copy>(
     copy: Result<OverclaimedIpResources<A>, AllocError>,
 ) -> Result<String<A>, AllocError> {
     match copy {
-        Ok(copy) => print::ip_set(alloc, AddressFamily::Ipv6, copy.excess()),
+        Ok(copy) => print::value(alloc, copy.excess().as_v6()),
         Err(error) => Err(error),
     }
 }

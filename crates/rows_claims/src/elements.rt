@@ -1,10 +1,10 @@
 //! The elements after a line's question.
 use roa_origin::Vrp;
-use rows_support::print::cut_at;
 use rpki_base::Asn;
 use rpki_prefix::{MaxLenPrefix, Prefix};
 use std::alloc::{AllocError, Allocator};
 use std::str::FromStr;
+use test_support::print::cut_at;
 
 /// The value of a text between `|`.
 pub trait Element: Sized + Drop {

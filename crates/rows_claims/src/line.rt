@@ -1,8 +1,8 @@
 //! Answers to lines, by their commands.
 use crate::{claims, long, outside, route_lines, routes, slurm, triples, unexpired, vrps};
-use rows_support::print::cut_at;
-use rows_support::refusals::Call;
 use std::alloc::{AllocError, Allocator};
+use test_support::print::cut_at;
+use test_support::refusals::Call;
 
 /// A line of the input.
 #[derive(Drop)]

@@ -1,12 +1,12 @@
 //! Lists of many VRPs and routes. The first has each fourth IPv4 address from 0.0.0.0 on, the second the addresses
 //! greater by 2.
 use roa_origin::{OriginTable, Vrp, VrpChanges, VrpTable, changed_routes};
-use rows_support::print;
 use rpki_base::Asn;
 use rpki_base::addr::{IpAddr, Ipv4Addr};
 use rpki_base::number::parse_u32;
 use rpki_prefix::{MaxLenPrefix, Prefix};
 use std::alloc::{AllocError, Allocator};
+use test_support::print;
 
 /// Answers `long changes N` and `long changed N`.
 ///

@@ -1,12 +1,12 @@
 //! The first prefix that is not inside a set of resources.
 use crate::elements;
 use roa_check::outside;
-use rows_support::print::{cut_at, refused};
 use rpki_base::memory::OrMemory;
 use rpki_prefix::MaxLenPrefix;
 use rpki_resources::repository::resources::ResourceSet;
 use rpki_resources::repository::resources::set::FromStrError;
 use std::alloc::{AllocError, Allocator};
+use test_support::print::{cut_at, refused};
 
 /// Answers `outside A ; B ; C | PREFIX[-MAX] | ..`.
 pub fn answer<A: Allocator + Copy>(alloc: A, operands: &str) -> Result<String<A>, AllocError> {

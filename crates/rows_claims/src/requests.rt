@@ -2,12 +2,12 @@
 use crate::long::every_fourth;
 use crate::{elements, triples};
 use roa_origin::{OriginTable, Vrp, VrpTable};
-use rows_support::print::{cut_at, error, refused};
-use rows_support::requests::Asked;
 use rpki_base::memory::OrMemory;
 use rpki_base::number::parse_u32;
 use rpki_resources::repository::resources::set::{FromStrError, ResourceSet};
 use std::alloc::{AllocError, Allocator, Global};
+use test_support::asked::Asked;
+use test_support::print::{cut_at, error, refused};
 use test_support::{Plan, Refusing};
 
 /// Answers `requests CALL ..`. The result of a call is kept until the call has ended.

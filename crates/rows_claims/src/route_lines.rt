@@ -3,8 +3,8 @@ use crate::elements;
 use lines_engine::answers::Answers;
 use origins_lines::Routes;
 use roa_origin::{OriginTable, Vrp};
-use rows_support::print::cut_at;
 use std::alloc::{AllocError, Allocator};
+use test_support::print::cut_at;
 
 /// Answers `route PREFIX[-MAX] AS | .. ; LINE`. If the command is `why`, the answer has the VRPs that explain it.
 pub fn answer_to_line<A: Allocator + Copy>(

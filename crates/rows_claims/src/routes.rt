@@ -2,10 +2,10 @@
 use crate::elements::{self, Element};
 use roa_check::{Validity, origin};
 use roa_origin::{OriginTable, Vrp};
-use rows_support::print::{self, cut_at};
 use rpki_base::Asn;
 use rpki_prefix::Prefix;
 use std::alloc::{AllocError, Allocator};
+use test_support::print::{self, cut_at};
 
 /// Answers `origin ROUTE AS | PREFIX[-MAX] AS | ..`.
 pub fn answer<A: Allocator + Copy>(alloc: A, operands: &str) -> Result<String<A>, AllocError> {

@@ -3,8 +3,8 @@ use crate::elements;
 use crate::vrps::{listed, with_line_ends};
 use roa_origin::Vrp;
 use roa_slurm::read_slurm;
-use rows_support::print::{cut_at, refused};
 use std::alloc::{AllocError, Allocator};
+use test_support::print::{cut_at, refused};
 
 /// Answers `slurm PREFIX[-MAX] AS | .. ; TEXT`. In the text `|` is the end of a line.
 pub fn answer<A: Allocator + Copy>(alloc: A, operands: &str) -> Result<String<A>, AllocError> {

@@ -1,14 +1,14 @@
 //! Answers about sets of all three kinds of resources.
 use crate::claims::result_text;
-use rows_support::names::named;
-use rows_support::print::{cut_at, made, refused, value};
-use rows_support::unchanged::kept;
 use rpki_as::resources::AsResources;
 use rpki_base::memory::OrMemory;
 use rpki_ipres::resources::IpResources;
 use rpki_resources::repository::resources::ResourceDiff;
 use rpki_resources::repository::resources::set::{FromStrError, ResourceSet};
 use std::alloc::{AllocError, Allocator};
+use test_support::names::named;
+use test_support::print::{cut_at, made, refused, value};
+use test_support::unchanged::kept;
 
 /// Answers `set A ; B ; C`.
 pub fn set<A: Allocator + Copy>(alloc: A, lists: &str) -> Result<String<A>, AllocError> {

@@ -1,9 +1,9 @@
 //! VRPs of a file without those that have expired.
 use crate::vrps::{listed, with_line_ends};
 use roa_expiry::read_unexpired;
-use rows_support::print::{append, cut_at, refused};
 use std::alloc::{AllocError, Allocator};
 use std::str::FromStr;
+use test_support::print::{append, cut_at, refused};
 
 /// Answers `unexpired TIME ; TEXT`. In the text `|` is the end of a line.
 pub fn answer<A: Allocator + Copy>(alloc: A, operands: &str) -> Result<String<A>, AllocError> {

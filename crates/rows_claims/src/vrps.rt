@@ -2,8 +2,8 @@
 use hex::FromHexError;
 use roa_origin::Vrp;
 use roa_vrps::read_vrps;
-use rows_support::print::{append, refused};
 use std::alloc::{AllocError, Allocator};
+use test_support::print::{append, refused};
 
 /// Answers `vrps TEXT`, in which `|` is the end of a line.
 pub fn of_text<A: Allocator + Copy>(alloc: A, text: &str) -> Result<String<A>, AllocError> {

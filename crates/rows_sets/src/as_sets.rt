@@ -2,8 +2,6 @@
 use crate::question::{Operation, Question};
 use rows_chains::lists::Lists;
 use rows_chains::small_sets::numbers;
-use rows_support::print::{self, cut_at};
-use rows_support::unchanged::kept;
 use rpki_as::block::AsBlock;
 use rpki_as::blocks::AsBlocks;
 use rpki_as::builder::AsBlocksBuilder;
@@ -11,6 +9,8 @@ use rpki_base::asn::Asn;
 use rpki_base::memory::OrMemory;
 use std::alloc::{AllocError, Allocator};
 use std::str::FromStr;
+use test_support::print::{self, cut_at};
+use test_support::unchanged::kept;
 
 /// Answers `QUESTION as A` and `QUESTION as A|B`.
 pub fn answer<A: Allocator + Copy>(

@@ -1,8 +1,6 @@
 //! Answers about sets of addresses of one family.
 use crate::question::{Operation, Question};
 use rows_chains::lists::Lists;
-use rows_support::print::{self, cut_at};
-use rows_support::unchanged::kept;
 use rpki_base::memory::OrMemory;
 use rpki_family::v4::Ipv4Blocks;
 use rpki_family::v6::Ipv6Blocks;
@@ -12,6 +10,8 @@ use rpki_ipres::block::IpBlock;
 use rpki_ipres::blocks::IpBlocks;
 use rpki_ipres::builder::IpBlocksBuilder;
 use std::alloc::{AllocError, Allocator};
+use test_support::print::{self, cut_at};
+use test_support::unchanged::kept;
 
 /// Answers `QUESTION v4 A` and `QUESTION v4 A|B`, and the same for `v6`.
 pub fn answer<A: Allocator + Copy>(
@@ -110,7 +110,7 @@ fn built<A: Allocator + Copy>(
 ) -> Result<String<A>, AllocError> {
     match pushed {
         Err(blocks) if is_set_of(alloc, set, blocks)? => Err(AllocError),
-        _ => print::ip_set(alloc, family, set),
+        _ => print::value(alloc, set.display_with_family(family)),
     }
 }
 
@@ -294,7 +294,7 @@ fn assigned_text<A: Allocator + Copy>(
 ) -> Result<String<A>, AllocError> {
     match assigned {
         Err(error) if set == before => Err(error),
-        _ => print::ip_set(alloc, family, set),
+        _ => print::value(alloc, set.display_with_family(family)),
     }
 }
 
@@ -310,7 +310,7 @@ fn text<A: Allocator + Copy>(
     set: Result<IpBlocks<A>, AllocError>,
 ) -> Result<String<A>, AllocError> {
     match set {
-        Ok(set) => print::ip_set(alloc, family, &set),
+        Ok(set) => print::value(alloc, set.display_with_family(family)),
         Err(error) => Err(error),
     }
 }

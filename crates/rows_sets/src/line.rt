@@ -2,10 +2,10 @@
 use crate::question::Question;
 use crate::{as_sets, ip_sets, long};
 use rows_chains::{chains, small_sets};
-use rows_support::print::cut_at;
-use rows_support::refusals::Call;
 use rpki_ip::family::AddressFamily;
 use std::alloc::{AllocError, Allocator};
+use test_support::print::cut_at;
+use test_support::refusals::Call;
 
 /// A line of the input.
 #[derive(Drop)]

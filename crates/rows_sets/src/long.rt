@@ -1,6 +1,5 @@
 //! Sets of many blocks. The first has each fourth number from 0 on, the second the numbers greater by 2.
 use rows_chains::long;
-use rows_support::print;
 use rpki_as::block::AsBlock;
 use rpki_as::blocks::AsBlocks;
 use rpki_as::builder::AsBlocksBuilder;
@@ -12,6 +11,7 @@ use rpki_ipres::block::IpBlock;
 use rpki_ipres::blocks::IpBlocks;
 use rpki_ipres::resources::IpResources;
 use std::alloc::{AllocError, Allocator};
+use test_support::print;
 
 /// Answers `long QUESTION N`, about two chains or sets of N blocks each.
 pub fn answer<A: Allocator + Copy>(

@@ -15,10 +15,10 @@ mod question;
 mod requests;
 
 use line::Line;
-use rows_support::print::cut_at;
-use rows_support::refusals;
 use std::alloc::{AllocError, Global};
 use std::io;
+use test_support::print::cut_at;
+use test_support::refusals;
 
 fn main(rt: HostRuntime) -> io::Result<()> {
     for line in rt.lines(rt.alloc()) {

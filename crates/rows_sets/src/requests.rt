@@ -3,12 +3,12 @@ mod as_sets;
 mod ip_sets;
 
 use rows_chains::lists::Lists;
-use rows_support::print::{self, cut_at};
-use rows_support::requests::Asked;
 use rpki_base::asn::Asn;
 use rpki_base::small_set::SmallAsnSet;
 use rpki_family::v4::{Ipv4Block, Ipv4Blocks};
 use std::alloc::{AllocError, Global};
+use test_support::asked::Asked;
+use test_support::print::{self, cut_at};
 use test_support::{Plan, Refusing};
 
 /// Answers `requests KIND CALL A` and `requests KIND CALL A|B`.

@@ -5,7 +5,6 @@ use crate::claims::Families;
 use crate::modes::Mode;
 use crate::values::{Item, Reader, Skip, Value};
 use hex::FromHexError;
-use rows_support::print::cut_at;
 use rpki_as::blocks::AsBlocks;
 use rpki_as::resources::AsResources;
 use rpki_base::memory::OrMemory;
@@ -13,6 +12,7 @@ use rpki_der::{Cursor, DerError};
 use rpki_ipres::blocks::IpBlocks;
 use rpki_ipres::resources::IpResources;
 use std::alloc::{AllocError, Allocator, Global};
+use test_support::print::cut_at;
 use test_support::{Outcome, Refusing, refuse_in_turn};
 
 /// Maximum number of requests for memory of one read.

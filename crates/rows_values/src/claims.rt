@@ -1,12 +1,12 @@
 //! Resources in DER: reading, writing and printing.
 use crate::values::Value;
-use rows_support::print;
 use rpki_as::resources::AsResources;
 use rpki_base::memory::OrMemory;
 use rpki_der::{Cursor, DerError};
 use rpki_ip::family::AddressFamily;
 use rpki_ipres::resources::IpResources;
 use std::alloc::{AllocError, Allocator};
+use test_support::print;
 
 impl<A: Allocator + Copy> Value<A> for AsResources<A> {
     type Reader = ();
@@ -66,7 +66,7 @@ impl<A: Allocator + Copy> Value<A> for IpResources<A> {
     /// Prints `inherit`, or the listed addresses in brackets.
     fn text(&self, alloc: A, family: AddressFamily) -> Result<String<A>, AllocError> {
         match self.to_blocks() {
-            Ok(set) => bracketed(alloc, print::ip_set(alloc, family, &set)),
+            Ok(set) => bracketed(alloc, print::value(alloc, set.display_with_family(family))),
             Err(OrMemory::Refused(_)) => String::from_str(alloc, "inherit"),
             Err(OrMemory::Memory(error)) => Err(error),
         }

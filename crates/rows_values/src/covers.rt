@@ -1,11 +1,11 @@
 //! Ranges of addresses as their shortest lists of prefixes.
 ghost use Rattle.std.specs.Iterator.{IsFinite};
 
-use rows_support::print;
 use rpki_ip::family::AddressFamily;
 use rpki_ip::prefix::Prefix;
 use rpki_ip::range::AddressRange;
 use std::alloc::{AllocError, Allocator};
+use test_support::print;
 
 /// Answers `prefixes v4 MIN-MAX` and `prefixes v6 MIN-MAX`.
 ///

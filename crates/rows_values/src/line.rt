@@ -2,9 +2,9 @@
 use crate::modes::Mode;
 use crate::takes::Form;
 use crate::{covers, orders, takes, texts};
-use rows_support::print::cut_at;
-use rows_support::refusals::Call;
 use std::alloc::{AllocError, Allocator};
+use test_support::print::cut_at;
+use test_support::refusals::Call;
 
 /// A line of the input.
 #[derive(Drop)]

@@ -1,10 +1,10 @@
 //! Comparisons of prefixes.
-use rows_support::names::order_word;
-use rows_support::print::{self, cut_at};
 use rpki_prefix::max_len::MaxLenPrefix;
 use rpki_prefix::prefix::Prefix;
 use std::alloc::{AllocError, Allocator};
 use std::str::FromStr;
+use test_support::names::order_word;
+use test_support::print::{self, cut_at};
 
 /// Answers `order P | Q`.
 pub fn order<A: Allocator + Copy>(alloc: A, rest: &str) -> Result<String<A>, AllocError> {

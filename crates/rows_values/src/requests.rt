@@ -2,14 +2,14 @@
 use crate::claims::Families;
 use crate::values::{Reader, Value};
 use hex::FromHexError;
-use rows_support::print::cut_at;
-use rows_support::requests::Asked;
 use rpki_as::blocks::AsBlocks;
 use rpki_as::resources::AsResources;
 use rpki_der::Cursor;
 use rpki_ipres::blocks::IpBlocks;
 use rpki_ipres::resources::IpResources;
 use std::alloc::{AllocError, Global};
+use test_support::asked::Asked;
+use test_support::print::cut_at;
 use test_support::{Plan, Refusing};
 
 /// Answers `requests take READER HEX` and `requests written READER HEX`.

@@ -3,7 +3,6 @@ use crate::claims::Families;
 use crate::modes::Mode;
 use crate::values::{Item, Reader, Skip, Value, octets as octets_of};
 use hex::FromHexError;
-use rows_support::print;
 use rpki_as::blocks::AsBlocks;
 use rpki_as::resources::AsResources;
 use rpki_base::memory::OrMemory;
@@ -12,6 +11,7 @@ use rpki_ip::family::AddressFamily;
 use rpki_ipres::blocks::IpBlocks;
 use rpki_ipres::resources::IpResources;
 use std::alloc::{AllocError, Allocator};
+use test_support::print;
 
 /// The answer to give about a value that was read.
 #[derive(Clone, Copy)]

@@ -1,6 +1,5 @@
 //! Answers of the readers of texts.
-use crate::values::{Item, Value, octets};
-use rows_support::print;
+use crate::values::{Item, Value, block_text, octets};
 use rpki_as::block::AsBlock;
 use rpki_base::addr::{IpAddr, Ipv4Addr, Ipv6Addr};
 use rpki_base::asn::Asn;
@@ -15,6 +14,7 @@ use rpki_prefix::max_len::MaxLenPrefix;
 use rpki_prefix::prefix::Prefix;
 use std::alloc::{AllocError, Allocator};
 use std::str::FromStr;
+use test_support::print;
 
 /// Answers `text READER TEXT`.
 pub fn answer<A: Allocator + Copy>(
@@ -86,7 +86,7 @@ fn ip_block_text<A: Allocator + Copy>(
     block: IpBlock,
 ) -> Result<String<A>, AllocError> {
     match reader {
-        "rprefix" | "rrange" => print::ip_block(alloc, family(text), block),
+        "rprefix" | "rrange" => block_text(alloc, family(text), block),
         _ => {
             let families = [AddressFamily::Ipv4, AddressFamily::Ipv6];
             item(alloc, Item::IpBlock(block), &families)
@@ -141,7 +141,7 @@ fn set_with_octets<A: Allocator + Copy>(
     family: AddressFamily,
     set: &IpBlocks<A>,
 ) -> Result<String<A>, AllocError> {
-    let text = print::ip_set(alloc, family, set)?;
+    let text = print::value(alloc, set.display_with_family(family))?;
     let octets = octets(alloc, set)?;
     format!(in alloc; "{text} {octets}")
 }

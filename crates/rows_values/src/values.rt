@@ -1,7 +1,5 @@
 //! DER values of each kind: reading, writing and printing.
 use crate::claims::Families;
-use rows_support::names::named;
-use rows_support::print;
 use rpki_as::block::AsBlock;
 use rpki_as::blocks::AsBlocks;
 use rpki_as::resources::AsResources;
@@ -15,6 +13,8 @@ use rpki_ipres::block::IpBlock;
 use rpki_ipres::blocks::IpBlocks;
 use rpki_ipres::resources::IpResources;
 use std::alloc::{AllocError, Allocator};
+use test_support::names::named;
+use test_support::print;
 
 /// A value that is read from DER, written and printed.
 pub trait Value<A: Allocator + Copy>: Sized + Drop {
@@ -186,11 +186,23 @@ impl<A: Allocator + Copy> Value<A> for Item {
             Item::Asn(asn) => format!(in alloc; "{asn}"),
             Item::Family(AddressFamily::Ipv4) => String::from_str(alloc, "v4"),
             Item::Family(AddressFamily::Ipv6) => String::from_str(alloc, "v6"),
-            Item::Prefix(prefix) => print::ip_block(alloc, family, IpBlock::Prefix(*prefix)),
+            Item::Prefix(prefix) => block_text(alloc, family, IpBlock::Prefix(*prefix)),
             Item::AsBlock(block) => format!(in alloc; "{block}"),
-            Item::IpBlock(block) => print::ip_block(alloc, family, *block),
+            Item::IpBlock(block) => block_text(alloc, family, *block),
             Item::Missing => String::from_str(alloc, "none"),
         }
+    }
+}
+
+/// Prints a block of addresses in the notation of a family.
+pub fn block_text<A: Allocator + Copy>(
+    alloc: A,
+    family: AddressFamily,
+    block: IpBlock,
+) -> Result<String<A>, AllocError> {
+    match family {
+        AddressFamily::Ipv4 => print::value(alloc, block.display_v4()),
+        AddressFamily::Ipv6 => print::value(alloc, block.display_v6()),
     }
 }
 
@@ -275,6 +287,6 @@ impl<A: Allocator + Copy> Value<A> for IpBlocks<A> {
     }
 
     fn text(&self, alloc: A, family: AddressFamily) -> Result<String<A>, AllocError> {
-        print::ip_set(alloc, family, self)
+        print::value(alloc, self.display_with_family(family))
     }
 }

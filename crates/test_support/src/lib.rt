@@ -1,9 +1,9 @@
-//! An allocator for tests, and checks of a value of any type: its hash and its printed form.
+//! Code that tests and the programs `rows_*` share: an allocator, checks of values, and answers to lines.
 //!
-//! The allocator passes requests for memory on to another one, and refuses those that its plan selects.
+//! The allocator [`Refusing`] passes requests for memory on to another one, and refuses those that its plan selects.
 //!
 //! [`refuse_in_turn`] runs something with request 0 refused, then request 1, and so on, until a run meets no refusal.
-//! It checks how each run ended, as `rows_support::refusals` does:
+//! It checks how each run ended, as [`refusals::answer`] does for a line:
 //!
 //! ```rust
 //! let refused = refuse_in_turn(alloc, limit(line), |refusing: &Refusing| {
@@ -20,9 +20,14 @@ ghost use Rattle.test_support.specs.Plans.{inner_of, plan_of, IsSomeRefusedCount
 
 use std::alloc::{AllocError, Allocator, Global};
 
+pub mod asked;
 mod in_turn;
+pub mod names;
 mod plan;
+pub mod print;
+pub mod refusals;
 mod requests;
+pub mod unchanged;
 mod value_checks;
 
 pub use in_turn::{Outcome, refuse_in_turn};

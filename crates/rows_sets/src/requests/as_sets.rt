@@ -1,7 +1,5 @@
 //! The memory that calls which make sets of AS numbers request.
 use rows_chains::lists::Lists;
-use rows_support::print;
-use rows_support::requests::Asked;
 use rpki_as::block::AsBlock;
 use rpki_as::blocks::AsBlocks;
 use rpki_as::builder::AsBlocksBuilder;
@@ -9,7 +7,8 @@ use rpki_as::resources::AsResources;
 use rpki_as::verify::AsStep;
 use rpki_chain::path::Overclaim;
 use std::alloc::{AllocError, Allocator, Global};
-use test_support::Refusing;
+use test_support::asked::Asked;
+use test_support::{Refusing, print};
 
 /// Answers `requests as CALL A` and `requests as CALL A|B`.
 pub fn answer(

@@ -1,7 +1,5 @@
 //! The memory that calls which make sets of addresses request.
 use rows_chains::lists::Lists;
-use rows_support::print;
-use rows_support::requests::Asked;
 use rpki_chain::path::Overclaim;
 use rpki_ipres::block::IpBlock;
 use rpki_ipres::blocks::IpBlocks;
@@ -9,7 +7,8 @@ use rpki_ipres::builder::IpBlocksBuilder;
 use rpki_ipres::resources::IpResources;
 use rpki_ipres::verify::IpStep;
 use std::alloc::{AllocError, Allocator, Global};
-use test_support::Refusing;
+use test_support::asked::Asked;
+use test_support::{Refusing, print};
 
 /// Answers `requests ip CALL A` and `requests ip CALL A|B`.
 pub fn answer(

@@ -4,10 +4,7 @@ ghost use Rattle.std.specs.List.{before_first, after_first};
 ghost use Rattle.std.specs.String.{string_bytes};
 ghost use Rattle.hex.specs.Hex.{encode_lower};
 
-use rpki_base::memory::OrMemory;
-use rpki_ip::family::AddressFamily;
-use rpki_ipres::block::IpBlock;
-use rpki_ipres::blocks::IpBlocks;
+use rpki_text::OrMemory;
 use std::alloc::{AllocError, Allocator};
 use std::fmt;
 
@@ -126,35 +123,4 @@ pub fn written<A: Allocator + Copy>(
         (Ok(()), Some(octets)) => hex::encode(alloc, octets),
         _ => String::from_str(alloc, "the output was not kept"),
     }
-}
-
-/// Prints a block of addresses in the notation of a family.
-pub fn ip_block<A: Allocator + Copy>(
-    alloc: A,
-    family: AddressFamily,
-    block: IpBlock,
-) -> Result<String<A>, AllocError> {
-    match family {
-        AddressFamily::Ipv4 => {
-            let block = block.display_v4();
-            format!(in alloc; "{block}")
-        }
-        AddressFamily::Ipv6 => {
-            let block = block.display_v6();
-            format!(in alloc; "{block}")
-        }
-    }
-}
-
-/// Prints a set of addresses in the notation of a family.
-pub fn ip_set<A: Allocator + Copy>(
-    alloc: A,
-    family: AddressFamily,
-    set: &IpBlocks<A>,
-) -> Result<String<A>, AllocError> {
-    let set = match family {
-        AddressFamily::Ipv4 => set.as_v4(),
-        AddressFamily::Ipv6 => set.as_v6(),
-    };
-    format!(in alloc; "{set}")
 }

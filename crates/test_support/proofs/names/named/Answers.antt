@@ -1,5 +1,5 @@
 use Rattle.std.proofs.Common.{rules, sym, refl}
-use Rattle.rows_support.proofs.names.named.Goals as goal
+use Rattle.test_support.proofs.names.named.Goals as goal
 
 pub returns-then-eq-clause-some : goal.returns-then-eq-clause-some
 returns-then-eq-clause-some g c = (

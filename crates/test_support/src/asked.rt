@@ -1,6 +1,6 @@
 //! The memory that a call requests.
+use crate::Refusing;
 use std::alloc::{AllocError, Global};
-use test_support::Refusing;
 
 /// The requests to an allocator before a call.
 #[derive(Clone, Copy)]

@@ -1,5 +1,5 @@
 use Rattle.std.proofs.Common.{◌≢◌, ◌<◌, get_or}
-use Rattle.rows_support.proofs.names.named.Given as goal
+use Rattle.test_support.proofs.names.named.Given as goal
 
 -- no word so far is the name
 abbrev pub invariant-loop-word : goal.invariant-loop-word

@@ -1,6 +1,6 @@
 //! Calls with each request for memory refused in turn.
+use crate::{Outcome, Refusing, refuse_in_turn};
 use std::alloc::{AllocError, Allocator, Global};
-use test_support::{Outcome, Refusing, refuse_in_turn};
 
 /// A line that is a call.
 pub trait Call: Drop {

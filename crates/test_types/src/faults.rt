@@ -17,6 +17,7 @@ use rpki_ipres::overclaim::OverclaimedIpResources;
 use rpki_ipres::resources::{InheritedIpResources, IpResources};
 use rpki_prefix::error::{MaxLenError, ParseMaxLenPrefixError, ParsePrefixError, PrefixError};
 use rpki_resources::repository::resources::InheritError;
+use rpki_resources::repository::resources::set::FromStrError as SetFromStrError;
 use std::alloc::{AllocError, Global};
 use std::error::Error;
 use test_support::{all_print, prints};
@@ -123,6 +124,19 @@ const PREFIXES: [(ParsePrefixError, &str); 6] = [
     ),
 ];
 
+const PREFIX_VALUES: [(PrefixError, &str); 2] = [
+    (PrefixError::LenOverflow, "prefix length too large"),
+    (PrefixError::NonZeroHost, "non-zero host portion"),
+];
+
+const MAX_LENGTH_VALUES: [(MaxLenError, &str); 2] = [
+    (MaxLenError::Overflow, "max-length too large"),
+    (
+        MaxLenError::Underflow,
+        "max-length smaller than prefix length",
+    ),
+];
+
 const MAX_LENGTHS: [(ParseMaxLenPrefixError, &str); 4] = [
     (
         ParseMaxLenPrefixError::InvalidMaxLenValue(MaxLenError::Underflow),
@@ -146,6 +160,31 @@ const MAX_LENGTHS: [(ParseMaxLenPrefixError, &str); 4] = [
 fn faults_of_prefixes(rt: HostRuntime) {
     holds(&rt, errors_print(rt.alloc(), &PREFIXES) == Ok(true));
     holds(&rt, errors_print(rt.alloc(), &MAX_LENGTHS) == Ok(true));
+    holds(&rt, errors_print(rt.alloc(), &PREFIX_VALUES) == Ok(true));
+    holds(
+        &rt,
+        errors_print(rt.alloc(), &MAX_LENGTH_VALUES) == Ok(true),
+    );
+}
+
+const SETS: [(SetFromStrError, &str); 3] = [
+    (
+        SetFromStrError::Asn(AsFromStrError::BadRange),
+        "cannot parse ASN resources: Bad AS range. Expected format: AS#-AS#",
+    ),
+    (
+        SetFromStrError::Ipv4(FromStrError::Addr(AddrParseError::Ipv4)),
+        "cannot parse IPv4 resources: invalid IPv4 address syntax",
+    ),
+    (
+        SetFromStrError::Ipv6(FromStrError::PrefixLen(ParseIntError::PosOverflow)),
+        "cannot parse IPv6 resources: bad prefix length: number too large to fit in target type",
+    ),
+];
+
+#[test]
+fn faults_of_sets(rt: HostRuntime) {
+    holds(&rt, errors_print(rt.alloc(), &SETS) == Ok(true));
 }
 
 const PREFIX_OCTETS: [(DecodePrefixError, &str); 1] = [(

@@ -19,5 +19,8 @@ pub mod engine;
 pub mod error;
 mod group;
 mod newline;
+pub mod retrying;
 pub mod steps;
 pub mod stream;
+pub mod until_end;
+pub mod watched;

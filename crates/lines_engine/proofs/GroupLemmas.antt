@@ -10,7 +10,7 @@ use Rattle.lines_engine.specs.declared.group.BegunLine.{BegunLine}
 use Rattle.lines_engine.proofs.RunLemmas.{answered_more, answered_then}
 use Rattle.lines_engine.proofs.StreamLemmas.{lines-joined}
 
--- what is behind the end of a line is shorter
+-- what is after the end of a line is shorter
 pub cut_shorter : (piece line behind : List ℕ) → IsCutAt 10 piece line behind → length behind < length piece
 cut_shorter piece line behind cut = omega (arith, ap length cut.split, length-append line (10 ∷ behind))
 
@@ -20,7 +20,7 @@ pub front_taken : {X : Type 0} (seen front tail : List X) (n : ℕ) → seen ≡
 front_taken seen front tail n is len = grind (arith, common_steps)
 
 module _ {B : Type 0} where
-  -- a line behind a group
+  -- a line after a group
   group_lines-push : (group : List (BegunLine B)) (asked : BegunLine B) (others : List (List ℕ))
       → group_lines (group ++ asked ∷ []) ++ others ≡ group_lines group ++ (asked.line.now ∷ others)
   group_lines-push [] asked others = refl

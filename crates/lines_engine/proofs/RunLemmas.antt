@@ -32,6 +32,11 @@ pub written_both : (a b c : Option (List ℕ)) (bytes more unwritten : List ℕ)
     → HasWritten b c more unwritten → HasWritten a c (bytes ++ more) unwritten
 written_both a b c bytes more unwritten had next = grind (arith, append-nil, append_assoc, appends_both)
 
+-- a text and an end of line were made, and some of them written
+pub written_line : (a b : Option (List ℕ)) (text bytes unwritten : List ℕ) → bytes ≡ as_line text
+    → HasWritten a b bytes unwritten → HasWritten a b (as_line text) unwritten
+written_line a b text bytes unwritten is wrote = grind (arith)
+
 -- a write takes some of what is left, which a range from there on then is
 pub written_more : (a b c : Option (List ℕ)) (bytes rest : List ℕ) (count : ℕ) → HasWritten a b bytes rest
     → Appends b c (take count rest) → HasWritten a c bytes (take (length rest - count) (drop count rest))
@@ -43,7 +48,7 @@ written_more a b c bytes rest count had wrote = record {
 }
 
 module _ (Is : List ℕ → List ℕ → Type 0) where
-  -- answers to the lines of two lists, one behind the other
+  -- answers to the lines of two lists, one after the other
   AllZip-append : (xs ys zs ws : List (List ℕ)) → AllZip Is xs ys → AllZip Is zs ws → AllZip Is (xs ++ zs) (ys ++ ws)
   AllZip-append [] [] zs ws first second = second
   AllZip-append (x ∷ xs) (y ∷ ys) zs ws first second = (first.0, AllZip-append xs ys zs ws first.1 second)
@@ -79,9 +84,9 @@ module _ (Is : List ℕ → List ℕ → Type 0) where
   answered_kept a b c lines rest unwritten had kept = grind (arith, appends_kept)
 
   -- an answer was made, and some of it written
-  pub line_answered : (a b : Option (List ℕ)) (line text bytes unwritten : List ℕ) → Is line text → bytes ≡ as_line text
-      → HasWritten a b bytes unwritten → HasAnsweredLine Is a b line unwritten
-  line_answered a b line text bytes unwritten is_answer is wrote = grind (arith)
+  pub line_answered : (a b : Option (List ℕ)) (line text unwritten : List ℕ) → Is line text
+      → HasWritten a b (as_line text) unwritten → HasAnsweredLine Is a b line unwritten
+  line_answered a b line text unwritten is_answer wrote = grind (arith)
 
   -- nothing is answered yet
   pub answered_none : (a : Option (List ℕ)) (lines : List (List ℕ)) → HasAnswered Is a a lines lines []

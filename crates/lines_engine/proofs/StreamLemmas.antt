@@ -2,13 +2,14 @@
 use Rattle.lines_engine.proofs.Common.{List, Option, [], ap, append_assoc, arith, length, length-append, refl, suc, ℕ}
 use Rattle.lines_engine.proofs.Common.{◌++◌, ◌<◌, ◌∷◌, ◌≡◌, ◌≢◌, Consumes, Keeps, IfErr, IfSome, IsErrOf, OnOk, Result}
 use Rattle.lines_engine.proofs.Common.{HasNo, IsCutAt, lines_of, AnswersAll, AnswersBut, AnswersFirst, AnswersSomeOf}
-use Rattle.lines_engine.proofs.Common.{BeginsAnswers, BeginsAnswersOf, HasAnswered, HasAnsweredLine}
+use Rattle.lines_engine.proofs.Common.{BeginsAnswers, BeginsAnswersOf, HasAnswered, HasAnsweredLine, HasWritten}
+use Rattle.lines_engine.proofs.Common.{as_line}
 use Rattle.std.proofs.Math.ListN.{get_or-append}
 use Rattle.std.proofs.Math.Seq.{get_or-append_right}
 use Rattle.std.proofs.lemmas.Bool.{eqb-true}
 use Rattle.std.proofs.lemmas.List.{nil_from_length}
 use Rattle.std.proofs.lemmas.Option.{IfSome_then}
-use Rattle.lines_engine.proofs.RunLemmas.{answered_kept, answered_none, answered_one, answered_then}
+use Rattle.lines_engine.proofs.RunLemmas.{answered_kept, answered_none, answered_one, answered_then, line_answered}
 
 -- a byte that is no end stands in front of the first line
 line_on : (b : ℕ) (text line : List ℕ) (others : List (List ℕ)) → b ≢ 10 → lines_of text ≡ line ∷ others
@@ -63,7 +64,7 @@ module _ (Is : List ℕ → List ℕ → Type 0) where
   some_left a b lines part rest more some had =
       (_, lines-some (part ++ (rest ++ more)) (grind (arith, length-append)), had)
 
-  -- a piece without an end was kept behind a part of a line, and nothing was answered
+  -- a piece without an end was kept after a part of a line, and nothing was answered
   pub all_kept : (a : Option (List ℕ)) (part piece others : List ℕ) → others ≡ part ++ piece → (more : List ℕ)
       → HasAnswered Is a a (lines_of (part ++ (piece ++ more))) (lines_of (others ++ more)) []
   all_kept a part piece others is more = rw (is, append_assoc) (answered_none Is a _)
@@ -108,7 +109,7 @@ module _ (Is : List ℕ → List ℕ → Type 0) where
     pub but_unanswered : 0 < length piece → IfSome input (AnswersFirst Is a b)
     but_unanswered some = but_some b (λ more. some_left b b _ part piece more some (answered_none Is b _))
 
-  -- a line ends in a piece, behind a part of it
+  -- a line ends in a piece, after a part of it
   module _ (a : Option (List ℕ)) (part piece line behind more : List ℕ) (cut : IsCutAt 10 piece line behind) where
     -- it wasn't answered
     pub joined_left : AnswersSomeOf Is a a (lines_of (part ++ (piece ++ more)))
@@ -123,7 +124,7 @@ module _ (Is : List ℕ → List ℕ → Type 0) where
     joined_one b unwritten none one =
         rw (lines-joined part piece line behind more none cut) (answered_one Is a b (part ++ line) _ unwritten one)
 
-    -- it was answered, and then all of the lines behind it, some, or a beginning of their answers was written
+    -- it was answered, and then all of the lines after it, some, or a beginning of their answers was written
     module _ (none : HasNo 10 part) (b c : Option (List ℕ)) (one : HasAnsweredLine Is a b (part ++ line) []) where
       pub joined_all : (rest : List (List ℕ)) → HasAnswered Is b c (lines_of (behind ++ more)) rest []
           → HasAnswered Is a c (lines_of (part ++ (piece ++ more))) rest []
@@ -139,9 +140,10 @@ module _ (Is : List ℕ → List ℕ → Type 0) where
           (rest, (unwritten, answered_then Is a b c _ _ rest unwritten (joined_one b [] none one) each))
 
   -- the last line is answered
-  pub line_last : {X E : Type 0} (r : Result X E) (a b : Option (List ℕ)) (part : List ℕ) → HasNo 10 part
-      → 0 < length part → OnOk r (HasAnsweredLine Is a b part []) → OnOk r (HasAnswered Is a b (lines_of part) [] [])
-  line_last r a b part none some one = grind (arith, answered_one, lines-unended)
+  pub line_last : {X E : Type 0} (r : Result X E) (a b : Option (List ℕ)) (part text : List ℕ) → HasNo 10 part
+      → 0 < length part → Is part text → OnOk r (HasWritten a b (as_line text) [])
+      → OnOk r (HasAnswered Is a b (lines_of part) [] [])
+  line_last r a b part text none some is wrote = grind (arith, line_answered, answered_one, lines-unended)
 
   -- there is none
   pub none_last : (a : Option (List ℕ)) (part : List ℕ) → length part ≡ 0 → HasAnswered Is a a (lines_of part) [] []

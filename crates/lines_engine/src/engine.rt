@@ -1,7 +1,8 @@
 //! The engine that reads the whole input before it answers a line, and the steps that both engines share.
 ghost use Rattle.std.specs.Prelude.{◌≡◌, ◌<◌, [], ℕ, true, false, vec_len, IfOk, IfErr, IfSome, OnOk, OnErr, IsErrOf, List};
 ghost use Rattle.std.specs.Io.KnownBytes.{IsAtEnd, Keeps};
-ghost use Rattle.lines_engine.specs.Run.{HasWritten, HasAnsweredLine, AnswersAll, AnswersFirst, BeginsAnswers};
+ghost use Rattle.std.specs.String.{string_bytes};
+ghost use Rattle.lines_engine.specs.Run.{HasWritten, AnswersAll, AnswersFirst, BeginsAnswers, as_line};
 
 use crate::answers::Answers;
 use crate::device::{DeviceFault, Sink, Source};
@@ -138,33 +139,29 @@ fn answer_lines<A: Allocator + Copy, L: Answers, W: Sink>(
     let mut rest = text;
     while !rest.is_empty() {
         let (line, after) = cut_at_line_end(rest);
-        answer_line(alloc, answers, line, &mut answer, writer)?;
+        answers.answer(alloc, line, &mut answer)?;
+        write_line(&mut answer, writer)?;
         rest = after;
     }
     Ok(())
 }
 
-/// Replaces the content of `text` by the answer to `line` and an end of line, and then writes it to `writer`.
-#[tactic(auto, using(crate::proofs::RunLemmas::line_answered))]
-pub(crate) fn answer_line<A: Allocator + Copy, L: Answers, W: Sink>(
-    alloc: A,
-    answers: &L,
-    line: &[u8],
+/// Appends an end of line to `text`, and then writes it to `writer`.
+#[tactic(auto, using(crate::proofs::RunLemmas::written_line))]
+pub(crate) fn write_line<A: Allocator, W: Sink>(
     text: &mut String<A>,
     writer: &mut W,
 ) -> Result<(), RunError>
     requires clear { W.mark writer.old ≡ false }
     ensures unmarked { OnOk result (W.mark writer.new ≡ W.mark writer.old) }
-    ensures answered { OnOk result (HasAnsweredLine (L.is_answer answers.now) (W.written writer.old) (W.written writer.new)
-        line.now []) }
+    ensures whole { OnOk result (HasWritten (W.written writer.old) (W.written writer.new)
+        (as_line (string_bytes text.old)) []) }
     ensures memory { IsErrOf result RunError.Memory → writer.new ≡ writer.old }
     ensures write { IsErrOf result RunError.Write → W.mark writer.new ≡ true }
-    ensures some_written { IsErrOf result RunError.Write
-        → (unwritten : List ℕ) × HasAnsweredLine (L.is_answer answers.now) (W.written writer.old) (W.written writer.new)
-        line.now unwritten }
+    ensures some_written { IsErrOf result RunError.Write → (unwritten : List ℕ)
+        × HasWritten (W.written writer.old) (W.written writer.new) (as_line (string_bytes text.old)) unwritten }
     ensures not_read { IsErrOf result RunError.Read → ⊥ }
 {
-    answers.answer(alloc, line, text)?;
     text.push('\n')?;
     write_all(writer, text.as_bytes()).map_err(|_| RunError::Write)
 }

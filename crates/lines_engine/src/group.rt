@@ -3,10 +3,10 @@ ghost use Rattle.std.specs.Prelude.{◌≡◌, ◌<◌, ◌≤◌, ◌+◌, ◌+
 ghost use Rattle.rpki_text.specs.Cuts.{HasNo};
 ghost use Rattle.rpki_text.specs.Lines.{lines_of};
 ghost use Rattle.lines_engine.specs.Groups.{AnswersAreBegun, group_lines};
-ghost use Rattle.lines_engine.specs.Run.{AnswersSomeOf, BeginsAnswersOf, HasAnswered, HasAnsweredLine};
+ghost use Rattle.lines_engine.specs.Run.{AnswersSomeOf, BeginsAnswersOf, HasAnswered};
 
 use crate::device::Sink;
-use crate::engine::write_all;
+use crate::engine::write_line;
 use crate::error::RunError;
 use crate::newline::split_at_newline;
 use crate::steps::Steps;
@@ -141,33 +141,8 @@ fn end_lines<A: Allocator + Copy, L: Steps, W: Sink>(
     ensures not_read { IsErrOf result RunError.Read → ⊥ }
 {
     for asked in group {
-        end_line(alloc, answers, asked.line, &asked.begun, text, writer)?;
+        answers.end(alloc, asked.line, &asked.begun, text)?;
+        write_line(text, writer)?;
     }
     Ok(())
-}
-
-/// Replaces the content of `text` by the answer to `line` and an end of line, and then writes it to `writer`.
-#[tactic(auto, using(crate::proofs::RunLemmas::line_answered))]
-fn end_line<A: Allocator + Copy, L: Steps, W: Sink>(
-    alloc: A,
-    answers: &L,
-    line: &[u8],
-    begun: &L::Begun,
-    text: &mut String<A>,
-    writer: &mut W,
-) -> Result<(), RunError>
-    requires clear { W.mark writer.old ≡ false }
-    requires begun { L.is_begun answers.now begun.now line.now }
-    ensures unmarked { OnOk result (W.mark writer.new ≡ W.mark writer.old) }
-    ensures answered { OnOk result (HasAnsweredLine (L.is_answer answers.now) (W.written writer.old)
-        (W.written writer.new) line.now []) }
-    ensures memory { IsErrOf result RunError.Memory → writer.new ≡ writer.old }
-    ensures write { IsErrOf result RunError.Write → W.mark writer.new ≡ true }
-    ensures some_written { IsErrOf result RunError.Write → (unwritten : List ℕ) × HasAnsweredLine
-        (L.is_answer answers.now) (W.written writer.old) (W.written writer.new) line.now unwritten }
-    ensures not_read { IsErrOf result RunError.Read → ⊥ }
-{
-    answers.end(alloc, line, begun, text)?;
-    text.push('\n')?;
-    write_all(writer, text.as_bytes()).map_err(|_| RunError::Write)
 }

@@ -7,7 +7,7 @@ ghost use Rattle.lines_engine.specs.Run.{AnswersAll, AnswersEnded, AnswersFirst,
 
 use crate::answers::Answers;
 use crate::device::{DeviceFault, Sink, Source};
-use crate::engine::{answer_line, flush_all, read_buffer};
+use crate::engine::{flush_all, read_buffer, write_line};
 use crate::error::RunError;
 use crate::group::answer_groups;
 use crate::newline::split_at_newline;
@@ -207,6 +207,7 @@ fn answer_piece<A: Allocator + Copy, L: Steps, W: Sink>(
 }
 
 /// Answers the line that is `part` and then `line`. Afterwards `part` is empty.
+#[tactic(auto, using(crate::proofs::RunLemmas::line_answered))]
 fn answer_joined<A: Allocator + Copy, L: Answers, W: Sink>(
     alloc: A,
     answers: &L,
@@ -227,7 +228,8 @@ fn answer_joined<A: Allocator + Copy, L: Answers, W: Sink>(
     ensures not_read { IsErrOf result RunError.Read → ⊥ }
 {
     part.extend_from_slice(line)?;
-    answer_line(alloc, answers, part.as_slice(), text, writer)?;
+    answers.answer(alloc, part.as_slice(), text)?;
+    write_line(text, writer)?;
     part.clear();
     Ok(())
 }
@@ -268,5 +270,6 @@ fn answer_last<A: Allocator + Copy, L: Answers, W: Sink>(
         return Ok(());
     }
     let mut answer = String::new(alloc);
-    answer_line(alloc, answers, part, &mut answer, writer)
+    answers.answer(alloc, part, &mut answer)?;
+    write_line(&mut answer, writer)
 }

@@ -82,7 +82,7 @@ returns-then-len-lt-GROUP-clause-answered g c =
     c.in_ok-end_lines.ensures.answered))
     c.keep.ensures.kept
 
--- and what is behind them was not kept
+-- and what is after them was not kept
 pub returns-then-len-lt-GROUP-clause-some_answered : goal.returns-then-len-lt-GROUP-clause-some_answered
 returns-then-len-lt-GROUP-clause-some_answered g c is more =
     let len = c.advance_lines.auto.group ∙ c.deref_mut.ensures.len in

@@ -39,7 +39,7 @@ returns-in_err-answer_joined-in-Some-clause-some_written g c is more =
       ),
     )
 
--- the lines behind it were answered too
+-- the lines after it were answered too
 pub returns-in_ok-answer_joined-in-Some-clause-answered : goal.returns-in_ok-answer_joined-in-Some-clause-answered
 returns-in_ok-answer_joined-in-Some-clause-answered g c =
     on_ok_weaker c.answer_groups-in-Some.result

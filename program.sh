@@ -265,9 +265,25 @@ tell_said() {
     ' "$@" said >&2
 }
 
+# Calls a function for each word, which is in `word`, and then another one with the words. `ended` is set after a word --.
+# The first function may change `word`. A word for which it fails is dropped.
+each_word() {
+    visit=$1 next=$2 left=$(($# - 2)) ended=
+    shift 2
+    while [ "$left" -gt 0 ]; do
+        word=$1
+        shift
+        left=$((left - 1))
+        "$visit" && set -- "$@" "$word"
+        [ "$word" != -- ] || ended=1
+    done
+    "$next" "$@"
+}
+
 # Copies a file that a word names, and sets `word` to the name that the program gets for it. A name that is not below
 # the current folder is replaced by another one.
 copy_file() {
+    case $ended$word in -* | 1-) return 0 ;; esac
     [ -r "$word" ] && ! [ -d "$word" ] && cat <"$word" >"$kept/file-$((count + 1))" 2>/dev/null || return 0
     count=$((count + 1))
     echo "$word" >"$kept/name-$count"
@@ -285,22 +301,13 @@ try_sources() (
     trap 'exit 130' INT
     trap 'exit 143' TERM
     trap 'exit 129' HUP
-    tried_crate=$program_crate
+    tried_crate=$program_crate count=0
     [ $# -gt 0 ] || tried_crate=${without_words:-$program_crate}
-    count=0
-    ended=
-    left=$#
-    while [ "$left" -gt 0 ]; do
-        word=$1
-        shift
-        left=$((left - 1))
-        case $ended$word in
-        --) ended=1 ;;
-        -* | 1-) ;;
-        *) copy_file ;;
-        esac
-        set -- "$@" "$word"
-    done
+    each_word copy_file try_words "$@"
+)
+
+# Tries the program with these words, whose files are copied, and ends.
+try_words() {
     copy_input
     set -- -- "$@"
     for at in $(seq "$count" -1 1); do
@@ -319,28 +326,24 @@ try_sources() (
     why=$(sed -n 's/^checked: no-answer: //p' said)
     tell "no answers: ${why:-$(tail -n 1 said)}"
     exit 1
-)
+}
+
+# Takes an option of the script.
+take_option() {
+    case $ended$word in
+    -h | --help) help; exit ;;
+    --version) version; exit ;;
+    --note-kit) note_kit; exit ;; # of ./check, once rt ci has proved and built the program
+    --try) tried=1; return 1 ;;
+    --no-build) unbuilt=1; return 1 ;;
+    esac
+}
 
 # Runs the program with the words, without the options of the script.
-start() {
-    tried=
-    unbuilt=
-    ended=
-    left=$#
-    while [ "$left" -gt 0 ]; do
-        word=$1
-        shift
-        left=$((left - 1))
-        case $ended$word in
-        -h | --help) help; exit ;;
-        --version) version; exit ;;
-        --note-kit) note_kit; exit ;; # of ./check, once rt ci has proved and built the program
-        --try) tried=1; continue ;;
-        --no-build) unbuilt=1; continue ;;
-        --) ended=1 ;;
-        esac
-        set -- "$@" "$word"
-    done
+start() { tried='' unbuilt=''; each_word take_option run_program "$@"; }
+
+# Runs the program with its own words: the sources under --try, or the built program, which is built first if needed.
+run_program() {
     need_file "$@"
     if [ -n "$tried" ]; then
         need_prover

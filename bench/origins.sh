@@ -10,7 +10,7 @@
 # but no VRP matches. An AS may originate the third route. A time is in microseconds of the processor, the least of
 # RUNS (5). Both programs must print the same answers. bench/slowest_tables.py measures. The library of bench/clock.c
 # makes each clock count the time of the processor.
-top=$(CDPATH= cd -- "$(dirname -- "$0")/.." && pwd) || exit 1
+top=$(CDPATH='' cd -- "$(dirname -- "$0")/.." && pwd) || exit 1
 work=$(mktemp -d) || exit 1
 trap 'rm -rf "$work"' EXIT
 ${CC:-cc} -O2 -o "$work/peer" "$top/bench/origins.c" -lrtr || exit 1

@@ -5,7 +5,7 @@
 # - making a set of ascending blocks
 # - union, intersection, difference and inclusion of two sets whose blocks interleave
 # - reading DER, a SEQUENCE whose blocks do not ascend, and writing its set
-top=$(CDPATH= cd -- "$(dirname -- "$0")/.." && pwd) || exit 1
+top=$(CDPATH='' cd -- "$(dirname -- "$0")/.." && pwd) || exit 1
 program=$top/crates/bench_growth/out/bench_growth
 if ! [ -x "$program" ]; then
     echo "sets: proving and building the program, which takes some minutes the first time" >&2

@@ -1,6 +1,6 @@
 """Copies the repository, makes one thing wrong in the copy, and runs a test there.
 
-The tests of the tests use this module: tests/run/of_tests.py and the modules wrong_*.
+The tests of the tests use this module: tests/run/of_tests.py and of_edits.py.
 """
 
 import os
@@ -15,13 +15,14 @@ from blocks import program
 
 @dataclass(frozen=True)
 class Case:
-    """A change that makes a file wrong, and the test that has to report it with these words."""
+    """A change that makes a file wrong, the test that has to report it with these words, and the programs it needs."""
 
     test: str
     file: str
     old: str
     new: str
     said: str
+    needs: tuple[str, ...] = ()
 
 
 def built(name: str) -> Path:

@@ -11,7 +11,7 @@ trap 'rm -rf "$files"' EXIT
 
 copy="$files/a copy"
 mkdir -p "$copy/bin" "$copy/tools" "$copy/tmp" "$copy/crates/other"
-for crate in $(sed '/^#/d; s/[ :].*//' "$top/crates.txt"); do mkdir -p "$copy/crates/$crate/out"; done
+sed '/^#/d; s/[ :].*//' "$top/crates.txt" | while read -r crate; do mkdir -p "$copy/crates/$crate/out"; done
 cp "$top/respath" "$top/origins" "$top/program.sh" "$top/crates.txt" "$top/HANDLES" "$copy/"
 for crate in respath_program origins; do
     mkdir "$copy/crates/$crate/src"

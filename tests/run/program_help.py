@@ -1,12 +1,12 @@
 #!/usr/bin/env python3
-"""program_help.py: compares the help of a script with the help of its program and with its manual page.
+"""program_help.py: compares the help of a script with the help of its program, with its manual page and its statuses.
 
 It also shows that `./respath` and `./origins` answer help, version and an unknown option at once, without a build, and
-that the programs refuse wrong usage.
+runs the examples of the manual pages.
 
 An entry of a help is a line with two spaces, a term, two or more spaces and its description. The description may
-continue on the next lines. The manual page has to contain the description of each entry word for word. The script
-prints a line for each fault. The status is 1 if there is a fault.
+continue on the next lines. The manual page has to contain the description of each entry word for word. A program that
+is not built is left out by name. The status is 1 if something differs.
 """
 
 import os
@@ -16,38 +16,35 @@ import subprocess
 import sys
 import tempfile
 from collections.abc import Iterator
+from pathlib import Path
 
 from top import TOP
-from blocks import Report, manual, program
+from blocks import Report, examples_of, manual, program, run, write_script
 
-SECONDS = 0.2
+SECONDS = 2  # a build takes longer, also where the machine is busy
 # The tools of the scripts, without rt.
 TOOLS = "awk cat cut date dirname find git grep head readlink rm sed sha256sum tr".split()
 # The program whose texts are those of the script.
 PROGRAMS = {"respath": "respath_program", "origins": "origins"}
 # What the scripts refuse before a build.
 REFUSED = {"respath": (["--strange"], ["norm as 1"]), "origins": (["--strange"], ["vrps", "--slur", "file"])}
-WRONG = {
-    "respath": (["--strange"], ["one", "--chec"]),
+# For each status: a word of its entry in the help, and a command that ends with it.
+STATUSES = {
+    "respath": (
+        ("answered", "echo norm as x | respath"), ("read", "respath none"), ("usage", "respath --strange"),
+        ("--check", "echo norm as x | respath --check"),
+    ),
     "origins": (
-        [], ["--strange"], ["--table"], ["--table", "--of", "ASX", "a"], ["--diff", "a"], ["a", "b"], ["a", "b", "c"],
-        ["--table", "--of"], ["--of", "1", "a"], ["--table", "--diff", "a", "b"], ["--why", "--table", "a"],
-        ["--why", "--diff", "a", "b"], ["--check", "--table", "a"], ["--check", "--diff", "a", "b"],
-        ["-"], ["--", "-"], ["--diff", "-", "-"], ["a", "--vrps"], ["a", "--slurm"], ["--slurm", "a"],
-        ["a", "--vrps", "b", "c"], ["a", "--slurm", "b", "--slurm", "c"], ["--diff", "a", "--vrps", "b"],
-        ["--diff", "a", "b", "--slurm", "c"], ["a", "--vrps", "-"], ["--slurm", "-", "a"],
-        ["--table", "-", "--vrps", "-"], ["--table", "--slurm", "-", "-"], ["--vrps", "--", "--of", "1"],
-        ["--json", "--table", "a"], ["--json", "--diff", "a", "b"], ["a", "--now"], ["--now", "1"], ["a", "--now", "x"],
-        ["a", "--now", "-1"], ["a", "--now", "18446744073709551616"], ["a", "--now", ""], ["a", "--now", "1", "--now", "2"],
-        ["--diff", "a", "b", "--now", "18446744073709551615"],
-    ),  # fmt: skip
-}
+        ("answered", "echo 192.0.2.0/24 | origins vrps"), ("read", "origins none"), ("usage", "origins --strange"),
+        ("--check", "echo 192.0.2.0/24 | origins --check vrps"),
+    ),
+}  # fmt: skip
 
 
 def entries(text: str) -> dict[str, str]:
     """Returns the terms of a help, each with its description."""
     found: dict[str, str] = {}
-    term = column = None
+    term, column = "", 0
     for line in text.splitlines():
         line = re.sub(r"^STEP(?=  )", "    ", line)  # its entries begin on its own line
         start = re.match(r"( *)(\S.*?)  +(?=\S)", line)
@@ -57,7 +54,7 @@ def entries(text: str) -> dict[str, str]:
         elif term and line.startswith(" " * 5) and line.strip():
             found[term] += " " + line.strip()
         else:
-            term = None
+            term = ""
     return found
 
 
@@ -85,6 +82,9 @@ def faults_of(name: str) -> Iterator[str]:
     for term, description in said.items():
         if " ".join(description.replace('"', "").split()) not in page:
             yield f"docs/{name}.1 does not say of {term}: {description}"
+    for status, (word, _) in enumerate(STATUSES[name]):
+        if word not in said.get(str(status), ""):
+            yield f"{name} --help does not say {word!r} of status {status}"
     for words, wanted in ((["--help"], 0), (["-h"], 0), (["--version"], 0), *((it, 2) for it in REFUSED[name])):
         status, text, took = asked(name, *words)
         what = f"{name} {' '.join(words)}"
@@ -94,27 +94,32 @@ def faults_of(name: str) -> Iterator[str]:
             yield f"{what}: {took:.2f} seconds of the processor, more than {SECONDS}"
 
 
-def faults_of_program(name: str) -> Iterator[str]:
-    """Yields the differences between the help of a script and that of its program, and wrong usage that is taken."""
-    built, helped = program(PROGRAMS[name]), asked(name, "--help")[1]
-    usage, _, own = subprocess.run([built, "--help"], capture_output=True, text=True).stdout.partition("\n\n")
-    if own.rstrip("\n") not in helped or not helped.startswith(usage):
+def faults_of_program(name: str, folder: Path) -> Iterator[str]:
+    """Yields the differences between the help of a script and that of its program, and statuses that differ."""
+    helped, own = asked(name, "--help")[1], {"PATH": f"{folder}:{os.environ['PATH']}"}
+    usage, _, more = run(f"{name} --help", folder, **own).stdout.partition("\n\n")
+    if more.rstrip("\n") not in helped or not helped.startswith(usage):
         yield f"./{name} --help does not have the help of the program"
-    for words in WRONG[name]:
-        ran = subprocess.run([built, *words], capture_output=True, text=True, stdin=subprocess.DEVNULL)
-        if ran.returncode != 2 or ran.stdout or not re.match(rf"{name}: .*\nusage: ", ran.stderr):
-            yield f"{name} {' '.join(words)}: status {ran.returncode}: {ran.stdout}{ran.stderr}"
+    for status, (_, command) in enumerate(STATUSES[name]):
+        if (found := run(command, folder, **own).returncode) != status:
+            yield f"{command}: status {found} in place of {status}"
 
 
 def main() -> int:
-    """Compares the texts of both scripts."""
+    """Compares the texts of both scripts, and runs the examples of the manual pages by the names of a release."""
     report = Report()
     for name, crate in PROGRAMS.items():
         report.add(f"the texts of ./{name}", faults_of(name))
-        if program(crate).is_file():
-            report.add(f"the program {crate}", faults_of_program(name))
-        else:
+        if not program(crate).is_file():
             report.leave_out(f"the help of the program {crate}", "it is not built")
+            continue
+        with tempfile.TemporaryDirectory() as temporary:
+            folder, block = Path(temporary), examples_of(f"docs/{name}.1")
+            write_script(folder / name, f'exec "{program(crate)}" "$@"')
+            ran = run(block.text, folder, "-c", PATH=f"{folder}:{os.environ['PATH']}")
+            report.compare(f"the examples of {block.place}", block.shown or "an example", ran.stdout, ran.stderr)
+            (folder / "vrps").write_text("AS1,10.0.0.0/8,8\n")
+            report.add(f"the program {crate}", faults_of_program(name, folder))
     return report.status()
 
 

@@ -3,8 +3,9 @@
 # if a standard stream fails, and streams above 64 MiB, also through origins. It tests the options and files of
 # ./respath and of respath_program, which a release installs as respath, and the examples of the help.
 # tests/run/program_front.sh tests what the script does without the program. The status is 0 if every case is as
-# expected. shellcheck disable=SC2016,SC2034 # commands of cases
-top=$(CDPATH= cd -- "$(dirname -- "$0")/../.." && pwd) || exit 1
+# expected.
+# shellcheck disable=SC2016,SC2034 # commands of cases
+top=$(CDPATH='' cd -- "$(dirname -- "$0")/../.." && pwd) || exit 1
 printf '' | "$top/respath" || exit 1
 plain=$top/crates/respath/out/respath
 program=$top/crates/respath_program/out/respath_program

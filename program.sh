@@ -18,7 +18,7 @@ tell() { printf '%s: %s\n' "$started" "$1" >&2; }
 is_current() {
     [ -x "$program" ] &&
         [ -z "$(for crate in $(needed_crates); do
-            find "$top/crates/$crate" -name out -prune -o -type f -newer "$program" -print
+            find "$top/crates/$crate" -name out -prune -o -type f ! -name '*.md' -newer "$program" -print
         done | head -n 1)" ]
 }
 

@@ -1,17 +1,22 @@
 #!/usr/bin/env python3
-"""calls.py FOLDER N..: counts the instructions of calls from C, for bench/calls.sh.
+"""calls.py [N ..]: counts by callgrind what a call costs from C, over two sets of N blocks of each kind.
 
-FOLDER has the program that bench/calls.sh compiles."""
+It prints the instructions of one call, in thousands, and the share of the functions of pigyelund_c, with the code that
+is inlined there. A count is the mean of eleven calls. In `verify` and `contains` each block of the second set is inside
+one of the first. In the other calls the blocks overlap. It needs gcc and valgrind, and the library (rt lib).
+"""
 
 import re
 import subprocess
 import sys
+import tempfile
 from pathlib import Path
 
-sys.path.append(str(Path(__file__).resolve().parent.parent / "tests"))
+from regress import LIBRARY, TOP, kit
+
+sys.path.append(str(TOP / "tests"))
 from reference import resources  # noqa: E402
 
-folder = sys.argv[1]
 TIMES = 11
 CALLS = ("verify", "union", "intersection", "difference", "contains")
 
@@ -52,11 +57,14 @@ def annotated(log, inclusive):
     return [(it[2], int(it[1].replace(",", ""))) for it in found if it]
 
 
-print(f"{'call':<14}{'N':>8}{'thousands':>12}{'border':>9}")
-for count in map(int, sys.argv[2:]):
-    one = [(16 * at + 1, 16 * at + 9) for at in range(count)]
-    inside = [(16 * at + 3, 16 * at + 7) for at in range(count)]
-    across = [(16 * at + 5, 16 * at + 12) for at in range(count)]
-    for call in CALLS:
-        took, border = shares(call, written(one, inside if call in ("verify", "contains") else across))
-        print(f"{call:<14}{count:>8}{took:>12.1f}{border:>9.3f}")
+with tempfile.TemporaryDirectory() as folder:
+    source = [TOP / "bench" / "calls.c", LIBRARY, kit() / "c" / "liblibc_c.a"]
+    subprocess.run(["gcc", "-O2", "-o", Path(folder, "calls"), *source], check=True)
+    print(f"{'call':<14}{'N':>8}{'thousands':>12}{'border':>9}")
+    for count in map(int, sys.argv[1:] or [1000]):
+        one = [(16 * at + 1, 16 * at + 9) for at in range(count)]
+        inside = [(16 * at + 3, 16 * at + 7) for at in range(count)]
+        across = [(16 * at + 5, 16 * at + 12) for at in range(count)]
+        for call in CALLS:
+            took, border = shares(call, written(one, inside if call in ("verify", "contains") else across))
+            print(f"{call:<14}{count:>8}{took:>12.1f}{border:>9.3f}")

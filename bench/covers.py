@@ -1,5 +1,11 @@
 #!/usr/bin/env python3
-"""covers.py RESPATH N..: times the shortest cover of N random prefixes, for bench/covers.sh."""
+"""covers.py [N ..]: times how long programs take to find the shortest list of prefixes for N random IPv4 prefixes.
+
+The programs are respath with its command `cover`, aggregate, netmask and netaddr. Debian has the last three in the
+packages aggregate, netmask and python3-netaddr. The prefixes have 20 to 28 bits, and two of every three are neighbours.
+Each time is the least of five runs in turn, in seconds of the processor. The script names a program that is missing or
+prints another list. A program that takes more than three seconds runs once, and gets no longer list.
+"""
 
 import random
 import shutil
@@ -8,15 +14,15 @@ import sys
 import tempfile
 from pathlib import Path
 
-from origins import address, run
+from origins import TOP, address, run
 
 NETADDR = """
 import sys, netaddr
 for it in netaddr.cidr_merge(sys.stdin.read().split()): print(it)
 """
-respath = sys.argv[1]
+SIZES = 10_000, 30_000, 100_000, 1_000_000
 callers = {
-    "respath": [respath],
+    "respath": [TOP / "crates" / "respath_program" / "out" / "respath_program"],
     "aggregate": [shutil.which("aggregate"), "-q"],
     "netmask": [shutil.which("netmask"), "-c", "-f", "/dev/stdin"],
     "netaddr": ["/usr/bin/python3", "-c", NETADDR],
@@ -43,14 +49,16 @@ def asked(name, list_of, folder):
     return answer.read_text().replace(", ", "\n").replace(" ", "").split(), took
 
 
+subprocess.run([TOP / "respath"], stdin=subprocess.DEVNULL, check=True)  # builds it
 there = [name for name, command in callers.items() if command[0]]
-there = [it for it in there if it != "netaddr" or not subprocess.run(["/usr/bin/python3", "-c", "import netaddr"], stderr=-3).returncode]
+if subprocess.run(["/usr/bin/python3", "-c", "import netaddr"], stderr=subprocess.DEVNULL).returncode:
+    there.remove("netaddr")
 for name in callers.keys() - set(there):
     print(f"left out: there is no {name}")
 print(f"{'N':>8}{'left':>9}" + "".join(f"{it:>11}" for it in there))
 all_there = there
 with tempfile.TemporaryDirectory() as folder:
-    for count in map(int, sys.argv[2:]):
+    for count in map(int, sys.argv[1:] or SIZES):
         inputs = list(prefixes(count))
         least, answers = {}, {}
         for _ in range(5):

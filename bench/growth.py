@@ -1,5 +1,10 @@
 #!/usr/bin/env python3
-"""growth.py RESPATH: measures how the time and the memory of `norm` and `cover` grow, for bench/growth.sh."""
+"""Measures how the time and the peak memory of `norm` and `cover` grow with the input.
+
+For `norm` the inputs are lists of N elements in one line, shuffled and sorted, and N short lines, for AS numbers, IPv4
+and IPv6. For `cover` the input is N random IPv4 prefixes. If the work is N log N, a doubled input takes about twice the
+time.
+"""
 
 import os
 import random
@@ -90,4 +95,5 @@ def compare(program, inputs):
 
 with tempfile.TemporaryDirectory() as folder:
     make_inputs(folder)
-    compare(sys.argv[1], folder)
+    subprocess.run([regress.TOP / "respath"], stdin=subprocess.DEVNULL, check=True)  # builds it
+    compare(regress.TOP / "crates" / "respath_program" / "out" / "respath_program", folder)

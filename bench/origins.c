@@ -1,4 +1,4 @@
-/* The tables of `crates/bench_growth/src/worst.rt` in rtrlib's pfx_table: what `bench/origins.sh` compares. Arguments:
+/* The tables of `crates/bench_growth/src/worst.rt` in rtrlib's pfx_table: what `bench/slowest_tables.py` compares. Arguments:
  * `one` or `chain`, and how many VRPs. It prints what the Rattle program prints. */
 #include <rtrlib/rtrlib.h>
 #include <stdint.h>

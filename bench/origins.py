@@ -78,8 +78,8 @@ def run(words: list[object], stdin: Path | None, stdout: Path) -> tuple[float, f
     """Runs a program. Returns the seconds of the processor and the peak of memory in MiB."""
     with open(stdin or os.devnull, "rb") as given, open(stdout, "wb") as taken:
         small = [sys.executable, "-S", "-E", "-c", CHILD, *words]
-        measured = subprocess.run(small, stdin=given, stdout=taken, stderr=subprocess.PIPE, text=True, check=True).stderr
-    status, seconds, memory = measured.split()
+        ran = subprocess.run(small, stdin=given, stdout=taken, stderr=subprocess.PIPE, text=True, check=True)
+    status, seconds, memory = ran.stderr.split()
     if status != "0":
         raise SystemExit(f"{words}: status {status}")
     return float(seconds), int(memory) / 1024

@@ -42,7 +42,8 @@ def ratios() -> None:
     height = top + step * (len(lines) + len(calls) + 1) + 30
     for tick in (0, 0.5, 1, 1.5, 2):
         x = left + tick * unit
-        parts += [line(x, top, x, height - 25, "one" if tick == 1 else "grid"), text(x, height - 8, f"{tick:g}", "middle")]
+        parts.append(line(x, top, x, height - 25, "one" if tick == 1 else "grid"))
+        parts.append(text(x, height - 8, f"{tick:g}", "middle"))
     y = top
     for group, colour in ((lines, COLOURS[0]), (calls, COLOURS[1])):
         for name, ratio in group:

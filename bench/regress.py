@@ -8,8 +8,8 @@ input without a figure, because nothing was compared. A commit that changes coun
 (--write).
 
 The first line of bench/regress.txt names the kit, the C library and the processor of the figures. Nothing is counted
-with others, without valgrind, or if `respath` or `bench_growth` is not built. Inputs of `origins` and of the C library
-are left out by name if these are not built, and --write then writes nothing.
+with others, without valgrind, or if a program is not built. Calls from C are left out by name if the library is not
+built, and --write then writes nothing.
 """
 
 import os
@@ -173,19 +173,11 @@ def instructions(asked: Input) -> int:
     return int(re.findall(r"^==\d+== Collected : (\d+)", ran.stderr, re.MULTILINE)[-1])
 
 
-def parts_left_out() -> dict[str, str]:
-    """Returns the groups of inputs that cannot be counted here, and what they need.
-
-    A group is named by the beginnings of the names of its inputs.
-    """
-    absent = {}
-    if not ORIGINS.exists():
-        absent["table- no-routes- routes- why- json- diff-"] = "origins is not built"
+def calls_left_out() -> str:
+    """Returns why the calls from C cannot be counted here, or an empty text."""
     if not LIBRARY.exists():
-        absent["call-"] = f"{LIBRARY.name} is not built (rt lib in crates/pigyelund_c)"
-    elif shutil.which("gcc") is None:
-        absent["call-"] = "gcc is not there"
-    return absent
+        return f"{LIBRARY.name} is not built (rt lib in crates/pigyelund_c)"
+    return "" if shutil.which("gcc") else "gcc is not there"
 
 
 def inputs(folder: Path) -> Iterator[Input]:
@@ -194,10 +186,8 @@ def inputs(folder: Path) -> Iterator[Input]:
         yield Input(name, (RESPATH,), given)
     yield Input("sets", (GROWTH, "5000"))
     yield Input("origins", (GROWTH, "origins", "20000", "20000"))
-    absent = parts_left_out()
-    if not any("routes-" in it for it in absent):
-        yield from of_origins(folder)
-    if "call-" not in absent:
+    yield from of_origins(folder)
+    if not calls_left_out():
         yield from of_calls(folder)
 
 
@@ -212,7 +202,7 @@ def left_out() -> str:
     """Returns why nothing is counted, or an empty text if the inputs are counted."""
     if shutil.which("valgrind") is None:
         return "valgrind is not there"
-    for program in (RESPATH, GROWTH):
+    for program in (RESPATH, GROWTH, ORIGINS):
         if not program.exists():
             return f"{program.name} is not built"
     figures = FIGURES.read_text().split("\n")[0] if FIGURES.exists() else ""
@@ -236,11 +226,9 @@ def what_counts() -> str:
 def compare() -> int:
     """Prints each count that is off its figure, each figure without an input, and each input without a figure."""
     figures = {name: int(figure) for name, figure in map(str.split, FIGURES.read_text().splitlines()[1:])}
-    absent = parts_left_out()
-    for names, need in absent.items():
-        print(f"left out: the inputs {names.replace(' ', '*, ')}*: {need}")
-    fronts = tuple(front for names in absent for front in names.split())
-    off, gone = 0, {name for name in figures if not name.startswith(fronts)}
+    if need := calls_left_out():
+        print(f"left out: the inputs call-*: {need}")
+    off, gone = 0, {name for name in figures if not need or not name.startswith("call-")}
     asked = list(counted())
     for name, count in asked:
         gone.discard(name)
@@ -258,9 +246,8 @@ def compare() -> int:
 
 def write() -> int:
     """Writes the figures of all inputs, or none."""
-    absent = parts_left_out()
-    if absent:
-        print(f"no figures are written: {'; '.join(absent.values())}")
+    if need := calls_left_out():
+        print(f"no figures are written: {need}")
         return 1
     made = [what_counts(), *(f"{name} {count}" for name, count in counted())]
     FIGURES.write_text("\n".join(made) + "\n")

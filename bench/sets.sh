@@ -7,16 +7,7 @@
 # - reading DER, a SEQUENCE whose blocks do not ascend, and writing its set
 top=$(CDPATH='' cd -- "$(dirname -- "$0")/.." && pwd) || exit 1
 program=$top/crates/bench_growth/out/bench_growth
-if ! [ -x "$program" ]; then
-    echo "sets: proving and building the program, which takes some minutes the first time" >&2
-    log=$(mktemp) || exit 1
-    (cd "$top/crates/bench_growth" && rt run </dev/null >"$log" 2>&1)
-    if ! [ -x "$program" ]; then
-        tail -n 20 "$log" >&2
-        exit 1
-    fi
-    rm -f "$log"
-fi
+[ -x "$program" ] || (cd "$top/crates/bench_growth" && rt run </dev/null >&2) || exit 1
 
 # The best of seven runs.
 for run in 1 2 3 4 5 6 7; do

@@ -1,7 +1,7 @@
 """Finds the public paths of a library's items, from its `mod` and `pub use` lines.
 
-tests/run/api_pages.py shows these paths as headings, and writes a `use` line of each one into `crates/test_paths`, which
-`rt ci` compiles.
+tests/run/api_pages.py shows these paths as headings, and writes a `use` line of each one into `crates/test_paths`,
+which `rt ci` compiles.
 """
 
 import re

@@ -11,7 +11,6 @@ import re
 import subprocess
 from collections.abc import Iterable
 from dataclasses import dataclass
-from itertools import pairwise
 from pathlib import Path
 
 from top import TOP
@@ -54,7 +53,8 @@ def blocks_of(page: str, title: str = "") -> list[Block]:
     """
     text = (TOP / page).read_text()
     heading, found = "", []
-    for part, after in pairwise([*HEADING_OR_BLOCK.finditer(text), None]):
+    parts = [*HEADING_OR_BLOCK.finditer(text)]
+    for part, after in zip(parts, [*parts[1:], None], strict=True):
         heading = part[1] or heading
         if part[1] is None and title in ("", heading):
             line = text.count("\n", 0, part.start()) + 1

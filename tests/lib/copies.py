@@ -68,7 +68,7 @@ def fault_of(case: Case, copy: Path, command: tuple[str, ...] = (), failing: int
     if case.old.encode() not in before:
         return f"{case.old!r} is not in {case.file}"
     path.write_bytes(before.replace(case.old.encode(), case.new.encode(), 1))
-    status, said = said_by(command or tuple(case.test.split()), copy, **variables)
+    status, said = said_by(command or tuple(case.test.split()), copy, None, **variables)
     path.write_bytes(before)
     if (status, case.said in said) != (failing, True):
         return f"status {status} in place of {failing} with {case.said!r}: {said[-400:]}"

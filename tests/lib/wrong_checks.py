@@ -17,13 +17,11 @@ FUNCTION = re.compile(r"^(#\[test\]\n(?:#.*\n)*)?(?:pub )?fn (\w+)(.*?)^\}", re.
 ASSERTION = re.compile(r"\bassert(?:_eq|_ne)?!\(")
 IMPORT = re.compile(r"^use crate::((?:\w+::)*\w+)::(\w+|\{[^}]*\});", re.MULTILINE)
 CALLED = re.compile(r"\b(\w+)(?:::<[^>]*>)?\(")
-# What each function of `checks.rt` is asked, and whether it has to fail.
+# Right and wrong calls of each function of `checks.rt`, the wrong one first.
 ASKED = {
-    "holds": (("holds(&rt, false)", True), ("holds(&rt, true)", False)),
-    "same": (("same(&rt, 1u32, 2u32)", True), ("same(&rt, 1u32, 1u32)", False)),
-    "is_shown": (
-        ('holds(&rt, is_shown(rt.alloc(), &1u32, "2"))', True), ('holds(&rt, is_shown(rt.alloc(), &1u32, "1"))', False)
-    ),
+    "holds": ("holds(&rt, false)", "holds(&rt, true)"),
+    "same": ("same(&rt, 1u32, 2u32)", "same(&rt, 1u32, 1u32)"),
+    "is_shown": ('holds(&rt, is_shown(rt.alloc(), &1u32, "2"))', 'holds(&rt, is_shown(rt.alloc(), &1u32, "1"))'),
 }
 
 
@@ -73,46 +71,34 @@ def of_assertions(folder: Path) -> Iterator[tuple[str, str | None]]:
     yield "test_types without its assertions", None if len(found) > 9 else f"{found} alone reach none"
 
 
-def made_crate(folder: Path) -> dict[str, bool]:
-    """Makes a crate of these tests beside the crates that `checks.rt` stands on; which tests have to fail."""
-    needed = below("test_support") | {"test_support"}
-    for name in needed:
-        shutil.copytree(TOP / "crates" / name, folder / "crates" / name, ignore=shutil.ignore_patterns("out"))
-    shutil.copy(TOP / "HANDLES", folder)
-    rows = [row for row in (TOP / "crates.txt").read_text().splitlines() if row.split(":")[0] in needed]
-    (folder / "crates.txt").write_text("\n".join([*rows, "wrong: test_support\n"]))
-    sources = folder / "crates" / "wrong" / "src"
-    sources.mkdir(parents=True)
-    names, asked, fails = [], [], {}
-    for file in sorted((TOP / "crates").glob("test_*/src/checks.rt")):
-        name = file.parent.parent.name
-        text = file.read_text()
-        shutil.copy(file, sources / f"{name}.rt")
-        names.append(name)
-        for call in re.findall(r"^pub fn (\w+)", text, re.MULTILINE):
-            for at, (body, is_wrong) in enumerate(ASKED.get(call, ())):
-                test = f"{name}_{call}_{at}"
-                fails[f"asked::{test}"] = is_wrong
-                body = re.sub(r"\b(holds|same|is_shown)\(", rf"crate::{name}::\1(", body)
-                asked.append(f"#[test]\nfn {test}(rt: HostRuntime) {{\n    {body};\n}}\n")
-            if call not in ASKED:
-                fails[f"asked::{name}::{call}"] = True  # nobody asks it
-    modules = "".join(f"#[cfg(test)]\nmod {name};\n" for name in [*names, "asked"])
-    (sources / "lib.rt").write_text(f"//! Right and wrong expectations.\n#![tactic(auto)]\n\n{modules}")
-    (sources / "asked.rt").write_text("\n".join(asked))
-    return fails
-
-
 def of_checks(folder: Path) -> Iterator[tuple[str, str | None]]:
-    """Runs the functions of `checks.rt` unproved, with right and wrong expectations."""
+    """Runs the functions of each `checks.rt` unproved in one crate: the wrong calls alone have to fail."""
     if shutil.which("rt") is None:
         print("left out: checks.rt of the crates of tests needs rt")
         return
-    fails = made_crate(folder)
-    crate = folder / "crates" / "wrong"
-    done = subprocess.run(["rt", "try", "--test"], cwd=crate, stdin=subprocess.DEVNULL, stdout=subprocess.PIPE,
-                          stderr=subprocess.STDOUT, text=True)
-    found = dict(re.findall(r"^test (\S+) \.\.\. (ok|FAILED)", done.stdout, re.MULTILINE))
-    wanted = {name: "FAILED" if is_wrong else "ok" for name, is_wrong in fails.items()}
-    fault = None if wanted and found == wanted and done.returncode != 0 else f"{found} in place of {wanted}"
-    yield "checks.rt of the crates of tests: wrong expectations fail", fault and f"{fault}: {done.stdout[-400:]}"
+    sources, ignored = folder / "crates" / "wrong" / "src", shutil.ignore_patterns("out")
+    needed = below("test_support") | {"test_support"}
+    for name in needed:
+        shutil.copytree(TOP / "crates" / name, folder / "crates" / name, ignore=ignored)
+    shutil.copy(TOP / "HANDLES", folder)
+    rows = [row for row in (TOP / "crates.txt").read_text().splitlines() if row.split(":")[0] in needed]
+    (folder / "crates.txt").write_text("\n".join([*rows, "wrong: test_support\n"]))
+    sources.mkdir(parents=True)
+    modules, tests, wanted = "#[cfg(test)]\nmod asked;\n", "", {}
+    for file in sorted((TOP / "crates").glob("test_*/src/checks.rt")):
+        name = file.parent.parent.name
+        shutil.copy(file, sources / f"{name}.rt")
+        modules += f"#[cfg(test)]\nmod {name};\n"
+        for call in re.findall(r"^pub fn (\w+)", file.read_text(), re.MULTILINE):
+            for body, ended in zip(ASKED[call], ("FAILED", "ok"), strict=True):
+                test = f"{name}_{call}_{ended.lower()}"
+                wanted[f"asked::{test}"] = ended
+                body = re.sub(r"\b(holds|same|is_shown)\(", rf"crate::{name}::\1(", body)
+                tests += f"#[test]\nfn {test}(rt: HostRuntime) {{\n    {body};\n}}\n"
+    (sources / "lib.rt").write_text(f"//! Right and wrong expectations.\n#![tactic(auto)]\n\n{modules}")
+    (sources / "asked.rt").write_text(tests)
+    how = {"stdin": subprocess.DEVNULL, "stdout": subprocess.PIPE, "stderr": subprocess.STDOUT, "text": True}
+    said = subprocess.run(["rt", "try", "--test"], cwd=folder / "crates" / "wrong", **how).stdout
+    found = dict(re.findall(r"^test (\S+) \.\.\. (ok|FAILED)", said, re.MULTILINE))
+    fault = None if wanted and found == wanted else f"{found} in place of {wanted}: {said[-400:]}"
+    yield "checks.rt of the crates of tests: wrong expectations fail", fault

@@ -487,6 +487,8 @@ def _changed(text: str) -> str:
         if prefixes.validity(*route, old) != prefixes.validity(*route, new)
     ]
     return " ".join(places) or "none"
+
+
 def _answered(text: str, is_explained: bool) -> str:
     listed, route = texts.cut(text, ";") if ";" in text else (text, "")
     try:
@@ -531,7 +533,8 @@ def _unexpired(text: str) -> str:
     except Fault:
         return "no such time"
     kept, expired = expiry.unexpired(file.replace("|", "\n").encode(), now)
-    return "; ".join(filter(None, (", ".join(f"{vrp.prefix.text()} AS{vrp.asn}" for vrp in kept), f"{expired} expired")))
+    listed = ", ".join(f"{vrp.prefix.text()} AS{vrp.asn}" for vrp in kept)
+    return "; ".join(filter(None, (listed, f"{expired} expired")))
 
 
 _ORIGIN_COMMANDS = {

@@ -148,7 +148,7 @@ class Maker:
 
     def dumped(self, prefix: str, path: str) -> str:
         """Returns a line as `bgpdump -m` prints it."""
-        name = self.random.choice(("TABLE_DUMP", "TABLE_DUMP2", "BGP4MP", "BGP4MP_ET", "BGP4MP_LOCAL", "BGP4MP_ET_LOCAL"))
+        name = self.random.choice("TABLE_DUMP TABLE_DUMP2 BGP4MP BGP4MP_ET BGP4MP_LOCAL BGP4MP_ET_LOCAL".split())
         kind = self.random.choice(("A", "A", "A", "W", "STATE", "B")) if name.startswith("BGP4MP") else "B"
         has_identifier = self.one_in(3)
         head = f"{name}{'_AP' if has_identifier else ''}|1732579200|{kind}|203.0.113.1|64500"

@@ -1,12 +1,12 @@
 #!/usr/bin/env python3
 """api_pages.py [FOLDER]: makes pages of the libraries' public calls from the sources, in out/api if no folder is named.
 
-A page lists the public items of a library by their paths: the doc comment, and the declaration or the signature with its
-contract. The calls and the traits of a type come after it. ./release ships the pages.
+A page lists the public items of a library by their paths: the doc comment, and the declaration or the signature with
+its contract. The calls and the traits of a type come after it. ./release ships the pages.
 
-With --paths the script writes a `use` line of each public path into `crates/test_paths`, which `rt ci` compiles. So that
-crate fails if a path vanishes. The script reads the sources as `rt fmt` leaves them: an item begins at its indent, and a
-body at a brace of the same indent.
+With --paths the script writes a `use` line of each public path into `crates/test_paths`, which `rt ci` compiles. So
+that crate fails if a path vanishes. The script reads the sources as `rt fmt` leaves them: an item begins at its indent,
+and a body at a brace of the same indent.
 """
 
 import re
@@ -28,9 +28,9 @@ PATHS_HEAD = """//! A `use` line of each public path of the libraries. `tests/ru
 HEAD = """# API of the libraries
 
 A page lists the public items of a library with their contracts, as the source has them. `requires` begins a
-precondition, and `ensures` a postcondition. Other words of a contract are definitions in the folder `specs/` of a crate.
-A line that begins with `ghost` is for contracts and proofs alone. The pages leave out bodies, private fields, imports
-and proofs.
+precondition, and `ensures` a postcondition. Other words of a contract are definitions in the folder `specs/` of a
+crate. A line that begins with `ghost` is for contracts and proofs alone. The pages leave out bodies, private fields,
+imports and proofs.
 """
 # Ghost lines without meaning for callers are left out: imports, proofs, and how a value is stored.
 PROOFS = "use laws total matches_partial_cmp matches_eq respects_eq one_item no_gaps in_order form_bounds has_family \
@@ -79,7 +79,7 @@ def block_end(lines: list[str], at: int) -> int:
     """Returns the index of the line after the block or the one-line item that begins at line `at` without indent."""
     if re.search(r"(?:;|\{\})$", lines[at]):
         return at + 1
-    return next(k for k in range(at + 1, len(lines)) if re.match(r"[})].*$", lines[k]) and not lines[k].endswith("{")) + 1
+    return next(k for k in range(at + 1, len(lines)) if re.match(r"[})](?:.*[^{])?$", lines[k])) + 1
 
 
 def doc_above(lines: list[str], at: int) -> list[str]:
@@ -157,7 +157,7 @@ def type_code(block: list[str]) -> list[str]:
         return [re.sub(r"\((?!pub).*\)", "(..)", block[0])]
     shown = [line for line in block[1:-1] if re.match(r"    (?:pub |///)", line)]
     if not any(line.startswith("    pub ") for line in shown):
-        return [f"{block[0]} .. }}" if block[0].endswith("{") else block[0], *([] if block[0].endswith("{") else ["{ .. }"])]
+        return [f"{block[0]} .. }}"] if block[0].endswith("{") else [block[0], "{ .. }"]
     return [block[0], *shown, block[-1]]
 
 
@@ -257,7 +257,8 @@ def items_of(crate: str) -> list[Item]:
 
 def libraries() -> list[str]:
     """Returns the libraries that others call, in the order of crates.txt."""
-    return [it for it in stands_on() if not is_program(it) and (section_of(it) == "examples" or section_of(it) not in BESIDE)]
+    beside = {*BESIDE} - {"examples"}
+    return [it for it in stands_on() if not is_program(it) and section_of(it) not in beside]
 
 
 def shown(heading: str, item: Item) -> Iterator[str]:

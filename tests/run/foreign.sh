@@ -19,7 +19,8 @@ same() {
     shift
     "$@" >"$out/example.txt" && diff foreign/c/example.txt "$out/example.txt" || fail "$what"
 }
-has_python() { python3 -c 'import sys; sys.exit(sys.version_info < (3, 10))' 2>/dev/null; }
+python3 -c 'import sys; sys.exit(sys.version_info < (3, 10))' 2>/dev/null ||
+    { echo "foreign.sh: python3 is missing, or older than 3.10"; exit 1; }
 
 if [ $# -eq 0 ]; then
     (cd crates/pigyelund_c && rt lib >"$out/log" 2>&1) || { tail -n 20 "$out/log"; echo "FAILED: rt lib"; exit 1; }
@@ -103,7 +104,7 @@ of_arrays() {
                 -c foreign/c/arrays.c -o "$out/arrays.o" || fail "arrays.c: $compiler, $language"
         done
     done
-    has_python && { tests/run/foreign_arrays.py || fail "arrays.c passes each argument on"; }
+    tests/run/foreign_arrays.py || fail "arrays.c passes each argument on"
     has "empty vectors in C++" g++ && of_vectors
 }
 
@@ -182,7 +183,7 @@ of_c() {
             -o "$out/as_cpp" || fail "the example is C++"
         same "the example in C++" "$out/as_cpp"
     fi
-    has_python && { tests/run/foreign_rtr.py "$spaced/libpigyelund.a" || fail "an RTR client against a cache"; }
+    tests/run/foreign_rtr.py "$spaced/libpigyelund.a" || fail "an RTR client against a cache"
     if has "C under valgrind" valgrind; then
         valgrind -q --error-exitcode=9 --leak-check=full "$spaced/test" out/foreign >/dev/null || fail "valgrind"
     fi
@@ -288,7 +289,7 @@ of_install() {
     grep -q TEXTREL "$out/dynamic" && fail "the shared library has text relocations"
     readelf -lW "$prefix/lib/libpigyelund.so" | awk '/GNU_RELRO/ { relro = 1 } /GNU_STACK/ { stack = $7 }
         END { exit !(relro && stack == "RW") }' || fail "the shared library has relro, and no executable stack"
-    if has "pigyelund.pc" pkg-config && by_pkg_config "$prefix/lib/pkgconfig" && has_python; then
+    if has "pigyelund.pc" pkg-config && by_pkg_config "$prefix/lib/pkgconfig"; then
         of_level "$prefix/lib/libpigyelund.so"
         gcc -Iforeign foreign/c/example.c "$prefix/lib/libpigyelund.a" -o "$out/by_pkg_config" || fail "a static example"
         of_level "$out/by_pkg_config"
@@ -426,8 +427,8 @@ rust() {
 
 # says TEXT VALUE: the package of Rust isn't built with that value of PIGYELUND_LIB, and says why
 says() {
-    PIGYELUND_LIB=$2 rust check >"$out/log" 2>&1
-    [ $? -ne 0 ] && grep -qF "PIGYELUND_LIB=$2 $1: expected " "$out/log" || fail "cargo says: PIGYELUND_LIB=$2 $1"
+    ! PIGYELUND_LIB=$2 rust check >"$out/log" 2>&1 && grep -qF "PIGYELUND_LIB=$2 $1: expected " "$out/log" ||
+        fail "cargo says: PIGYELUND_LIB=$2 $1"
 }
 
 # Once it was built, cargo asks build.rs again where a variable that build.rs reads has changed.
@@ -534,20 +535,16 @@ of_rust() {
     of_rust_style
     of_rust_dependent
     rust run --example path | diff foreign/rust/examples/path.txt - || fail "the example path in Rust"
-    has_python && on_page RUST.md "First program"
+    on_page RUST.md "First program"
     of_rust_package
 }
 
-if has_python; then
-    tests/run/foreign_page.py || fail "numbers and names"
-    tests/run/foreign_rows.py || fail "the rows are made"
-else
-    echo "left out: numbers, names, Python and the programs of pages need python3, from 3.10 on"
-fi
+tests/run/foreign_page.py || fail "numbers and names"
+tests/run/foreign_rows.py || fail "the rows are made"
 if has "C, and all that is installed," gcc make ar objcopy nm readelf; then
     of_c
     of_install
-    has_python && { on_page C.md "First program"; on_page C.md "Verify a path"; of_python; }
+    on_page C.md "First program"; on_page C.md "Verify a path"; of_python
     for name in update table set; do example "$name"; done
     has "the example in C++" g++ && example table_cpp
     of_openssl

@@ -5,8 +5,7 @@ Without arguments it checks these things:
 
 * foreign/numbers.txt has each number of the library.
 * The header defines the names of foreign/numbers.txt and no others.
-* The package for Python requires the first Python that has all that its sources use.
-* The package and tests/run/foreign.sh name the same Python.
+* The sources of the package for Python, and its wheel, are for the first Python that the package requires.
 * The header states the stack on which foreign/c/test.c makes its calls.
 * The package of the shared library lists the symbols of foreign/c/exports.map. Each has the first version with it.
 
@@ -70,62 +69,22 @@ def of_header() -> set[str]:
     return set(re.findall(r"^#define PIGY_(\w+) \w+u\b", text, re.MULTILINE))
 
 
-# Names of the standard library that the package may use, by the first minor version of Python 3 that has them.
-NEW_IN = {
-    10: "pairwise ParamSpec TypeAlias TypeGuard",
-    11: "StrEnum Self Never assert_never LiteralString tomllib ExceptionGroup",
-    12: "batched override Buffer",
-    13: "deprecated TypeIs",
-}
-NEW_NAMES = {name: minor for minor, names in NEW_IN.items() for name in names.split()}
-# The first minor version of Python 3 that has a form of the syntax.
-NEW_FORMS = {"Match": 10, "TryStar": 11, "TypeAlias": 12}
-
-
-def is_union(node: ast.AST) -> bool:
-    """Returns whether a node is a type written with a bar."""
-    return any(isinstance(it, ast.BinOp) and isinstance(it.op, ast.BitOr) for it in ast.walk(node))
-
-
-def first_of_node(node: ast.AST) -> int:
-    """Returns the first minor version of Python 3 that has what a node uses."""
-    found = NEW_FORMS.get(type(node).__name__, 0)
-    if isinstance(node, ast.ImportFrom | ast.Import):
-        names = [getattr(node, "module", None), *(it.name for it in node.names)]
-        found = max(NEW_NAMES.get(name or "", 0) for name in names)
-    elif isinstance(node, ast.Call) and isinstance(node.func, ast.Name) and node.func.id == "zip":
-        found = 10 if any(it.arg == "strict" for it in node.keywords) else 0
-    elif isinstance(node, ast.arg | ast.AnnAssign) and node.annotation and is_union(node.annotation):
-        found = 10
-    elif isinstance(node, ast.FunctionDef):
-        found = 10 if node.returns and is_union(node.returns) else 0
-        found = max(found, 12 if getattr(node, "type_params", None) else 0)
-    return found
-
-
 def of_python() -> list[str]:
-    """Returns what differs in the first Python that the package requires."""
+    """Returns what differs in the first Python that the package requires. mypy tells later names of the library."""
     folder = TOP / "foreign" / "python"
-    sources = [*sorted((folder / "pigyelund").glob("*.py")), *sorted(folder.glob("*_of.py"))]
-    used = max(first_of_node(node) for file in sources for node in ast.walk(ast.parse(file.read_text())))
-    wanted = {
-        folder / "pyproject.toml": f'requires-python = ">=3.{used}"',
-        TOP / "tests" / "run" / "foreign.sh": f"sys.version_info < (3, {used})",
-    }
-    faults = [
-        f"{file.relative_to(TOP)} doesn't have {text!r}, and the sources use Python 3.{used}"
-        for file, text in wanted.items()
-        if text not in file.read_text()
-    ]
+    least = re.search(r'^requires-python = ">=3\.(\d+)"$', (folder / "pyproject.toml").read_text(), re.MULTILINE)
+    if not least:
+        return ["foreign/python/pyproject.toml requires no first Python"]
     words = [sys.executable, "-c", "import wheel_of; print(wheel_of.metadata())"]
     made = subprocess.run(words, cwd=folder, capture_output=True, text=True, check=False)
-    if f"Requires-Python: >=3.{used}\n" not in made.stdout:
-        faults.append(f"the wheel doesn't require Python 3.{used}: {made.stdout}{made.stderr}")
-    for file in sources:
+    faults = []
+    if f"Requires-Python: >=3.{least[1]}\n" not in made.stdout:
+        faults.append(f"the wheel doesn't require Python 3.{least[1]}: {made.stdout}{made.stderr}")
+    for file in [*sorted((folder / "pigyelund").glob("*.py")), *sorted(folder.glob("*_of.py"))]:
         try:
-            ast.parse(file.read_text(), feature_version=(3, used))
+            ast.parse(file.read_text(), feature_version=(3, int(least[1])))
         except SyntaxError as fault:
-            faults.append(f"{file.relative_to(TOP)} is not Python 3.{used}: {fault}")
+            faults.append(f"{file.relative_to(TOP)} is not Python 3.{least[1]}: {fault}")
     return faults
 
 

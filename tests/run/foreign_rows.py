@@ -246,7 +246,8 @@ def of_origins() -> Iterator[Question]:
     good = routed(1, 10 << 24, 8, 64496, 24)
     fine = routed(1, 10 << 24, 24, 64496)
     ends = [routed(1, 0, 0, 1, 32), routed(2, 0, 0, 2**32 - 1, 128), routed(2, 2**128 - 1, 128, 7, 128)]
-    yield asked(ends, [routed(2, 2**128 - 1, 128, 7), routed(1, 2**32 - 1, 32, 1), routed(1, 0, 0, 0), routed(2, 0, 0, 1)])
+    routes = (2, 2**128 - 1, 128, 7), (1, 2**32 - 1, 32, 1), (1, 0, 0, 0), (2, 0, 0, 1)
+    yield asked(ends, [routed(*it) for it in routes])
     ten = 10 << 24
     families = (0, 0, 0, 1, 0), (3, 0, 0, 1, 0), (255, 1, 255, 1, 0)
     lengths = (1, ten, 33, 1, 33), (1, ten, 6, 1, 32), (1, 1, 31, 1, 0), (2, 1, 127, 1, 128), (2, 0, 129, 1, 255)
@@ -294,9 +295,9 @@ def of_tables() -> Iterator[Question]:
         yield asked("changed", table, fresh + fresh[:1], gone + fresh[:1])
     good, fine = routed(1, 10 << 24, 8, 64496, 24), routed(1, 10 << 24, 24, 64496)
     chain = [routed(1, 0, length, number, 24) for length in range(25) for number in (0, 1, 2)]
-    for asn in range(3):
+    for number in range(3):
         for length in (0, 24, 25, 32):
-            yield asked("covering", chain, [routed(1, 0, length, asn)])
+            yield asked("covering", chain, [routed(1, 0, length, number)])
     for bad in (routed(0, 0, 0, 1, 0), routed(1, 1, 31, 1, 31), routed(1, 10 << 24, 8, 1, 33)):
         yield asked("vrps", [good, bad])
         yield asked("covering", [bad], [fine])
@@ -357,8 +358,8 @@ def of_texts() -> Iterator[Question]:
         return Question("text", (kind,), (text, b""))
 
     for kind in (0, 1, 2, 3, 256, 2**32 - 1):
-        for text in (b"", b" , ,", b"\xff", b"AS1", b"10.0.0.1", b"::1", b"AS2-AS1", b"10.0.0.2-10.0.0.1", b"10.0.0.0/33"):
-            yield asked(kind, text)
+        yield from (asked(kind, it) for it in (b"", b" , ,", b"\xff", b"AS1", b"10.0.0.1", b"::1", b"AS2-AS1"))
+        yield from (asked(kind, it) for it in (b"10.0.0.2-10.0.0.1", b"10.0.0.0/33"))
     for command in ("norm", "der"):
         maker = Maker(command, 35)
         for _ in range(120):
@@ -419,7 +420,8 @@ def of_files() -> Iterator[Question]:
         chosen = [vrp_of(random_routed(source, True)) for _ in range(count)]
         fields = [(vrp.asn, str(vrp.prefix.prefix.text()), vrp.prefix.resolved()) for vrp in chosen]
         yield asked(b"".join(f"AS{asn},{text},{most}\n".encode() for asn, text, most in fields))
-        yield asked(of_json([f'{{"asn": {asn}, "prefix": "{text}", "maxLength": {most}}}'.encode() for asn, text, most in fields]))
+        items = (f'{{"asn": {asn}, "prefix": "{text}", "maxLength": {most}}}' for asn, text, most in fields)
+        yield asked(of_json([it.encode() for it in items]))
 
 
 def of_differences() -> Iterator[Question]:

@@ -76,7 +76,7 @@ def made(copy: Path) -> None:
     files |= {f"crates/small/{name}.edit": f"{said}\n" for name, said, _ in RESULTS}
     files |= {f"crates/{name}/src/lib.rt": "right\n" for name in ("low", "small", "other")}
     files |= {"crates/low/edits/turned.edit": f"{REFUSED}: {GOAL}\n"}
-    files |= {"crates.txt": "#: all\nsmall: low json\nlow:\nother:\n", "HANDLES": "", ".gitignore": "out\n__pycache__\n"}
+    files |= {"crates.txt": "#: all\nsmall: low json\nlow:\nother:\n", "HANDLES": "", ".gitignore": "out\n"}
     written(copy, files)
     written(copy.parent, {"bin/rt": STUB})
     git(copy, "init", "-q", "-b", "main")

@@ -1,9 +1,10 @@
 #!/usr/bin/env python3
-"""page_budgets.py: finds pages above their budgets of lines and words, pages without a budget, and lines that are too wide.
+"""page_budgets.py: finds pages above their budgets of lines and words, pages without a budget, and lines that are too
+wide.
 
 A budget is for one page or for several pages together. Words are counted as by `wc -w`. A line has at most 120 columns,
-unless it is the row of a table or in a block of code. The lists that scripts make, and the reports on the vectors, have no budget. The status
-is 1 if there is a finding.
+unless it is the row of a table or in a block of code. The lists that scripts make, and the reports on the vectors, have
+no budget. The status is 1 if there is a finding.
 """
 
 import re

@@ -74,7 +74,8 @@ def faults_of(file: Path) -> Iterator[str]:
 def main() -> int:
     """Prints the blocks that no source has."""
     heads = [it for it in SOURCES if it.read_text().startswith("//!")]
-    return told((fault for file in (*PAGES, *heads) for fault in faults_of(file)), "blocks of Rust: {} are in no source")
+    found = (fault for file in (*PAGES, *heads) for fault in faults_of(file))
+    return told(found, "blocks of Rust: {} are in no source")
 
 
 if __name__ == "__main__":

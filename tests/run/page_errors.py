@@ -1,9 +1,9 @@
 #!/usr/bin/env python3
 """Asks the built programs each line that docs/ERRORS.md shows, and compares the answer with the page's.
 
-A row shows a line and its answer in its first two cells. `respath` is asked the lines of the sections `respath: ..`, and
-`origins` those of `origins: routes`. The words `with CR behind it` and `in front of` in the first cell name octets that
-are added to the line. The status is 1 if an answer differs.
+A row shows a line and its answer in its first two cells. `respath` is asked the lines of the sections `respath: ..`,
+and `origins` those of `origins: routes`. The words `with CR behind it` and `in front of` in the first cell name octets
+that are added to the line. The status is 1 if an answer differs.
 """
 
 import re

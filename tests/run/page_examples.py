@@ -13,7 +13,6 @@ import shutil
 import sys
 import tempfile
 from dataclasses import replace
-from itertools import zip_longest
 from pathlib import Path
 
 import top  # noqa: F401
@@ -65,7 +64,7 @@ def of_recipes(report: Report, folder: Path) -> None:
     write_programs(folder)
     commands = "".join(f"{it.text}printf '\\0'\n" for it in recipes)
     printed = run(f"exec 2>&1\n{commands}", folder, "-c").stdout.split("\0")[: len(recipes)]
-    for block, found in zip_longest(recipes, printed, fillvalue=""):
+    for block, found in zip(recipes, [*printed, *[""] * len(recipes)], strict=False):
         report.compare(block.place, block.shown, found)
 
 

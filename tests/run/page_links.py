@@ -38,7 +38,8 @@ def prose(page: Path) -> list[tuple[int, str]]:
 
 def anchors(page: Path) -> set[str]:
     """Returns the anchors of the headings of a page."""
-    found, counts = set(), Counter()
+    found: set[str] = set()
+    counts: Counter[str] = Counter()
     for _, line in prose(page):
         if heading := HEADING.match(line):
             text = LINK.sub("", heading[1].replace("[", "")).replace("`", "")

@@ -11,84 +11,69 @@ import socket
 import subprocess
 import sys
 import tempfile
+from collections.abc import Iterator
 from pathlib import Path
 
 import top  # noqa: F401
 from blocks import program
 
-LINES = b"norm as 2,1\nnorm as x\n"
-ROUTES = b"192.0.2.0/24 AS64496\n192.0.2.0/25 AS64496\n"
-VRPS = b"AS64496,192.0.2.0/23,24\n"
-# A program, its words and its standard input. `one` and `two` are files of VRPs for origins, and otherwise of lines. The
-# outputs are small: a datagram holds less than the buffer of a program.
+LINES, VRPS = "norm as 2,1\nnorm as x\n", "AS64496,192.0.2.0/23,24\n"
+ROUTES = "192.0.2.0/24 AS64496\n192.0.2.0/25 AS64496\n"
+# A program, its words, its standard input and the text of its files `one` and `two`. The outputs are small: a datagram
+# holds less than the buffer of a program.
 RUNS = (
-    ("respath", "", LINES),
-    *(("respath_program", words, LINES) for words in ("", "-", "one two", "--check", "--where", "--check --where one -")),
-    *(("origins", words, ROUTES) for words in ("one", "--check one", "--why one", "--json one", "--json --check one")),
-    *(("origins", words, b"") for words in ("--table one", "--diff one two")),
+    ("respath", "", LINES, LINES),
+    *(("respath_program", it, LINES, LINES)
+      for it in ("", "-", "one two", "--check", "--where", "--check --where one -")),
+    *(("origins", it, ROUTES, VRPS) for it in ("one", "--check one", "--why one", "--json one", "--json --check one")),
+    *(("origins", it, "", VRPS) for it in ("--table one", "--diff one two")),
 )
-SECONDS = 60
 LAST = b"the end"
 
 
-def failing_once() -> tuple[socket.socket, socket.socket]:
-    """Returns a socket whose first write fails, and the receiver of its later writes."""
+def fault_of(name: str, words: str, given: str, folder: Path) -> str:
+    """Runs a program on a socket whose first write fails, and returns what is wrong."""
     kind = socket.AF_INET, socket.SOCK_DGRAM
     with socket.socket(*kind) as unused:
         unused.bind(("127.0.0.1", 0))
         place = unused.getsockname()
-    output, receiver = socket.socket(*kind), socket.socket(*kind)
-    output.connect(place)
-    output.send(b"no receiver yet")
-    receiver.bind(place)
-    receiver.settimeout(SECONDS)
-    return output, receiver
-
-
-def received(receiver: socket.socket) -> list[bytes]:
-    """Returns the datagrams that have arrived, up to the last one of this script."""
-    found: list[bytes] = []
-    while LAST not in found:
-        found.append(receiver.recv(1 << 16))
-    return found
-
-
-def fault_of(name: str, words: str, given: bytes, folder: Path) -> str:
-    """Runs a program, and returns what is wrong."""
-    output, receiver = failing_once()
-    with output, receiver:
-        how = {"input": given, "stdout": output, "stderr": subprocess.PIPE, "cwd": folder, "timeout": SECONDS}
+    with socket.socket(*kind) as output, socket.socket(*kind) as receiver:
+        output.connect(place)
+        output.send(b"no receiver yet")
+        receiver.bind(place)
+        receiver.settimeout(60)
+        how = {"input": given.encode(), "stdout": output, "stderr": subprocess.PIPE, "cwd": folder, "timeout": 60}
         ran = subprocess.run([program(name), *words.split()], **how)
+        said = ran.stderr.decode("utf-8", "replace")
         try:
             output.send(LAST)
         except ConnectionRefusedError:
-            return f"status {ran.returncode}, {ran.stderr.decode('utf-8', 'replace')!r}, and no write"
-        *after, _ = received(receiver)
-    wanted = f"{'origins' if name == 'origins' else 'respath'}: write failed\n"
-    said = ran.stderr.decode("utf-8", "replace")
-    if (ran.returncode, said, after) == (1, wanted, []):
-        return ""
-    return f"status {ran.returncode}, {said!r}, {len(after)} writes after the one that failed: {b''.join(after)[:60]!r}"
+            return f"status {ran.returncode}, {said!r}, and no write"
+        after = [*iter(lambda: receiver.recv(1 << 16), LAST)]
+    is_so = (ran.returncode, said, after) == (1, f"{name.removesuffix('_program')}: write failed\n", [])
+    return "" if is_so else f"status {ran.returncode}, {said!r}, {len(after)} writes after the one that failed"
+
+
+def faults(folder: Path) -> Iterator[str]:
+    """Yields for each run what is wrong, or an empty text."""
+    for name, words, given, text in RUNS:
+        if not program(name).is_file():
+            print(f"left out  {name} {words}: the program is not built")
+            continue
+        for file in ("one", "two"):
+            (folder / file).write_text(text.replace("/23", "/24") if file == "two" else text)
+        fault = fault_of(name, words, given, folder)
+        yield f"FAILED  {name} {words}: {fault}" if fault else ""
 
 
 def main() -> int:
-    count = faults = 0
+    """Prints what is wrong."""
     with tempfile.TemporaryDirectory() as name:
-        for program_name, words, given in RUNS:
-            if not program(program_name).is_file():
-                print(f"left out  {program_name} {words}: the program is not built")
-                continue
-            folder = Path(name, program_name)
-            folder.mkdir(exist_ok=True)
-            (folder / "one").write_bytes(VRPS if program_name == "origins" else LINES)
-            (folder / "two").write_bytes(VRPS.replace(b"/23", b"/24") if program_name == "origins" else LINES)
-            fault = fault_of(program_name, words, given, folder)
-            count += 1
-            if fault:
-                faults += 1
-                print(f"FAILED  {program_name} {words}: {fault}")
-    print(f"program_failed_write.py: {count} runs, {faults} differ")
-    return 1 if faults else 0
+        found = [*faults(Path(name))]
+    print("".join(f"{it}\n" for it in found if it), end="")
+    differ = len([it for it in found if it])
+    print(f"program_failed_write.py: {len(found)} runs, {differ} differ")
+    return 1 if differ else 0
 
 
 if __name__ == "__main__":

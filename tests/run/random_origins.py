@@ -123,7 +123,8 @@ class Questions(Comparison):
                 self.add(repr(exceptions.read_bytes()), wanted, run(self.program, words, b"10.0.0.0/8 AS1\n"))
                 return
         status, found, told = run(self.program, ["--table", *words])
-        self.add("a table of several files", (0, said + "\n", [text(one) for one in table(listed)]), (status, told, found))
+        wanted = (0, said + "\n", [text(one) for one in table(listed)])
+        self.add("a table of several files", wanted, (status, told, found))
         lines = [maker.line() for _ in range(count)]
         status, answers, told = run(self.program, ["--why", *words], b"\n".join(lines) + b"\n")
         self.add("a run by several files", (0, said + "\n", count), (status, told, len(answers)))
@@ -180,10 +181,11 @@ def main() -> int:
     parser = argparse.ArgumentParser(description=__doc__.splitlines()[0])
     parser.add_argument("seed", type=int)
     parser.add_argument("count", type=int, help="how many lines of routes")
-    parser.add_argument("--program", type=Path, default=PROGRAM, help="a built origins")
     options = parser.parse_args()
+    if not PROGRAM.exists():
+        sys.exit("random_origins.py: origins is not built")
     with tempfile.TemporaryDirectory() as folder:
-        comparison = Questions(options.program, Path(folder), Maker(options.seed))
+        comparison = Questions(PROGRAM, Path(folder), Maker(options.seed))
         for _ in range(FILES):
             comparison.routes(options.count // FILES)
             comparison.several(options.count // FILES // 4 + 1)

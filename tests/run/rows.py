@@ -215,14 +215,14 @@ def in_parts(asked: Iterator[bytes]) -> Iterator[list[bytes]]:
         yield part
 
 
-def compare_random(program: Path, seed: int, count: int, commands: list[str]) -> bool:
+def compare_random(seed: int, count: int) -> bool:
     """Compares `count` lines of each command, made from a seed."""
     results = []
-    for command in commands:
+    for command in lines.COMMANDS:
         comparison = Comparison()
         made = islice(random_lines.lines(command, seed), count)
         for part in in_parts(made):
-            for line, found in zip(part, ask(program, part), strict=True):
+            for line, found in zip(part, ask(PROGRAM, part), strict=True):
                 comparison.add(f"{command} of seed {seed}: {line!r}", lines.answer(line), found)
         results.append(comparison.report(f"{command}, seed {seed}"))
     return all(results)
@@ -233,13 +233,12 @@ def main() -> int:
     parser = argparse.ArgumentParser(description=__doc__.splitlines()[0])
     parser.add_argument("--write", action="store_true", help="write the stored answers that differ anew")
     parser.add_argument("--random", nargs=2, type=int, metavar=("SEED", "COUNT"))
-    parser.add_argument("--program", type=Path, default=PROGRAM, help="a built respath")
-    parser.add_argument("--commands", nargs="+", choices=lines.COMMANDS, metavar="COMMAND")
     options = parser.parse_args()
     if options.random is None:
         return 0 if compare_stored(options.write) else 1
-    commands = options.commands or list(lines.COMMANDS)
-    return 0 if compare_random(options.program, *options.random, commands) else 1
+    if not PROGRAM.exists():
+        sys.exit("rows.py: respath is not built")
+    return 0 if compare_random(*options.random) else 1
 
 
 if __name__ == "__main__":

@@ -17,8 +17,8 @@ from groups import BESIDE, about, below, root_file, sections, stands_on
 LIST, PICTURE = TOP / "crates" / "README.md", TOP / "docs" / "layers.svg"
 HEAD = """# Crates
 
-Each section is about one subject, and lists the lowest crate first. `tests/run/source_crates.py --write` makes this page
-from [crates.txt](../crates.txt) and the heads of the crates.
+Each section is about one subject, and lists the lowest crate first. `tests/run/source_crates.py --write` makes this
+page from [crates.txt](../crates.txt) and the heads of the crates.
 """
 
 
@@ -45,7 +45,8 @@ def graph() -> str:
     shown, lines = drawn()
     parts = ["digraph crates {", "rankdir=TB; node [shape=box, fontname=Helvetica]; edge [color=gray40];"]
     for at, (title, names) in enumerate(shown.items()):
-        parts.append(f'subgraph cluster_{at} {{ label="{title}"; fontname=Helvetica; color=gray70; {"; ".join(names)}; }}')
+        style = f'label="{title}"; fontname=Helvetica; color=gray70'
+        parts.append(f"subgraph cluster_{at} {{ {style}; {'; '.join(names)}; }}")
     return "\n".join([*parts, *(f"{upper} -> {lower};" for upper, lower in lines), "}"])
 
 
@@ -65,5 +66,6 @@ def faults() -> list[str]:
 if __name__ == "__main__":
     if sys.argv[1:] == ["--write"]:
         LIST.write_text(page())
-        PICTURE.write_text(subprocess.run(["dot", "-Tsvg"], input=graph(), capture_output=True, text=True, check=True).stdout)
+        drawn_by_dot = subprocess.run(["dot", "-Tsvg"], input=graph(), capture_output=True, text=True, check=True)
+        PICTURE.write_text(drawn_by_dot.stdout)
     sys.exit(told(faults()))

@@ -1,27 +1,27 @@
 #!/usr/bin/env python3
-"""source_imports.py [--wide] [CRATE..]: finds names of `ghost use` lines that no clause uses.
+"""source_imports.py [CRATE..]: finds names of `ghost use` lines that no clause uses.
 
 It reads the sources of the crates, or of all crates if none is named. `rt tidy` checks only the files of proofs. A name
 at the head of a file serves all clauses of that file. A name in a block serves the clauses of the block. The status is
-1 if there is a finding. With --wide the script lists the lines of clauses over 100 columns instead. rt fmt leaves such
-lines as they are.
+1 if there is a finding.
 """
+
 import re
 import sys
+from collections.abc import Iterator
 
 from top import TOP
 from blocks import told
 
 ROOT = TOP / "crates"
-WIDTH = 100
 
 
-def without_comments(text):
+def without_comments(text: str) -> str:
     """Returns the text with its comments blanked, so that indexes stay the same."""
     return re.sub(r"//[^\n]*", lambda it: " " * len(it[0]), text)
 
 
-def behind_braces(text, start):
+def behind_braces(text: str, start: int) -> int:
     """Returns the index after the brace that closes the first open brace from `start` on."""
     at, depth = text.index("{", start), 0
     while True:
@@ -31,13 +31,13 @@ def behind_braces(text, start):
             return at
 
 
-def clauses(text):
+def clauses(text: str) -> Iterator[tuple[int, int]]:
     """Yields the start and the end of the text between the braces of each contract, ghost member and ghost field."""
     for word in re.finditer(r"\b(requires|ensures|ghost(?! use)|by)\b[^{};()]*\{", text):
         yield word.end(), behind_braces(text, word.end() - 1) - 1
 
 
-def imports(text):
+def imports(text: str) -> Iterator[tuple[str, int]]:
     """Yields each name that a `ghost use` line imports, with the index of the line."""
     for line in re.finditer(r"ghost use ([^;]*);", text):
         path = line[1].strip()
@@ -46,7 +46,7 @@ def imports(text):
             yield name.split(" as ")[-1].strip(), line.start()
 
 
-def stands_in(name, text):
+def stands_in(name: str, text: str) -> bool:
     """Returns whether a clause uses the name: an operator by the first of its signs, a word as a whole."""
     signs = [sign for sign in name.split("◌") if sign]
     if "◌" in name:
@@ -54,7 +54,7 @@ def stands_in(name, text):
     return re.search(rf"(?<![\w'-]){re.escape(name)}(?![\w'-])", text) is not None
 
 
-def blocks(text):
+def blocks(text: str) -> Iterator[tuple[int, int]]:
     """Yields the start and the end of each item that is a block.
 
     A block is from a head at the start of a line to the brace that closes it.
@@ -64,7 +64,7 @@ def blocks(text):
         yield head.start(), end.end() if end else len(text)
 
 
-def unused(text):
+def unused(text: str) -> Iterator[tuple[int, str]]:
     """Yields the line number of each name that no clause uses, and the name."""
     said = list(clauses(text))
     own = [(start, end) for start, end in blocks(text) if "ghost use" in text[start:end]]
@@ -75,19 +75,11 @@ def unused(text):
             yield text.count("\n", 0, at) + 1, f"{name} is used by no clause"
 
 
-def wide(text):
-    """Yields the lines of clauses that are too wide, and their width."""
-    lines = text.split("\n")
-    for number in sorted({text.count("\n", 0, at) for start, end in clauses(text) for at in range(start, end)}):
-        if len(lines[number].rstrip()) > WIDTH:
-            yield number + 1, f"{len(lines[number].rstrip())} columns"
-
-
-def main():
-    faults = wide if "--wide" in sys.argv else unused
-    names = [it for it in sys.argv[1:] if it != "--wide"] or sorted(it.name for it in ROOT.iterdir() if (it / "src").is_dir())
+def main() -> int:
+    """Prints the names that no clause uses."""
+    names = sys.argv[1:] or sorted(it.name for it in ROOT.iterdir() if (it / "src").is_dir())
     paths = (path for name in names for path in sorted((ROOT / name / "src").rglob("*.rt")))
-    found = ((path, *it) for path in paths for it in faults(without_comments(path.read_text())))
+    found = ((path, *it) for path in paths for it in unused(without_comments(path.read_text())))
     return told(f"{path.relative_to(TOP)}:{line}: {what}" for path, line, what in found)
 
 

@@ -14,7 +14,7 @@ from top import TOP
 from blocks import told
 
 WIDTH = 120
-SCRIPTS = 8695
+SCRIPTS = 8500
 ABOVE = "check", "respath", "origins", "program.sh", "release"
 COMMENT = re.compile(r"\s*//(?![/!]?\s*\|)")  # a table is as wide as its rows
 

@@ -68,7 +68,7 @@ def main() -> int:
     for name, numbers, addresses, is_canonical, is_inside in cases():
         for mode, (is_lenient, is_trimmed) in MODES.items():
             line = f"verified_octets {' ; '.join(ISSUER)} | {mode} {numbers} {addresses}"
-            text = calls_of_callers.answer(line)
+            text = calls_of_callers.answer_of_certificates(line).removeprefix("error: ")
             is_verified = (is_lenient or is_canonical) and (is_trimmed or is_inside)
             wanted = (0, f"{text}\n", "") if is_verified else (1, "", f"Error: {text}\n")
             found = run([*ISSUER, "numbers", "addresses", mode], numbers, addresses)

@@ -35,6 +35,8 @@ SHOWN = 20
 
 def answer_of_claims(line: str) -> str:
     """Returns the answer of `rows_claims` to a line."""
+    if calls_of_callers.is_of_certificates(line):
+        return calls_of_callers.answer_of_certificates(line)
     if calls_of_callers.is_origin(line):
         return calls_of_callers.origin_answer(line)
     return calls_of_sets.answer(line)
@@ -57,7 +59,6 @@ PROGRAMS: dict[str, Callable[[str], str]] = {
     "rows_values": with_requests(requests.of_octets, calls_of_values.answer),
     "rows_sets": with_requests(requests.of_sets, calls_of_sets.answer),
     "rows_claims": with_requests(requests.of_claims, answer_of_claims),
-    "rows_calls": calls_of_callers.answer,
 }
 
 
@@ -150,7 +151,7 @@ def compare_verified_set(writes: bool) -> bool:
     octets = [(folder / "data" / name).read_bytes().hex() for name in (numbers, addresses)]
     line = f"verified_octets {' ; '.join(lists)} | {mode} {' '.join(octets)}"
     (found,) = lines_of(folder / "stdout")
-    comparison.add(f"example_verified_set/args: {line}", calls_of_callers.answer(line), found)
+    comparison.add(f"example_verified_set/args: {line}", calls_of_callers.answer_of_certificates(line), found)
     return comparison.report("example_verified_set")
 
 

@@ -1,3 +1,2 @@
 pub mod Common
 pub mod RouteLemmas
-pub mod SortedPrefixLemmas

@@ -1,3 +1,1 @@
-pub mod Certificates
-pub mod Notes
 pub mod Routes

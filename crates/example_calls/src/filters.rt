@@ -1,10 +1,10 @@
-//! Turns sets of addresses into the fewest prefixes, for route origin authorizations and router filters.
+//! Turns a set of addresses into the fewest prefixes, for route origin authorizations and router filters.
 ghost use Rattle.std.specs.Prelude.{IfOk};
 ghost use Rattle.rpki_chain.specs.Runs.{Holds};
 ghost use Rattle.rpki_cover.specs.Covers.{IsShortestCover, IsV4CoverList};
 ghost use Rattle.rpki_family.specs.Families.{Ipv4Of};
 
-use rpki_resources::repository::resources::{Ipv4Blocks, Ipv6Blocks, Prefix};
+use rpki_resources::repository::resources::{Ipv4Blocks, Prefix};
 use std::alloc::{AllocError, Allocator};
 
 /// Returns the fewest prefixes that have exactly the addresses of a set of IPv4, ascending.
@@ -17,21 +17,6 @@ use std::alloc::{AllocError, Allocator};
 pub fn v4_filter<A: Allocator>(alloc: A, set: &Ipv4Blocks<A>) -> Result<Vec<Prefix, A>, AllocError>
     ensures cover { IfOk result (λ list. IsShortestCover 128 (Holds set.now) list.items) }
     ensures v4 { IfOk result (λ list. IsV4CoverList (Ipv4Of set.now) list.items) }
-{
-    let mut list = Vec::new(alloc);
-    for prefix in set.prefixes() {
-        list.push(prefix)?;
-    }
-    Ok(list)
-}
-
-/// Returns the fewest prefixes that have exactly the addresses of a set of IPv6, ascending.
-///
-/// # Errors
-///
-/// [`AllocError`] if an allocation fails.
-pub fn v6_filter<A: Allocator>(alloc: A, set: &Ipv6Blocks<A>) -> Result<Vec<Prefix, A>, AllocError>
-    ensures { IfOk result (λ list. IsShortestCover 128 (Holds set.now) list.items) }
 {
     let mut list = Vec::new(alloc);
     for prefix in set.prefixes() {

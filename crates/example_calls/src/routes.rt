@@ -1,28 +1,16 @@
-//! Validates route origins by VRPs, explains the results, and compares an authorization with the resources of its
-//! certificate (RFC 6811; RFC 9582).
-ghost use Rattle.std.specs.Prelude.{All, IfOk, MatchOption, reverse};
-ghost use Rattle.std.specs.List.Sorted.{IsNonDecreasingBy};
+//! Validates route origins by VRPs, and compares an authorization with the resources of its certificate (RFC 6811; RFC
+//! 9582).
+ghost use Rattle.std.specs.Prelude.{All, IfOk, MatchOption};
 ghost use Rattle.roa_check.specs.Inside.{IsPrefixInside};
-ghost use Rattle.roa_origin.specs.Coverings.{AreThose};
-ghost use Rattle.roa_origin.specs.Vrps.{CoversRoute, prefix_len};
 ghost use Rattle.roa_origin.specs.Validities.{IsValidity};
 ghost use Rattle.example_calls.specs.Routes.{IsCountOfInvalid, IsFirstExcess};
 
-use roa_check::{Validity, origin, outside};
+use roa_check::{Validity, outside};
 use roa_origin::{OriginTable, Vrp};
 use rpki_resources::repository::resources::ResourceSet;
 use rpki_resources::resources::addr::{MaxLenPrefix, Prefix};
 use rpki_resources::resources::asn::Asn;
 use std::alloc::{AllocError, Allocator};
-
-/// Returns the validity of the route to a prefix that an AS originates, by a list of VRPs.
-///
-/// The call needs no memory, and suits a single route.
-pub fn by_list(route: Prefix, asn: Asn, vrps: &[Vrp]) -> Validity
-    ensures { IsValidity route asn vrps.now result }
-{
-    origin(route, asn, vrps)
-}
 
 /// Returns the validity of the route to a prefix that an AS originates, by a table of a list of VRPs.
 ///
@@ -55,30 +43,6 @@ pub fn count_invalid<A: Allocator>(table: &OriginTable<A>, routes: &[(Prefix, As
         }
     }
     count
-}
-
-/// Returns the VRPs of a table that cover the route to a prefix. They explain the validity of its origin.
-///
-/// VRPs of longer prefixes come first. A repeated VRP is repeated.
-///
-/// # Errors
-///
-/// [`AllocError`] if an allocation fails.
-pub fn explanation<A: Allocator>(
-    alloc: A,
-    table: &OriginTable<A>,
-    route: Prefix,
-) -> Result<Vec<Vrp, A>, AllocError>
-    ensures covering { IfOk result (λ found.
-        AreThose (CoversRoute route) table.now (reverse found.items)) }
-    ensures longest_first { IfOk result (λ found.
-        IsNonDecreasingBy prefix_len (reverse found.items)) }
-{
-    let mut found = Vec::new(alloc);
-    for vrp in table.covering(route) {
-        found.push(vrp)?;
-    }
-    Ok(found)
 }
 
 /// Returns the first prefix of an authorization that isn't inside the resources of its certificate.

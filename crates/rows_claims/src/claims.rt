@@ -106,7 +106,7 @@ fn listed<A: Allocator + Copy>(alloc: A, claim: &IpResources<A>) -> Result<Strin
 // ---- what claims leave of an issuer's set
 
 /// Returns the mode for an overclaim with this name.
-fn mode_named(word: &str) -> Overclaim {
+pub fn mode_named(word: &str) -> Overclaim {
     match word {
         "trim" => Overclaim::Trim,
         _ => Overclaim::Refuse,

@@ -1,5 +1,7 @@
 //! Answers to lines, by their commands.
-use crate::{claims, long, outside, route_lines, routes, slurm, triples, unexpired, vrps};
+use crate::{
+    certificates, claims, long, outside, route_lines, routes, sent, slurm, triples, unexpired, vrps,
+};
 use std::alloc::{AllocError, Allocator};
 use test_support::print::cut_at;
 use test_support::refusals::Call;
@@ -22,6 +24,10 @@ impl Call for Line<'_> {
             "set" => triples::set(alloc, rest),
             "diff" => triples::difference(alloc, rest),
             "long" => long::answer(alloc, kind, operands),
+            "written" => certificates::written(alloc, rest),
+            "rewritten" | "anchor_set" | "verified_octets" | "verified_path" | "verified_below" => {
+                certificates::answer(alloc, command, rest)
+            }
             _ => answer_of_vrps(alloc, command, rest),
         }
     }
@@ -36,6 +42,7 @@ fn answer_of_vrps<A: Allocator + Copy>(
         "origin" => routes::answer(alloc, rest),
         "changes" => routes::changes(alloc, rest),
         "changed" => routes::changed(alloc, rest),
+        "sent" => sent::answer(alloc, rest),
         "outside" => outside::answer(alloc, rest),
         "route" => route_lines::answer_to_line(alloc, rest, false),
         "why" => route_lines::answer_to_line(alloc, rest, true),

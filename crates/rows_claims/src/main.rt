@@ -4,15 +4,18 @@
 //! are about these:
 //!
 //! - the resources that claims list and leave
+//! - the extensions of certificates, and the resources that a path of them leaves
 //! - sets of the three kinds
 //! - the validity of a route, and the answer to its line
 //! - the first prefix that a set of resources does not have
 //! - a VRP file, with or without its expired VRPs, and VRPs after a SLURM file
+//! - the changes between two tables of VRPs
 //!
 //! The program repeats each call with each of its requests for memory refused. If such a run does anything except
 //! report out of memory, the line's answer says so.
 #![tactic(auto)]
 
+mod certificates;
 mod claims;
 mod elements;
 mod line;
@@ -21,6 +24,7 @@ mod outside;
 mod requests;
 mod route_lines;
 mod routes;
+mod sent;
 mod slurm;
 mod triples;
 mod unexpired;

@@ -1,4 +1,4 @@
-// Chains over blocks of AS numbers and over ranges of addresses.
+// Chains over blocks of AS numbers.
 use crate::checks::holds;
 use rpki_as::block::AsBlock;
 use rpki_base::asn::Asn;
@@ -6,8 +6,6 @@ use rpki_chain::block::Block;
 use rpki_chain::chain::Chain;
 use rpki_chain::owned::OwnedChain;
 use rpki_chain::shared::SharedChain;
-use rpki_ip::addr::Addr;
-use rpki_ip::range::AddressRange;
 use std::alloc::{AllocError, Allocator, Global};
 use test_support::{Plan, Refusing};
 
@@ -27,124 +25,12 @@ fn is_chain(chain: Chain<'_, AsBlock>) -> bool {
     is_listed && chain.len() == 2 && chain.iter().count() == 2
 }
 
-fn is_none(chain: Chain<'_, AsBlock>) -> bool {
-    chain.is_empty() && chain.len() == 0 && chain == Chain::empty()
-}
-
-fn no_owned_chain_is_none() -> bool {
-    let owned: OwnedChain<AsBlock> = OwnedChain::empty();
-    is_none(owned.as_chain())
-}
-
-fn no_shared_chain_is_none() -> bool {
-    let shared: SharedChain<AsBlock> = SharedChain::empty();
-    is_none(shared.as_chain())
-}
-
-fn is_same(copy: &OwnedChain<AsBlock>, owned: &OwnedChain<AsBlock>) -> bool {
-    *copy == *owned && copy.as_chain() == owned.as_chain()
-}
-
-fn copy_is_same(alloc: Global, owned: &OwnedChain<AsBlock>) -> bool {
-    match owned.clone(alloc) {
-        Ok(copy) => is_same(&copy, owned),
-        Err(_) => false,
-    }
-}
-
-fn owned_is_right(alloc: Global) -> bool {
-    match chain(alloc) {
-        Ok(owned) => is_chain(owned.as_chain()) && copy_is_same(alloc, &owned),
-        Err(_) => false,
-    }
-}
-
 fn is_shared<A: Allocator>(shared: &SharedChain<AsBlock, A>) -> bool {
     match shared.clone() {
         Ok(other) => *shared == other,
         Err(_) => false,
     }
 }
-
-/// Returns whether a chain differs from a shared one, and has the numbers 1 to 8.
-fn is_other(joined: &SharedChain<AsBlock>, shared: &SharedChain<AsBlock>) -> bool {
-    *joined != *shared && joined.as_chain().as_slice() == [block(1, 8)].as_slice()
-}
-
-/// Returns whether the chain of other blocks differs from a shared one.
-fn differs(alloc: Global, shared: &SharedChain<AsBlock>) -> bool {
-    match SharedChain::from_blocks(alloc, &[block(5, 8), block(1, 4)]) {
-        Ok(joined) => is_other(&joined, shared),
-        Err(_) => false,
-    }
-}
-
-fn is_right(alloc: Global, shared: &SharedChain<AsBlock>) -> bool {
-    is_chain(shared.as_chain()) && is_shared(shared) && differs(alloc, shared)
-}
-
-fn owned_is_shared(alloc: Global, owned: OwnedChain<AsBlock>) -> bool {
-    match SharedChain::from_owned(alloc, owned) {
-        Ok(shared) => is_right(alloc, &shared),
-        Err(_) => false,
-    }
-}
-
-fn shared_is_right(alloc: Global) -> bool {
-    match chain(alloc) {
-        Ok(owned) => owned_is_shared(alloc, owned),
-        Err(_) => false,
-    }
-}
-
-/// Returns whether a chain has only the number 7.
-fn is_seven(chain: Chain<'_, AsBlock>) -> bool {
-    chain.as_slice() == [block(7, 7)].as_slice()
-}
-
-/// Returns whether the vector of one block is its chain.
-fn one_is_kept(alloc: Global) -> bool {
-    match Vec::from_array(alloc, [AsBlock::Id(Asn::from_u32(7))]) {
-        Ok(one) => is_seven(OwnedChain::from_vec_unchecked(one).as_chain()),
-        Err(_) => false,
-    }
-}
-
-fn none_is_kept(alloc: Global) -> bool {
-    let none: OwnedChain<AsBlock> = OwnedChain::from_vec_unchecked(Vec::new(alloc));
-    none.as_chain().is_empty()
-}
-
-/// Returns the range of the addresses from the lesser to the greater.
-fn range(one: u128, other: u128) -> AddressRange {
-    let (min, max) = (one.min(other), one.max(other));
-    <AddressRange as Block>::new(Addr::from_bits(min), Addr::from_bits(max))
-}
-
-/// Returns whether a chain has all addresses.
-fn is_whole(chain: Chain<'_, AddressRange>) -> bool {
-    chain.as_slice() == [range(0, u128::MAX)].as_slice()
-}
-
-fn ranges_are_joined(alloc: Global) -> bool {
-    match OwnedChain::from_blocks(alloc, &[range(5, u128::MAX), range(1, 2), range(0, 4)]) {
-        Ok(joined) => is_whole(joined.as_chain()),
-        Err(_) => false,
-    }
-}
-
-#[test]
-fn chains(rt: HostRuntime) {
-    holds(&rt, no_owned_chain_is_none());
-    holds(&rt, no_shared_chain_is_none());
-    holds(&rt, none_is_kept(rt.alloc()));
-    holds(&rt, one_is_kept(rt.alloc()));
-    holds(&rt, owned_is_right(rt.alloc()));
-    holds(&rt, shared_is_right(rt.alloc()));
-    holds(&rt, ranges_are_joined(rt.alloc()));
-}
-
-// ---- calls that take no memory
 
 /// Returns whether a chain is within another, by both calls.
 fn is_trimmed<A: Allocator + Copy>(

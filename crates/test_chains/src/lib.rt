@@ -1,13 +1,15 @@
-//! Tests of chains and of small sets.
+//! Tests of the memory that calls on chains, sets and claims request.
 //!
-//! They show what no clause states and no line of the program `rows_sets` can show: other kinds of blocks, empty sets,
-//! and calls that take no memory.
+//! No clause counts requests. The golden tests `requests` of `rows_sets` and `rows_claims` have the calls that make
+//! sets.
 #![tactic(auto)]
 
 #[cfg(test)]
 mod chains;
 #[cfg(test)]
 mod checks;
+#[cfg(test)]
+mod covered;
 #[cfg(test)]
 mod no_allocation;
 #[cfg(test)]

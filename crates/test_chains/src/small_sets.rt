@@ -4,8 +4,8 @@ ghost use Rattle.std.specs.Iterator.{IsFinite};
 use crate::checks::holds;
 use rpki_base::asn::Asn;
 use rpki_base::small_set::SmallAsnSet;
-use std::alloc::{AllocError, Allocator, Global};
-use test_support::{Plan, Refusing, hash_of};
+use std::alloc::{AllocError, Allocator};
+use test_support::{Plan, Refusing};
 
 /// Returns the set of the numbers 1, 2 and 3.
 fn three<A: Allocator>(alloc: A) -> Result<SmallAsnSet<A>, AllocError> {
@@ -84,29 +84,4 @@ fn asks_nothing(refusing: &Refusing) -> bool {
 fn calls_without_memory(rt: HostRuntime) {
     let refusing = Refusing::new(rt.alloc(), Plan::RefuseNone);
     holds(&rt, asks_nothing(&refusing));
-}
-
-fn is_same(one: &SmallAsnSet, other: &SmallAsnSet) -> bool {
-    *one == *other && hash_of(one) == hash_of(other)
-}
-
-/// Returns whether a set equals the one of the same numbers without repeats.
-fn is_same_without_repeats(alloc: Global, set: &SmallAsnSet) -> bool {
-    let asns = [Asn::from_u32(1), Asn::from_u32(2), Asn::from_u32(3)];
-    match SmallAsnSet::from_list(alloc, &asns) {
-        Ok(other) => is_same(set, &other),
-        Err(_) => false,
-    }
-}
-
-fn are_same(alloc: Global) -> bool {
-    match three(alloc) {
-        Ok(set) => is_same_without_repeats(alloc, &set),
-        Err(_) => false,
-    }
-}
-
-#[test]
-fn equal_sets_have_equal_hashes(rt: HostRuntime) {
-    holds(&rt, are_same(rt.alloc()));
 }

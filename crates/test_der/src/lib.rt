@@ -1,22 +1,11 @@
-//! Tests of DER.
+//! Tests of DER: single values, as the head of `rpki_der` shows them, and writers with memory refused.
 //!
-//! They show what no clause states and no line of the program `rows_values` can show: single values, contents with any
-//! tag, lengths, and writers with memory refused.
+//! No clause counts requests for memory, and no line of `rows_values` writes a single value.
 #![tactic(auto)]
 
 #[cfg(test)]
-mod altered;
-#[cfg(test)]
-mod builders;
-#[cfg(test)]
 mod checks;
-#[cfg(test)]
-mod contents;
-#[cfg(test)]
-mod prefixes;
 #[cfg(test)]
 mod refused;
 #[cfg(test)]
 mod values;
-#[cfg(test)]
-mod written;

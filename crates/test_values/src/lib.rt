@@ -1,7 +1,4 @@
-//! Tests of numbers, addresses, prefixes, ranges and blocks.
-//!
-//! They show what no clause states and no line of the program `rows_values` can show: values and their parts,
-//! conversions, and forms of blocks.
+//! Tests of values that the heads of libraries show as examples: addresses and blocks.
 #![tactic(auto)]
 
 #[cfg(test)]
@@ -12,9 +9,3 @@ mod as_blocks;
 mod checks;
 #[cfg(test)]
 mod ip_blocks;
-#[cfg(test)]
-mod numbers;
-#[cfg(test)]
-mod prefixes;
-#[cfg(test)]
-mod ranges;

@@ -15,7 +15,7 @@
 //! }
 //! ```
 //!
-//! A cache that has sent one table, and then makes another, sends the changes, as in the program `rows_calls`:
+//! A cache that has sent one table, and then makes another, sends the changes, as in the program `rows_claims`:
 //!
 //! ```rust
 //! let changes = sent.changes_to(alloc, next)?;

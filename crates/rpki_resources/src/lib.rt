@@ -3,11 +3,11 @@
 //! [`resources::addr`], [`resources::asn`] and [`repository::resources`] have each type where a user of the Rust crate
 //! `rpki` looks for it.
 //!
-//! Read a set from three lists, as in the program `rows_calls`:
+//! Read a set from three lists, as in the program `rows_claims`:
 //!
 //! ```rust
-//! let (asn, addresses) = cut_trimmed_at(lists, ';');
-//! let (ipv4, ipv6) = cut_trimmed_at(addresses, ';');
+//! let (asn, addresses) = cut_at(lists, ';');
+//! let (ipv4, ipv6) = cut_at(addresses, ';');
 //! ResourceSet::from_strs(alloc, asn, ipv4, ipv6)
 //! ```
 #![tactic(auto)]

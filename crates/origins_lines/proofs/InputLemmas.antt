@@ -3,10 +3,10 @@ use Rattle.origins_lines.proofs.Common.{Bool, Err, List, None, Ok, Option, Resul
 use Rattle.origins_lines.proofs.Common.{inl, inr, length, refl, true, ℕ, ◌+◌, ◌++◌, ◌≡◌, ◌∷◌, ◌∙◌, ◌⊎◌}
 use Rattle.origins_lines.proofs.Common.{Vrp, append-nil, map-append}
 use Rattle.std.specs.Prelude.{◌-◌, ◌^◌, ◌<◌, IfErr, IfOk, IfSome, IsErrOf, min, slice_get, suc, zero}
-use Rattle.roa_expiry.specs.ExpiryFiles.{HasExpiryFault}
+use Rattle.roa_vrps.specs.ExpiryFiles.{HasExpiryFault}
 use Rattle.roa_vrps.specs.Files.{HasFileFault}
 use Rattle.roa_vrps.specs.declared.fault.FileFault.{FileFault}
-use Rattle.roa_expiry.specs.declared.fault.ExpiryFault.{ExpiryFault}
+use Rattle.roa_vrps.specs.declared.fault.ExpiryFault.{ExpiryFault}
 use Rattle.std.proofs.lemmas.Grind.{flat_map-append}
 use Rattle.std.proofs.lemmas.List.{length_push}
 use Rattle.std.proofs.lemmas.List.Sums.{sum_by_push}

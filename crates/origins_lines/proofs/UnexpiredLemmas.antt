@@ -3,7 +3,7 @@ use Rattle.origins_lines.proofs.Common.{arith, List, Option, ℕ, ◌≡◌, IfS
 use Rattle.std.specs.Prelude.{IfOk, MatchResult}
 use Rattle.rpki_text.specs.Memory.{IfRefused}
 use Rattle.rpki_text.specs.declared.memory.OrMemory.{OrMemory}
-use Rattle.roa_expiry.specs.declared.fault.ExpiryFault.{ExpiryFault}
+use Rattle.roa_vrps.specs.declared.fault.ExpiryFault.{ExpiryFault}
 use Rattle.origins_lines.specs.Unexpired.{unexpired_result}
 use Rattle.origins_lines.specs.declared.error.ReadUnexpiredError.TheVariants.{File, Read}
 

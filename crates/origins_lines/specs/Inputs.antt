@@ -5,8 +5,8 @@ use Rattle.std.specs.Prelude.{length, map, min, slice_get}
 use Rattle.std.specs.List.{flat_map, sum_by}
 use Rattle.roa_origin.specs.Vrps.{Vrp}
 use Rattle.roa_vrps.specs.Files.{HasFileFault, IsVrpFile}
-use Rattle.roa_expiry.specs.ExpiryFiles.{HasExpiryFault, IsUnexpiredFile}
-use Rattle.roa_expiry.specs.declared.fault.ExpiryFault.{ExpiryFault}
+use Rattle.roa_vrps.specs.ExpiryFiles.{HasExpiryFault, IsUnexpiredFile}
+use Rattle.roa_vrps.specs.declared.fault.ExpiryFault.{ExpiryFault}
 use Rattle.roa_slurm.specs.Applied.{IsApplied}
 use Rattle.roa_slurm.specs.SlurmFiles.{HasSlurmFault, IsSlurmFile, SlurmValue}
 use Rattle.origins_lines.specs.declared.error.InputsError.{InputsError}

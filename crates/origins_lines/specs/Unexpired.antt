@@ -2,8 +2,8 @@
 use Rattle.std.specs.Prelude.{◌≡◌, ◌++◌, ℕ, List, Option, IfSome, Result, Ok, Err, length}
 use Rattle.rpki_text.specs.declared.memory.OrMemory.{OrMemory}
 use Rattle.roa_origin.specs.Vrps.{Vrp}
-use Rattle.roa_expiry.specs.ExpiryFiles.{IsUnexpiredFile}
-use Rattle.roa_expiry.specs.declared.fault.ExpiryFault.{ExpiryFault}
+use Rattle.roa_vrps.specs.ExpiryFiles.{IsUnexpiredFile}
+use Rattle.roa_vrps.specs.declared.fault.ExpiryFault.{ExpiryFault}
 use Rattle.origins_lines.specs.declared.error.ReadUnexpiredError.{ReadUnexpiredError}
 use Rattle.origins_lines.specs.declared.error.ReadVrpsError.{ReadVrpsError}
 use Rattle.origins_lines.specs.declared.unexpired.Numbers.{Numbers}

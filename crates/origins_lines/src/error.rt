@@ -4,7 +4,7 @@ ghost use Rattle.origins_lines.specs.declared.error.InputsError.TheVariants.{Mem
 
 use crate::unexpired::Numbers;
 use lines_engine::error::RunError;
-use roa_expiry::ExpiryFault;
+use roa_vrps::expiry::ExpiryFault;
 use roa_slurm::SlurmFault;
 use roa_vrps::FileFault;
 use std::alloc::{AllocError, AllocFailed};

@@ -10,7 +10,7 @@ use crate::exceptions::read_exceptions;
 use crate::file::add_file;
 use crate::unexpired::{Numbers, add_unexpired_file};
 use lines_engine::device::{DeviceFault, Source};
-use roa_expiry::ExpiryFault;
+use roa_vrps::expiry::ExpiryFault;
 use roa_origin::Vrp;
 use roa_slurm::Slurm;
 use std::alloc::{Allocator, Global};

@@ -3,13 +3,13 @@ ghost use Rattle.std.specs.Prelude.{◌≡◌, false, true, Err, IfOk, IfSome, O
 ghost use Rattle.std.specs.Io.KnownBytes.{IsAtEnd};
 ghost use Rattle.origins_lines.specs.declared.error.ReadUnexpiredError.TheVariants.{File};
 ghost use Rattle.origins_lines.specs.Unexpired.{AppendsUnexpired, unexpired_result};
-ghost use Rattle.roa_expiry.specs.ExpiryFiles.{HasExpiryFault, IsUnexpiredFile};
+ghost use Rattle.roa_vrps.specs.ExpiryFiles.{HasExpiryFault, IsUnexpiredFile};
 
 use crate::error::ReadUnexpiredError;
 use lines_engine::device::Source;
 use lines_engine::engine::read_to_end;
 use lines_engine::error::RunError;
-use roa_expiry::{ExpiryFault, UnexpiredVrps, read_unexpired};
+use roa_vrps::expiry::{ExpiryFault, UnexpiredVrps, read_unexpired};
 use roa_origin::Vrp;
 use rpki_base::memory::OrMemory;
 use std::alloc::Allocator;

@@ -24,7 +24,7 @@ pub use Rattle.json.specs.Value.{members_view, value_view}
 pub use Rattle.rpki_prefix.specs.MaxLen.{HasMaxLenError, IsMaxLenOf, MaxLenValue}
 pub use Rattle.rpki_text.specs.Cuts.{is_comma}
 pub use Rattle.rpki_text.specs.Lists.{comma}
-pub use Rattle.rpki_text.specs.Reading.{Answers, AnswersOrMemory}
+pub use Rattle.rpki_text.specs.Reading.{AnswersOrMemory}
 pub use Rattle.roa_vrps.specs.Columns.{IsColumn, IsHeader, Names, usual}
 pub use Rattle.roa_vrps.specs.Fields.{after_commas, field, unquoted}
 pub use Rattle.roa_vrps.specs.Items.{AreItems, HasItemFault, HasTexts, HaveWrongItem, IsItem}

@@ -5,42 +5,75 @@ use Rattle.roa_vrps.proofs.Common.{NoVrp, Blank, Header, Vrp, VrpFault, Row}
 use Rattle.rpki_text.specs.Lines.{lines_of}
 use Rattle.roa_vrps.specs.Csv.{AreRows, HaveFirstFault, HasCsvFault, HasLineFault, HasUnknownHeader, IsCsvFile}
 use Rattle.roa_vrps.specs.Csv.{columns_after, vrps_of}
+use Rattle.roa_vrps.specs.Entries.{AreCsvEntries, AreRead, AreReadOf, AreRowEntries, Entry, entries_of, line_entry}
 use Rattle.roa_vrps.specs.Rows.{IsUnknownHeader}
+use Rattle.roa_vrps.specs.declared.fault.ExpiryFault.{ExpiryFault}
+use Rattle.std.specs.Prelude.{Bool, Ok, Option, Result, Vec}
 use Rattle.roa_vrps.specs.Asking.{BeginVrps, HasCsvVrp}
 use Rattle.roa_vrps.proofs.ItemLemmas.{Vrps}
 use Rattle.roa_vrps.proofs.RowLemmas.{row_apart, row_fault_one, row_one}
 
 -- What the rest of a text writes behind the VRPs before it, the text writes; what is wrong there first is so in the
--- text.
-pub record IsReadSo (text rest : List ℕ) (number : ℕ) (columns : Columns) (vrps : Vrps) : Type 0 where
+-- text. The same holds of the entries, whose expiries are read.
+pub record IsReadSo {A : Type 0} (asked : Bool) (text rest : List ℕ) (number : ℕ) (columns : Columns) (vrps : Vrps)
+    (expiries : Result (Vec (Option ℕ) A) ExpiryFault)
+    : Type 0 where
   pub values : (more : Vrps) → AreRows columns (lines_of rest) more
       → AreRows usual (lines_of text) (vrps ++ more)
   pub faults : (fault : FileFault) → HaveFirstFault (number + 1) columns (lines_of rest) fault
       → HaveFirstFault 1 usual (lines_of text) fault
   pub begins : BeginVrps columns (lines_of rest) → HasCsvVrp text
+  pub entries : List Entry
+  pub entries_are : (more : List Entry) → AreRowEntries (number + 1) columns (lines_of rest) more
+      → AreCsvEntries text (entries ++ more)
+  pub read : AreRead asked entries expiries
 
 -- nothing is read yet
-pub read_none : (text : List ℕ) → IsReadSo text text 0 usual []
-read_none text = record { values = λ more rows. rows; faults = λ fault wrong. wrong; begins = λ later. later }
+pub read_none : {A : Type 0} (asked : Bool) (text : List ℕ) (vrps : Vrps) (found : Vec (Option ℕ) A) → vrps ≡ []
+    → found.items ≡ [] → IsReadSo asked text text 0 usual vrps (Ok found)
+read_none asked text vrps found none empty = record {
+  values = λ more rows. rw none rows;
+  faults = λ fault wrong. wrong;
+  begins = λ later. later;
+  entries = [];
+  entries_are = λ more rows. rows;
+  read = λ _. empty;
+}
 
-module _ (text rest after line : List ℕ) (number : ℕ) (columns : Columns) (vrps : Vrps)
-    (had : IsReadSo text rest number columns vrps) (first : lines_of rest ≡ line ∷ lines_of after) where
-  -- one line more
-  pub read_more : (row : Row) → IsRow columns line row
-      → IsReadSo text after (number + 1) (columns_after columns row) (vrps ++ vrps_of row)
-  read_more row is = record {
+module _ {A : Type 0} (asked : Bool) (text rest after line : List ℕ) (number : ℕ) (columns : Columns) (vrps : Vrps)
+    (expiries : Result (Vec (Option ℕ) A) ExpiryFault)
+    (had : IsReadSo asked text rest number columns vrps expiries) (first : lines_of rest ≡ line ∷ lines_of after) where
+  -- one line more, with these VRPs and entries
+  read_line : (row : Row) (own : Vrps) (mine : List Entry) (next : Result (Vec (Option ℕ) A) ExpiryFault)
+      → vrps_of row ≡ own → entries_of (number + 1) columns line row ≡ mine → IsRow columns line row
+      → AreRead asked (had.entries ++ mine) next
+      → IsReadSo asked text after (number + 1) (columns_after columns row) (vrps ++ own) next
+  read_line row own mine next own_is mine_is is read = record {
     values = λ more rows.
-        rw append_assoc (had.values (vrps_of row ++ more) (rw first (row, is, more, refl, rows)));
+        rw append_assoc (had.values (own ++ more) (rw first (row, is, more, rw own_is refl, rows)));
     faults = λ fault wrong. had.faults fault (rw first (inr (row, is, wrong)));
     begins = λ later. had.begins (rw first (row, is, inr later));
+    entries = had.entries ++ mine;
+    entries_are = λ more rows.
+        rw append_assoc (had.entries_are (mine ++ more) (rw first (row, is, more, rw mine_is refl, rows)));
+    read = read;
   }
 
-  -- which writes no VRP
-  pub read_over : (row : Row) → vrps_of row ≡ [] → IsRow columns line row
-      → IsReadSo text after (number + 1) (columns_after columns row) vrps
-  read_over row none is = grind (arith, read_more)
+  -- it has a VRP
+  pub read_vrp : (vrp : MaxLenValue × ℕ) (next : Result (Vec (Option ℕ) A) ExpiryFault) → IsRow columns line (Vrp vrp)
+      → AreRead asked (had.entries ++ line_entry (number + 1) columns.expires line ∷ []) next
+      → IsReadSo asked text after (number + 1) columns (vrps ++ vrp ∷ []) next
+  read_vrp vrp next is read =
+      read_line (Vrp vrp) (vrp ∷ []) (line_entry (number + 1) columns.expires line ∷ []) next refl refl is read
 
-  -- it writes one, for which memory is requested
+  -- or none
+  pub read_over : (row : Row) → vrps_of row ≡ [] → entries_of (number + 1) columns line row ≡ []
+      → IsRow columns line row
+      → IsReadSo asked text after (number + 1) (columns_after columns row) vrps expiries
+  read_over row none no_entry is =
+      rw append-nil at (read_line row [] [] expiries none no_entry is (rw append-nil had.read))
+
+  -- memory is requested for a VRP
   pub read_wanting : (vrp : MaxLenValue × ℕ) → IsRow columns line (Vrp vrp) → HasCsvVrp text
   read_wanting vrp is = had.begins (rw first (Vrp vrp, is, inl (λ none. cc none)))
 
@@ -49,13 +82,15 @@ module _ (text rest after line : List ℕ) (number : ℕ) (columns : Columns) (v
   read_wrong wrong has = had.faults (Line (number + 1) wrong) (rw first (inl (wrong, has, refl)))
 
 -- nothing is left
-module _ (text rest : List ℕ) (number : ℕ) (columns : Columns) (vrps : Vrps)
-    (had : IsReadSo text rest number columns vrps) (end : rest ≡ []) where
+module _ {A : Type 0} (asked : Bool) (text rest : List ℕ) (number : ℕ) (columns : Columns) (vrps : Vrps)
+    (expiries : Result (Vec (Option ℕ) A) ExpiryFault)
+    (had : IsReadSo asked text rest number columns vrps expiries) (end : rest ≡ []) where
   read_all : AreRows usual (lines_of text) vrps
   read_all = rw append-nil at (had.values [] (rw end refl))
 
-  pub read_some : vrps ≢ [] → IsCsvFile text vrps
-  read_some some = (read_all, some)
+  pub read_some : vrps ≢ [] → IsCsvFile text vrps × AreReadOf asked (AreCsvEntries text) expiries
+  read_some some =
+      ((read_all, some), (had.entries, rw append-nil at (had.entries_are [] (rw end refl)), had.read))
 
   pub read_no_vrp : vrps ≡ [] → HasLineFault text NoVrp
   read_no_vrp none = rw none at read_all
@@ -90,8 +125,15 @@ rows_apart number columns (line ∷ lines) a fault (row, is, more, a_is, rows) (
 first_one : (number : ℕ) (columns : Columns) (lines : List (List ℕ)) (d e : FileFault)
     → HaveFirstFault number columns lines d → HaveFirstFault number columns lines e → d ≡ e
 first_one number columns [] d e h k = absurd h
-first_one number columns (line ∷ lines) d e h k =
-    grind (arith, row_apart, row_fault_one, row_one, λ (next : Columns). first_one (number + 1) next lines)
+first_one number columns (line ∷ lines) d e (inl (v, h, is)) (inl (w, k, iz)) =
+    rw (is, iz, row_fault_one columns line v w h k) refl
+first_one number columns (line ∷ lines) d e (inl (v, h, _)) (inr (row, is, _)) =
+    absurd (row_apart columns line row v is h)
+first_one number columns (line ∷ lines) d e (inr (row, is, _)) (inl (w, k, _)) =
+    absurd (row_apart columns line row w is k)
+first_one number columns (line ∷ lines) d e (inr (row, is, h)) (inr (other, iz, k)) =
+    let one = row_one columns line row other is iz in
+    first_one (number + 1) (columns_after columns other) lines d e (rw one at h) k
 
 -- so a file writes one list, and then has no fault, or has one
 pub csv_one : (text : List ℕ) (a b : Vrps) → IsCsvFile text a → IsCsvFile text b → a ≡ b

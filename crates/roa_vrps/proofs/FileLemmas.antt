@@ -1,12 +1,18 @@
 -- A text in either form writes one list of VRPs, or has one fault, and so does a file.
-use Rattle.roa_vrps.proofs.Common.{List, MatchResult, Result, arith, inl, inr, sym, ℕ, ◌∙◌, ◌≡◌, MaxLenValue}
-use Rattle.roa_vrps.proofs.Common.{AnswersOrMemory, FileFault, usual}
-use Rattle.std.specs.Prelude.{IfErr}
+use Rattle.roa_vrps.proofs.Common.{Err, List, MatchResult, Ok, Result, inl, inr, sym, ℕ, ◌∙◌, ◌≡◌, IsUtf8, MaxLenValue}
+use Rattle.roa_vrps.proofs.Common.{AnswersOrMemory, FileFault, HasJsonFault, IsJsonFile, usual}
+use Rattle.std.specs.Prelude.{Bool, IfErr}
 use Rattle.rpki_text.specs.Memory.{IfRefused, IsMemory, MatchOrMemory}
 use Rattle.rpki_text.specs.declared.memory.OrMemory.{OrMemory}
+use Rattle.rpki_text.specs.declared.memory.OrMemory.TheVariants.{Memory, Refused}
 use Rattle.rpki_text.proofs.TextListLemmas.{AnswersOrMemory-from_found}
-use Rattle.roa_vrps.specs.Asking.{MayTextWantMemory, MayWantMemory}
-use Rattle.roa_vrps.specs.Files.{HasFileFault, HasVrpTextFault, IsVrpFile, IsVrpText}
+use Rattle.roa_vrps.specs.Asking.{HasCsvVrp, MayTextWantMemory, MayWantMemory}
+use Rattle.roa_vrps.specs.Csv.{HasCsvFault, IsCsvFile}
+use Rattle.roa_vrps.specs.Entries.{AreCsvEntries, AreReadOf}
+use Rattle.roa_vrps.specs.ExpiryFiles.{AreFileEntries, AreTextEntries}
+use Rattle.roa_vrps.specs.Files.{HasFileFault, HasVrpTextFault, IsCsvText, IsObjectText, IsVrpFile, IsVrpText}
+use Rattle.roa_vrps.specs.JsonFiles.{AreJsonEntries}
+use Rattle.roa_vrps.specs.declared.found.Found.{Found}
 use Rattle.roa_vrps.specs.Marks.{IsUnmarked}
 use Rattle.rpki_text.specs.Lines.{lines_of}
 use Rattle.roa_vrps.proofs.CsvLemmas.{csv_apart, csv_fault_one, csv_one, rows_begin}
@@ -20,14 +26,38 @@ unmarked_one file a b (inl h) (inr (_, none)) = absurd (none a h)
 unmarked_one file a b (inr (_, none)) (inl k) = absurd (none b k)
 unmarked_one file a b (inr (h, _)) (inr (k, _)) = sym h ∙ k
 
--- what is found in the text says of the answer, and when memory is wanting
-pub file_found : {V : Type 0} (file text : List ℕ) (view : V → List (MaxLenValue × ℕ))
-    (r : Result V (OrMemory FileFault)) → IsUnmarked file text
-    → MatchResult r (λ v. IsVrpText text (view v))
+-- what is found in the text is found in the file, and so is when memory is wanting
+pub file_found : {A : Type 0} (asked : Bool) (file text : List ℕ) (r : Result (Found A) (OrMemory FileFault))
+    → IsUnmarked file text
+    → MatchResult r (λ v. IsVrpText text v.vrps.items × AreReadOf asked (AreTextEntries text) v.expiries)
     (λ e. MatchOrMemory e (HasVrpTextFault text) (MayTextWantMemory text))
-    → MatchResult r (λ v. IsVrpFile file (view v)) (IfRefused (HasFileFault file))
+    → MatchResult r (λ v. IsVrpFile file v.vrps.items × AreReadOf asked (AreFileEntries file) v.expiries)
+    (IfRefused (HasFileFault file))
     × IfErr r (λ e. IsMemory e → MayWantMemory file)
-file_found file text view r is found = grind (arith)
+file_found asked file text (Ok v) is (are, (entries, h, read)) = (((text, is, are), (entries, (text, is, h), read)), tt)
+file_found asked file text (Err (Refused f)) is wrong = ((text, is, wrong), λ memory. absurd memory)
+file_found asked file text (Err (Memory e)) is wants = (tt, λ memory. (text, is, wants))
+
+-- the entries of a text in either form
+pub json_found : {A : Type 0} (asked : Bool) (text : List ℕ) (r : Result (Found A) (OrMemory FileFault))
+    → IsObjectText text
+    → MatchResult r (λ v. IsJsonFile text v.vrps.items × AreReadOf asked (AreJsonEntries text) v.expiries)
+    (λ e. MatchOrMemory e (HasJsonFault text) (IsUtf8 text))
+    → MatchResult r (λ v. IsVrpText text v.vrps.items × AreReadOf asked (AreTextEntries text) v.expiries)
+    (λ e. MatchOrMemory e (HasVrpTextFault text) (MayTextWantMemory text))
+json_found asked text (Ok v) opens (are, (entries, h, read)) = (inl (opens, are), (entries, inl (opens, h), read))
+json_found asked text (Err (Refused f)) opens wrong = inl (opens, wrong)
+json_found asked text (Err (Memory e)) opens wants = inl (opens, wants)
+
+pub csv_found : {A : Type 0} (asked : Bool) (text : List ℕ) (r : Result (Found A) (OrMemory FileFault))
+    → IsCsvText text
+    → MatchResult r (λ v. IsCsvFile text v.vrps.items × AreReadOf asked (AreCsvEntries text) v.expiries)
+    (λ e. MatchOrMemory e (HasCsvFault text) (HasCsvVrp text))
+    → MatchResult r (λ v. IsVrpText text v.vrps.items × AreReadOf asked (AreTextEntries text) v.expiries)
+    (λ e. MatchOrMemory e (HasVrpTextFault text) (MayTextWantMemory text))
+csv_found asked text (Ok v) csv (are, (entries, h, read)) = (inr (csv, are), (entries, inr (csv, h), read))
+csv_found asked text (Err (Refused f)) csv wrong = inr (inr (csv, wrong))
+csv_found asked text (Err (Memory e)) csv wants = inr (csv, wants)
 
 module _ (text : List ℕ) where
   -- the text has one form

@@ -1,7 +1,12 @@
 -- A text of JSON is one object or none; what it writes is one list of VRPs, or one fault.
 use Rattle.roa_vrps.proofs.Common.{List, None, Some, [], arith, ℕ, ◌∷◌, ◌≡◌, ◌≢◌, value-begin_object, value_is, Members}
-use Rattle.roa_vrps.proofs.Common.{document, object, Token, HasJsonFault, IsJsonFile, FileFault}
+use Rattle.roa_vrps.proofs.Common.{document, object, Token, HasJsonFault, IsJsonFile, FileFault, Err, Ok, refl}
+use Rattle.roa_vrps.proofs.Common.{IsRoasResult, IsUtf8, NoVrp, roas, values_in}
+use Rattle.std.specs.Prelude.{Bool}
 use Rattle.json.specs.Lex.{tokens}
+use Rattle.roa_vrps.specs.Entries.{AreReadOf, item_entries}
+use Rattle.roa_vrps.specs.JsonFiles.{AreJsonEntries}
+use Rattle.roa_vrps.specs.declared.found.Found.{Found}
 use Rattle.roa_vrps.proofs.GrammarLemmas.{members_in}
 use Rattle.roa_vrps.proofs.ItemLemmas.{Vrps, items_apart, items_one, wrong_item_one}
 use Rattle.roa_vrps.proofs.MemberLemmas.{wrong_apart, wrong_one}
@@ -24,6 +29,25 @@ module _ (text : List ℕ) (ts : List Token) (are : ts ≡ tokens text) where
     pub object_in : (now : List Token) (ms : Members) → members_in 127 r ≡ Some (ms, now) → now ≡ []
         → document text ≡ Some (object ms)
     object_in now ms read end = grind (arith, value-begin_object)
+
+-- what is found in the values of `roas` is found in the text
+module _ {A : Type 0} (asked : Bool) (text : List ℕ) (ms : Members) (found : Found A) (utf8 : IsUtf8 text)
+    (is : document text ≡ Some (object ms)) (reads : IsRoasResult asked (values_in roas ms) (Ok found)) where
+  pub json_values : found.vrps.items ≢ []
+      → IsJsonFile text found.vrps.items × AreReadOf asked (AreJsonEntries text) found.expiries
+  json_values some =
+      let (items, values, are, read) = reads in (
+        ((ms, (utf8, is), (items, values, are)), some),
+        (item_entries 1 items, (items, (ms, (utf8, is), values), refl), read),
+      )
+
+  pub json_none : found.vrps.items ≡ [] → HasJsonFault text NoVrp
+  json_none none =
+      let (items, values, are, _) = reads in (ms, (utf8, is), (items, values, rw none at are))
+
+pub json_fault : (A : Type 0) (asked : Bool) (text : List ℕ) (ms : Members) (f : FileFault) → IsUtf8 text
+    → document text ≡ Some (object ms) → IsRoasResult {A = A} asked (values_in roas ms) (Err f) → HasJsonFault text f
+json_fault A asked text ms f utf8 is wrong = grind (arith)
 
 -- ---- the text's object is one, so it writes one list, and then has no fault, or has one
 

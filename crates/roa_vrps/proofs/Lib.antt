@@ -1,7 +1,10 @@
--- Lemmas on fields, columns, lines, members, items and files.
+-- Lemmas on fields, columns, lines, members, items, files and expiries.
 pub mod ColumnLemmas
 pub mod Common
 pub mod CsvLemmas
+pub mod EntryLemmas
+pub mod ExpiryFileLemmas
+pub mod ExpiryLemmas
 pub mod FieldLemmas
 pub mod FileLemmas
 pub mod GrammarLemmas

@@ -6,77 +6,104 @@ use Rattle.roa_vrps.proofs.Common.{members_end, value-begin_array, value-begin_o
 use Rattle.roa_vrps.proofs.Common.{item, member, no_items, no_members, parse_map, Token, MaxLenValue, AreItems}
 use Rattle.roa_vrps.proofs.Common.{HasItemFault, HaveWrongItem, IsItem, IsRoasResult, roas, values_in, FileFault, Item}
 use Rattle.roa_vrps.proofs.Common.{Roas, ItemFault, Kind, Missing, Repeated}
+use Rattle.std.specs.Prelude.{Bool, Option}
+use Rattle.roa_vrps.specs.Entries.{AreRead, Entry, item_entries, item_entry}
+use Rattle.roa_vrps.specs.declared.fault.ExpiryFault.{ExpiryFault}
+use Rattle.roa_vrps.specs.declared.found.Found.{Found}
 use Rattle.roa_vrps.proofs.GrammarLemmas.{a_member, an_item, items_in, members_in}
 use Rattle.roa_vrps.proofs.ItemLemmas.{Vrps}
 use Rattle.json.specs.Json as json
 
--- What the items from `now` on, up to the end of their array, write behind the VRPs, those from `first` on write.
-pub record AreReadSo (depth : ℕ) (first now : List Token) (vrps : Vrps) : Type 0 where
+-- What the items from `now` on, up to the end of their array, write behind the VRPs, those from `first` on write. The
+-- same holds of the entries, whose expiries are read.
+pub record AreReadSo {A : Type 0} (asked : Bool) (depth : ℕ) (first now : List Token) (vrps : Vrps)
+    (expiries : Result (Vec (Option ℕ) A) ExpiryFault)
+    : Type 0 where
+  pub entries : List Entry
+  pub read : AreRead asked entries expiries
   pub fails : items_in depth now ≡ None → items_in depth first ≡ None
   pub reads : (items : Items) (rest : List Token) → items_in depth now ≡ Some (items, rest)
       → (all : Items) × (items_in depth first ≡ Some (all, rest))
       × ((more : Vrps) → AreItems items more → AreItems all (vrps ++ more))
       × ((fault : FileFault) → HaveWrongItem (length vrps + 1) items fault → HaveWrongItem 1 all fault)
+      × (item_entries 1 all ≡ entries ++ item_entries (length vrps + 1) items)
 
-module _ (depth : ℕ) (first now taken r : List Token) (value : Json) (vrps : Vrps)
-    (had : AreReadSo depth first now vrps) (next : json.value depth taken ≡ Some (value, r))
+-- nothing is read yet
+pub read_none : {A : Type 0} (asked : Bool) (depth : ℕ) (first : List Token) (vrps : Vrps) (found : Vec (Option ℕ) A)
+    → vrps ≡ [] → found.items ≡ [] → AreReadSo asked depth first first vrps (Ok found)
+read_none asked depth first vrps found none empty = record {
+  entries = [];
+  read = λ _. empty;
+  fails = λ failed. failed;
+  reads = λ items rest is. rw none (items, is, (λ more are. are), (λ fault wrong. wrong), refl);
+}
+
+module _ {A : Type 0} (asked : Bool) (depth : ℕ) (first now taken r : List Token) (value : Json) (vrps : Vrps)
+    (expiries : Result (Vec (Option ℕ) A) ExpiryFault) (had : AreReadSo asked depth first now vrps expiries)
+    (next : json.value depth taken ≡ Some (value, r))
     (going : (json.after_end_array now ≡ None) × (taken ≡ now)) where
   one_more : items_in depth now ≡ parse_map (item value) (items_in depth r)
   one_more = an_item depth now r value going.0 (rw going.1 at next)
 
   -- one item more
-  pub read_more : (vrp : MaxLenValue × ℕ) → IsItem value vrp
-      → AreReadSo depth first r (vrps ++ vrp ∷ [])
-  read_more vrp is = record {
+  pub read_more : (vrp : MaxLenValue × ℕ) (all : Result (Vec (Option ℕ) A) ExpiryFault) → IsItem value vrp
+      → AreRead asked (had.entries ++ item_entry (length vrps + 1) value ∷ []) all
+      → AreReadSo asked depth first r (vrps ++ vrp ∷ []) all
+  read_more vrp all is read = record {
+    entries = had.entries ++ item_entry (length vrps + 1) value ∷ [];
+    read = read;
     fails = λ none. had.fails (one_more ∙ ap (parse_map (item value)) none);
-    reads = λ items rest read.
-        let (all, whole, are, wrong) =
-        had.reads (item value items) rest (one_more ∙ ap (parse_map (item value)) read) in (
+    reads = λ items rest these.
+        let (all, whole, are, wrong, entries) =
+        had.reads (item value items) rest (one_more ∙ ap (parse_map (item value)) these) in (
           all,
           whole,
           λ more these. rw append_assoc (are (vrp ∷ more) (vrp, is, more, refl, these)),
           λ fault later. wrong fault (inr (vrp, is, rw length-append at later)),
+          rw (length-append, append_assoc) entries,
         );
   }
 
   -- the next item is wrong, and the others are passed over
-  pub read_wrong : (A : Type 0) (wrong : ItemFault) (rest : List Token) → HasItemFault value wrong
+  pub read_wrong : (wrong : ItemFault) (rest : List Token) → HasItemFault value wrong
       → left (items_in depth r) ≡ Some rest
-      → (js : Items) × IsRoasResult {A = A} (array js ∷ []) (Err (Item (length vrps + 1) wrong))
+      → (js : Items) × IsRoasResult {A = A} asked (array js ∷ []) (Err (Item (length vrps + 1) wrong))
       × (items_in depth first ≡ Some (js, rest))
-  read_wrong A wrong rest has passed = grind (arith, item, items_in, left_some, one_more, parse_map)
+  read_wrong wrong rest has passed = grind (arith, item, items_in, left_some, one_more, parse_map)
 
   -- or aren't
   pub read_bad : left (items_in depth r) ≡ None → items_in depth first ≡ None
   read_bad failed = had.fails (one_more ∙ ap (parse_map (item value)) (left_none (items_in depth r) failed))
 
 -- no item is left
-pub read_all : {A : Type 0} (depth : ℕ) (first now rest : List Token) (v : Vec (MaxLenValue × ℕ) A)
-    → AreReadSo depth first now v.items → json.after_end_array now ≡ Some rest
-    → (js : Items) × IsRoasResult {A = A} (array js ∷ []) (Ok v) × (items_in depth first ≡ Some (js, rest))
-read_all depth first now rest v had end =
-    let (all, whole, are, _) =
+pub read_all : {A : Type 0} (asked : Bool) (depth : ℕ) (first now rest : List Token) (found : Found A)
+    → AreReadSo asked depth first now found.vrps.items found.expiries → json.after_end_array now ≡ Some rest
+    → (js : Items) × IsRoasResult {A = A} asked (array js ∷ []) (Ok found) × (items_in depth first ≡ Some (js, rest))
+read_all asked depth first now rest found had end =
+    let (all, whole, are, _, entries) =
     had.reads no_items rest (items_end (json.value depth) (length now) now rest (omega arith) end) in
-    (all, (all, refl, rw append-nil at (are [] refl)), whole)
+    let same : item_entries 1 all ≡ had.entries ++ [] = entries in
+    (all, (all, refl, rw append-nil at (are [] refl), rw (same, append-nil) had.read), whole)
 
 -- What the members from `now` on, up to the end of their object, add to the result, those from `first` on have as their
 -- result.
-pub record IsRoasReadSo {A : Type 0} (depth : ℕ) (first now : List Token)
-    (outcome : Result (Vec (MaxLenValue × ℕ) A) FileFault) : Type 0 where
+pub record IsRoasReadSo {A : Type 0} (asked : Bool) (depth : ℕ) (first now : List Token)
+    (outcome : Result (Found A) FileFault) : Type 0 where
   pub values : List Json
-  pub is_result : IsRoasResult values outcome
+  pub is_result : IsRoasResult asked values outcome
   pub fails : members_in depth now ≡ None → members_in depth first ≡ None
   pub reads : (ms : Members) (rest : List Token) → members_in depth now ≡ Some (ms, rest)
       → (all : Members) × (members_in depth first ≡ Some (all, rest))
       × (values_in roas all ≡ values ++ values_in roas ms)
 
 -- a member more, whose value is in the result with those before it
-pub member_read : {A : Type 0} (depth : ℕ) (first now s r : List Token) (key : List ℕ)
-    (outcome next : Result (Vec (MaxLenValue × ℕ) A) FileFault) (had : IsRoasReadSo depth first now outcome)
+pub member_read : {A : Type 0} (asked : Bool) (depth : ℕ) (first now s r : List Token) (key : List ℕ)
+    (outcome next : Result (Found A) FileFault) (had : IsRoasReadSo asked depth first now outcome)
     → json.read_key now ≡ Some (Some key, s)
     → (j : Json) × (json.value depth s ≡ Some (j, r))
-    × IsRoasResult (had.values ++ values_in roas (member key j no_members)) next → IsRoasReadSo depth first r next
-member_read depth first now s r key outcome next had is_key (j, read, is) =
+    × IsRoasResult asked (had.values ++ values_in roas (member key j no_members)) next
+    → IsRoasReadSo asked depth first r next
+member_read asked depth first now s r key outcome next had is_key (j, read, is) =
     let one_more = a_member depth now s r key j is_key read in
     record {
       values = had.values ++ values_in roas (member key j no_members);
@@ -88,44 +115,45 @@ member_read depth first now s r key outcome next had is_key (j, read, is) =
           (all, whole, named ∙ grind (arith, append_assoc, append-nil));
     }
 
-module _ {A : Type 0} (depth : ℕ) (s r : List Token) (key : List ℕ) (values : List Json)
-    (outcome : Result (Vec (MaxLenValue × ℕ) A) FileFault) (reads : IsRoasResult values outcome)
+module _ {A : Type 0} (asked : Bool) (depth : ℕ) (s r : List Token) (key : List ℕ) (values : List Json)
+    (outcome : Result (Found A) FileFault) (reads : IsRoasResult asked values outcome)
     (passed : left (json.value depth s) ≡ Some r) where
   -- a member of another name is passed over
   pub member_skipped : true ≡ not (bytes_eq key roas) → (j : Json) × (json.value depth s ≡ Some (j, r))
-      × IsRoasResult (values ++ values_in roas (member key j no_members)) outcome
+      × IsRoasResult asked (values ++ values_in roas (member key j no_members)) outcome
   member_skipped other = grind (arith, left_some, append-nil)
 
   -- one more of the name
   pub member_duplicate : false ≡ not (bytes_eq key roas) → (IsTrue false ↔ (outcome ≡ Err (Roas Missing)))
       → (j : Json) × (json.value depth s ≡ Some (j, r))
-      × IsRoasResult {A = A} (values ++ values_in roas (member key j no_members)) (Err (Roas Repeated))
+      × IsRoasResult {A = A} asked (values ++ values_in roas (member key j no_members)) (Err (Roas Repeated))
   member_duplicate same some = grind (arith, left_some, length-append)
 
 -- no member is left
-pub all_members_read : {A : Type 0} (depth : ℕ) (first now rest : List Token)
-    (outcome : Result (Vec (MaxLenValue × ℕ) A) FileFault) → IsRoasReadSo depth first now outcome
+pub all_members_read : {A : Type 0} (asked : Bool) (depth : ℕ) (first now rest : List Token)
+    (outcome : Result (Found A) FileFault) → IsRoasReadSo asked depth first now outcome
     → json.read_key now ≡ Some (None, rest)
-    → (ms : Members) × IsRoasResult (values_in roas ms) outcome × (members_in depth first ≡ Some (ms, rest))
-all_members_read depth first now rest outcome had end = grind (arith, append-nil, members_end, no_members)
+    → (ms : Members) × IsRoasResult asked (values_in roas ms) outcome × (members_in depth first ≡ Some (ms, rest))
+all_members_read asked depth first now rest outcome had end = grind (arith, append-nil, members_end, no_members)
 
 -- ---- a value of the member, by its first token
 
 module _ (depth : ℕ) (some : 0 < depth) (first r : List Token) where
-  pub array_read : {A E : Type 0} (new : List Token) (outcome : Result (Result (Vec (MaxLenValue × ℕ) A) FileFault) E)
+  pub array_read : {A E : Type 0} (asked : Bool) (new : List Token) (outcome : Result (Result (Found A) FileFault) E)
       → first ≡ Token.begin_array ∷ r
       → IfOk outcome
-      (λ outcome. (js : Items) × IsRoasResult (array js ∷ []) outcome × (items_in (depth - 1) r ≡ Some (js, new)))
-      → IfOk outcome (λ outcome. (j : Json) × IsRoasResult (j ∷ []) outcome × (json.value depth first ≡ Some (j, new)))
-  array_read new outcome opens h = grind (arith, value-begin_array)
+      (λ outcome. (js : Items) × IsRoasResult asked (array js ∷ []) outcome × (items_in (depth - 1) r ≡ Some (js, new)))
+      → IfOk outcome
+      (λ outcome. (j : Json) × IsRoasResult asked (j ∷ []) outcome × (json.value depth first ≡ Some (j, new)))
+  array_read asked new outcome opens h = grind (arith, value-begin_array)
 
   pub array_fails : first ≡ Token.begin_array ∷ r → items_in (depth - 1) r ≡ None → json.value depth first ≡ None
   array_fails opens none = grind (arith, value-begin_array)
 
-  pub object_passed : (A : Type 0) (new : List Token) → first ≡ Token.begin_object ∷ r
+  pub object_passed : (A : Type 0) (asked : Bool) (new : List Token) → first ≡ Token.begin_object ∷ r
       → left (members_in (depth - 1) r) ≡ Some new
-      → (j : Json) × IsRoasResult {A = A} (j ∷ []) (Err (Roas Kind)) × (json.value depth first ≡ Some (j, new))
-  object_passed A new opens passed =
+      → (j : Json) × IsRoasResult {A = A} asked (j ∷ []) (Err (Roas Kind)) × (json.value depth first ≡ Some (j, new))
+  object_passed A asked new opens passed =
       let ms = left_some (members_in (depth - 1) r) new passed in (
         json.object ms.0,
         (json.object ms.0, refl, λ h. cc (h.1)),
@@ -143,7 +171,7 @@ json_of (Token.number s) = json.number s
 json_of (Token.boolean b) = json.boolean b
 json_of token = json.null
 
-pub scalar_passed : (A : Type 0) (depth : ℕ) (first r : List Token) (t : Token)
+pub scalar_passed : (A : Type 0) (asked : Bool) (depth : ℕ) (first r : List Token) (t : Token)
     → json.value depth first ≡ Some (json_of t, r)
-    → (j : Json) × IsRoasResult {A = A} (j ∷ []) (Err (Roas Kind)) × (json.value depth first ≡ Some (j, r))
-scalar_passed A depth first r t is = grind (arith)
+    → (j : Json) × IsRoasResult {A = A} asked (j ∷ []) (Err (Roas Kind)) × (json.value depth first ≡ Some (j, r))
+scalar_passed A asked depth first r t is = grind (arith)

@@ -1,17 +1,15 @@
 -- A line writes one thing alone, or has one fault.
 use Rattle.roa_vrps.proofs.Common.{List, MatchResult, Result, Err, Ok, Some, [], ap, arith, inl, inr, sym, ℕ, ◌-◌, ◌^◌}
-use Rattle.roa_vrps.proofs.Common.{◌∙◌, ◌≡◌}
+use Rattle.roa_vrps.proofs.Common.{◌∙◌, ◌≡◌, ◌≢◌, ◌⊎◌, IsUtf8, trim, HasMaxLenError, IsMaxLenOf, MaxLenValue, IsHeader}
+use Rattle.roa_vrps.proofs.Common.{AreVrpTexts, HasRowFault, HaveFault, IsBody, IsRow, Columns, VrpFault, Row, Vrp}
 use Rattle.std.specs.Prelude.{Bool, IsTrue, not, true, false, ◌↔◌}
 use Rattle.std.proofs.Common.{refl}
-use Rattle.roa_vrps.proofs.Common.{◌≢◌, ◌⊎◌, IsUtf8, trim, HasMaxLenError, IsMaxLenOf, MaxLenValue, Answers, IsHeader}
-use Rattle.roa_vrps.proofs.Common.{AreVrpTexts, HasRowFault, HaveFault, IsBody, IsRow, Columns, VrpFault, Row, Vrp}
 use Rattle.roa_vrps.specs.Rows.{AreFieldTexts, ArePairTexts, FitsColumns, HasCountFault, HaveColumnsFault}
 use Rattle.roa_vrps.specs.Rows.{HaveFieldsFault, IsUnknownHeader, WritesAsn, WritesPrefix}
 use Rattle.roa_vrps.specs.Fields.{field}
-use Rattle.rpki_text.specs.declared.number.ParseIntError.TheVariants.{Empty, InvalidDigit, PosOverflow}
+use Rattle.rpki_text.specs.declared.number.ParseIntError.TheVariants.{Empty}
 use Rattle.rpki_prefix.specs.PrefixText.{HasPrefixTextFault}
 use Rattle.rpki_prefix.specs.declared.error.ParsePrefixError.{ParsePrefixError}
-use Rattle.rpki_text.proofs.ReadingLemmas.{Answers-from_found}
 use Rattle.rpki_base.proofs.AsnLemmas.{IsAsnText-one}
 use Rattle.rpki_text.proofs.NumberTexts.{IsNumberText-one}
 use Rattle.rpki_prefix.specs.Values.{FamilyPrefix}
@@ -23,10 +21,10 @@ use Rattle.roa_vrps.specs.declared.fault.VrpFault.TheVariants.{MaxLenFormat, Max
 use Rattle.roa_vrps.proofs.ColumnLemmas.{header_one}
 
 -- a number is a maximum length of a prefix, or has one error
-max_apart : (p : FamilyPrefix) (n : ℕ) (f : MaxLenError) → IsMaxLenOf p (Some n) → HasMaxLenError p (Some n) f → ⊥
+pub max_apart : (p : FamilyPrefix) (n : ℕ) (f : MaxLenError) → IsMaxLenOf p (Some n) → HasMaxLenError p (Some n) f → ⊥
 max_apart p n f h above = grind (arith)
 
-max_error_one : (p : FamilyPrefix) (n : ℕ) (f g : MaxLenError) → HasMaxLenError p (Some n) f
+pub max_error_one : (p : FamilyPrefix) (n : ℕ) (f g : MaxLenError) → HasMaxLenError p (Some n) f
     → HasMaxLenError p (Some n) g → f ≡ g
 max_error_one p n f g h k = grind (arith)
 
@@ -77,28 +75,17 @@ module _ (a p m : List ℕ) where
       let prefix = IsPrefixText-one p x.0.prefix y.0.prefix h.prefix_is k.prefix_is in
       grind (arith, prefix, IsAsnText-one a x.1 y.1 h.asn_is k.asn_is)
 
-  plain_fault : (f : VrpFault) → HaveFieldsFault a p m f → HaveFault a p m f
-  plain_fault NotUtf8 h = h
-  plain_fault (TooManyFields found named) h = h
-  plain_fault (TooFewFields found needed) h = h
-  plain_fault (Asn f) h = h
-  plain_fault (Prefix f) h = h
-  plain_fault (MaxLenFormat f) h = h.1
-  plain_fault (MaxLen f) h = h
-
   field_texts_apart : (x : MaxLenValue × ℕ) (f : VrpFault) → AreFieldTexts a p m x → HaveFieldsFault a p m f → ⊥
-  field_texts_apart x f (inl h) wrong = fields_apart x.0 x.1 f h (plain_fault f wrong)
+  field_texts_apart x f (inl h) (_, wrong) = fields_apart x.0 x.1 f h wrong
   field_texts_apart x (MaxLenFormat f) (inr (empty, h)) (some, (_, _, wrong)) =
-      some (same_number_fault m f Empty wrong empty)
-  field_texts_apart x (MaxLen f) (inr (empty, h)) (_, (q, n, _, number, _)) = number_apart m n Empty number empty
-  field_texts_apart x (Asn f) (inr (empty, h)) wrong = wrong x.1 h.asn_is
-  field_texts_apart x (Prefix f) (inr (empty, h)) (_, wrong) = IsPrefixText-no_fault p x.0.prefix f h.prefix_is wrong
-  field_texts_apart x NotUtf8 (inr (empty, h)) wrong = wrong
-  field_texts_apart x (TooManyFields found named) (inr (empty, h)) wrong = wrong
-  field_texts_apart x (TooFewFields found needed) (inr (empty, h)) wrong = wrong
-
-  fields_fault_one : (d e : VrpFault) → HaveFieldsFault a p m d → HaveFieldsFault a p m e → d ≡ e
-  fields_fault_one d e h k = have_one d e (plain_fault d h) (plain_fault e k)
+      some (ap MaxLenFormat (same_number_fault m f Empty wrong empty))
+  field_texts_apart x (MaxLen f) (inr (empty, h)) (_, (_, (q, n, _, number, _))) = number_apart m n Empty number empty
+  field_texts_apart x (Asn f) (inr (empty, h)) (_, wrong) = wrong x.1 h.asn_is
+  field_texts_apart x (Prefix f) (inr (empty, h)) (_, (_, wrong)) =
+      IsPrefixText-no_fault p x.0.prefix f h.prefix_is wrong
+  field_texts_apart x NotUtf8 (inr (empty, h)) (_, wrong) = wrong
+  field_texts_apart x (TooManyFields found named) (inr (empty, h)) (_, wrong) = wrong
+  field_texts_apart x (TooFewFields found needed) (inr (empty, h)) (_, wrong) = wrong
 
   -- what is found in two texts, or in three, is found in the fields
   pub pair_found : (r : Result (MaxLenValue × ℕ) VrpFault) → m ≡ []
@@ -107,22 +94,14 @@ module _ (a p m : List ℕ) where
   pair_found (Ok x) empty is = inr (empty, is)
   pair_found (Err f) empty wrong = rw empty wrong
 
-  some_fault : (f : VrpFault) → m ≢ [] → HaveFault a p m f → HaveFieldsFault a p m f
-  some_fault NotUtf8 some h = h
-  some_fault (TooManyFields found named) some h = h
-  some_fault (TooFewFields found needed) some h = h
-  some_fault (Asn f) some h = h
-  some_fault (Prefix f) some h = h
-  some_fault (MaxLenFormat Empty) some (_, _, empty) = absurd (some empty)
-  some_fault (MaxLenFormat InvalidDigit) some h = ((λ e. cc e), h)
-  some_fault (MaxLenFormat PosOverflow) some h = ((λ e. cc e), h)
-  some_fault (MaxLen f) some h = h
+  not_empty : m ≢ [] → HaveFault a p m (MaxLenFormat Empty) → ⊥
+  not_empty some (_, _, empty) = some empty
 
   pub three_found : (r : Result (MaxLenValue × ℕ) VrpFault) → m ≢ []
       → MatchResult r (λ x. AreVrpTexts a p m x.0 x.1) (HaveFault a p m)
       → MatchResult r (AreFieldTexts a p m) (HaveFieldsFault a p m)
   three_found (Ok x) some is = inl is
-  three_found (Err f) some wrong = some_fault f some wrong
+  three_found (Err f) some wrong = ((λ is. not_empty some (rw is at wrong)), wrong)
 
 -- a text with a fault is no prefix
 pub no_prefix : (text : List ℕ) (f : ParsePrefixError) → HasPrefixTextFault text f → ¬ WritesPrefix text
@@ -144,17 +123,13 @@ module _ (columns : Columns) (line : List ℕ) where
   abbrev Fails : VrpFault → Type 0
   Fails f = HasCountFault columns line f ⊎ (FitsColumns columns line × HaveColumnsFault columns line f)
 
-  -- the line isn't UTF-8, or its fields have the fault
-  faults : (f : VrpFault) → HasRowFault columns line f → ((¬ IsUtf8 line) × (f ≡ NotUtf8)) ⊎ (IsBody line × Fails f)
-  faults f h = grind (arith)
-
   -- the fault of the fields is the line's
   pub count_fault : (f : VrpFault) → IsBody line → HasCountFault columns line f → HasRowFault columns line f
-  count_fault f body h = grind (arith)
+  count_fault f body h = inr (body, inl h)
 
   pub row_fault : (f : VrpFault) → IsBody line → FitsColumns columns line → HaveColumnsFault columns line f
       → HasRowFault columns line f
-  row_fault f body fits h = grind (arith)
+  row_fault f body fits h = inr (body, inr (fits, h))
 
   -- the number of the fields has one fault, and none where it fits
   count_apart : (f : VrpFault) → FitsColumns columns line → HasCountFault columns line f → ⊥
@@ -164,7 +139,10 @@ module _ (columns : Columns) (line : List ℕ) where
   count_one d e h k = grind (arith)
 
   fails_one : (d e : VrpFault) → Fails d → Fails e → d ≡ e
-  fails_one d e h k = grind (arith, count_apart, count_one, fields_fault_one)
+  fails_one d e (inl h) (inl k) = count_one d e h k
+  fails_one d e (inl h) (inr (fits, _)) = absurd (count_apart d fits h)
+  fails_one d e (inr (fits, _)) (inl k) = absurd (count_apart e fits k)
+  fails_one d e (inr (_, h)) (inr (_, k)) = have_one _ _ _ d e h.1 k.1
 
   pub row_one : (x y : Row) → IsRow columns line x → IsRow columns line y → x ≡ y
   row_one (Vrp p) (Vrp q) (_, _, h) (_, _, k) = ap Vrp (fields_one _ _ _ p q h k)
@@ -176,19 +154,11 @@ module _ (columns : Columns) (line : List ℕ) where
   body_apart x f h body wrong = grind (arith)
 
   pub row_apart : (x : Row) (f : VrpFault) → IsRow columns line x → HasRowFault columns line f → ⊥
-  row_apart x f h wrong = grind (arith, faults f wrong, body_apart x f h)
-
-  one_of : (d e : VrpFault) → ((¬ IsUtf8 line) × (d ≡ NotUtf8)) ⊎ (IsBody line × Fails d)
-      → ((¬ IsUtf8 line) × (e ≡ NotUtf8)) ⊎ (IsBody line × Fails e) → d ≡ e
-  one_of d e (inl (_, is)) (inl (_, iz)) = is ∙ sym iz
-  one_of d e (inl (not_utf8, _)) (inr (body, _)) = absurd (not_utf8 body.utf8)
-  one_of d e (inr (body, _)) (inl (not_utf8, _)) = absurd (not_utf8 body.utf8)
-  one_of d e (inr (_, h)) (inr (_, k)) = fails_one d e h k
+  row_apart x f h (inl (_, none)) = grind (arith)
+  row_apart x f h (inr (body, wrong)) = body_apart x f h body wrong
 
   pub row_fault_one : (d e : VrpFault) → HasRowFault columns line d → HasRowFault columns line e → d ≡ e
-  row_fault_one d e h k = one_of d e (faults d h) (faults e k)
-
-  -- so what is found decides the answer
-  pub row_answers : (r : Result Row VrpFault) → MatchResult r (IsRow columns line) (HasRowFault columns line)
-      → Answers (IsRow columns line) (HasRowFault columns line) r
-  row_answers r found = Answers-from_found r found row_one row_apart row_fault_one
+  row_fault_one d e (inl (is, _)) (inl (iz, _)) = is ∙ sym iz
+  row_fault_one d e (inl (_, none)) (inr (body, _)) = absurd (none body.utf8)
+  row_fault_one d e (inr (body, _)) (inl (_, none)) = absurd (none body.utf8)
+  row_fault_one d e (inr (_, h)) (inr (_, k)) = fails_one d e h k

@@ -1,8 +1,9 @@
--- The columns of a file: which field of a line is the AS number, which the prefix and which the maximum length.
-use Rattle.std.specs.Prelude.{◌≡◌, ◌⊎◌, ℕ, ◌+◌, ◌<◌, List, codes, false, true}
+-- The columns of a file: which field of a line is the AS number, which the prefix, which the maximum length and which
+-- the expiry.
+use Rattle.std.specs.Prelude.{◌≡◌, ◌⊎◌, ℕ, ◌+◌, ◌<◌, List, MatchOption, None, Option, codes, false, true}
 use Rattle.roa_vrps.specs.Fields.{field, field_count}
 use Rattle.roa_vrps.specs.declared.columns.Column.{Column}
-use Rattle.roa_vrps.specs.declared.columns.Column.TheVariants.{Asn, Prefix, MaxLen}
+use Rattle.roa_vrps.specs.declared.columns.Column.TheVariants.{Asn, Prefix, MaxLen, Expires}
 use Rattle.roa_vrps.specs.declared.columns.Columns.{Columns}
 
 -- the text is a name of the column
@@ -10,11 +11,16 @@ abbrev pub Names : Column → List ℕ → Type 0
 Names Asn text = text ≡ codes "ASN"
 Names Prefix text = (text ≡ codes "IP Prefix") ⊎ (text ≡ codes "Prefix")
 Names MaxLen text = (text ≡ codes "Max Length") ⊎ (text ≡ codes "Max prefix length")
+Names Expires text = text ≡ codes "Expires"
 
 -- n is the index of the first field of a line that is a name of the column
 pub record IsColumn (column : Column) (line : List ℕ) (n : ℕ) : Type 0 where
   pub named : Names column (field n line)
   pub first : (m : ℕ) → m < n → ¬ Names column (field m line)
+
+-- the index of the column `Expires` that a line names, or None if it names none
+abbrev pub IsExpiresColumn : List ℕ → Option ℕ → Type 0
+IsExpiresColumn line found = MatchOption found ((n : ℕ) → ¬ Names Expires (field n line)) (IsColumn Expires line)
 
 -- a line with this number of fields has a field in each of the three columns, and a line with fewer lacks one
 pub record IsNeeded (columns : Columns) (fields : ℕ) : Type 0 where
@@ -23,15 +29,16 @@ pub record IsNeeded (columns : Columns) (fields : ℕ) : Type 0 where
   pub max_len : columns.max_len < fields
   pub fewest : (columns.asn + 1 ≡ fields) ⊎ ((columns.prefix + 1 ≡ fields) ⊎ (columns.max_len + 1 ≡ fields))
 
--- the line names each of the three columns, and each of its fields is a column
+-- the line names each of the three columns, and maybe the column `Expires`, and each of its fields is a column
 pub record IsHeader (line : List ℕ) (columns : Columns) : Type 0 where
   pub asn : IsColumn Asn line columns.asn
   pub prefix : IsColumn Prefix line columns.prefix
   pub max_len : IsColumn MaxLen line columns.max_len
+  pub expires : IsExpiresColumn line columns.expires
   pub count : columns.count ≡ field_count line
   pub needed : IsNeeded columns columns.needed
   pub is_named : columns.is_named ≡ true
 
 -- the columns of a file until one of its lines names them
 abbrev pub usual : Columns
-usual = record { asn = 0; prefix = 1; max_len = 2; count = 3; needed = 3; is_named = false }
+usual = record { asn = 0; prefix = 1; max_len = 2; expires = None; count = 3; needed = 3; is_named = false }

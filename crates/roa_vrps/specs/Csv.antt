@@ -6,8 +6,7 @@ use Rattle.roa_vrps.specs.Columns.{usual}
 use Rattle.roa_vrps.specs.Rows.{IsRow, IsUnknownHeader, HasRowFault}
 use Rattle.roa_vrps.specs.declared.columns.Columns.{Columns}
 use Rattle.roa_vrps.specs.declared.fault.FileFault.{FileFault}
-use Rattle.roa_vrps.specs.declared.fault.FileFault.TheVariants.{Line, UnknownHeader, NoVrp, JsonArray, NotObject, Roas}
-use Rattle.roa_vrps.specs.declared.fault.FileFault.TheVariants.{Item}
+use Rattle.roa_vrps.specs.declared.fault.FileFault.TheVariants.{Line, UnknownHeader, NoVrp}
 use Rattle.roa_vrps.specs.declared.fault.VrpFault.{VrpFault}
 use Rattle.roa_vrps.specs.declared.row.Row.{Row}
 use Rattle.roa_vrps.specs.declared.row.Row.TheVariants.{Blank, Header, Vrp}
@@ -50,12 +49,8 @@ HasUnknownHeader text =
 -- a line is invalid (the first line has number 1), or no line has a VRP
 abbrev pub HasLineFault : List ℕ → FileFault → Type 0
 HasLineFault text (Line number wrong) = HaveFirstFault 1 usual (lines_of text) (Line number wrong)
-HasLineFault text UnknownHeader = ⊥
 HasLineFault text NoVrp = AreRows usual (lines_of text) []
-HasLineFault text JsonArray = ⊥
-HasLineFault text NotObject = ⊥
-HasLineFault text (Roas wrong) = ⊥
-HasLineFault text (Item place wrong) = ⊥
+HasLineFault text fault = ⊥
 
 -- the first line is an unknown header, or else the fault of the lines
 abbrev pub HasCsvFault : List ℕ → FileFault → Type 0

@@ -3,7 +3,7 @@
 use Rattle.std.specs.Prelude.{◌≡◌, ◌⊎◌, ℕ, ◌<◌, List, [], ◌∷◌, MatchResult, Result, codes, length, if◌then◌else◌}
 use Rattle.std.specs.Borrow.{Bor}
 use Rattle.std.specs.Str.{bytes_eq}
-use Rattle.json.specs.Json.{Json, null, boolean, number, string, array, object, Members, no_members, member}
+use Rattle.json.specs.Json.{Json, number, string, object, Members, no_members, member}
 use Rattle.json.specs.Value.{value_view}
 use Rattle.json.specs.declared.value.Value.{Value}
 use Rattle.roa_vrps.specs.declared.member.Member.{Member}
@@ -18,12 +18,8 @@ values_in name (member key value more) = if bytes_eq key name then value ∷ val
 
 -- the values of the members of this name of any value; a value that is not an object has no members
 abbrev pub named_values : List ℕ → Json → List Json
-named_values name null = []
-named_values name (boolean b) = []
-named_values name (number s) = []
-named_values name (string s) = []
-named_values name (array js) = []
 named_values name (object ms) = values_in name ms
+named_values name value = []
 
 -- the fault of the values of a member that must occur exactly once and be of a kind
 abbrev pub AreWrong : (Json → Type 0) → List Json → MemberFault → Type 0

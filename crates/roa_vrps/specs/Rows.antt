@@ -48,9 +48,6 @@ WritesPrefix text = (p : FamilyPrefix) × IsPrefixText text p
 
 -- the first fault of the texts of an AS number, a prefix and a maximum length
 abbrev pub HaveFault : List ℕ → List ℕ → List ℕ → VrpFault → Type 0
-HaveFault asn_text prefix_text max_text NotUtf8 = ⊥
-HaveFault asn_text prefix_text max_text (TooManyFields found named) = ⊥
-HaveFault asn_text prefix_text max_text (TooFewFields found needed) = ⊥
 HaveFault asn_text prefix_text max_text (Asn f) = (n : ℕ) → ¬ IsAsnText asn_text n
 HaveFault asn_text prefix_text max_text (Prefix f) = WritesAsn asn_text × HasPrefixTextFault prefix_text f
 HaveFault asn_text prefix_text max_text (MaxLenFormat f) =
@@ -59,17 +56,12 @@ HaveFault asn_text prefix_text max_text (MaxLen f) =
     WritesAsn asn_text
     × ((p : FamilyPrefix) × (len : ℕ) × IsPrefixText prefix_text p × IsNumberText (2 ^ 8 - 1) max_text len
     × HasMaxLenError p (Some len) f)
+HaveFault asn_text prefix_text max_text fault = ⊥
 
 -- the first fault of the texts of three fields; that the maximum length is empty is no fault
 abbrev pub HaveFieldsFault : List ℕ → List ℕ → List ℕ → VrpFault → Type 0
-HaveFieldsFault asn_text prefix_text max_text NotUtf8 = ⊥
-HaveFieldsFault asn_text prefix_text max_text (TooManyFields found named) = ⊥
-HaveFieldsFault asn_text prefix_text max_text (TooFewFields found needed) = ⊥
-HaveFieldsFault asn_text prefix_text max_text (Asn f) = HaveFault asn_text prefix_text max_text (Asn f)
-HaveFieldsFault asn_text prefix_text max_text (Prefix f) = HaveFault asn_text prefix_text max_text (Prefix f)
-HaveFieldsFault asn_text prefix_text max_text (MaxLenFormat f) =
-    (f ≢ Empty) × HaveFault asn_text prefix_text max_text (MaxLenFormat f)
-HaveFieldsFault asn_text prefix_text max_text (MaxLen f) = HaveFault asn_text prefix_text max_text (MaxLen f)
+HaveFieldsFault asn_text prefix_text max_text fault =
+    (fault ≢ MaxLenFormat Empty) × HaveFault asn_text prefix_text max_text fault
 
 -- the line must be a VRP: it is UTF-8 and not blank, and doesn't name the columns
 pub record IsBody (line : List ℕ) : Type 0 where
@@ -93,15 +85,11 @@ FitsColumns columns line = (¬ IsTooLong columns line) × HasColumns columns lin
 
 -- the fault of the number of a line's fields, with this number and the number of columns, or of fields that it needs
 abbrev pub HasCountFault : Columns → List ℕ → VrpFault → Type 0
-HasCountFault columns line NotUtf8 = ⊥
 HasCountFault columns line (TooManyFields found named) =
     IsTooLong columns line × (found ≡ field_count line) × (named ≡ columns.count)
 HasCountFault columns line (TooFewFields found needed) =
     (¬ IsTooLong columns line) × (¬ HasColumns columns line) × (found ≡ field_count line) × (needed ≡ columns.needed)
-HasCountFault columns line (Asn f) = ⊥
-HasCountFault columns line (Prefix f) = ⊥
-HasCountFault columns line (MaxLenFormat f) = ⊥
-HasCountFault columns line (MaxLen f) = ⊥
+HasCountFault columns line fault = ⊥
 
 -- the texts in the three columns of a line denote this VRP
 abbrev pub AreColumns : Columns → List ℕ → MaxLenValue × ℕ → Type 0
@@ -119,18 +107,12 @@ IsRow columns line Blank = IsUtf8 line × (trim line ≡ [])
 IsRow columns line (Header next) = IsUtf8 line × (trim line ≢ []) × IsHeader line next
 IsRow columns line (Vrp vrp) = IsBody line × FitsColumns columns line × AreColumns columns line vrp
 
--- the first fault of a line
+-- the first fault of a line: it isn't UTF-8, or the number of its fields or their texts have the fault
 abbrev pub HasRowFault : Columns → List ℕ → VrpFault → Type 0
-HasRowFault columns line NotUtf8 = ¬ IsUtf8 line
-HasRowFault columns line (TooManyFields found named) =
-    IsBody line × HasCountFault columns line (TooManyFields found named)
-HasRowFault columns line (TooFewFields found needed) =
-    IsBody line × HasCountFault columns line (TooFewFields found needed)
-HasRowFault columns line (Asn f) = IsBody line × FitsColumns columns line × HaveColumnsFault columns line (Asn f)
-HasRowFault columns line (Prefix f) = IsBody line × FitsColumns columns line × HaveColumnsFault columns line (Prefix f)
-HasRowFault columns line (MaxLenFormat f) =
-    IsBody line × FitsColumns columns line × HaveColumnsFault columns line (MaxLenFormat f)
-HasRowFault columns line (MaxLen f) = IsBody line × FitsColumns columns line × HaveColumnsFault columns line (MaxLen f)
+HasRowFault columns line fault =
+    ((fault ≡ NotUtf8) × ¬ IsUtf8 line)
+    ⊎ (IsBody line
+    × (HasCountFault columns line fault ⊎ (FitsColumns columns line × HaveColumnsFault columns line fault)))
 
 -- The line is meant to name columns, and names none that are known: it must be a VRP, but its first field is no AS
 -- number, and its second field is no prefix.

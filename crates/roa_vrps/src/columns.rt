@@ -6,7 +6,7 @@ ghost use Rattle.roa_vrps.specs.Fields.{field};
 use crate::field::{field_count, value_of};
 use rpki_text::cut::cut_at;
 
-/// A column that a line with a VRP must have.
+/// A column that the readers know. A line with a VRP must have the first three.
 #[derive(Clone, Copy, Debug, PartialEq, Eq)]
 pub enum Column {
     /// The AS number. The column's name is `ASN`.
@@ -15,6 +15,8 @@ pub enum Column {
     Prefix,
     /// The maximum length. The column's name is `Max Length` or `Max prefix length`.
     MaxLen,
+    /// The expiry. The column's name is `Expires`.
+    Expires,
 }
 
 impl Column {
@@ -26,6 +28,7 @@ impl Column {
             Column::Asn => text == "ASN",
             Column::Prefix => text == "IP Prefix" || text == "Prefix",
             Column::MaxLen => text == "Max Length" || text == "Max prefix length",
+            Column::Expires => text == "Expires",
         }
     }
 
@@ -59,6 +62,8 @@ pub struct Columns {
     pub prefix: usize,
     /// The index of the maximum length.
     pub max_len: usize,
+    /// The index of the expiry, or None if no column has expiries.
+    pub expires: Option<usize>,
     /// The number of columns.
     pub count: usize,
     /// The number of fields that a line with a VRP needs to have a field in each of the three columns.
@@ -73,12 +78,13 @@ impl Columns {
         asn: 0,
         prefix: 1,
         max_len: 2,
+        expires: None,
         count: 3,
         needed: 3,
         is_named: false,
     };
 
-    /// Returns the columns that `line` names, or None if it doesn't name all three.
+    /// Returns the columns that `line` names, or None if it doesn't name all that a line with a VRP must have.
     pub(crate) fn named_by(line: &str) -> Option<Columns>
         ensures { MatchOption result ((columns : Columns) → ¬ IsHeader line.now columns)
             (IsHeader line.now) }
@@ -90,6 +96,7 @@ impl Columns {
             asn,
             prefix,
             max_len,
+            expires: Column::Expires.place(line),
             count: field_count(line),
             needed: asn.max(prefix).max(max_len) + 1,
             is_named: true,

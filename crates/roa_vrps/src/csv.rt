@@ -3,33 +3,37 @@ ghost use Rattle.std.specs.Prelude.{◌↔◌, IsTrue, MatchResult};
 ghost use Rattle.rpki_text.specs.Memory.{MatchOrMemory};
 ghost use Rattle.roa_vrps.specs.Asking.{HasCsvVrp};
 ghost use Rattle.roa_vrps.specs.Csv.{IsCsvFile, HasCsvFault, HasLineFault, HasUnknownHeader};
+ghost use Rattle.roa_vrps.specs.Entries.{AreCsvEntries, AreReadOf};
 
 use crate::columns::Columns;
+use crate::entry::add_line;
 use crate::fault::FileFault;
+use crate::found::{Expiries, Found};
 use crate::row::{Row, is_unknown_header, read_row};
-use crate::vrp::Vrp;
 use rpki_base::memory::OrMemory;
 use rpki_text::line::cut_at_line_end;
 use std::alloc::Allocator;
 
-/// Returns the VRPs of the lines, in their order. Memory is requested only for VRPs.
+/// Returns the VRPs of the lines, in their order, and their expiries if `asked`. Memory is requested only for VRPs.
 ///
 /// # Errors
 ///
 /// - `Refused` with [`FileFault::UnknownHeader`] if the first line is meant to be a header and is none that is known.
 ///   Else it has [`FileFault::Line`] for the first invalid line, or [`FileFault::NoVrp`] if no line has a VRP.
 /// - `Memory` if an allocation fails.
-pub(crate) fn read_csv<A: Allocator>(
+pub(crate) fn read_csv<A: Allocator + Copy>(
     alloc: A,
     text: &[u8],
-) -> Result<Vec<Vrp, A>, OrMemory<FileFault>>
-    ensures { MatchResult result (λ vrps. IsCsvFile text.now vrps.items)
+    asked: bool,
+) -> Result<Found<A>, OrMemory<FileFault>>
+    ensures { MatchResult result (λ found. IsCsvFile text.now found.vrps.items
+        × AreReadOf asked (AreCsvEntries text.now) found.expiries)
         (λ error. MatchOrMemory error (HasCsvFault text.now) (HasCsvVrp text.now)) }
 {
     if has_unknown_header(text) {
         return Err(OrMemory::Refused(FileFault::UnknownHeader));
     }
-    read_lines(alloc, text)
+    read_lines(alloc, text, asked)
 }
 
 /// Returns whether the first line is meant to be a header, and is none that is known.
@@ -43,13 +47,20 @@ fn has_unknown_header(text: &[u8]) -> bool
     is_unknown_header(line)
 }
 
-/// Returns the VRPs of the lines, in their order, or the fault of the first invalid line, or that no line has a VRP.
-#[tactic(auto, using(crate::proofs::CsvLemmas::read_none, crate::proofs::CsvLemmas::read_more, crate::proofs::CsvLemmas::read_no_vrp, crate::proofs::CsvLemmas::read_wrong, crate::proofs::CsvLemmas::read_wanting))]
-fn read_lines<A: Allocator>(alloc: A, text: &[u8]) -> Result<Vec<Vrp, A>, OrMemory<FileFault>>
-    ensures { MatchResult result (λ vrps. IsCsvFile text.now vrps.items)
+/// Returns the VRPs of the lines, in their order, and their expiries if `asked`. The fault is that of the first invalid
+/// line, or that no line has a VRP.
+#[tactic(auto, using(crate::proofs::CsvLemmas::read_none, crate::proofs::CsvLemmas::read_over, crate::proofs::CsvLemmas::read_no_vrp, crate::proofs::CsvLemmas::read_wrong, crate::proofs::CsvLemmas::read_wanting))]
+fn read_lines<A: Allocator + Copy>(
+    alloc: A,
+    text: &[u8],
+    asked: bool,
+) -> Result<Found<A>, OrMemory<FileFault>>
+    ensures { MatchResult result (λ found. IsCsvFile text.now found.vrps.items
+        × AreReadOf asked (AreCsvEntries text.now) found.expiries)
         (λ error. MatchOrMemory error (HasLineFault text.now) (HasCsvVrp text.now)) }
 {
     let mut vrps = Vec::new(alloc);
+    let mut expiries: Expiries<A> = Ok(Vec::new(alloc));
     let mut columns = Columns::USUAL;
     let mut number = 0;
     let mut rest = text;
@@ -57,7 +68,10 @@ fn read_lines<A: Allocator>(alloc: A, text: &[u8]) -> Result<Vec<Vrp, A>, OrMemo
         let (line, after) = cut_at_line_end(rest);
         number += 1;
         match read_row(columns, line) {
-            Ok(Row::Vrp(vrp)) => vrps.push(vrp)?,
+            Ok(Row::Vrp(vrp)) => {
+                vrps.push(vrp)?;
+                expiries = add_line(asked, expiries, number, columns.expires, line)?;
+            }
             Ok(Row::Header(next)) => columns = next,
             Ok(Row::Blank) => {}
             Err(fault) => return Err(OrMemory::Refused(FileFault::Line(number, fault))),
@@ -67,5 +81,5 @@ fn read_lines<A: Allocator>(alloc: A, text: &[u8]) -> Result<Vec<Vrp, A>, OrMemo
     if vrps.as_slice().is_empty() {
         return Err(OrMemory::Refused(FileFault::NoVrp));
     }
-    Ok(vrps)
+    Ok(Found { vrps, expiries })
 }

@@ -1,12 +1,15 @@
 //! VRP files in either form, JSON or CSV.
 ghost use Rattle.std.specs.Prelude.{◌↔◌, IfErr, IsTrue, MatchResult};
-ghost use Rattle.rpki_text.specs.Memory.{IsMemory, MatchOrMemory};
+ghost use Rattle.rpki_text.specs.Memory.{IfRefused, IsMemory, MatchOrMemory};
 ghost use Rattle.rpki_text.specs.Reading.{AnswersOrMemory};
 ghost use Rattle.roa_vrps.specs.Asking.{MayTextWantMemory, MayWantMemory};
+ghost use Rattle.roa_vrps.specs.Entries.{AreReadOf};
+ghost use Rattle.roa_vrps.specs.ExpiryFiles.{AreFileEntries, AreTextEntries};
 ghost use Rattle.roa_vrps.specs.Files.{IsArrayText, IsObjectText, IsVrpFile, IsVrpText, HasFileFault, HasVrpTextFault};
 
 use crate::csv::read_csv;
 use crate::fault::FileFault;
+use crate::found::Found;
 use crate::json_file::read_json;
 use crate::mark::without_mark;
 use crate::vrp::Vrp;
@@ -52,25 +55,47 @@ pub fn read_vrps<A: Allocator + Copy>(
     // an object and isn't UTF-8.
     ensures memory { IfErr result (λ error. IsMemory error → MayWantMemory text.now) }
 {
-    read_text(alloc, without_mark(text))
+    match read_file(alloc, text, false) {
+        Ok(found) => Ok(found.vrps),
+        Err(error) => Err(error),
+    }
 }
 
-/// Returns the VRPs of a text without a byte order mark, or its first fault.
-fn read_text<A: Allocator + Copy>(alloc: A, text: &[u8]) -> Result<Vec<Vrp, A>, OrMemory<FileFault>>
-    ensures { MatchResult result (λ vrps. IsVrpText text.now vrps.items)
+/// Returns the VRPs of a file, and their expiries if `asked`, or its first fault as a file of VRPs.
+pub(crate) fn read_file<A: Allocator + Copy>(
+    alloc: A,
+    file: &[u8],
+    asked: bool,
+) -> Result<Found<A>, OrMemory<FileFault>>
+    ensures found { MatchResult result (λ found. IsVrpFile file.now found.vrps.items
+        × AreReadOf asked (AreFileEntries file.now) found.expiries)
+        (IfRefused (HasFileFault file.now)) }
+    ensures memory { IfErr result (λ error. IsMemory error → MayWantMemory file.now) }
+{
+    read_text(alloc, without_mark(file), asked)
+}
+
+/// Returns the VRPs of a text without a byte order mark, and their expiries if `asked`, or its first fault.
+fn read_text<A: Allocator + Copy>(
+    alloc: A,
+    text: &[u8],
+    asked: bool,
+) -> Result<Found<A>, OrMemory<FileFault>>
+    ensures { MatchResult result (λ found. IsVrpText text.now found.vrps.items
+        × AreReadOf asked (AreTextEntries text.now) found.expiries)
         (λ error. MatchOrMemory error (HasVrpTextFault text.now) (MayTextWantMemory text.now)) }
 {
     if opens_object(text) {
-        read_json(alloc, text)
+        read_json(alloc, text, asked)
     } else if opens_array(text) {
         Err(OrMemory::Refused(FileFault::JsonArray))
     } else {
-        read_csv(alloc, text)
+        read_csv(alloc, text, asked)
     }
 }
 
 /// Returns whether the first octet that is not white space opens an object.
-pub fn opens_object(text: &[u8]) -> bool
+fn opens_object(text: &[u8]) -> bool
     ensures { IsTrue result ↔ IsObjectText text.now }
 {
     text.trim_ascii_start().starts_with(b"{")

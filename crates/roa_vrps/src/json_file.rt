@@ -5,32 +5,37 @@ ghost use Rattle.json.specs.Token.{Token as SpecToken, begin_object};
 ghost use Rattle.json.specs.Json.{Members, document, object};
 ghost use Rattle.rpki_text.specs.Memory.{MatchOrMemory};
 ghost use Rattle.std.specs.Str.{IsUtf8};
-ghost use Rattle.roa_vrps.specs.JsonFiles.{IsJsonFile, HasJsonFault, IsRoasResult, roas};
+ghost use Rattle.roa_vrps.specs.Entries.{AreReadOf};
+ghost use Rattle.roa_vrps.specs.JsonFiles.{AreJsonEntries, IsJsonFile, HasJsonFault, IsRoasResult, roas};
 ghost use Rattle.roa_vrps.specs.Members.{values_in};
 
 use crate::fault::FileFault;
+use crate::found::Found;
 use crate::roas::{Roas, read_members};
-use crate::vrp::Vrp;
 use json::{Error, MAX_DEPTH, Reader, Scratch, Token};
 use rpki_base::memory::OrMemory;
 use std::alloc::{AllocError, Allocator};
 
-/// Returns the VRPs of the member `roas`, in their order, or the fault. Memory is requested only if the text is UTF-8.
+/// Returns the VRPs of the member `roas`, in their order, and their expiries if `asked`, or the fault. Memory is
+/// requested only if the text is UTF-8.
+#[tactic(auto, using(crate::proofs::JsonLemmas::json_fault, crate::proofs::JsonLemmas::json_none, crate::proofs::JsonLemmas::json_values))]
 pub(crate) fn read_json<A: Allocator + Copy>(
     alloc: A,
     text: &[u8],
-) -> Result<Vec<Vrp, A>, OrMemory<FileFault>>
-    ensures { MatchResult result (λ vrps. IsJsonFile text.now vrps.items)
+    asked: bool,
+) -> Result<Found<A>, OrMemory<FileFault>>
+    ensures { MatchResult result (λ found. IsJsonFile text.now found.vrps.items
+        × AreReadOf asked (AreJsonEntries text.now) found.expiries)
         (λ error. MatchOrMemory error (HasJsonFault text.now) (IsUtf8 text.now)) }
 {
     let Ok(text) = str::from_utf8(text) else {
         return Err(OrMemory::Refused(FileFault::NotObject));
     };
-    match read_object(alloc, text) {
-        Ok(Ok(vrps)) => if vrps.as_slice().is_empty() {
+    match read_object(alloc, text, asked) {
+        Ok(Ok(found)) => if found.vrps.as_slice().is_empty() {
             Err(OrMemory::Refused(FileFault::NoVrp))
         } else {
-            Ok(vrps)
+            Ok(found)
         },
         Ok(Err(fault)) => Err(OrMemory::Refused(fault)),
         Err(Error::Invalid) => Err(OrMemory::Refused(FileFault::NotObject)),
@@ -39,9 +44,9 @@ pub(crate) fn read_json<A: Allocator + Copy>(
 }
 
 /// Reads the member `roas` of the object in `text`. [`Error::Invalid`] means that `text` is no JSON object.
-fn read_object<A: Allocator + Copy>(alloc: A, text: &str) -> Result<Roas<A>, Error>
+fn read_object<A: Allocator + Copy>(alloc: A, text: &str, asked: bool) -> Result<Roas<A>, Error>
     ensures outcome { IfOk result (λ outcome. (ms : Members)
-        × (document text.now ≡ Some (object ms)) × IsRoasResult (values_in roas ms) outcome) }
+        × (document text.now ≡ Some (object ms)) × IsRoasResult asked (values_in roas ms) outcome) }
     ensures invalid { result ≡ Err Error.Invalid
         → (ms : Members) → document text.now ≢ Some (object ms) }
 {
@@ -50,7 +55,7 @@ fn read_object<A: Allocator + Copy>(alloc: A, text: &str) -> Result<Roas<A>, Err
     if !begins_object(&mut reader) {
         return Err(Error::Invalid);
     }
-    let outcome = read_members(alloc, &mut reader, MAX_DEPTH - 1)?;
+    let outcome = read_members(alloc, &mut reader, MAX_DEPTH - 1, asked)?;
     match reader.next() {
         None => Ok(outcome),
         Some(_) => Err(Error::Invalid),

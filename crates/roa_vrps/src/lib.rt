@@ -1,19 +1,23 @@
 //! Reads files of VRPs (validated ROA payloads) in JSON or CSV, as rpki-client, FORT and Routinator write them.
 //!
-//! Call [`read_vrps`]. Make a table of its result to look up the validity of routes.
+//! Call [`read_vrps`], or [`expiry::read_unexpired`] to leave out the expired VRPs. Make a table of the result to look
+//! up the validity of routes.
 #![tactic(auto)]
 
-pub mod columns;
+mod columns;
 mod csv;
+mod entry;
+pub mod expiry;
 pub mod fault;
-pub mod field;
-pub mod file;
+mod field;
+mod file;
+mod found;
 mod item;
 mod json_file;
 pub mod mark;
 pub mod member;
 mod roas;
-pub mod row;
+mod row;
 mod usual_row;
 mod vrp;
 

@@ -7,30 +7,32 @@ ghost use Rattle.json.specs.Reads.{skip_items, skip_members};
 ghost use Rattle.roa_vrps.specs.JsonFiles.{IsRoasResult, roas};
 ghost use Rattle.roa_vrps.specs.Members.{values_in};
 
+use crate::entry::add_item;
 use crate::fault::{FileFault, MemberFault};
+use crate::found::{Expiries, Found};
 use crate::item::read_item;
-use crate::vrp::Vrp;
 use json::{Error, Invalid, Reader, Token, Value};
 use std::alloc::Allocator;
 
-/// The VRPs of the member `roas`, or its fault.
-pub(crate) type Roas<A> = Result<Vec<Vrp, A>, FileFault>;
+/// The VRPs of the member `roas`, and their expiries if they are asked for, or its fault.
+pub(crate) type Roas<A> = Result<Found<A>, FileFault>;
 
 /// Reads the members of an object up to its end, and returns the VRPs of `roas` or their fault.
 pub(crate) fn read_members<A: Allocator + Copy>(
     alloc: A,
     reader: &mut Reader<'_>,
     depth: usize,
+    asked: bool,
 ) -> Result<Roas<A>, Error>
     requires { 0 < depth }
-    ensures outcome { IfOk result (λ outcome. (ms : Members) × IsRoasResult (values_in roas ms) outcome
+    ensures outcome { IfOk result (λ outcome. (ms : Members) × IsRoasResult asked (values_in roas ms) outcome
         × (members (value depth) (length reader.old) reader.old ≡ Some (ms, reader.new))) }
     ensures invalid { result ≡ Err Error.Invalid
         → members (value depth) (length reader.old) reader.old ≡ None }
 {
     let mut outcome = Err(FileFault::Roas(MemberFault::Missing));
     while let Some(key) = reader.next_key()? {
-        outcome = read_member(alloc, reader, depth, key, outcome)?;
+        outcome = read_member(alloc, reader, depth, key, outcome, asked)?;
     }
     Ok(outcome)
 }
@@ -43,11 +45,12 @@ fn read_member<A: Allocator + Copy>(
     depth: usize,
     key: &str,
     outcome: Roas<A>,
+    asked: bool,
 ) -> Result<Roas<A>, Error>
     requires { 0 < depth }
-    ensures reads { (values : List Json) → IsRoasResult values outcome
+    ensures reads { (values : List Json) → IsRoasResult asked values outcome
         → IfOk result (λ outcome. (j : Json) × (value depth reader.old ≡ Some (j, reader.new))
-        × IsRoasResult (values ++ values_in roas (member key.now j no_members)) outcome) }
+        × IsRoasResult asked (values ++ values_in roas (member key.now j no_members)) outcome) }
     ensures invalid { result ≡ Err Error.Invalid → value depth reader.old ≡ None }
     ensures shorter { OnOk result (length reader.new < length reader.old) }
 {
@@ -55,7 +58,7 @@ fn read_member<A: Allocator + Copy>(
         reader.skip_value(depth)?;
         Ok(outcome)
     } else if is_missing(&outcome) {
-        read_list(alloc, reader, depth)
+        read_list(alloc, reader, depth, asked)
     } else {
         reader.skip_value(depth)?;
         Ok(Err(FileFault::Roas(MemberFault::Repeated)))
@@ -75,16 +78,17 @@ fn read_list<A: Allocator + Copy>(
     alloc: A,
     reader: &mut Reader<'_>,
     depth: usize,
+    asked: bool,
 ) -> Result<Roas<A>, Error>
     requires { 0 < depth }
     ensures outcome { IfOk result
-        (λ outcome. (j : Json) × IsRoasResult (j ∷ []) outcome × (value depth reader.old ≡ Some (j, reader.new))) }
+        (λ outcome. (j : Json) × IsRoasResult asked (j ∷ []) outcome × (value depth reader.old ≡ Some (j, reader.new))) }
     ensures invalid { result ≡ Err Error.Invalid → value depth reader.old ≡ None }
     ensures shorter { OnOk result (length reader.new < length reader.old) }
 {
     let token = reader.next().ok_or(Error::Invalid)?;
     match token {
-        Token::BeginArray => read_items(alloc, reader, depth - 1),
+        Token::BeginArray => read_items(alloc, reader, depth - 1, asked),
         Token::BeginObject => {
             skip_members(reader, depth - 1)?;
             Ok(Err(FileFault::Roas(MemberFault::Kind)))
@@ -101,28 +105,36 @@ fn read_items<A: Allocator + Copy>(
     alloc: A,
     reader: &mut Reader<'_>,
     depth: usize,
+    asked: bool,
 ) -> Result<Roas<A>, Error>
-    ensures outcome { IfOk result (λ outcome. (js : Items) × IsRoasResult (array js ∷ []) outcome
+    ensures outcome { IfOk result (λ outcome. (js : Items) × IsRoasResult asked (array js ∷ []) outcome
         × (items (value depth) (length reader.old) reader.old ≡ Some (js, reader.new))) }
     ensures invalid { result ≡ Err Error.Invalid
         → items (value depth) (length reader.old) reader.old ≡ None }
     ensures shorter { OnOk result (length reader.new < length reader.old) }
 {
     let mut vrps = Vec::new(alloc);
+    let mut expiries: Expiries<A> = Ok(Vec::new(alloc));
     while !reader.take_end_array() {
         let item = Value::read(alloc, reader, depth)?;
+        let number = vrps.len() + 1;
         match read_item(&item) {
-            Ok(vrp) => if vrps.push(vrp).is_err() {
-                return Err(Error::OutOfMemory);
-            },
+            Ok(vrp) => {
+                if vrps.push(vrp).is_err() {
+                    return Err(Error::OutOfMemory);
+                }
+                expiries = match add_item(asked, expiries, number, &item) {
+                    Ok(more) => more,
+                    Err(_) => return Err(Error::OutOfMemory),
+                };
+            }
             Err(fault) => {
-                let place = vrps.len() + 1;
                 skip_items(reader, depth)?;
-                return Ok(Err(FileFault::Item(place, fault)));
+                return Ok(Err(FileFault::Item(number, fault)));
             }
         }
     }
-    Ok(Ok(vrps))
+    Ok(Ok(Found { vrps, expiries }))
 }
 
 /// Skips items up to the end of their array.

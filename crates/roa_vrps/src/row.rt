@@ -1,5 +1,4 @@
 //! A line of a CSV file.
-ghost use Rattle.rpki_text.specs.Reading.{Answers};
 ghost use Rattle.roa_vrps.specs.Rows.{AreColumns, AreFieldTexts, ArePairTexts, AreVrpTexts, FitsColumns, HasCountFault, HasRowFault, HaveColumnsFault, HaveFault, HaveFieldsFault, IsBody, IsRow, IsUnknownHeader, WritesAsn, WritesPrefix};
 ghost use Rattle.std.specs.Prelude.{◌≡◌, ◌↔◌, [], IsTrue, MatchOption, MatchResult};
 ghost use Rattle.std.specs.Str.{trim};
@@ -25,7 +24,7 @@ pub enum Row {
     Vrp(Vrp),
 }
 
-/// Reads a line of a CSV file.
+/// Reads a line of a CSV file. A line of the usual form is read in one pass.
 ///
 /// - `columns`: the columns of its fields.
 /// - `line`: the line. White space and quotes at the ends of a field are not part of it. Each comma ends a field, even
@@ -38,13 +37,6 @@ pub enum Row {
 ///
 /// The first [`VrpFault`] of the line.
 pub fn read_row(columns: Columns, line: &[u8]) -> Result<Row, VrpFault>
-    ensures { Answers (IsRow columns line.now) (HasRowFault columns line.now) result }
-{
-    read_row_matched(columns, line)
-}
-
-/// Returns the content of a line, or its first fault. A line of the usual form is read in one pass.
-fn read_row_matched(columns: Columns, line: &[u8]) -> Result<Row, VrpFault>
     ensures { MatchResult result (IsRow columns line.now) (HasRowFault columns line.now) }
 {
     match usual_vrp(columns, line) {

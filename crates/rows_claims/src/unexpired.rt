@@ -1,6 +1,6 @@
 //! VRPs of a file without those that have expired.
 use crate::vrps::{listed, with_line_ends};
-use roa_expiry::read_unexpired;
+use roa_vrps::expiry::read_unexpired;
 use std::alloc::{AllocError, Allocator};
 use std::str::FromStr;
 use test_support::print::{append, cut_at, refused};

@@ -10,7 +10,7 @@ use origins_lines::inputs::{Inputs, Selection, read_inputs};
 use origins_lines::routes::answer_inputs;
 use origins_lines::tables::list_inputs;
 use origins_lines::unexpired::Numbers;
-use roa_expiry::ExpiryFault;
+use roa_vrps::expiry::ExpiryFault;
 use roa_vrps::FileFault;
 use std::alloc::Global;
 use test_support::{Outcome, Refusing, refuse_in_turn};

@@ -12,7 +12,7 @@ use origins_lines::retrying::Retrying;
 use origins_lines::routes::answer_by;
 use origins_lines::unexpired::Numbers;
 use origins_lines::until_end::UntilEnd;
-use roa_expiry::ExpiryFault;
+use roa_vrps::expiry::ExpiryFault;
 use roa_vrps::FileFault;
 use std::alloc::Global;
 use std::io;

@@ -1,5 +1,5 @@
 -- The result for the octets that were read holds for the file.
-use Rattle.roa_expiry.specs.ExpiryFiles.{HasExpiryFault, IsUnexpiredFile}
+use Rattle.roa_vrps.specs.ExpiryFiles.{HasExpiryFault, IsUnexpiredFile}
 use Rattle.origins_lines.proofs.UnexpiredLemmas.{unexpired_result_found, unexpired_result_wrong}
 use Rattle.origins_lines.proofs.unexpired.read_unexpired_file.Goals as goal
 

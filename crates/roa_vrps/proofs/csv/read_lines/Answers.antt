@@ -1,19 +1,31 @@
 use Rattle.roa_vrps.proofs.Common.{arith, refl, eqb-false, eqb-true, nil_from_length, Header, Vrp}
-use Rattle.roa_vrps.proofs.CsvLemmas.{read_more, read_over, read_some}
+use Rattle.roa_vrps.proofs.CsvLemmas.{read_no_vrp, read_none, read_over, read_some, read_vrp, read_wrong}
 use Rattle.roa_vrps.proofs.csv.read_lines.Goals as goal
 
+-- a line with a VRP is UTF-8
+pub add_line-requires : goal.add_line-requires
+add_line-requires g c = (rw c.in-Ok-Vrp.field-0-is at c.in-Ok-Vrp.ensures).0.utf8
+
+pub loop-rest-init : goal.loop-rest-init
+loop-rest-init g c = record {
+  within = omega arith;
+  read =
+      read_none c.args.asked c.args.text.now c.new-vrps.result.items c.new.result c.new-vrps.ensures.items
+      c.new.ensures.items;
+}
+
 -- a VRP more
-pub loop-rest-preserved-in_ok-push-in-Ok-Vrp :
-    goal.loop-rest-preserved-in_ok-push-in-Ok-Vrp
-loop-rest-preserved-in_ok-push-in-Ok-Vrp g c =
+pub loop-rest-preserved-in_ok-expiries-in-Ok-Vrp : goal.loop-rest-preserved-in_ok-expiries-in-Ok-Vrp
+loop-rest-preserved-in_ok-expiries-in-Ok-Vrp g c =
     let had = c.loop-rest.invariant.within in
     let shorter = c.cut_at_line_end.ensures.shorter in
     record {
       within = omega arith;
       read = rw (c.in_ok-push-in-Ok-Vrp.ensures.items)
-          (read_more _ _ _ c.cut_at_line_end.result.0.now _ _ _ c.loop-rest.invariant.read
-          c.cut_at_line_end.ensures.first
-          (Vrp c.in-Ok-Vrp.vrp) (rw c.in-Ok-Vrp.field-0-is at c.in-Ok-Vrp.ensures.found));
+          (read_vrp _ _ _ _ c.cut_at_line_end.result.0.now _ _ _ _ c.loop-rest.invariant.read
+          c.cut_at_line_end.ensures.first c.in-Ok-Vrp.vrp c.in_ok-expiries-in-Ok-Vrp.expiries
+          (rw c.in-Ok-Vrp.field-0-is at c.in-Ok-Vrp.ensures)
+          (c.in_ok-expiries-in-Ok-Vrp.ensures c.loop-rest.invariant.read.entries c.loop-rest.invariant.read.read));
     }
 
 -- other columns
@@ -24,10 +36,25 @@ loop-rest-preserved-in-Ok-Header g c =
     record {
       within = omega arith;
       read =
-          read_over _ _ _ c.cut_at_line_end.result.0.now _ _ _ c.loop-rest.invariant.read
+          read_over _ _ _ _ c.cut_at_line_end.result.0.now _ _ _ _ c.loop-rest.invariant.read
           c.cut_at_line_end.ensures.first
-          (Header c.in-Ok-Header.next) refl (rw c.in-Ok-Header.field-0-is at c.in-Ok-Header.ensures.found);
+          (Header c.in-Ok-Header.next) refl refl (rw c.in-Ok-Header.field-0-is at c.in-Ok-Header.ensures);
     }
 
+-- the first invalid line
+pub returns-in-Err : goal.returns-in-Err
+returns-in-Err g c =
+    read_wrong _ _ _ c.cut_at_line_end.result.1.now c.cut_at_line_end.result.0.now _ _ _ _ c.loop-rest.invariant.read
+    c.cut_at_line_end.ensures.first
+    c.in-Err.fault c.in-Err.ensures
+
+-- no line is left
+pub returns-then-is_empty : goal.returns-then-is_empty
+returns-then-is_empty g c =
+    read_no_vrp _ _ _ _ _ _ _ c.loop-rest.invariant.read (grind (arith, eqb-true, nil_from_length))
+    (grind (arith, eqb-true, nil_from_length))
+
 pub returns : goal.returns
-returns g c = grind (arith, eqb-false, eqb-true, nil_from_length, read_some)
+returns g c =
+    read_some _ _ _ _ _ _ _ c.loop-rest.invariant.read (grind (arith, eqb-true, nil_from_length))
+    (λ none. grind (arith, eqb-false, eqb-true, nil_from_length))

@@ -1,9 +1,14 @@
 use Rattle.roa_vrps.proofs.Common.{[], arith, items_fail, length, ◌++◌, ◌∷◌, ◌≡◌}
-use Rattle.roa_vrps.proofs.RoasLemmas.{read_all, read_bad, read_more, read_wrong}
+use Rattle.roa_vrps.proofs.RoasLemmas.{read_all, read_bad, read_more, read_none, read_wrong}
 use Rattle.roa_vrps.proofs.roas.read_items.Goals as goal
 
 pub loop-alloc-init : goal.loop-alloc-init
-loop-alloc-init g c = record { read = rw c.new-vrps.ensures.items (grind arith); within = omega arith }
+loop-alloc-init g c = record {
+  read =
+      read_none c.args.asked c.args.depth c.args.reader.now c.new-vrps.result.items c.new.result
+      c.new-vrps.ensures.items c.new.ensures.items;
+  within = omega arith;
+}
 
 pub returns-in_err-item-clause-invalid : goal.returns-in_err-item-clause-invalid
 returns-in_err-item-clause-invalid g c invalid =
@@ -12,25 +17,34 @@ returns-in_err-item-clause-invalid g c invalid =
 
 pub returns-in_err-skip_items-in-Err-clause-invalid : goal.returns-in_err-skip_items-in-Err-clause-invalid
 returns-in_err-skip_items-in-Err-clause-invalid g c invalid =
-    read_bad _ _ _ _ _ _ _ c.loop-alloc.invariant.read c.in_ok-item.ensures.ok c.loop-alloc-test.ensures
+    read_bad _ _ _ _ _ _ _ _ _ c.loop-alloc.invariant.read c.in_ok-item.ensures.ok c.loop-alloc-test.ensures
     c.in_err-skip_items-in-Err.ensures.read
 
 -- the first item that is wrong
 pub returns-in-Err-clause-outcome : goal.returns-in-Err-clause-outcome
 returns-in-Err-clause-outcome g c =
-    let len : c.len-place.result ≡ length c.loop-alloc.vrps.items = grind arith in
+    let len : c.len-number.result ≡ length c.loop-alloc.vrps.items = grind arith in
     rw len
-    (read_wrong _ _ _ _ _ _ _ c.loop-alloc.invariant.read c.in_ok-item.ensures.ok c.loop-alloc-test.ensures
-    g.row.A.Denot
+    (read_wrong _ _ _ _ _ _ _ _ _ c.loop-alloc.invariant.read c.in_ok-item.ensures.ok c.loop-alloc-test.ensures
     c.in-Err.fault c.skip_items.new.reader c.in-Err.ensures c.in_ok-skip_items-in-Err.ensures.read)
 
 -- a VRP more
-pub loop-alloc-preserved-else-is_err-2 : goal.loop-alloc-preserved-else-is_err-2
-loop-alloc-preserved-else-is_err-2 g c =
-    let more = read_more _ _ _ _ _ _ _ c.loop-alloc.invariant.read c.in_ok-item.ensures.ok c.loop-alloc-test.ensures in
+pub loop-alloc-preserved-in-Ok-add_item-2 : goal.loop-alloc-preserved-in-Ok-add_item-2
+loop-alloc-preserved-in-Ok-add_item-2 g c =
+    let more =
+    read_more _ _ _ _ _ _ _ _ _ c.loop-alloc.invariant.read c.in_ok-item.ensures.ok c.loop-alloc-test.ensures in
     let pushed : c.push.new.self.items ≡ c.loop-alloc.vrps.items ++ c.in-Ok.vrp ∷ [] = grind arith in
-    record { read = rw pushed (more c.in-Ok.vrp c.in-Ok.ensures); within = grind arith }
+    let len : c.len-number.result ≡ length c.loop-alloc.vrps.items = grind arith in
+    record {
+      read = rw pushed
+          (more c.in-Ok.vrp c.in-Ok-add_item.more c.in-Ok.ensures
+          (rw len at c.in-Ok-add_item.ensures c.loop-alloc.invariant.read.entries c.loop-alloc.invariant.read.read));
+      within = grind arith;
+    }
 
 -- no item is left
 pub returns-clause-outcome : goal.returns-clause-outcome
-returns-clause-outcome g c = read_all _ _ _ _ c.loop-alloc.vrps c.loop-alloc.invariant.read c.loop-alloc-test.ensures
+returns-clause-outcome g c =
+    read_all _ _ _ _ _ (record { vrps = c.loop-alloc.vrps; expiries = c.loop-alloc.expiries })
+    c.loop-alloc.invariant.read
+    c.loop-alloc-test.ensures

@@ -5,7 +5,7 @@ use Rattle.roa_vrps.proofs.roas.read_items.Given as goal
 
 abbrev pub invariant-loop-alloc : goal.invariant-loop-alloc
 invariant-loop-alloc g l = record {
-  read : AreReadSo l.depth l.initial.reader l.reader l.vrps.items;
+  read : AreReadSo l.asked l.depth l.initial.reader l.reader l.vrps.items l.expiries;
   within : length l.reader ≤ length l.initial.reader;
 }
 

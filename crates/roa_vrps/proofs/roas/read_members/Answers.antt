@@ -17,10 +17,10 @@ loop-outcome-preserved g c =
     let had = c.loop-outcome.invariant.read in
     let key = rw c.in-Some.is at c.in_ok-key.ensures.value in
     record {
-      read = member_read _ _ _ _ _ _ _ _ had key (c.in_ok-outcome.ensures.reads had.values had.is_result);
+      read = member_read _ _ _ _ _ _ _ _ _ had key (c.in_ok-outcome.ensures.reads had.values had.is_result);
       within = omega (arith, c.in_ok-outcome.ensures.shorter, read_key-shorter _ _ _ key);
     }
 
 -- no member is left
 pub returns-clause-outcome : goal.returns-clause-outcome
-returns-clause-outcome g c = all_members_read _ _ _ _ _ c.loop-outcome.invariant.read (grind arith)
+returns-clause-outcome g c = all_members_read _ _ _ _ _ _ c.loop-outcome.invariant.read (grind arith)

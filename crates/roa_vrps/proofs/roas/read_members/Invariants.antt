@@ -5,7 +5,7 @@ use Rattle.roa_vrps.proofs.roas.read_members.Given as goal
 
 abbrev pub invariant-loop-outcome : goal.invariant-loop-outcome
 invariant-loop-outcome g l = record {
-  read : IsRoasReadSo l.depth l.initial.reader l.reader l.outcome;
+  read : IsRoasReadSo l.asked l.depth l.initial.reader l.reader l.outcome;
   within : length l.reader ≤ length l.initial.reader;
 }
 

@@ -1,0 +1,154 @@
+//! The expiry of an entry of a file: of a line of CSV with a VRP, or of an item of JSON.
+ghost use Rattle.std.specs.Prelude.{◌≡◌, ℕ, Bool, List, [], ◌∷◌, ◌++◌, IfOk, MatchOption, MatchResult};
+ghost use Rattle.std.specs.Str.{IsUtf8};
+ghost use Rattle.json.specs.Json.{number as json_number};
+ghost use Rattle.json.specs.Value.{members_view, value_view};
+ghost use Rattle.roa_vrps.specs.Entries.{AreRead, Entry, HasEntryFault, HasExpiry, IsNumeric, expires_name};
+ghost use Rattle.roa_vrps.specs.Entries.{item_entry, line_entry};
+ghost use Rattle.roa_vrps.specs.Expiries.{IsTimeText};
+ghost use Rattle.roa_vrps.specs.Members.{AreWrong, values_in};
+
+use crate::fault::{ExpiresFault, ExpiryFault, MemberFault};
+use crate::field::field_at;
+use crate::found::Expiries;
+use crate::member::only;
+use json::Value;
+use std::alloc::{AllocError, Allocator};
+use std::str::FromStr;
+
+/// Adds the expiry of a line with a VRP, if the reader was asked for expiries.
+///
+/// - `column`: the index of the column `Expires`, if there is one.
+///
+/// # Preconditions
+///
+/// The line is UTF-8.
+#[inline(always)]
+pub(crate) fn add_line<A: Allocator>(
+    asked: bool,
+    expiries: Expiries<A>,
+    number: usize,
+    column: Option<usize>,
+    line: &[u8],
+) -> Result<Expiries<A>, AllocError>
+    requires { IsUtf8 line.now }
+    ensures { (entries : List Entry) → AreRead asked entries expiries
+        → IfOk result (AreRead asked (entries ++ line_entry number column line.now ∷ [])) }
+{
+    if asked {
+        add(expiries, expiry_of_line(number, column, line))
+    } else {
+        Ok(expiries)
+    }
+}
+
+/// Adds the expiry of an item, if the reader was asked for expiries.
+pub(crate) fn add_item<A: Allocator>(
+    asked: bool,
+    expiries: Expiries<A>,
+    number: usize,
+    item: &Value<'_, A>,
+) -> Result<Expiries<A>, AllocError>
+    ensures { (entries : List Entry) → AreRead asked entries expiries
+        → IfOk result (AreRead asked (entries ++ item_entry number (value_view item.now) ∷ [])) }
+{
+    if asked {
+        add(expiries, expiry_of_item(number, item))
+    } else {
+        Ok(expiries)
+    }
+}
+
+/// Adds the expiry of an entry, unless an earlier entry has a fault.
+#[tactic(auto, using(crate::proofs::EntryLemmas::keep_wrong, crate::proofs::EntryLemmas::push_expiry, crate::proofs::EntryLemmas::push_wrong))]
+fn add<A: Allocator>(
+    expiries: Expiries<A>,
+    expiry: Result<Option<u64>, ExpiryFault>,
+) -> Result<Expiries<A>, AllocError>
+    ensures { (asked : Bool) → (entries : List Entry) → (last : Entry) → AreRead asked entries expiries
+        → MatchResult expiry (HasExpiry last) (HasEntryFault last)
+        → IfOk result (AreRead asked (entries ++ last ∷ [])) }
+{
+    match expiries {
+        Ok(mut found) => match expiry {
+            Ok(expiry) => {
+                found.push(expiry)?;
+                Ok(Ok(found))
+            }
+            Err(fault) => Ok(Err(fault)),
+        },
+        Err(fault) => Ok(Err(fault)),
+    }
+}
+
+/// Returns the expiry of a line with a VRP, or None if there is no column `Expires` or its field is empty.
+fn expiry_of_line(
+    number: usize,
+    column: Option<usize>,
+    line: &[u8],
+) -> Result<Option<u64>, ExpiryFault>
+    requires { IsUtf8 line.now }
+    ensures { MatchResult result (HasExpiry (line_entry number column line.now))
+        (HasEntryFault (line_entry number column line.now)) }
+{
+    let Some(index) = column else {
+        return Ok(None);
+    };
+    let Ok(text) = str::from_utf8(line) else {
+        unreachable!()
+    };
+    let field = field_at(text, index);
+    if field.is_empty() {
+        return Ok(None);
+    }
+    match time_of(field) {
+        Some(time) => Ok(Some(time)),
+        None => Err(ExpiryFault::Line(number)),
+    }
+}
+
+/// Returns the expiry of an item, or None if it has no member `expires`.
+fn expiry_of_item<A: Allocator>(
+    number: usize,
+    item: &Value<'_, A>,
+) -> Result<Option<u64>, ExpiryFault>
+    ensures { MatchResult result (HasExpiry (item_entry number (value_view item.now)))
+        (HasEntryFault (item_entry number (value_view item.now))) }
+{
+    let Value::Object(members) = item else {
+        return Ok(None);
+    };
+    match expires_in(members) {
+        Ok(text) => match time_of(text) {
+            Some(time) => Ok(Some(time)),
+            None => Err(ExpiryFault::Item(number, ExpiresFault::Number)),
+        },
+        Err(MemberFault::Missing) => Ok(None),
+        Err(fault) => Err(ExpiryFault::Item(number, ExpiresFault::Member(fault))),
+    }
+}
+
+/// Returns the text of the only member `expires`, which has to be a number.
+fn expires_in<'a, A: Allocator>(
+    members: &Vec<(&'a str, Value<'a, A>), A>,
+) -> Result<&'a str, MemberFault>
+    ensures { MatchResult result
+        (λ text. values_in expires_name (members_view members.now.items) ≡ json_number text.now ∷ [])
+        (AreWrong IsNumeric (values_in expires_name (members_view members.now.items))) }
+{
+    let value = only(members, "expires")?;
+    match value {
+        Value::Number(text) => Ok(*text),
+        _ => Err(MemberFault::Kind),
+    }
+}
+
+/// Returns the time that a text gives, or None if the text is not a number of 64 bits.
+fn time_of(text: &str) -> Option<u64>
+    ensures { MatchOption result ((time : ℕ) → ¬ IsTimeText text.now time) (IsTimeText text.now) }
+{
+    match u64::from_str(text) {
+        Ok(time) => Some(time),
+        Err(_) => None,
+    }
+}

@@ -1,0 +1,195 @@
+//! Files of VRPs with expiries, and the VRPs that have not expired.
+//!
+//! Call [`read_unexpired`] in place of [`crate::read_vrps`] to leave out the expired VRPs of a file.
+ghost use Rattle.std.specs.Prelude.{◌≡◌, ℕ, IfErr, IfOk, List, MatchResult, length, true};
+ghost use Rattle.std.specs.List.{count_by};
+ghost use Rattle.rpki_prefix.specs.MaxLen.{MaxLenValue};
+ghost use Rattle.rpki_text.specs.Memory.{IfRefused, IsMemory};
+ghost use Rattle.rpki_text.specs.Reading.{AnswersOrMemory};
+ghost use Rattle.roa_vrps.specs.Asking.{MayWantMemory};
+ghost use Rattle.roa_vrps.specs.Entries.{AreReadOf};
+ghost use Rattle.roa_vrps.specs.Expiries.{is_expired, unexpired_of};
+ghost use Rattle.roa_vrps.specs.ExpiryFiles.{AreDated, AreFileEntries, HasExpiryFault, IsUnexpiredFile, unexpired_value};
+ghost use Rattle.roa_vrps.specs.Files.{IsVrpFile};
+
+pub use crate::fault::{ExpiresFault, ExpiryFault};
+use crate::file::read_file;
+use crate::found::Found;
+use crate::vrp::Vrp;
+use rpki_base::memory::OrMemory;
+use std::alloc::{AllocError, Allocator, Global};
+
+/// The VRPs of a file that have not expired, and how many have.
+#[derive(Drop)]
+#[derive_where(Debug)]
+pub struct UnexpiredVrps<A: Allocator = Global> {
+    /// The VRPs that have not expired, in the order of the file.
+    pub vrps: Vec<Vrp, A>,
+    /// The number of VRPs that have expired.
+    pub expired: usize,
+}
+
+/// Reads the VRPs of a file that have not expired, in the order of the file.
+///
+/// - `alloc`: the allocator of the list.
+/// - `text`: the whole file, as [`crate::read_vrps`] reads it.
+/// - `time`: the time in seconds since 1970-01-01 UTC.
+///
+/// The expiry of a VRP is a whole number of seconds since 1970-01-01 UTC, in decimal digits. In JSON it is the member
+/// `expires` of the item, a number. In CSV it is the field in the column `Expires`. A VRP has expired if its expiry is
+/// before `time`. A VRP without this member or field, or with an empty field, doesn't expire.
+///
+/// # Errors
+///
+/// - [`ExpiryFault::File`]: the file is not a valid file of VRPs. The field is the fault of [`crate::read_vrps`].
+/// - [`ExpiryFault::Line`]: the first line of CSV with an invalid expiry.
+/// - [`ExpiryFault::Item`]: the first item of JSON with an invalid expiry.
+/// - [`OrMemory::Memory`]: an allocation failed.
+pub fn read_unexpired<A: Allocator + Copy>(
+    alloc: A,
+    text: &[u8],
+    time: u64,
+) -> Result<UnexpiredVrps<A>, OrMemory<ExpiryFault>>
+    ensures answers { AnswersOrMemory unexpired_value
+        (λ found. IsUnexpiredFile text.now time found.0 found.1) (HasExpiryFault text.now) result }
+
+    // An allocation failed, and `read_vrps` may request memory for the file.
+    ensures memory { IfErr result (λ error. IsMemory error → MayWantMemory text.now) }
+{
+    read_unexpired_matched(alloc, text, time)
+}
+
+/// Returns the VRPs of a file that have not expired, or the first fault of the file.
+fn read_unexpired_matched<A: Allocator + Copy>(
+    alloc: A,
+    text: &[u8],
+    time: u64,
+) -> Result<UnexpiredVrps<A>, OrMemory<ExpiryFault>>
+    ensures found { MatchResult result
+        (λ unexpired. IsUnexpiredFile text.now time unexpired.vrps.items unexpired.expired)
+        (IfRefused (HasExpiryFault text.now)) }
+    ensures memory { IfErr result (λ error. IsMemory error → MayWantMemory text.now) }
+{
+    let (vrps, expiries) = read_dated(alloc, text)?;
+    let kept = unexpired(alloc, &vrps, &expiries, time)?;
+    Ok(UnexpiredVrps {
+        vrps: kept,
+        expired: expired_count(&expiries, time),
+    })
+}
+
+/// Reads the expiries of the VRPs of a file, in the order of the VRPs that [`crate::read_vrps`] returns.
+///
+/// - `alloc`: the allocator of the list.
+/// - `text`: the whole file.
+///
+/// The list has an expiry for each VRP, or None if the VRP doesn't expire. [`read_unexpired`] says where the file has
+/// the expiries.
+///
+/// # Errors
+///
+/// The errors of [`read_unexpired`].
+pub fn read_expiries<A: Allocator + Copy>(
+    alloc: A,
+    text: &[u8],
+) -> Result<Vec<Option<u64>, A>, OrMemory<ExpiryFault>>
+    ensures answers { AnswersOrMemory (λ expiries. expiries.items)
+        (λ found. (vrps : List (MaxLenValue × ℕ)) × AreDated text.now vrps found) (HasExpiryFault text.now) result }
+
+    // An allocation failed, and `read_vrps` may request memory for the file.
+    ensures memory { IfErr result (λ error. IsMemory error → MayWantMemory text.now) }
+{
+    match read_dated(alloc, text) {
+        Ok(found) => Ok(found.1),
+        Err(error) => Err(error),
+    }
+}
+
+/// Returns the VRPs of a file and their expiries, or the first fault of the file.
+fn read_dated<A: Allocator + Copy>(
+    alloc: A,
+    text: &[u8],
+) -> Result<(Vec<Vrp, A>, Vec<Option<u64>, A>), OrMemory<ExpiryFault>>
+    ensures found { MatchResult result (λ found. AreDated text.now found.0.items found.1.items)
+        (IfRefused (HasExpiryFault text.now)) }
+    ensures memory { IfErr result (λ error. IsMemory error → MayWantMemory text.now) }
+{
+    let found = read_valid(alloc, text)?;
+    let Found { vrps, expiries } = found;
+    match expiries {
+        Ok(expiries) => Ok((vrps, expiries)),
+        Err(fault) => Err(OrMemory::Refused(fault)),
+    }
+}
+
+/// Returns what a file has, or its fault as a file of VRPs.
+fn read_valid<A: Allocator + Copy>(alloc: A, text: &[u8]) -> Result<Found<A>, OrMemory<ExpiryFault>>
+    ensures found { MatchResult result (λ found. IsVrpFile text.now found.vrps.items
+        × AreReadOf true (AreFileEntries text.now) found.expiries)
+        (IfRefused (HasExpiryFault text.now)) }
+    ensures memory { IfErr result (λ error. IsMemory error → MayWantMemory text.now) }
+{
+    match read_file(alloc, text, true) {
+        Ok(found) => Ok(found),
+        Err(OrMemory::Refused(fault)) => Err(OrMemory::Refused(ExpiryFault::File(fault))),
+        Err(OrMemory::Memory(error)) => Err(OrMemory::Memory(error)),
+    }
+}
+
+/// Returns whether a VRP has expired: whether its expiry is before `time`.
+///
+/// - `expiry`: the last second at which the VRP is valid, or None if it doesn't expire. Like a certificate, a VRP is
+///   valid through this second (RFC 5280, 4.1.2.5).
+/// - `time`: the current time, or another one.
+///
+/// Both are in seconds since 1970-01-01 UTC.
+pub fn has_expired(expiry: Option<u64>, time: u64) -> bool
+    ensures { result ≡ is_expired time expiry }
+{
+    match expiry {
+        Some(expiry) => expiry < time,
+        None => false,
+    }
+}
+
+/// Returns the VRPs that have not expired, in their order.
+///
+/// - `alloc`: the allocator of the list.
+/// - `vrps`: the VRPs.
+/// - `expiries`: their expiries. Each VRP has the expiry of the same index.
+/// - `time`: the time in seconds since 1970-01-01 UTC.
+///
+/// # Preconditions
+///
+/// `expiries` is as long as `vrps`.
+///
+/// # Errors
+///
+/// [`AllocError`] if an allocation for the list fails.
+pub fn unexpired<A: Allocator>(
+    alloc: A,
+    vrps: &[Vrp],
+    expiries: &[Option<u64>],
+    time: u64,
+) -> Result<Vec<Vrp, A>, AllocError>
+    requires { length expiries.now ≡ length vrps.now }
+    ensures { IfOk result (λ kept. kept.items ≡ unexpired_of time vrps.now expiries.now) }
+{
+    let mut kept = Vec::new(alloc);
+    for (index, vrp) in vrps.iter().enumerate() {
+        if !has_expired(expiries[index], time) {
+            kept.push(*vrp)?;
+        }
+    }
+    Ok(kept)
+}
+
+/// Returns how many of the expiries are before `time`.
+pub(crate) fn expired_count(expiries: &[Option<u64>], time: u64) -> usize
+    ensures { result ≡ count_by (is_expired time) expiries.now }
+{
+    expiries
+        .iter()
+        .filter(|expiry| has_expired(**expiry, time))
+        .count()
+}

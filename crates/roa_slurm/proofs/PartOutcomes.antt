@@ -5,10 +5,9 @@ use Rattle.rpki_base.proofs.AsnLemmas.{IsAsnText-one}
 use Rattle.rpki_base.specs.declared.asn.ParseAsnError.{ParseAsnError}
 use Rattle.rpki_prefix.proofs.PrefixTextLemmas.{HasPrefixTextFault-one, IsPrefixText-no_fault, IsPrefixText-one}
 use Rattle.rpki_prefix.proofs.PrefixTextLemmas.{number_apart, same_number_fault}
-use Rattle.rpki_prefix.specs.MaxLen.{HasMaxLenError, IsMaxLenOf}
-use Rattle.rpki_prefix.specs.declared.error.MaxLenError.{MaxLenError}
 use Rattle.rpki_text.proofs.NumberTexts.{IsNumberText-one}
 use Rattle.roa_vrps.proofs.MemberLemmas.{wrong_apart, wrong_one}
+use Rattle.roa_vrps.proofs.RowLemmas.{max_apart, max_error_one}
 use Rattle.json.specs.Json.{Json, Members, number, string}
 use Rattle.roa_slurm.proofs.Common.{FamilyPrefix, HasValue, IsString, Lacks, GivesAsn, HasAsnMemberFault, HasLongest}
 use Rattle.roa_slurm.proofs.Common.{HasLongestFault, HasOptionalFault, HasOptionalText, GivesPrefix}
@@ -63,13 +62,6 @@ module _ (part : SlurmMember) (members : Members) where
 
 asn_error_one : (a b : ParseAsnError) → a ≡ b
 asn_error_one a b = search (arith)
-
-max_error_apart : (p : FamilyPrefix) (n : ℕ) (f : MaxLenError) → IsMaxLenOf p (Some n) → HasMaxLenError p (Some n) f → ⊥
-max_error_apart p n f h above = grind (arith)
-
-max_error_one : (p : FamilyPrefix) (n : ℕ) (f g : MaxLenError) → HasMaxLenError p (Some n) f
-    → HasMaxLenError p (Some n) g → f ≡ g
-max_error_one p n f g h k = grind (arith)
 
 module _ (members : Members) where
   -- ---- the prefix
@@ -179,7 +171,7 @@ module _ (members : Members) where
     longest_apart n f (inr (s, has, is, within)) (inr (t, haz, inr (m, iz, wrong, fails, _))) =
         let text = same_number MaxPrefixLength members s t has haz in
         let len = IsNumberText-one (2 ^ 8 - 1) t n m (rw text at is) iz in
-        max_error_apart prefix m wrong (rw len at within) fails
+        max_apart prefix m wrong (rw len at within) fails
 
     length_fault_one : (text : List ℕ) (d e : SlurmItemFault) → HasMaxLengthFault prefix text d
         → HasMaxLengthFault prefix text e → d ≡ e

@@ -1,7 +1,7 @@
 -- Answers by a table are answers by the list that it was made of.
 use Rattle.origins_lines.proofs.Common.{arith, Bool, List, Option, [], ℕ, ◌∷◌, ◌≡◌, IfSome, OnOk, Result, AnswersAll}
 use Rattle.origins_lines.proofs.Common.{AnswersEnded, AnswersFirst, BeginsAnswers, Err, HasAnswered, HasFileFault}
-use Rattle.origins_lines.proofs.Common.{Form, IsJsonAnswer, IsOriginAnswer, IsVrpFile, Vrp, ByFile}
+use Rattle.origins_lines.proofs.Common.{Form, IsVrpFile, Vrp, ByFile}
 use Rattle.std.specs.List.{AllZip}
 use Rattle.std.specs.List.Sorted.{IsPermutation}
 use Rattle.std.proofs.lemmas.List.Sorted.{IsPermutation-sym}
@@ -46,18 +46,12 @@ module _ (One Other : List ℕ → List ℕ → Type 0)
   ended_turned old new input left had = grind (arith, answered_turned)
 
 -- a table has the VRPs of a list in another order: an answer by the table is one by the list
-module _ (why : Bool) (listed table : List Vrp) (moved : IsPermutation listed table) (line text : List ℕ) where
-  pub by_list : IsOriginAnswer why table line text → IsOriginAnswer why listed line text
-  by_list is = any_order why table listed line text (IsPermutation-sym listed table moved) is
-
-  pub object_by_list : IsJsonAnswer why table line text → IsJsonAnswer why listed line text
-  object_by_list is = json_any_order why table listed line text (IsPermutation-sym listed table moved) is
-
--- the same for an answer in either form
-pub form_by_list : (form : Form) (why : Bool) (listed table : List Vrp) → IsPermutation listed table
+pub by_list : (form : Form) (why : Bool) (listed table : List Vrp) → IsPermutation listed table
     → (line text : List ℕ) → IsAnswerIn form why table line text → IsAnswerIn form why listed line text
-form_by_list Words why listed table moved line text is = by_list why listed table moved line text is
-form_by_list Json why listed table moved line text is = object_by_list why listed table moved line text is
+by_list Words why listed table moved line text is =
+    any_order why table listed line text (IsPermutation-sym listed table moved) is
+by_list Json why listed table moved line text is =
+    json_any_order why table listed line text (IsPermutation-sym listed table moved) is
 
 -- a file's VRPs
 pub by_file : (file : Option (List ℕ)) (P : List Vrp → Type 0) (listed : List Vrp)

@@ -1,99 +1,25 @@
-//! The answer to a line with a route, as an object of JSON.
+//! The objects of JSON that answer lines with routes.
 ghost use Rattle.std.specs.Prelude.{◌≡◌, ◌++◌, ℕ, List, [], OnOk};
 ghost use Rattle.std.specs.String.{string_bytes};
 ghost use Rattle.json.specs.Print.{quoted};
 ghost use Rattle.origins_lines.specs.JsonAnswers.{IsErrorObject, IsJsonRouteAnswer, IsLineValue, IsVrpsMember, object_head, origin_key, origin_value, outcome_members, route_prefix_key};
 ghost use Rattle.origins_lines.specs.Begun.{IsLookedUp};
 
-use crate::begun::{AskedRoute, BegunRoute};
+use crate::begun::AskedRoute;
 use crate::explanation::{Form, push_why};
 use crate::fault::RouteFault;
 use crate::outcome::{Outcome, outcome_of};
 use crate::route::Route;
 use json::Writer;
-use lines_engine::answers::Answers;
-use lines_engine::steps::Steps;
-use roa_origin::OriginTable;
 use rpki_base::Asn;
-use std::alloc::{AllocError, Allocator, Global};
-
-/// Answers lines of routes by a table of VRPs, each by an object of JSON (RFC 8259) without white space.
-///
-/// The first member is `state`. Its value says which other members follow:
-///
-/// | state | line | other members |
-/// |---|---|---|
-/// | `valid`, `not-found` | a route (RFC 6811, 2) | `prefix`; `origin_asn`, which is null if the origin is unknown |
-/// | `invalid` | a route | `reason`, which is `length` or `as`; `prefix`; `origin_asn` |
-/// | `skipped` | a line of `bgpdump -m` that announces no route | none |
-/// | `error` | an invalid line | `error`, the fault; `line`, the line, which is null if it isn't UTF-8 |
-#[derive(Drop)]
-pub struct JsonRoutes<'a, B: Allocator = Global> {
-    /// The VRPs.
-    pub table: &'a OriginTable<B>,
-    /// Whether the object of a route also has the member `vrps`.
-    ///
-    /// It is an array with an object for each VRP that covers the route, in the order of [`Routes`](crate::Routes). Its
-    /// members are `reason`, which is `match`, `length` or `as`, `prefix`, `max_length` and `asn`.
-    pub why: bool,
-}
-
-impl<B: Allocator> Answers for JsonRoutes<'_, B> {
-    ghost use Rattle.origins_lines.specs.JsonAnswers.{IsJsonAnswer};
-
-    ghost is_answer = { λ routes line text. IsJsonAnswer routes.why routes.table.now line text };
-
-    fn answer<A: Allocator + Copy>(
-        &self,
-        alloc: A,
-        line: &[u8],
-        text: &mut String<A>,
-    ) -> Result<(), AllocError> {
-        let begun = self.begin(line);
-        self.end(alloc, line, &begun, text)
-    }
-}
-
-impl<'a, B: Allocator> Steps for JsonRoutes<'a, B> {
-    type Begun = BegunRoute<'a>;
-
-    ghost use Rattle.origins_lines.specs.Begun.{IsBegun};
-
-    ghost is_begun = { λ routes begun line. IsBegun routes.table.now begun line };
-
-    fn begin(&self, line: &[u8]) -> BegunRoute<'a> {
-        BegunRoute::of(self.table, line)
-    }
-
-    fn advance(&self, begun: &mut BegunRoute<'a>) -> bool {
-        match begun {
-            BegunRoute::Asked(asked) => asked.lookup.advance(),
-            BegunRoute::Skipped | BegunRoute::Wrong(_) => false,
-        }
-    }
-
-    fn end<A: Allocator + Copy>(
-        &self,
-        alloc: A,
-        line: &[u8],
-        begun: &BegunRoute<'a>,
-        text: &mut String<A>,
-    ) -> Result<(), AllocError> {
-        text.clear();
-        match begun {
-            BegunRoute::Asked(asked) => write_route(text, self.why, asked),
-            BegunRoute::Skipped => text.push_str("{\"state\":\"skipped\"}"),
-            BegunRoute::Wrong(fault) => write_fault(alloc, text, *fault, line),
-        }
-    }
-}
+use std::alloc::{AllocError, Allocator};
 
 /// Appends the object for a route that is looked up.
 ///
 /// # Preconditions
 ///
 /// `text` is empty, and `asked` has the lookup of its route.
-fn write_route<A: Allocator>(
+pub(crate) fn write_route<A: Allocator>(
     text: &mut String<A>,
     why: bool,
     asked: &AskedRoute<'_>,
@@ -193,7 +119,7 @@ fn push_vrps<A: Allocator>(
 /// # Preconditions
 ///
 /// `text` is empty.
-fn write_fault<A: Allocator + Copy>(
+pub(crate) fn write_fault<A: Allocator + Copy>(
     alloc: A,
     text: &mut String<A>,
     fault: RouteFault,

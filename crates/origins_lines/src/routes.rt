@@ -3,7 +3,6 @@ ghost use Rattle.std.specs.Prelude.{◌≡◌, false, true, IfOk, IfSome, List, 
 ghost use Rattle.std.specs.Io.KnownBytes.{IsAtEnd};
 ghost use Rattle.lines_engine.specs.Run.{AnswersAll, AnswersEnded, AnswersFirst, BeginsAnswers};
 ghost use Rattle.lines_engine.specs.declared.error.RunError.TheVariants as RunError;
-ghost use Rattle.origins_lines.specs.Answers.{IsOriginAnswer};
 ghost use Rattle.origins_lines.specs.Forms.{IsAnswerIn};
 ghost use Rattle.origins_lines.specs.Inputs.{AreInputsRead, ByInputs, IsInputsError};
 ghost use Rattle.roa_origin.specs.Vrps.{Vrp};
@@ -13,7 +12,6 @@ use crate::answers::Routes;
 use crate::error::{InputsError, OriginsError};
 use crate::explanation::Form;
 use crate::inputs::{InputVrps, Inputs, Report, Selection, read_inputs};
-use crate::json_answers::JsonRoutes;
 use lines_engine::device::{Sink, Source};
 use lines_engine::error::RunError;
 use lines_engine::stream::answer_as_read;
@@ -107,15 +105,34 @@ pub fn answer_inputs<A: Allocator + Copy, I: Inputs, R: Source, W: Sink>(
         Ok(read) => read,
         Err(error) => return Err(OriginsError::Inputs(error)),
     };
-    match answer_list(alloc, vrps, form, why, routes, writer) {
+    match answer_by(alloc, vrps, form, why, routes, writer) {
         Ok(()) => Ok(report),
         Err(error) => Err(OriginsError::Run(error)),
     }
 }
 
-/// Answers each line of routes by the VRPs of a list. The list is freed before a route is read.
+/// Answers each line of routes by one line, in order and as it is read (RFC 6811, 2).
+///
+/// - `alloc`: the allocator of the table and of the answers.
+/// - `listed`: the VRPs, for example of several files. The list is freed before a route is read.
+/// - `form`: whether an answer is words or an object of JSON.
+/// - `why`: whether each answer also lists the VRPs that cover the route.
+/// - `routes`: the lines of routes. The last line may lack its end.
+/// - `writer`: the output. The call flushes it at the end.
+///
+/// The call never repeats a failed call of a device.
+///
+/// # Preconditions
+///
+/// No call of `routes` or `writer` has failed, and no write has taken nothing.
+///
+/// # Errors
+///
+/// - [`RunError::Read`]: a read of the routes failed. The lines whose ends were read are answered.
+/// - [`RunError::Write`]: a write or the flush failed, or a write took nothing. A beginning of the answers was written.
+/// - [`RunError::Memory`]: an allocation failed. Some first lines are answered, each whole.
 #[tactic(auto, using(lines_engine::proofs::RunLemmas::unanswered))]
-fn answer_list<A: Allocator + Copy, R: Source, W: Sink>(
+pub fn answer_by<A: Allocator + Copy, R: Source, W: Sink>(
     alloc: A,
     listed: Vec<Vrp, A>,
     form: Form,
@@ -146,93 +163,10 @@ fn answer_list<A: Allocator + Copy, R: Source, W: Sink>(
 {
     let table = OriginTable::new(alloc, listed.as_slice())?;
     drop(listed);
-    answer_by_table(alloc, &table, form, why, routes, writer)
-}
-
-/// Answers each line of routes by the VRPs of a table.
-fn answer_by_table<A: Allocator + Copy, R: Source, W: Sink>(
-    alloc: A,
-    table: &OriginTable<A>,
-    form: Form,
-    why: bool,
-    routes: &mut R,
-    writer: &mut W,
-) -> Result<(), RunError>
-    requires routes_clear { R.mark routes.old ≡ false }
-    requires writer_clear { W.mark writer.old ≡ false }
-    ensures unmarked { OnOk result ((R.mark routes.new ≡ R.mark routes.old)
-        × (W.mark writer.new ≡ W.mark writer.old)) }
-    ensures read_whole { OnOk result (IsAtEnd (R.left routes.new)) }
-    ensures answered { OnOk result (IfSome (R.left routes.old)
-        (AnswersAll (IsAnswerIn form why table.now) (W.written writer.old) (W.written writer.new))) }
-    ensures flushed { OnOk result (W.flushed writer.new ≡ true) }
-    ensures read { IsErrOf result RunError.Read →
-        (R.mark routes.new ≡ true) × (W.mark writer.new ≡ W.mark writer.old) }
-    ensures ended_answered { IsErrOf result RunError.Read → AnswersEnded (IsAnswerIn form why table.now)
-        (W.written writer.old) (W.written writer.new) (R.left routes.old) (R.left routes.new) }
-    ensures memory_unmarked { IsErrOf result RunError.Memory →
-        (R.mark routes.new ≡ R.mark routes.old) × (W.mark writer.new ≡ W.mark writer.old) }
-    ensures some_answered { IsErrOf result RunError.Memory → IfSome (R.left routes.old)
-        (AnswersFirst (IsAnswerIn form why table.now) (W.written writer.old) (W.written writer.new)) }
-    ensures write { IsErrOf result RunError.Write → W.mark writer.new ≡ true }
-    ensures no_read_failed { IsErrOf result RunError.Write → R.mark routes.new ≡ R.mark routes.old }
-    ensures some_written { IsErrOf result RunError.Write → IfSome (R.left routes.old)
-        (BeginsAnswers (IsAnswerIn form why table.now) (W.written writer.old) (W.written writer.new)) }
-{
-    match form {
-        Form::Words => answer_as_read(alloc, &Routes { table, why }, routes, writer),
-        Form::Json => answer_as_read(alloc, &JsonRoutes { table, why }, routes, writer),
-    }
-}
-
-/// Answers each line of routes by one line, in order and as it is read (RFC 6811, 2).
-///
-/// - `alloc`: the allocator of the table and of the answers.
-/// - `listed`: the VRPs, for example of several files.
-/// - `why`: whether each answer also lists the VRPs that cover the route.
-/// - `routes`: the lines of routes. The last line may lack its end.
-/// - `writer`: the output. The call flushes it at the end.
-///
-/// The call never repeats a failed call of a device.
-///
-/// # Preconditions
-///
-/// No call of `routes` or `writer` has failed, and no write has taken nothing.
-///
-/// # Errors
-///
-/// - [`RunError::Read`]: a read of the routes failed. The lines whose ends were read are answered.
-/// - [`RunError::Write`]: a write or the flush failed, or a write took nothing. A beginning of the answers was written.
-/// - [`RunError::Memory`]: an allocation failed. Some first lines are answered, each whole.
-#[tactic(auto, using(lines_engine::proofs::RunLemmas::unanswered))]
-pub fn answer_by<A: Allocator + Copy, R: Source, W: Sink>(
-    alloc: A,
-    listed: &[Vrp],
-    why: bool,
-    routes: &mut R,
-    writer: &mut W,
-) -> Result<(), RunError>
-    requires routes_clear { R.mark routes.old ≡ false }
-    requires writer_clear { W.mark writer.old ≡ false }
-    ensures unmarked { OnOk result ((R.mark routes.new ≡ R.mark routes.old)
-        × (W.mark writer.new ≡ W.mark writer.old)) }
-    ensures read_whole { OnOk result (IsAtEnd (R.left routes.new)) }
-    ensures answered { OnOk result (IfSome (R.left routes.old)
-        (AnswersAll (IsOriginAnswer why listed.now) (W.written writer.old) (W.written writer.new))) }
-    ensures flushed { OnOk result (W.flushed writer.new ≡ true) }
-    ensures read { IsErrOf result RunError.Read →
-        (R.mark routes.new ≡ true) × (W.mark writer.new ≡ W.mark writer.old) }
-    ensures ended_answered { IsErrOf result RunError.Read → AnswersEnded (IsOriginAnswer why listed.now)
-        (W.written writer.old) (W.written writer.new) (R.left routes.old) (R.left routes.new) }
-    ensures memory_unmarked { IsErrOf result RunError.Memory →
-        (R.mark routes.new ≡ R.mark routes.old) × (W.mark writer.new ≡ W.mark writer.old) }
-    ensures some_answered { IsErrOf result RunError.Memory → IfSome (R.left routes.old)
-        (AnswersFirst (IsOriginAnswer why listed.now) (W.written writer.old) (W.written writer.new)) }
-    ensures write { IsErrOf result RunError.Write → W.mark writer.new ≡ true }
-    ensures no_read_failed { IsErrOf result RunError.Write → R.mark routes.new ≡ R.mark routes.old }
-    ensures some_written { IsErrOf result RunError.Write → IfSome (R.left routes.old)
-        (BeginsAnswers (IsOriginAnswer why listed.now) (W.written writer.old) (W.written writer.new)) }
-{
-    let table = OriginTable::new(alloc, listed)?;
-    answer_as_read(alloc, &Routes { table: &table, why }, routes, writer)
+    let answers = Routes {
+        table: &table,
+        form,
+        why,
+    };
+    answer_as_read(alloc, &answers, routes, writer)
 }

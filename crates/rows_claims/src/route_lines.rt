@@ -2,6 +2,7 @@
 use crate::elements;
 use lines_engine::answers::Answers;
 use origins_lines::Routes;
+use origins_lines::explanation::Form;
 use roa_origin::{OriginTable, Vrp};
 use std::alloc::{AllocError, Allocator};
 use test_support::print::cut_at;
@@ -26,7 +27,12 @@ fn by_vrps<A: Allocator + Copy>(
     why: bool,
 ) -> Result<String<A>, AllocError> {
     let table = OriginTable::new(alloc, vrps)?;
-    by_routes(alloc, &Routes { table: &table, why }, line)
+    let routes = Routes {
+        table: &table,
+        form: Form::Words,
+        why,
+    };
+    by_routes(alloc, &routes, line)
 }
 
 fn by_routes<A: Allocator + Copy>(

@@ -7,6 +7,7 @@ use lines_engine::error::RunError;
 use origins_lines::error::{
     ChangesError, InputsError, OriginsError, ReadSlurmError, ReadUnexpiredError, ReadVrpsError,
 };
+use origins_lines::explanation::Form;
 use origins_lines::file::read_file;
 use origins_lines::retrying::Retrying;
 use origins_lines::routes::answer_by;
@@ -63,7 +64,7 @@ fn answers(heap: Global, kind: ErrorKind, of_file: u64, of_routes: u64) -> Resul
         Ok(listed) => listed,
         Err(error) => return Err(Failed::File(error)),
     };
-    match answer_by(heap, listed.as_slice(), false, &mut routes, &mut sink) {
+    match answer_by(heap, listed, Form::Words, false, &mut routes, &mut sink) {
         Ok(()) => Ok(sink.written() == ANSWERS && sink.is_flushed()),
         Err(error) => Err(Failed::Run(error)),
     }

@@ -3,6 +3,7 @@ use crate::observed_run::BUFFER_LEN;
 use crate::slices::{Habits, SliceSink, SliceSource};
 use lines_engine::error::RunError;
 use origins_lines::error::ReadVrpsError;
+use origins_lines::explanation::Form;
 use origins_lines::file::read_file;
 use origins_lines::routes::answer_by;
 use std::alloc::Global;
@@ -33,7 +34,7 @@ fn outcome(refusing: &Refusing<Global>, file: &'static [u8]) -> Outcome {
         Err(ReadVrpsError::Memory) => return Outcome::OutOfMemory,
         Err(_) => return Outcome::Unexpected,
     };
-    match answer_by(refusing, listed.as_slice(), false, &mut routes, &mut sink) {
+    match answer_by(refusing, listed, Form::Words, false, &mut routes, &mut sink) {
         Ok(()) if sink.written() == ANSWERS && sink.is_flushed() => Outcome::Expected,
         Err(RunError::Memory) if !sink.is_flushed() => Outcome::OutOfMemory,
         _ => Outcome::Unexpected,

@@ -3,9 +3,9 @@ use crate::options::{Input, shown};
 use crate::report::count_of;
 use lines_engine::error::RunError;
 use origins_lines::error::{
-    InputsError, OriginsError, ReadSlurmError, ReadUnexpiredError, ReadVrpsError,
+    InputsError, OriginsError, ReadFileError, ReadSlurmError, ReadUnexpiredError, ReadVrpsError,
 };
-use origins_lines::unexpired::Numbers;
+use origins_lines::file::Numbers;
 use std::fmt;
 
 /// The reason why the program prints no answers, or not all of them.
@@ -54,20 +54,24 @@ impl fmt::Display for Failure<'_> {
         match self {
             Failure::Words => f.write_str("an argument is not UTF-8, or memory ran out"),
             Failure::NotOpened(name) => write!(f, "{name}: can't be opened"),
-            Failure::Vrps(name, ReadVrpsError::Read) => write!(f, "{name}: read failed"),
-            Failure::Vrps(name, ReadVrpsError::File(fault)) => write!(f, "{name}: {fault}"),
-            Failure::Vrps(_, ReadVrpsError::Memory) => f.write_str("out of memory"),
-            Failure::Unexpired(name, ReadUnexpiredError::Read) => write!(f, "{name}: read failed"),
-            Failure::Unexpired(name, ReadUnexpiredError::File(fault)) => {
-                write!(f, "{name}: {fault}")
-            }
-            Failure::Unexpired(_, ReadUnexpiredError::Memory) => f.write_str("out of memory"),
-            Failure::Slurm(name, ReadSlurmError::Read) => write!(f, "{name}: read failed"),
-            Failure::Slurm(name, ReadSlurmError::File(fault)) => write!(f, "{name}: {fault}"),
-            Failure::Slurm(_, ReadSlurmError::Memory) => f.write_str("out of memory"),
+            Failure::Vrps(name, error) => write_not_read(f, name, error),
+            Failure::Unexpired(name, error) => write_not_read(f, name, error),
+            Failure::Slurm(name, error) => write_not_read(f, name, error),
             Failure::NoVrpLeft(slurm, numbers) => write_no_vrp_left(f, *slurm, *numbers),
             Failure::Run(error) => write!(f, "{error}"),
         }
+    }
+}
+
+/// Writes why a file could not be read, after its name. If memory ran out, the name is left out.
+fn write_not_read<W: fmt::Write, F: fmt::Display>(
+    f: &mut fmt::Formatter<W>,
+    name: &str,
+    error: &ReadFileError<F>,
+) -> fmt::Result {
+    match error {
+        ReadFileError::Read | ReadFileError::File(_) => write!(f, "{name}: {error}"),
+        ReadFileError::Memory => f.write_str("out of memory"),
     }
 }
 

@@ -1,7 +1,7 @@
 //! The numbers of VRPs that the program reports.
 use crate::options::{Input, shown};
+use origins_lines::file::Numbers;
 use origins_lines::inputs::Report;
-use origins_lines::unexpired::Numbers;
 use std::fmt;
 
 /// A number of VRPs, printed as `1 VRP` or `2 VRPs`.

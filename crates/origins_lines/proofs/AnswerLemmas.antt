@@ -1,20 +1,12 @@
 -- Answers by a table are answers by the list that it was made of.
 use Rattle.origins_lines.proofs.Common.{arith, Bool, List, Option, [], ℕ, ◌∷◌, ◌≡◌, IfSome, OnOk, Result, AnswersAll}
-use Rattle.origins_lines.proofs.Common.{AnswersEnded, AnswersFirst, BeginsAnswers, Err, HasAnswered, HasFileFault}
+use Rattle.origins_lines.proofs.Common.{AnswersEnded, AnswersFirst, BeginsAnswers, HasAnswered}
 use Rattle.origins_lines.proofs.Common.{Form, IsVrpFile, Vrp, ByFile}
 use Rattle.std.specs.List.{AllZip}
 use Rattle.std.specs.List.Sorted.{IsPermutation}
 use Rattle.std.proofs.lemmas.List.Sorted.{IsPermutation-sym}
-use Rattle.std.specs.Prelude.{IfOk, MatchResult}
-use Rattle.rpki_text.specs.Memory.{IfRefused}
-use Rattle.rpki_text.specs.declared.memory.OrMemory.{OrMemory}
-use Rattle.roa_vrps.specs.declared.fault.FileFault.{FileFault}
-use Rattle.roa_slurm.specs.declared.fault.SlurmFault.{SlurmFault}
 use Rattle.origins_lines.specs.Forms.{IsAnswerIn}
-use Rattle.origins_lines.specs.FileResult.{file_result, slurm_result}
-use Rattle.origins_lines.specs.declared.error.ReadSlurmError.TheVariants as ReadSlurmError
 use Rattle.origins_lines.specs.declared.explanation.Form.TheVariants.{Json, Words}
-use Rattle.origins_lines.specs.declared.error.ReadVrpsError.TheVariants.{File, Read}
 use Rattle.origins_lines.proofs.OrderLemmas.{any_order, json_any_order}
 
 -- each answer of one sort is an answer of another
@@ -57,45 +49,3 @@ by_list Json why listed table moved line text is =
 pub by_file : (file : Option (List ℕ)) (P : List Vrp → Type 0) (listed : List Vrp)
     → IfSome file (λ text. IsVrpFile text listed) → P listed → IfSome file (ByFile P)
 by_file file P listed is holds = grind (arith)
-
--- a fault of what was read is a fault of the file
-result_wrong : {V : Type 0} (left : Option (List ℕ)) (text : List ℕ) (Is : V → Type 0)
-    (Has : List ℕ → FileFault → Type 0) (r : Result V (OrMemory FileFault)) → IfSome left (λ bytes. text ≡ bytes)
-    → MatchResult r Is (IfRefused (Has text)) → (fault : FileFault) → file_result r ≡ Err (File fault)
-    → IfSome left (λ bytes. Has bytes fault)
-result_wrong left text Is Has r is found fault written = grind (arith)
-
--- the result for a file that was read whole
-module _ {V : Type 0} (left : Option (List ℕ)) (text : List ℕ) (vrps : V → List Vrp)
-    (r : Result V (OrMemory FileFault)) where
-  pub file_result_found : IfSome left (λ bytes. text ≡ bytes)
-      → MatchResult r (λ v. IsVrpFile text (vrps v)) (IfRefused (HasFileFault text))
-      → IfOk (file_result r) (λ v. IfSome left (λ bytes. IsVrpFile bytes (vrps v)))
-  file_result_found is found = grind (arith)
-
-  pub file_result_wrong : IfSome left (λ bytes. text ≡ bytes)
-      → MatchResult r (λ v. IsVrpFile text (vrps v)) (IfRefused (HasFileFault text))
-      → (fault : FileFault) → file_result r ≡ Err (File fault) → IfSome left (λ bytes. HasFileFault bytes fault)
-  file_result_wrong is found fault written =
-      result_wrong left text (λ v. IsVrpFile text (vrps v)) HasFileFault r is found fault written
-
-  -- no read failed
-  pub file_result_not_read : file_result r ≡ Err Read → ⊥
-  file_result_not_read written = grind (arith)
-
--- the result for a SLURM file that was read whole
-module _ {V : Type 0} (left : Option (List ℕ)) (text : List ℕ) (Is : List ℕ → V → Type 0)
-    (Has : List ℕ → SlurmFault → Type 0) (r : Result V (OrMemory SlurmFault)) where
-  pub slurm_result_found : IfSome left (λ bytes. text ≡ bytes) → MatchResult r (Is text) (IfRefused (Has text))
-      → IfOk (slurm_result r) (λ v. IfSome left (λ bytes. Is bytes v))
-  slurm_result_found is found = grind (arith)
-
-  pub slurm_result_wrong : IfSome left (λ bytes. text ≡ bytes) → MatchResult r (Is text) (IfRefused (Has text))
-      → (fault : SlurmFault) → slurm_result r ≡ Err (ReadSlurmError.File fault)
-      → IfSome left (λ bytes. Has bytes fault)
-  slurm_result_wrong is found fault written = grind (arith)
-
--- no read failed
-pub slurm_result_not_read : {V : Type 0} (r : Result V (OrMemory SlurmFault))
-    → slurm_result r ≡ Err ReadSlurmError.Read → ⊥
-slurm_result_not_read r written = grind (arith)

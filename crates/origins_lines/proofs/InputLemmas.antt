@@ -1,24 +1,16 @@
 -- What was read of files, after no file and after one more.
-use Rattle.origins_lines.proofs.Common.{Bool, Err, List, None, Ok, Option, Result, Some, [], ap, arith, false}
-use Rattle.origins_lines.proofs.Common.{inl, inr, length, refl, true, ℕ, ◌+◌, ◌++◌, ◌≡◌, ◌∷◌, ◌∙◌, ◌⊎◌}
+use Rattle.origins_lines.proofs.Common.{Bool, List, Option, Some, [], ap, arith}
+use Rattle.origins_lines.proofs.Common.{inl, inr, length, refl, ℕ, ◌+◌, ◌++◌, ◌≡◌, ◌∷◌, ◌∙◌, ◌⊎◌}
 use Rattle.origins_lines.proofs.Common.{Vrp, append-nil, map-append}
-use Rattle.std.specs.Prelude.{◌-◌, ◌^◌, ◌<◌, IfErr, IfOk, IfSome, IsErrOf, min, slice_get, suc, zero}
-use Rattle.roa_vrps.specs.ExpiryFiles.{HasExpiryFault}
-use Rattle.roa_vrps.specs.Files.{HasFileFault}
-use Rattle.roa_vrps.specs.declared.fault.FileFault.{FileFault}
-use Rattle.roa_vrps.specs.declared.fault.ExpiryFault.{ExpiryFault}
+use Rattle.std.specs.Prelude.{◌-◌, ◌^◌, ◌<◌, min, slice_get, suc, zero}
 use Rattle.std.proofs.lemmas.Grind.{flat_map-append}
 use Rattle.std.proofs.lemmas.List.{length_push}
 use Rattle.std.proofs.lemmas.List.Sums.{sum_by_push}
-use Rattle.origins_lines.specs.FileResult.{AppendsFile}
-use Rattle.origins_lines.specs.Inputs.{AppendsPart, AreFilesRead, AreValidBefore, FilePart, IsFileError}
+use Rattle.origins_lines.specs.Inputs.{AppendsPart, AreFilesRead, AreValidBefore, FilePart}
 use Rattle.origins_lines.specs.Inputs.{IsFileStepError, IsInputsError}
-use Rattle.origins_lines.specs.Unexpired.{AppendsUnexpired, unexpired_error}
 use Rattle.origins_lines.specs.declared.error.InputsError.{InputsError}
-use Rattle.origins_lines.specs.declared.error.ReadVrpsError.{ReadVrpsError}
 use Rattle.origins_lines.specs.declared.inputs.Selection.{Selection}
-use Rattle.origins_lines.specs.declared.error.ReadUnexpiredError.{ReadUnexpiredError}
-use Rattle.origins_lines.specs.declared.unexpired.Numbers.{Numbers}
+use Rattle.origins_lines.specs.declared.file.Numbers.{Numbers}
 
 -- the element at an index of a list and one more: that of the list, or the last
 get_push : {X : Type 0} (xs : List X) (x y : X) (k : ℕ) → slice_get (xs ++ x ∷ []) k ≡ Some y
@@ -63,52 +55,7 @@ module _ (text : ℕ → Option (List ℕ)) (time : Option ℕ) where
         );
   }
 
--- ---- what was read of one file
-
--- all its VRPs, or those that have not expired
-pub part_of_file : (file : Option (List ℕ)) (old new : List Vrp) (count : ℕ) → AppendsFile file old new count
-    → AppendsPart None file old new (record { unexpired = count; expired = 0 })
-part_of_file file old new count (more, is, count_is, new_is) = (
-  record { vrps = more; expired = 0 },
-  (is, refl),
-  ap (λ (n : ℕ). let numbers : Numbers = record { unexpired = n; expired = 0 } in numbers) count_is,
-  new_is,
-)
-
-pub part_of_unexpired : {E : Type 0} (time : ℕ) (file : Option (List ℕ)) (old new : List Vrp) (r : Result Numbers E)
-    → IfOk r (AppendsUnexpired time file old new) → IfOk r (AppendsPart (Some time) file old new)
-part_of_unexpired time file old new (Ok numbers) (more, is, count_is, new_is) = (
-  record { vrps = more; expired = numbers.expired },
-  is,
-  ap (λ (n : ℕ). let other : Numbers = record { unexpired = n; expired = numbers.expired } in other) count_is,
-  new_is,
-)
-part_of_unexpired time file old new (Err error) had = tt
-
--- why it could not be read
-pub error_of_unexpired : {V : Type 0} (time : ℕ) (file : Option (List ℕ)) (old new : Bool)
-    (r : Result V ReadUnexpiredError) → old ≡ false → (IsErrOf r ReadUnexpiredError.Read → new ≡ true)
-    → ((fault : ExpiryFault) → IsErrOf r (ReadUnexpiredError.File fault) → new ≡ old)
-    → ((fault : ExpiryFault) → IsErrOf r (ReadUnexpiredError.File fault)
-    → IfSome file (λ text. HasExpiryFault text fault))
-    → (IsErrOf r ReadUnexpiredError.Memory → new ≡ old) → IfErr r (IsFileError (Some time) file new)
-error_of_unexpired time file old new (Ok v) clear read kept wrong memory = tt
-error_of_unexpired time file old new (Err ReadUnexpiredError.Read) clear read kept wrong memory = read refl
-error_of_unexpired time file old new (Err (ReadUnexpiredError.File fault)) clear read kept wrong memory =
-    (kept fault refl ∙ clear, wrong fault refl)
-error_of_unexpired time file old new (Err ReadUnexpiredError.Memory) clear read kept wrong memory = memory refl ∙ clear
-
-pub error_of_file : {V : Type 0} (file : Option (List ℕ)) (old new : Bool) (r : Result V ReadVrpsError)
-    (error : ReadVrpsError) → r ≡ Err error → old ≡ false → (IsErrOf r ReadVrpsError.Read → new ≡ true)
-    → ((fault : FileFault) → IsErrOf r (ReadVrpsError.File fault) → new ≡ old)
-    → ((fault : FileFault) → IsErrOf r (ReadVrpsError.File fault) → IfSome file (λ text. HasFileFault text fault))
-    → (IsErrOf r ReadVrpsError.Memory → new ≡ old) → IsFileError None file new (unexpired_error error)
-error_of_file file old new r ReadVrpsError.Read is clear read kept wrong memory = read is
-error_of_file file old new r (ReadVrpsError.File fault) is clear read kept wrong memory =
-    (kept fault is ∙ clear, wrong fault is)
-error_of_file file old new r ReadVrpsError.Memory is clear read kept wrong memory = memory is ∙ clear
-
--- it is the first one of all files
+-- the error of a file is the first one of all files
 pub step_error : (text : ℕ → Option (List ℕ)) (selection : Selection) (index : ℕ) (mark : Bool) (error : InputsError)
     → index < selection.files → AreValidBefore text selection.time index
     → IsFileStepError selection.time index (text index) mark error → IsInputsError text selection mark error

@@ -13,6 +13,5 @@ pub mod OutcomeLemmas
 pub mod RouteAnswerLemmas
 pub mod RouteLineLemmas
 pub mod StateLemmas
-pub mod UnexpiredLemmas
 pub mod VrpTextLemmas
 pub mod WhyLemmas

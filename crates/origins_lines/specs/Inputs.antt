@@ -7,18 +7,22 @@ use Rattle.roa_origin.specs.Vrps.{Vrp}
 use Rattle.roa_vrps.specs.Files.{HasFileFault, IsVrpFile}
 use Rattle.roa_vrps.specs.ExpiryFiles.{HasExpiryFault, IsUnexpiredFile}
 use Rattle.roa_vrps.specs.declared.fault.ExpiryFault.{ExpiryFault}
+use Rattle.roa_vrps.specs.declared.expiry.UnexpiredVrps.{UnexpiredVrps}
 use Rattle.roa_slurm.specs.Applied.{IsApplied}
 use Rattle.roa_slurm.specs.SlurmFiles.{HasSlurmFault, IsSlurmFile, SlurmValue}
 use Rattle.origins_lines.specs.declared.error.InputsError.{InputsError}
-use Rattle.origins_lines.specs.declared.error.ReadSlurmError.{ReadSlurmError}
-use Rattle.origins_lines.specs.declared.error.ReadUnexpiredError.{ReadUnexpiredError}
+use Rattle.origins_lines.specs.FileResult.{IsFileError}
+use Rattle.origins_lines.specs.declared.file.Numbers.{Numbers}
 use Rattle.origins_lines.specs.declared.inputs.Selection.{Selection}
-use Rattle.origins_lines.specs.declared.unexpired.Numbers.{Numbers}
 
 -- what a file gives: VRPs, and the number of those that have expired and were left out
 pub record FilePart : Type 0 where
   pub vrps : List Vrp
   pub expired : ℕ
+
+-- the VRPs that were read, as a part
+abbrev pub part_of : {A : Type 0} → UnexpiredVrps A → FilePart
+part_of read = record { vrps = read.vrps.items; expired = read.expired }
 
 -- the part is what a file gives: all its VRPs, or those that have not expired at the time that is passed
 abbrev pub IsPartOf : Option ℕ → Option (List ℕ) → FilePart → Type 0
@@ -84,24 +88,10 @@ HasFaultAt None file (ExpiryFault.Line number) = ⊥
 HasFaultAt None file (ExpiryFault.Item number fault) = ⊥
 HasFaultAt (Some time) file fault = HasExpiryFault file fault
 
--- Why a file of VRPs could not be read: a read failed, the file has this fault, or an allocation failed. `mark` says
--- whether a call of a device failed.
-abbrev pub IsFileError : Option ℕ → Option (List ℕ) → Bool → ReadUnexpiredError → Type 0
-IsFileError time file mark ReadUnexpiredError.Read = mark ≡ true
-IsFileError time file mark (ReadUnexpiredError.File fault) =
-    (mark ≡ false) × IfSome file (λ text. HasFaultAt time text fault)
-IsFileError time file mark ReadUnexpiredError.Memory = mark ≡ false
-
--- why a SLURM file could not be read
-abbrev pub IsSlurmError : Option (List ℕ) → Bool → ReadSlurmError → Type 0
-IsSlurmError file mark ReadSlurmError.Read = mark ≡ true
-IsSlurmError file mark (ReadSlurmError.File fault) = (mark ≡ false) × IfSome file (λ text. HasSlurmFault text fault)
-IsSlurmError file mark ReadSlurmError.Memory = mark ≡ false
-
 -- why the file of VRPs at an index could not be opened or read
 abbrev pub IsFileStepError : Option ℕ → ℕ → Option (List ℕ) → Bool → InputsError → Type 0
 IsFileStepError time index file mark (InputsError.NotOpened at) = (at ≡ index) × (mark ≡ true)
-IsFileStepError time index file mark (InputsError.File at error) = (at ≡ index) × IsFileError time file mark error
+IsFileStepError time index file mark (InputsError.File at error) = (at ≡ index) × IsFileError (HasFaultAt time) file mark error
 IsFileStepError time index file mark (InputsError.Slurm at error) = ⊥
 IsFileStepError time index file mark (InputsError.NoVrpLeft all) = ⊥
 IsFileStepError time index file mark InputsError.Memory = ⊥
@@ -110,7 +100,7 @@ IsFileStepError time index file mark InputsError.Memory = ⊥
 abbrev pub IsSlurmStepError : ℕ → Option (List ℕ) → Bool → InputsError → Type 0
 IsSlurmStepError index file mark (InputsError.NotOpened at) = (at ≡ index) × (mark ≡ true)
 IsSlurmStepError index file mark (InputsError.File at error) = ⊥
-IsSlurmStepError index file mark (InputsError.Slurm at error) = (at ≡ index) × IsSlurmError file mark error
+IsSlurmStepError index file mark (InputsError.Slurm at error) = (at ≡ index) × IsFileError HasSlurmFault file mark error
 IsSlurmStepError index file mark (InputsError.NoVrpLeft all) = ⊥
 IsSlurmStepError index file mark InputsError.Memory = ⊥
 
@@ -119,10 +109,10 @@ abbrev pub IsInputsError : (ℕ → Option (List ℕ)) → Selection → Bool �
 IsInputsError text selection mark (InputsError.NotOpened index) = (mark ≡ true) × IsTurnOf text selection index
 IsInputsError text selection mark (InputsError.File index error) =
     (index < selection.files) × AreValidBefore text selection.time index
-    × IsFileError selection.time (text index) mark error
+    × IsFileError (HasFaultAt selection.time) (text index) mark error
 IsInputsError text selection mark (InputsError.Slurm index error) =
     (selection.slurm ≡ Some index) × AreValidBefore text selection.time selection.files
-    × IsSlurmError (text index) mark error
+    × IsFileError HasSlurmFault (text index) mark error
 IsInputsError text selection mark (InputsError.NoVrpLeft all) =
     (mark ≡ false) × ((files : List Numbers) × AreInputsRead text selection [] files all)
 IsInputsError text selection mark InputsError.Memory = mark ≡ false

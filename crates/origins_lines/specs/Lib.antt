@@ -12,5 +12,4 @@ pub mod Outcomes
 pub mod Readers
 pub mod Routes
 pub mod Runs
-pub mod Unexpired
 pub mod Words

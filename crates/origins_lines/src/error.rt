@@ -2,55 +2,51 @@
 ghost use Rattle.std.specs.Prelude.{◌≡◌};
 ghost use Rattle.origins_lines.specs.declared.error.InputsError.TheVariants.{Memory};
 
-use crate::unexpired::Numbers;
+use crate::file::Numbers;
 use lines_engine::error::RunError;
 use roa_vrps::expiry::ExpiryFault;
 use roa_slurm::SlurmFault;
 use roa_vrps::FileFault;
 use std::alloc::{AllocError, AllocFailed};
+use std::{error, fmt};
 use thiserror::Error;
 
-/// The reason why the VRPs of a file could not be read.
-#[derive(Clone, Copy, Debug, PartialEq, Eq, Error)]
-pub enum ReadVrpsError {
+/// The reason why a file could not be read. `F` has the faults of such a file.
+#[derive(Clone, Copy, Debug, PartialEq, Eq, Drop)]
+pub enum ReadFileError<F> {
     /// A read failed.
-    #[error("read failed")]
     Read,
     /// The file is invalid. The field is its first fault.
-    #[error("{0}")]
-    File(FileFault),
+    File(F),
     /// An allocation failed.
-    #[error("out of memory")]
     Memory,
 }
 
-/// The reason why the unexpired VRPs of a file could not be read.
-#[derive(Clone, Copy, Debug, PartialEq, Eq, Error)]
-pub enum ReadUnexpiredError {
-    /// A read failed.
-    #[error("read failed")]
-    Read,
-    /// The file is invalid. The field is its first fault.
-    #[error("{0}")]
-    File(ExpiryFault),
-    /// An allocation failed.
-    #[error("out of memory")]
-    Memory,
+/// Prints a fault in its own form.
+impl<F: fmt::Display> fmt::Display for ReadFileError<F> {
+    ghost use Rattle.origins_lines.specs.FileResult.{file_error_text};
+
+    ghost output = { file_error_text F.output };
+
+    fn fmt<W: fmt::Write>(&self, f: &mut fmt::Formatter<W>) -> fmt::Result {
+        match self {
+            ReadFileError::Read => f.write_str("read failed"),
+            ReadFileError::File(fault) => fault.fmt(f),
+            ReadFileError::Memory => f.write_str("out of memory"),
+        }
+    }
 }
+
+impl<F: error::Error> error::Error for ReadFileError<F> {}
+
+/// The reason why the VRPs of a file could not be read.
+pub type ReadVrpsError = ReadFileError<FileFault>;
+
+/// The reason why the VRPs of a file that have not expired could not be read.
+pub type ReadUnexpiredError = ReadFileError<ExpiryFault>;
 
 /// The reason why the local exceptions of a SLURM file could not be read.
-#[derive(Clone, Copy, Debug, PartialEq, Eq, Error)]
-pub enum ReadSlurmError {
-    /// A read failed.
-    #[error("read failed")]
-    Read,
-    /// The file is invalid. The field is its first fault.
-    #[error("{0}")]
-    File(SlurmFault),
-    /// An allocation failed.
-    #[error("out of memory")]
-    Memory,
-}
+pub type ReadSlurmError = ReadFileError<SlurmFault>;
 
 /// The reason why files give a run no VRPs. A file is named by its index in [`Inputs`](crate::inputs::Inputs).
 ///

@@ -1,16 +1,12 @@
 //! Reads the VRPs of several files, one after another, and applies the local exceptions of a SLURM file to them.
 ghost use Rattle.std.specs.Prelude.{◌≡◌, ◌≢◌, [], ℕ, Bool, false, List, Option, IfErr, IfOk, IfSome, OnOk, length};
 ghost use Rattle.lines_engine.specs.Device.{MarksFailure};
-ghost use Rattle.origins_lines.specs.Inputs.{AppendsPart, AreFilesRead, AreInputsRead, AreValidBefore, IsAppliedIf, IsFileError, IsFileStepError, IsInputsError, IsSlurmStepError};
-ghost use Rattle.origins_lines.specs.Unexpired.{unexpired_error};
+ghost use Rattle.origins_lines.specs.Inputs.{AppendsPart, AreFilesRead, AreInputsRead, AreValidBefore, IsAppliedIf, IsFileStepError, IsInputsError, IsSlurmStepError};
 ghost use Rattle.roa_slurm.specs.SlurmFiles.{IsSlurmFile, slurm_value};
 
-use crate::error::{InputsError, ReadUnexpiredError, ReadVrpsError};
-use crate::exceptions::read_exceptions;
-use crate::file::add_file;
-use crate::unexpired::{Numbers, add_unexpired_file};
+use crate::error::InputsError;
+use crate::file::{Numbers, add_file, read_exceptions};
 use lines_engine::device::{DeviceFault, Source};
-use roa_vrps::expiry::ExpiryFault;
 use roa_origin::Vrp;
 use roa_slurm::Slurm;
 use std::alloc::{Allocator, Global};
@@ -186,46 +182,11 @@ fn add_input<A: Allocator + Copy, I: Inputs>(
     let Ok(mut file) = inputs.open(index) else {
         return Err(InputsError::NotOpened(index));
     };
-    let added = add_vrps(alloc, &mut file, time, listed);
+    let added = add_file(alloc, &mut file, time, listed);
     inputs.close(file);
     match added {
         Ok(numbers) => Ok(numbers),
         Err(error) => Err(InputsError::File(index, error)),
-    }
-}
-
-/// Reads the whole file, and appends its VRPs to `listed`, without the expired ones if a time is passed.
-fn add_vrps<A: Allocator + Copy, P: Source>(
-    alloc: A,
-    file: &mut P,
-    time: Option<u64>,
-    listed: &mut Vec<Vrp, A>,
-) -> Result<Numbers, ReadUnexpiredError>
-    requires clear { P.mark file.old ≡ false }
-    ensures unmarked { OnOk result (P.mark file.new ≡ false) }
-    ensures appended { IfOk result (AppendsPart time (P.left file.old) listed.old.items listed.new.items) }
-    ensures wrong { IfErr result (IsFileError time (P.left file.old) (P.mark file.new)) }
-{
-    match time {
-        Some(time) => add_unexpired_file(alloc, file, time, listed),
-        None => match add_file(alloc, file, listed) {
-            Ok(unexpired) => Ok(Numbers {
-                unexpired,
-                expired: 0,
-            }),
-            Err(error) => Err(unexpired_error(error)),
-        },
-    }
-}
-
-/// Returns the error of a file of VRPs as one of its unexpired VRPs.
-fn unexpired_error(error: ReadVrpsError) -> ReadUnexpiredError
-    ensures { result ≡ unexpired_error error }
-{
-    match error {
-        ReadVrpsError::Read => ReadUnexpiredError::Read,
-        ReadVrpsError::File(fault) => ReadUnexpiredError::File(ExpiryFault::File(fault)),
-        ReadVrpsError::Memory => ReadUnexpiredError::Memory,
     }
 }
 

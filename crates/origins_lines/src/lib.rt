@@ -12,7 +12,6 @@ mod buffer;
 pub mod check;
 pub mod check_sink;
 pub mod error;
-pub mod exceptions;
 pub mod explanation;
 pub mod fault;
 pub mod file;
@@ -25,7 +24,6 @@ pub mod retrying;
 pub mod route;
 pub mod routes;
 pub mod tables;
-pub mod unexpired;
 pub mod until_end;
 
 pub use answers::Routes;

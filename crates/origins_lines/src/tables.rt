@@ -7,10 +7,11 @@ ghost use Rattle.origins_lines.specs.Runs.{ByFile, WritesBetween, WritesChanges,
 ghost use Rattle.origins_lines.specs.declared.error.ChangesError.TheVariants as ChangesError;
 ghost use Rattle.roa_origin.specs.Vrps.{Vrp};
 ghost use Rattle.origins_lines.specs.declared.error.OriginsError.TheVariants as OriginsError;
-ghost use Rattle.origins_lines.specs.declared.error.ReadVrpsError.TheVariants as ReadVrpsError;
+ghost use Rattle.origins_lines.specs.declared.error.ReadFileError.TheVariants.{File};
+ghost use Rattle.origins_lines.specs.FileResult.{IsFileError};
 ghost use Rattle.roa_vrps.specs.Files.{HasFileFault};
 
-use crate::error::{ChangesError, InputsError, OriginsError, ReadVrpsError};
+use crate::error::{ChangesError, InputsError, OriginsError, ReadFileError};
 use crate::file::read_file;
 use crate::inputs::{InputVrps, Inputs, Report, Selection, read_inputs};
 use crate::lines::{write_both, write_vrps};
@@ -185,27 +186,23 @@ pub fn write_changes<A: Allocator + Copy, P: Source, N: Source, W: Sink>(
         × WritesChanges (W.written writer.old) (W.written writer.new) [] before after))))) }
     ensures flushed { OnOk result (W.flushed writer.new ≡ true) }
 
-    // Old: the old VRPs could not be read. The new file was not read, and nothing was written. Read: a read failed.
-    // File: the file is invalid, and was read whole. Memory: an allocation failed, and no read did.
-    ensures old_untouched { (error : ReadVrpsError) → IsErrOf result (ChangesError.Old error) →
+    // Old: the old VRPs could not be read. The new file was not read, and nothing was written. An invalid file was
+    // read whole.
+    ensures old_untouched { (error : ReadFileError FileFault) → IsErrOf result (ChangesError.Old error) →
         (new.new ≡ new.old) × (writer.new ≡ writer.old) }
-    ensures old_read { IsErrOf result (ChangesError.Old ReadVrpsError.Read) → P.mark old.new ≡ true }
-    ensures old_wrong { (fault : FileFault) → IsErrOf result (ChangesError.Old (ReadVrpsError.File fault)) →
-        IfSome (P.left old.old) (λ text. HasFileFault text fault) }
-    ensures old_wrong_unmarked { (fault : FileFault) → IsErrOf result (ChangesError.Old (ReadVrpsError.File fault)) →
-        (P.mark old.new ≡ P.mark old.old) × IsAtEnd (P.left old.new) }
-    ensures old_memory { IsErrOf result (ChangesError.Old ReadVrpsError.Memory) → P.mark old.new ≡ P.mark old.old }
+    ensures old_wrong { (error : ReadFileError FileFault) → IsErrOf result (ChangesError.Old error) →
+        IsFileError HasFileFault (P.left old.old) (P.mark old.new) error }
+    ensures old_whole { (fault : FileFault) → IsErrOf result (ChangesError.Old (File fault)) →
+        IsAtEnd (P.left old.new) }
 
-    // New: the new VRPs could not be read. The old file was read whole, and nothing was written. The three errors
-    // mean the same as for the old file.
-    ensures new_untouched { (error : ReadVrpsError) → IsErrOf result (ChangesError.New error) →
+    // New: the new VRPs could not be read. The old file was read whole, and nothing was written. An invalid file was
+    // read whole.
+    ensures new_untouched { (error : ReadFileError FileFault) → IsErrOf result (ChangesError.New error) →
         (P.mark old.new ≡ P.mark old.old) × IsAtEnd (P.left old.new) × (writer.new ≡ writer.old) }
-    ensures new_read { IsErrOf result (ChangesError.New ReadVrpsError.Read) → N.mark new.new ≡ true }
-    ensures new_wrong { (fault : FileFault) → IsErrOf result (ChangesError.New (ReadVrpsError.File fault)) →
-        IfSome (N.left new.old) (λ text. HasFileFault text fault) }
-    ensures new_wrong_unmarked { (fault : FileFault) → IsErrOf result (ChangesError.New (ReadVrpsError.File fault)) →
-        (N.mark new.new ≡ N.mark new.old) × IsAtEnd (N.left new.new) }
-    ensures new_memory { IsErrOf result (ChangesError.New ReadVrpsError.Memory) → N.mark new.new ≡ N.mark new.old }
+    ensures new_wrong { (error : ReadFileError FileFault) → IsErrOf result (ChangesError.New error) →
+        IsFileError HasFileFault (N.left new.old) (N.mark new.new) error }
+    ensures new_whole { (fault : FileFault) → IsErrOf result (ChangesError.New (File fault)) →
+        IsAtEnd (N.left new.new) }
 
     // Run: the run failed after the VRPs of both files were read whole.
     ensures both_read { (error : RunError) → IsErrOf result (ChangesError.Run error) →

@@ -8,10 +8,9 @@ use origins_lines::error::{
     ChangesError, InputsError, OriginsError, ReadSlurmError, ReadUnexpiredError, ReadVrpsError,
 };
 use origins_lines::explanation::Form;
-use origins_lines::file::read_file;
+use origins_lines::file::{Numbers, read_file};
 use origins_lines::retrying::Retrying;
 use origins_lines::routes::answer_by;
-use origins_lines::unexpired::Numbers;
 use origins_lines::until_end::UntilEnd;
 use roa_vrps::expiry::ExpiryFault;
 use roa_vrps::FileFault;

@@ -11,10 +11,10 @@ returns-in-Ok-write_listed_changes-clause-written g c =
     first_of (search rules, grind (arith, common_steps)) in
     let both = c.in-Ok-write_listed_changes.ensures.written in
     let written = rw (c.as_slice.ensures.value, c.as_slice-2.ensures.value) at both in
-    by_file (g.P.Source.left c.args.old.now) _ c.in-Ok.listed.items c.in-Ok.ensures.vrps (
+    by_file (g.P.Source.left c.args.old.now) _ c.in-Ok.listed.items c.in-Ok.ensures.found (
       first,
       by_file (g.N.Source.left c.args.new.now) _ c.in-Ok-read_file.listed.items
-          c.in-Ok-read_file.ensures.vrps (second, written),
+          c.in-Ok-read_file.ensures.found (second, written),
     )
 
 -- memory was wanting, before the first line or behind it
@@ -23,13 +23,13 @@ returns-clause-some_if_memory g c is =
     let same : c.in-Err-write_listed_changes.error ≡ RunError.Memory = cc in
     let both = c.in-Err-write_listed_changes.ensures.some_if_memory (ap Err same) in
     let written = rw (c.as_slice.ensures.value, c.as_slice-2.ensures.value) at both in
-    by_file (g.P.Source.left c.args.old.now) _ c.in-Ok.listed.items c.in-Ok.ensures.vrps
-    (by_file (g.N.Source.left c.args.new.now) _ c.in-Ok-read_file.listed.items c.in-Ok-read_file.ensures.vrps written)
+    by_file (g.P.Source.left c.args.old.now) _ c.in-Ok.listed.items c.in-Ok.ensures.found
+    (by_file (g.N.Source.left c.args.new.now) _ c.in-Ok-read_file.listed.items c.in-Ok-read_file.ensures.found written)
 
 pub returns-clause-some_written : goal.returns-clause-some_written
 returns-clause-some_written g c is =
     let same : c.in-Err-write_listed_changes.error ≡ RunError.Write = cc in
     let both = c.in-Err-write_listed_changes.ensures.some_written (ap Err same) in
     let written = rw (c.as_slice.ensures.value, c.as_slice-2.ensures.value) at both in
-    by_file (g.P.Source.left c.args.old.now) _ c.in-Ok.listed.items c.in-Ok.ensures.vrps
-    (by_file (g.N.Source.left c.args.new.now) _ c.in-Ok-read_file.listed.items c.in-Ok-read_file.ensures.vrps written)
+    by_file (g.P.Source.left c.args.old.now) _ c.in-Ok.listed.items c.in-Ok.ensures.found
+    (by_file (g.N.Source.left c.args.new.now) _ c.in-Ok-read_file.listed.items c.in-Ok-read_file.ensures.found written)

@@ -4,8 +4,8 @@
 pub const VERSION: &str = "0.2.0";
 
 /// The forms of a call of the program.
-pub const USAGE: &str = "usage: origins [--why] [--json] [--check] [--now TIME] [--slurm FILE]
-               [--vrps FILE].. VRPS < ROUTES
+pub const USAGE: &str = "usage: origins [--why] [--json] [--check] [--line-buffered] [--now TIME]
+               [--slurm FILE] [--vrps FILE].. VRPS < ROUTES
        origins --table [--of ASN] [--now TIME] [--slurm FILE]
                [--vrps FILE].. VRPS
        origins --diff OLD NEW
@@ -40,6 +40,7 @@ invalid-as by mistake. Replace such a path by the AS of the router before you ru
 manual page origins(1) has the commands in its examples.
 
 The program collects up to 64 KiB of answers before it writes them, and writes the rest at the end.
+With --line-buffered it writes each answer as soon as it has read the line.
 
 Options:
 
@@ -53,6 +54,8 @@ Options:
                and origin_asn, or error and line. With --why an object also has the member vrps
   --check      exit with status 3 if a route is invalid or a line is not a route. Without this
                option the status is 0 in these cases too. A skipped line changes no status
+  --line-buffered  write each answer as soon as its line was read, for example for a live stream of
+               routes. The run is slower
   --vrps FILE  use the VRPs of this file too. You can repeat this option. With it you can leave out
                VRPS
   --now TIME   leave out the VRPs that expired before TIME, the seconds since 1970-01-01 UTC that

@@ -14,7 +14,7 @@ use crate::files::{NamedFiles, selection_of};
 use crate::help::{HELP, USAGE, VERSION};
 use crate::options::{Answers, Input, STANDARD_INPUT, Task, parse, shown};
 use crate::report::{Counted, Summary};
-use lines_engine::adapters::{FromRead, IntoBufWriter};
+use lines_engine::adapters::{FromRead, IntoBufWriter, IntoWrite};
 use lines_engine::device::{Sink, Source};
 use lines_engine::error::RunError;
 use origins_lines::check::STATE;
@@ -87,20 +87,42 @@ fn status_after_print<'a>(printed: io::Result<()>) -> Result<u8, Failure<'a>> {
 /// Answers the routes of the standard input by the VRPs of files.
 ///
 /// Each file is closed before any route is read. Therefore the program doesn't read a file as its standard input if the
-/// standard input was closed when it started. Only with `--check` the program looks at each byte that it writes.
+/// standard input was closed when it started.
 fn answer<'a>(rt: &HostRuntime, input: &Input<'a>, answers: Answers) -> Result<u8, Failure<'a>> {
-    let mut writer = IntoBufWriter::new(buffered(rt)?);
+    let (ended, has_found) = if answers.line_buffered {
+        let (_writer, ended, has_found) = checked(rt, input, answers, IntoWrite::new(rt.stdout()));
+        (ended, has_found)
+    } else {
+        let writer = IntoBufWriter::new(buffered(rt)?);
+        let (writer, ended, has_found) = checked(rt, input, answers, writer);
+        finish(writer)?;
+        (ended, has_found)
+    };
+    end_run(rt, input, ended)?;
+    Ok(if has_found { 3 } else { 0 })
+}
+
+/// Writes the answers to the routes of the standard input. Returns the writer, the numbers of VRPs, and whether
+/// `--check` was passed and has found an answer.
+///
+/// Only with `--check` the program looks at each byte that it writes.
+fn checked<W: Sink + Drop>(
+    rt: &HostRuntime,
+    input: &Input<'_>,
+    answers: Answers,
+    mut writer: W,
+) -> (W, Result<Report, OriginsError>, bool)
+    requires { W.mark writer ≡ false }
+{
     if !answers.check {
         let ended = write_answers(rt, input, answers, &mut writer);
-        end_run(rt, input, writer, ended)?;
-        return Ok(0);
+        return (writer, ended, false);
     }
     let place = if answers.json { STATE } else { 0 };
     let mut watched = Watched::with_place(writer, place);
     let ended = write_answers(rt, input, answers, &mut watched);
     let has_found = watched.has_found();
-    end_run(rt, input, watched.into_inner(), ended)?;
-    Ok(if has_found { 3 } else { 0 })
+    (watched.into_inner(), ended, has_found)
 }
 
 /// Writes the answers to the routes of the standard input.
@@ -144,18 +166,17 @@ fn print_table<'a>(
     let mut files = NamedFiles::new(rt, input);
     let mut writer = IntoBufWriter::new(buffered(rt)?);
     let ended = list_inputs(rt.alloc(), &mut files, selection_of(input), of, &mut writer);
-    end_run(rt, input, writer, ended)?;
+    finish(writer)?;
+    end_run(rt, input, ended)?;
     Ok(0)
 }
 
-/// Finishes the output of a run with the files of `input`, and reports the numbers of VRPs on standard error.
+/// Reports the numbers of VRPs of a run on standard error, or returns its failure.
 fn end_run<'a>(
     rt: &HostRuntime,
     input: &Input<'a>,
-    writer: IntoBufWriter<Stdout>,
     ended: Result<Report, OriginsError>,
 ) -> Result<(), Failure<'a>> {
-    finish(writer)?;
     match ended {
         Ok(report) => {
             let summary = Summary {

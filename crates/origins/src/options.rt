@@ -52,6 +52,8 @@ pub struct Answers {
     pub json: bool,
     /// Whether the exit status reports an invalid route or a faulty line.
     pub check: bool,
+    /// Whether each answer is written as soon as it is known.
+    pub line_buffered: bool,
 }
 
 /// A task of the program.
@@ -91,20 +93,16 @@ pub enum Misuse<'a> {
     UnknownOption(&'a str),
     /// The word after `--of` is not an AS number.
     NoAsn(&'a str),
-    /// `--of` is the last word.
-    OfWithoutAsn,
     /// There are two AS numbers. The field is the second.
     SecondAsn(&'a str),
     /// The word after `--now` is not a time.
     NoTime(&'a str),
-    /// `--now` is the last word.
-    NowWithoutTime,
     /// There are two times. The field is the second.
     SecondTime(&'a str),
-    /// `--of` is passed without `--table`.
-    OfWithoutTable,
-    /// The last word is an option that needs a file name.
-    WithoutName(&'static str),
+    /// The last word is an option that needs a value. The fields are its name and the value.
+    WithoutValue(&'static str, &'static str),
+    /// The first option needs the second one. The fields are their names.
+    Needs(&'static str, &'static str),
     /// Two options that exclude each other. The fields are their names.
     Options(&'static str, &'static str),
     /// There are two SLURM files. The field is the second.
@@ -126,16 +124,14 @@ impl fmt::Display for Misuse<'_> {
         match self {
             Misuse::UnknownOption(word) => write!(f, "unknown option: {word}"),
             Misuse::NoAsn(word) => write!(f, "invalid AS number: {word}"),
-            Misuse::OfWithoutAsn => f.write_str("--of needs an AS number"),
             Misuse::SecondAsn(word) => write!(f, "too many AS numbers: {word}"),
             Misuse::NoTime(word) => write!(
                 f,
                 "invalid time: {word}, where seconds since 1970 are expected"
             ),
-            Misuse::NowWithoutTime => f.write_str("--now needs a time"),
             Misuse::SecondTime(word) => write!(f, "too many times: {word}"),
-            Misuse::OfWithoutTable => f.write_str("--of needs --table"),
-            Misuse::WithoutName(option) => write!(f, "{option} needs a file name"),
+            Misuse::WithoutValue(option, value) => write!(f, "{option} needs {value}"),
+            Misuse::Needs(option, other) => write!(f, "{option} needs {other}"),
             Misuse::Options(one, other) => write!(f, "{one} does not go with {other}"),
             Misuse::SecondSlurm(name) => write!(f, "too many SLURM files: {name}"),
             Misuse::TooFewNames => f.write_str("too few file names"),
@@ -149,19 +145,50 @@ impl fmt::Display for Misuse<'_> {
     }
 }
 
-/// The options that were read so far.
-#[derive(Clone, Copy, Debug)]
-struct Options<'a> {
-    why: bool,
-    json: bool,
-    check: bool,
-    table: bool,
-    diff: bool,
-    vrps: bool,
-    of: Option<u32>,
-    slurm: Option<&'a str>,
-    now: Option<u64>,
+/// A task, without its operands.
+#[derive(Clone, Copy, Debug, PartialEq, Eq)]
+enum Kind {
+    Routes,
+    Table,
+    Diff,
 }
+
+/// The value of an option: the word after its name.
+#[derive(Clone, Copy, Debug)]
+enum Value {
+    Nothing,
+    Asn,
+    Vrps,
+    Slurm,
+    Time,
+}
+
+impl Value {
+    /// Returns the value as messages have it.
+    fn shown(self) -> &'static str {
+        match self {
+            Value::Nothing => "no value",
+            Value::Asn => "an AS number",
+            Value::Vrps | Value::Slurm => "a file name",
+            Value::Time => "a time",
+        }
+    }
+}
+
+/// The options: the name, the value, and the tasks that allow the option. If several options are refused, the first one
+/// is reported.
+const OPTIONS: [(&str, Value, &[Kind]); 10] = [
+    ("--table", Value::Nothing, &[Kind::Table]),
+    ("--diff", Value::Nothing, &[Kind::Diff]),
+    ("--why", Value::Nothing, &[Kind::Routes]),
+    ("--check", Value::Nothing, &[Kind::Routes]),
+    ("--of", Value::Asn, &[Kind::Table]),
+    ("--json", Value::Nothing, &[Kind::Routes]),
+    ("--line-buffered", Value::Nothing, &[Kind::Routes]),
+    ("--vrps", Value::Vrps, &[Kind::Routes, Kind::Table]),
+    ("--slurm", Value::Slurm, &[Kind::Routes, Kind::Table]),
+    ("--now", Value::Time, &[Kind::Routes, Kind::Table]),
+];
 
 /// The file names that were read so far, without those of options.
 #[derive(Clone, Copy, Debug)]
@@ -180,24 +207,29 @@ enum Next {
     Word,
     /// A file name, because `--` was read.
     Name,
-    /// The AS number of `--of`.
-    Asn,
-    /// The file name of `--vrps`.
-    Vrps,
-    /// The file name of `--slurm`.
-    Slurm,
-    /// The time of `--now`.
-    Time,
+    /// The value of the option with this name.
+    Value(&'static str, Value),
 }
 
 /// The words that were read so far.
 #[derive(Debug, Drop)]
 struct Read<'a> {
-    options: Options<'a>,
+    /// The names of the options.
+    options: Vec<&'static str>,
+    of: Option<u32>,
+    slurm: Option<&'a str>,
+    now: Option<u64>,
     names: Names<'a>,
     /// The VRP files, with those of `--vrps`, in the order of the words.
     files: Vec<&'a str>,
     next: Next,
+}
+
+impl Read<'_> {
+    /// Returns whether the option was passed.
+    fn has(&self, option: &str) -> bool {
+        self.options.iter().any(|name| *name == option)
+    }
 }
 
 /// Returns the task of the command line. Its first word is the program's name.
@@ -208,17 +240,10 @@ struct Read<'a> {
 /// - [`OrMemory::Memory`]: an allocation failed.
 pub fn parse(alloc: Global, words: &[String]) -> Result<Task<'_>, OrMemory<Misuse<'_>>> {
     let mut read = Read {
-        options: Options {
-            why: false,
-            json: false,
-            check: false,
-            table: false,
-            diff: false,
-            vrps: false,
-            of: None,
-            slurm: None,
-            now: None,
-        },
+        options: Vec::new(alloc),
+        of: None,
+        slurm: None,
+        now: None,
         names: Names::None,
         files: Vec::new(alloc),
         next: Next::Word,
@@ -240,19 +265,31 @@ pub fn parse(alloc: Global, words: &[String]) -> Result<Task<'_>, OrMemory<Misus
 /// Reads a word that is neither `--help` nor `--version`.
 fn take<'a>(read: &mut Read<'a>, word: &'a str) -> Result<(), OrMemory<Misuse<'a>>> {
     match read.next {
-        Next::Asn => read.options.of = Some(asn_after(read.options.of, word)?),
-        Next::Vrps => read.files.push(word)?,
-        Next::Slurm => match read.options.slurm {
-            None => read.options.slurm = Some(word),
+        Next::Value(_, value) => take_value(read, value, word),
+        Next::Name => take_name(read, word),
+        Next::Word => if !word.starts_with('-') || word == STANDARD_INPUT {
+            take_name(read, word)
+        } else {
+            take_option(read, word)
+        },
+    }
+}
+
+/// Reads the value of an option.
+fn take_value<'a>(
+    read: &mut Read<'a>,
+    value: Value,
+    word: &'a str,
+) -> Result<(), OrMemory<Misuse<'a>>> {
+    match value {
+        Value::Nothing => {}
+        Value::Asn => read.of = Some(asn_after(read.of, word)?),
+        Value::Vrps => read.files.push(word)?,
+        Value::Slurm => match read.slurm {
+            None => read.slurm = Some(word),
             Some(_) => return Err(OrMemory::Refused(Misuse::SecondSlurm(word))),
         },
-        Next::Time => read.options.now = Some(time_after(read.options.now, word)?),
-        Next::Name => return take_name(read, word),
-        Next::Word => if !word.starts_with('-') || word == STANDARD_INPUT {
-            return take_name(read, word);
-        } else {
-            return take_option(read, word);
-        },
+        Value::Time => read.now = Some(time_after(read.now, word)?),
     }
     read.next = Next::Word;
     Ok(())
@@ -285,23 +322,21 @@ fn take_name<'a>(read: &mut Read<'a>, name: &'a str) -> Result<(), OrMemory<Misu
 
 /// Reads an option.
 fn take_option<'a>(read: &mut Read<'a>, word: &'a str) -> Result<(), OrMemory<Misuse<'a>>> {
-    match word {
-        "--why" => read.options.why = true,
-        "--json" => read.options.json = true,
-        "--check" => read.options.check = true,
-        "--table" => read.options.table = true,
-        "--diff" => read.options.diff = true,
-        "--of" => read.next = Next::Asn,
-        "--vrps" => {
-            read.options.vrps = true;
-            read.next = Next::Vrps;
-        }
-        "--slurm" => read.next = Next::Slurm,
-        "--now" => read.next = Next::Time,
-        "--" => read.next = Next::Name,
-        _ => return Err(OrMemory::Refused(Misuse::UnknownOption(word))),
+    if word == "--" {
+        read.next = Next::Name;
+        return Ok(());
     }
-    Ok(())
+    for (name, value, _) in OPTIONS {
+        if name == word {
+            read.options.push(name)?;
+            read.next = match value {
+                Value::Nothing => Next::Word,
+                _ => Next::Value(name, value),
+            };
+            return Ok(());
+        }
+    }
+    Err(OrMemory::Refused(Misuse::UnknownOption(word)))
 }
 
 /// Returns the file names after one more.
@@ -316,83 +351,68 @@ fn with_name<'a>(names: Names<'a>, name: &'a str) -> Names<'a> {
 
 /// Returns the task of all words, or the reason why they are not a task.
 fn task_of(read: Read<'_>) -> Result<Task<'_>, Misuse<'_>> {
-    let Read {
-        options,
-        names,
-        files,
-        next,
-    } = read;
-    match next {
-        Next::Asn => return Err(Misuse::OfWithoutAsn),
-        Next::Vrps => return Err(Misuse::WithoutName("--vrps")),
-        Next::Slurm => return Err(Misuse::WithoutName("--slurm")),
-        Next::Time => return Err(Misuse::NowWithoutTime),
-        Next::Word | Next::Name => {}
+    if let Next::Value(name, value) = read.next {
+        return Err(Misuse::WithoutValue(name, value.shown()));
     }
-    check_options(options)?;
-    if options.diff {
-        return changes(names);
+    let kind = kind_of(&read)?;
+    check_options(&read, kind)?;
+    if kind == Kind::Diff {
+        return changes(read.names);
     }
-    match names {
+    match read.names {
         Names::Two(_, name) | Names::More(name) => return Err(Misuse::TooManyNames(name)),
         Names::None | Names::One(_) => {}
     }
+    let answers = Answers {
+        why: read.has("--why"),
+        json: read.has("--json"),
+        check: read.has("--check"),
+        line_buffered: read.has("--line-buffered"),
+    };
+    let Read {
+        of,
+        slurm,
+        now,
+        files,
+        ..
+    } = read;
     let input = Input {
         files,
-        slurm: options.slurm,
-        time: options.now,
+        slurm,
+        time: now,
     };
-    check_input(options.table, &input)?;
-    if options.table {
-        return Ok(Task::Table {
-            input,
-            of: options.of,
-        });
+    check_input(kind, &input)?;
+    if kind == Kind::Table {
+        return Ok(Task::Table { input, of });
     }
-    Ok(Task::Answer {
-        input,
-        answers: Answers {
-            why: options.why,
-            json: options.json,
-            check: options.check,
-        },
-    })
+    Ok(Task::Answer { input, answers })
 }
 
-/// Returns the first two options that exclude each other as an error.
-fn check_options<'a>(options: Options<'a>) -> Result<(), Misuse<'a>> {
-    if options.table && options.diff {
-        return Err(Misuse::Options("--table", "--diff"));
+/// Returns the task that the options name.
+fn kind_of<'a>(read: &Read<'a>) -> Result<Kind, Misuse<'a>> {
+    match (read.has("--table"), read.has("--diff")) {
+        (true, true) => Err(Misuse::Options("--table", "--diff")),
+        (true, false) => Ok(Kind::Table),
+        (false, true) => Ok(Kind::Diff),
+        (false, false) => Ok(Kind::Routes),
     }
-    if options.why && options.table {
-        return Err(Misuse::Options("--why", "--table"));
-    }
-    if options.why && options.diff {
-        return Err(Misuse::Options("--why", "--diff"));
-    }
-    if options.check && options.table {
-        return Err(Misuse::Options("--check", "--table"));
-    }
-    if options.check && options.diff {
-        return Err(Misuse::Options("--check", "--diff"));
-    }
-    if options.of.is_some() && !options.table {
-        return Err(Misuse::OfWithoutTable);
-    }
-    if options.json && options.table {
-        return Err(Misuse::Options("--json", "--table"));
-    }
-    if options.json && options.diff {
-        return Err(Misuse::Options("--json", "--diff"));
-    }
-    if options.vrps && options.diff {
-        return Err(Misuse::Options("--vrps", "--diff"));
-    }
-    if options.slurm.is_some() && options.diff {
-        return Err(Misuse::Options("--slurm", "--diff"));
-    }
-    if options.now.is_some() && options.diff {
-        return Err(Misuse::Options("--now", "--diff"));
+}
+
+/// Returns the first option that the task does not allow as an error.
+fn check_options<'a>(read: &Read<'a>, kind: Kind) -> Result<(), Misuse<'a>> {
+    let of_kind = if kind == Kind::Diff {
+        "--diff"
+    } else {
+        "--table"
+    };
+    for (name, _, kinds) in OPTIONS {
+        if kinds.contains(&kind) || !read.has(name) {
+            continue;
+        }
+        if kinds.contains(&Kind::Routes) {
+            return Err(Misuse::Options(name, of_kind));
+        }
+        return Err(Misuse::Needs(name, "--table"));
     }
     Ok(())
 }
@@ -408,7 +428,7 @@ fn changes<'a>(names: Names<'a>) -> Result<Task<'a>, Misuse<'a>> {
 }
 
 /// Returns an error if there is no VRP file, or if the standard input can't be each file that it stands for.
-fn check_input<'a>(is_table: bool, input: &Input<'a>) -> Result<(), Misuse<'a>> {
+fn check_input<'a>(kind: Kind, input: &Input<'a>) -> Result<(), Misuse<'a>> {
     if input.files.is_empty() {
         return Err(Misuse::TooFewNames);
     }
@@ -418,7 +438,7 @@ fn check_input<'a>(is_table: bool, input: &Input<'a>) -> Result<(), Misuse<'a>> 
         .filter(|name| **name == STANDARD_INPUT)
         .count();
     let is_slurm = input.slurm == Some(STANDARD_INPUT);
-    if !is_table && (of_vrps > 0 || is_slurm) {
+    if kind == Kind::Routes && (of_vrps > 0 || is_slurm) {
         return Err(Misuse::RoutesAreThere);
     }
     if of_vrps > 1 || (of_vrps > 0 && is_slurm) {

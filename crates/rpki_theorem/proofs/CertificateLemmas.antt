@@ -1,0 +1,98 @@
+-- What certificates leave, and what an accepted certificate lists.
+use Rattle.rpki_theorem.proofs.Common.{All, Claim, ExceedsAt, Holds, IsIssued, IsLeft, IsPathResult, Leaves, List}
+use Rattle.rpki_theorem.proofs.Common.{Lists}
+use Rattle.rpki_theorem.proofs.Common.{Refuse, Runs, Step, absurd, arith, get_or, length, subst, take, ℕ, ◌<◌, ◌↔◌, ◌≡◌}
+use Rattle.rpki_theorem.proofs.Common.{◌⊎◌}
+use Rattle.rpki_theorem.proofs.NumberLemmas.{Holds-decided, Leaves-decided, all_decided}
+use Rattle.rpki_chain.specs.declared.path.Overclaim.{Overclaim}
+use Rattle.rpki_extensions.specs.Claims.{AreClaims}
+use Rattle.rpki_extensions.specs.Issued.{IsVerified}
+use Rattle.rpki_extensions.specs.Kinds.{AreSteps, ClaimTriple, IsResultOfEach}
+use Rattle.rpki_extensions.specs.declared.extensions.Extensions.{Extensions}
+use Rattle.rpki_resources.specs.Triples.{Triple}
+
+-- a fact that is decided, and that doesn't fail, holds
+holds_unless : {A : Type 0} → A ⊎ (A → ⊥) → ((A → ⊥) → ⊥) → A
+holds_unless decided fails = grind (arith, decided, fails)
+
+-- ---- one certificate
+
+-- what is accepted in mode Refuse lists only numbers of the issuer
+listed_inside : (issuer issued : Runs) (claim : Claim) (mode : Overclaim) → IsIssued (Holds issuer) claim mode issued
+    → mode ≡ Refuse → (n : ℕ) → Lists claim n → Holds issuer n
+listed_inside issuer issued claim mode h refuse n listed =
+    let k : IsIssued (Holds issuer) claim Refuse issued =
+    subst (λ m. IsIssued (Holds issuer) claim m issued) refuse h in
+    holds_unless (Holds-decided issuer n) (λ outside. k.accepted n (listed, outside))
+
+-- each number of the set is the issuer's and is claimed, and each such number is in the set
+pub issued_members : (issuer : Triple) (certificate : Extensions) (set : Triple) → IsVerified issuer certificate set
+    → (asn : Claim) × (v4 : Claim) × (v6 : Claim) × AreClaims certificate asn v4 v6
+    × ((n : ℕ) → Holds set.asn n ↔ (Holds issuer.asn n × Leaves asn n))
+    × ((n : ℕ) → Holds set.ipv4 n ↔ (Holds issuer.ipv4 n × Leaves v4 n))
+    × ((n : ℕ) → Holds set.ipv6 n ↔ (Holds issuer.ipv6 n × Leaves v6 n))
+issued_members issuer certificate set (asn, v4, v6, claims, each) = (
+  asn,
+  v4,
+  v6,
+  claims,
+  each.asn.runs.members,
+  each.of_families.0.runs.members,
+  each.of_families.1.runs.members,
+)
+
+-- an accepted certificate lists only numbers of the issuer
+pub accepted_inside : (issuer : Triple) (certificate : Extensions) (set : Triple) → IsVerified issuer certificate set
+    → (asn : Claim) × (v4 : Claim) × (v6 : Claim) × AreClaims certificate asn v4 v6
+    × (certificate.mode ≡ Refuse → (n : ℕ) → (Lists asn n → Holds issuer.asn n)
+    × (Lists v4 n → Holds issuer.ipv4 n) × (Lists v6 n → Holds issuer.ipv6 n))
+accepted_inside issuer certificate set (asn, v4, v6, claims, each) = (
+  asn,
+  v4,
+  v6,
+  claims,
+  λ refuse n. (
+    listed_inside issuer.asn set.asn asn certificate.mode each.asn refuse n,
+    listed_inside issuer.ipv4 set.ipv4 v4 certificate.mode each.of_families.0 refuse n,
+    listed_inside issuer.ipv6 set.ipv6 v6 certificate.mode each.of_families.1 refuse n,
+  ),
+)
+
+-- ---- a path
+
+module _ {R : Type 0} (claim : R → Claim) (root : Runs) where
+  -- whether both facts hold is decided if each is
+  both_decided : {A B : Type 0} → A ⊎ (A → ⊥) → B ⊎ (B → ⊥) → (A × B) ⊎ ((A × B) → ⊥)
+  both_decided a b = grind arith
+
+  -- whether a path leaves a number is decided
+  IsLeft-decided : (steps : List (Step R)) (n : ℕ)
+      → IsLeft claim (Holds root) steps n ⊎ (IsLeft claim (Holds root) steps n → ⊥)
+  IsLeft-decided steps n =
+      both_decided (Holds-decided root n)
+      (all_decided (λ (s : Step R). Leaves (claim s.claim) n) (λ s. Leaves-decided (claim s.claim) n) steps)
+
+  -- what is accepted in mode Refuse lies in what the steps before it leave
+  pub inside_issuer : (set : Runs) (steps : List (Step R)) (at n : ℕ) (step : Step R)
+      → IsPathResult claim (Holds root) steps set → at < length steps → get_or steps at step ≡ step
+      → step.mode ≡ Refuse → Lists (claim step.claim) n → IsLeft claim (Holds root) (take at steps) n
+  inside_issuer set steps at n step h lt is refuse listed =
+      grind (arith, IsLeft-decided (take at steps) n, h.accepted at n)
+
+-- a path of certificates: each that is accepted in mode Refuse lists only what those before it leave
+pub accepted_on_path : (anchor set : Triple) (certificates : List Extensions)
+    → ((steps : List (Step ClaimTriple)) × AreSteps certificates steps × IsResultOfEach anchor steps set)
+    → (steps : List (Step ClaimTriple)) × AreSteps certificates steps × ((at n : ℕ) (step : Step ClaimTriple)
+    → at < length steps → get_or steps at step ≡ step → step.mode ≡ Refuse
+    → (Lists step.claim.asn n → IsLeft (λ claims. claims.asn) (Holds anchor.asn) (take at steps) n)
+    × (Lists step.claim.ipv4 n → IsLeft (λ claims. claims.ipv4) (Holds anchor.ipv4) (take at steps) n)
+    × (Lists step.claim.ipv6 n → IsLeft (λ claims. claims.ipv6) (Holds anchor.ipv6) (take at steps) n))
+accepted_on_path anchor set certificates (steps, are, each) = (
+  steps,
+  are,
+  λ at n step lt is refuse. (
+    inside_issuer (λ claims. claims.asn) anchor.asn set.asn steps at n step each.asn lt is refuse,
+    inside_issuer (λ claims. claims.ipv4) anchor.ipv4 set.ipv4 steps at n step each.ipv4 lt is refuse,
+    inside_issuer (λ claims. claims.ipv6) anchor.ipv6 set.ipv6 steps at n step each.ipv6 lt is refuse,
+  ),
+)

@@ -1,0 +1,4 @@
+pub mod CertificateLemmas
+pub mod Common
+pub mod NumberLemmas
+pub mod ReadLemmas

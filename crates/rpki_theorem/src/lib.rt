@@ -1,0 +1,24 @@
+//! The theorem as clauses: what the public calls of the libraries do, in the words of their definitions.
+//!
+//! Each public function is a sentence of the theorem. Its body makes the public calls that the sentence is about, and
+//! returns their results. Its clauses say what the results are. They cite only definitions of the crates below.
+//! `docs/AUDIT.md` has the theorem, and an order in which to read it.
+//!
+//! A router's cache changes its table by calls that are not in this crate, and neither are files, runs over lines and
+//! calls from C. This sentence is in `routes`:
+//!
+//! ```rust
+//! let listed = origin(route, asn, vrps);
+//! match OriginTable::new(alloc, vrps) {
+//!     Ok(table) => (listed, Ok(table.origin(route, asn))),
+//!     Err(error) => (listed, Err(error)),
+//! }
+//! ```
+#![tactic(auto)]
+
+pub mod addresses;
+pub mod certificates;
+pub mod numbers;
+pub mod reads;
+pub mod routes;
+pub mod sets;

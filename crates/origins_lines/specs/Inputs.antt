@@ -91,7 +91,8 @@ HasFaultAt (Some time) file fault = HasExpiryFault file fault
 -- why the file of VRPs at an index could not be opened or read
 abbrev pub IsFileStepError : Option ℕ → ℕ → Option (List ℕ) → Bool → InputsError → Type 0
 IsFileStepError time index file mark (InputsError.NotOpened at) = (at ≡ index) × (mark ≡ true)
-IsFileStepError time index file mark (InputsError.File at error) = (at ≡ index) × IsFileError (HasFaultAt time) file mark error
+IsFileStepError time index file mark (InputsError.File at error) =
+    (at ≡ index) × IsFileError (HasFaultAt time) file mark error
 IsFileStepError time index file mark (InputsError.Slurm at error) = ⊥
 IsFileStepError time index file mark (InputsError.NoVrpLeft all) = ⊥
 IsFileStepError time index file mark InputsError.Memory = ⊥

@@ -4,9 +4,9 @@ ghost use Rattle.origins_lines.specs.declared.error.InputsError.TheVariants.{Mem
 
 use crate::file::Numbers;
 use lines_engine::error::RunError;
-use roa_vrps::expiry::ExpiryFault;
 use roa_slurm::SlurmFault;
 use roa_vrps::FileFault;
+use roa_vrps::expiry::ExpiryFault;
 use std::alloc::{AllocError, AllocFailed};
 use std::{error, fmt};
 use thiserror::Error;

@@ -12,9 +12,9 @@ use crate::error::{ReadFileError, ReadSlurmError, ReadUnexpiredError, ReadVrpsEr
 use lines_engine::device::Source;
 use lines_engine::engine::read_to_end;
 use lines_engine::error::RunError;
-use roa_vrps::expiry::{ExpiryFault, UnexpiredVrps, read_unexpired};
 use roa_origin::Vrp;
 use roa_slurm::{Slurm, read_slurm};
+use roa_vrps::expiry::{ExpiryFault, UnexpiredVrps, read_unexpired};
 use roa_vrps::read_vrps;
 use rpki_base::memory::OrMemory;
 use std::alloc::Allocator;

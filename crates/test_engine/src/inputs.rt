@@ -10,8 +10,8 @@ use origins_lines::file::Numbers;
 use origins_lines::inputs::{Inputs, Selection, read_inputs};
 use origins_lines::routes::answer_inputs;
 use origins_lines::tables::list_inputs;
-use roa_vrps::expiry::ExpiryFault;
 use roa_vrps::FileFault;
+use roa_vrps::expiry::ExpiryFault;
 use std::alloc::Global;
 use test_support::{Outcome, Refusing, refuse_in_turn};
 

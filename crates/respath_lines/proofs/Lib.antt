@@ -1,4 +1,3 @@
-pub mod CommandLemmas
 pub mod Common
 pub mod CoverCommandLemmas
 pub mod DerCommandLemmas

@@ -1,13 +1,13 @@
 -- The answer to `path`: the resources that remain of the first list after all steps, the first refused step, or the
 -- fault of the first invalid part of the path.
-use Rattle.std.specs.Prelude.{◌≡◌, ◌≢◌, ◌⊎◌, ℕ, ◌==◌, List, [], ◌∷◌, ◌++◌, Result, Ok, Err, codes, decimal}
+use Rattle.std.specs.Prelude.{◌≡◌, ◌≢◌, ◌⊎◌, ℕ, ◌==◌, List, [], ◌∷◌, Some, Result, Ok, Err, codes, unwrap_or}
 use Rattle.std.specs.List.{slice_split, before_first, after_first}
 use Rattle.std.specs.Str.{trim}
 use Rattle.rpki_text.specs.Lists.{HaveValues, HasFirstFault}
 use Rattle.rpki_text.specs.declared.memory.OrMemory.{OrMemory}
 use Rattle.rpki_text.specs.declared.memory.OrMemory.TheVariants.{Refused, Memory}
 use Rattle.rpki_chain.specs.Claims.{Claim, claim_of}
-use Rattle.rpki_chain.specs.Paths.{IsPathResult, IsFirstRefusal}
+use Rattle.rpki_chain.specs.Paths.{IsPathResult, IsFirstRefusal, path_refusal_text}
 use Rattle.rpki_chain.specs.Runs.{Runs, Holds}
 use Rattle.rpki_chain.specs.declared.choice.ResourcesChoice.TheVariants.{Missing, Inherit}
 use Rattle.rpki_chain.specs.declared.path.Overclaim.{Overclaim}
@@ -94,10 +94,9 @@ abbrev pub part_fault_text : {E : Type 0} → (E → List ℕ) → PartFault E �
 part_fault_text fault_text UnknownStep = codes "unknown step"
 part_fault_text fault_text (BadList fault) = fault_text fault
 
--- the text printed for a refusal: the index of the refused step, and its fault
+-- the text printed for a refusal whose fault has this text
 abbrev pub refusal_text : {F : Type 0} → (F → List ℕ) → PathRefusal F → List ℕ
-refusal_text excess_text refusal =
-    codes "refused at step " ++ decimal refusal.step ++ codes ": " ++ excess_text refusal.fault
+refusal_text excess_text refusal = unwrap_or (path_refusal_text (λ fault. Some (excess_text fault)) refusal) []
 
 -- the text is that of the resources that remain after a path, or that of a refusal; an out-of-memory error has no text
 abbrev pub ShowsLeft : {S F : Type 0} → (S → List ℕ) → (F → List ℕ) → Result S (OrMemory (PathRefusal F)) → List ℕ

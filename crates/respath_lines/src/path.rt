@@ -4,7 +4,7 @@ ghost use Rattle.std.specs.String.{string_bytes};
 ghost use Rattle.rpki_as.specs.Faults.{overclaimed_as_text};
 ghost use Rattle.rpki_as.specs.ListText.{as_list_text};
 ghost use Rattle.rpki_ipres.specs.SetText.{overclaimed_ip_text, set_text};
-ghost use Rattle.respath_lines.specs.Path.{IsPathAnswer, IsPathAs, IsPathIp, ShowsLeft, part_fault_text, refusal_text};
+ghost use Rattle.respath_lines.specs.Path.{IsPathAnswer, IsPathAs, IsPathIp, ShowsLeft, part_fault_text};
 ghost use Rattle.respath_lines.specs.Shown.{error_line};
 
 use crate::kind::{Kind, kind_named};
@@ -91,7 +91,7 @@ fn write_left_as<A: Allocator>(
 {
     match left {
         Ok(set) => print(answer, &set),
-        Err(OrMemory::Refused(refusal)) => refused(refusal, answer),
+        Err(OrMemory::Refused(refusal)) => print(answer, &refusal),
         Err(OrMemory::Memory(error)) => Err(error),
     }
 }
@@ -113,24 +113,10 @@ fn write_left_ip<A: Allocator>(
         Ok(set) => print_set(answer, family, &set),
         Err(OrMemory::Refused(PathRefusal { step, fault })) => {
             let fault = fault.display_with_family(family);
-            refused(PathRefusal { step, fault }, answer)
+            print(answer, &PathRefusal { step, fault })
         }
         Err(OrMemory::Memory(error)) => Err(error),
     }
-}
-
-/// Prints a refusal: the index of the refused step, and the overclaimed resources.
-fn refused<F: fmt::Display + Drop, A: Allocator>(
-    refusal: PathRefusal<F>,
-    answer: &mut String<A>,
-) -> Result<(), AllocError>
-    // The answer has the text that the fault prints.
-    ensures { (excess_text : F → List ℕ) → ((fault : F) → F.output fault ≡ Some (excess_text fault))
-        → OnOk result (string_bytes answer.new ≡ refusal_text excess_text refusal) }
-{
-    let PathRefusal { step, fault } = refusal;
-    answer.clear();
-    write!(answer, "refused at step {step}: {fault}")
 }
 
 /// Prints the fault of an invalid part of a path.

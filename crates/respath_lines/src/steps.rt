@@ -6,7 +6,7 @@ ghost use Rattle.respath_lines.specs.Path.{ArePath, HasRootFault, HasStepFault, 
 
 use crate::command::cut_at_space;
 use crate::lists::Lists;
-use rpki_base::memory::OrMemory;
+use rpki_base::memory::{OrMemory, refused_as};
 use rpki_chain::path::{Overclaim, Step};
 use std::alloc::Allocator;
 
@@ -51,11 +51,7 @@ fn read_root<A: Allocator + Copy, L: Lists<A>>(
     ensures { MatchResult result (λ set. L.writes lists.now list.now (L.runs set))
         (IfRefused (HasRootFault (L.fails lists.now) list.now)) }
 {
-    match lists.read(alloc, list) {
-        Ok(set) => Ok(set),
-        Err(OrMemory::Refused(fault)) => Err(OrMemory::Refused(PartFault::BadList(fault))),
-        Err(OrMemory::Memory(error)) => Err(OrMemory::Memory(error)),
-    }
+    refused_as(lists.read(alloc, list), |fault| PartFault::BadList(fault))
 }
 
 /// Returns the steps in a text, which `|` separates, or the fault of the first part that is not a step.

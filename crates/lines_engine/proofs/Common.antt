@@ -1,6 +1,6 @@
 -- What the proofs of this crate use of std, of the crates below and of its own definitions, passed on by one name.
 pub use Rattle.std.proofs.Common.{Err, List, None, Option, Some, [], ap, append-nil, append_assoc, arith, drop, length}
-pub use Rattle.std.proofs.Common.{add-one, get_or, set, true, zero, ◌∙◌, Bool}
+pub use Rattle.std.proofs.Common.{add-one, get_or, rules, set, true, zero, ◌∙◌, Bool}
 pub use Rattle.std.proofs.Common.{length-append, refl, suc, sym, take, vec_len, ℕ, ◌++◌, ◌+◌, ◌-◌, ◌<◌, ◌^◌, ◌∷◌, ◌≡◌}
 pub use Rattle.std.proofs.Common.{◌≢◌, ◌≤◌}
 pub use Rattle.std.proofs.lemmas.Grind.{common_steps, flat_map-append}

@@ -1,10 +1,13 @@
 -- What a run writes. `old` and `new` are the known bytes of the writer before and after the run. `Is` says which texts
 -- are answers to a line.
-use Rattle.std.specs.Prelude.{◌≡◌, ◌≢◌, ℕ, List, [], ◌∷◌, ◌++◌, Option, None, Some, ⊤}
+use Rattle.std.specs.Prelude.{◌≡◌, ◌≢◌, ℕ, Bool, true, List, [], ◌∷◌, ◌++◌, Option, None, Some, IfSome, ⊤}
+use Rattle.std.specs.Prelude.{Result, OnOk, IsErrOf}
 use Rattle.std.specs.List.{AllZip, flat_map}
-use Rattle.std.specs.Io.KnownBytes.{Appends}
+use Rattle.std.specs.Io.KnownBytes.{Appends, IsAtEnd}
 use Rattle.rpki_text.specs.Cuts.{HasNo}
 use Rattle.rpki_text.specs.Lines.{lines_of}
+use Rattle.lines_engine.specs.declared.error.RunError.{RunError}
+use Rattle.lines_engine.specs.declared.error.RunError.TheVariants.{Read, Write, Memory}
 
 -- a text and the end of line after it
 abbrev pub as_line : List ℕ → List ℕ
@@ -72,3 +75,26 @@ AnswersBut Is old new (Some input) (Some left) part =
 abbrev pub AnswersEnded : (List ℕ → List ℕ → Type 0) → Option (List ℕ) → Option (List ℕ) → Option (List ℕ)
     → Option (List ℕ) → Type 0
 AnswersEnded Is old new input left = (part : List ℕ) × HasNo 10 part × AnswersBut Is old new input left part
+
+-- A run of a reader and a writer ended with `result`. They were `reader` and `writer` before it, and are `reader'` and
+-- `writer'` after it. The first five arguments are the ghost members of their types.
+pub record IsRun {X R W : Type 0} (read_mark : R → Bool) (left : R → Option (List ℕ)) (write_mark : W → Bool)
+    (written : W → Option (List ℕ)) (is_flushed : W → Bool) (Is : List ℕ → List ℕ → Type 0) (reader reader' : R)
+    (writer writer' : W) (result : Result X RunError) : Type 0 where
+  -- Ok: no call failed, the input was read to its end, each answer was written whole, and the writer is flushed.
+  pub unmarked : OnOk result ((read_mark reader' ≡ read_mark reader) × (write_mark writer' ≡ write_mark writer))
+  pub read_whole : OnOk result (IsAtEnd (left reader'))
+  pub answered : OnOk result (IfSome (left reader) (AnswersAll Is (written writer) (written writer')))
+  pub flushed : OnOk result (is_flushed writer' ≡ true)
+  -- Read: a read failed, and no write did. Each run says by a clause of its own what was written.
+  pub read : IsErrOf result Read → (read_mark reader' ≡ true) × (write_mark writer' ≡ write_mark writer)
+  -- Memory: no call failed. The answers to some first lines were written whole, and nothing else. They are not the
+  -- answers to all lines, unless the input has no line.
+  pub memory_unmarked : IsErrOf result Memory
+      → (read_mark reader' ≡ read_mark reader) × (write_mark writer' ≡ write_mark writer)
+  pub some_answered : IsErrOf result Memory → IfSome (left reader) (AnswersFirst Is (written writer) (written writer'))
+  -- Write: a write or the flush failed, or a write took no byte, and no read failed. A beginning of the answers was
+  -- written.
+  pub write : IsErrOf result Write → write_mark writer' ≡ true
+  pub no_read_failed : IsErrOf result Write → read_mark reader' ≡ read_mark reader
+  pub some_written : IsErrOf result Write → IfSome (left reader) (BeginsAnswers Is (written writer) (written writer'))

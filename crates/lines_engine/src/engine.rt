@@ -2,7 +2,7 @@
 ghost use Rattle.std.specs.Prelude.{◌≡◌, ◌<◌, [], ℕ, true, false, vec_len, IfOk, IfErr, IfSome, OnOk, OnErr, IsErrOf, List};
 ghost use Rattle.std.specs.Io.KnownBytes.{IsAtEnd, Keeps};
 ghost use Rattle.std.specs.String.{string_bytes};
-ghost use Rattle.lines_engine.specs.Run.{HasWritten, AnswersAll, AnswersFirst, BeginsAnswers, as_line};
+ghost use Rattle.lines_engine.specs.Run.{HasWritten, AnswersAll, AnswersFirst, BeginsAnswers, IsRun, as_line};
 
 use crate::answers::Answers;
 use crate::device::{DeviceFault, Sink, Source};
@@ -44,32 +44,10 @@ pub fn run<A: Allocator + Copy, L: Answers, R: Source, W: Sink>(
     // No call of `reader` or `writer` has failed.
     requires reader_clear { R.mark reader.old ≡ false }
     requires writer_clear { W.mark writer.old ≡ false }
-
-    // Ok: no call failed, the input was read to its end, each answer was written whole, and the writer is flushed.
-    ensures unmarked { OnOk result ((R.mark reader.new ≡ R.mark reader.old)
-        × (W.mark writer.new ≡ W.mark writer.old)) }
-    ensures read_whole { OnOk result (IsAtEnd (R.left reader.new)) }
-    ensures answered { OnOk result (IfSome (R.left reader.old)
-        (AnswersAll (L.is_answer answers.now) (W.written writer.old) (W.written writer.new))) }
-    ensures flushed { OnOk result (W.flushed writer.new ≡ true) }
-
-    // Read: a read failed, and nothing was written.
-    ensures read { IsErrOf result RunError.Read → R.mark reader.new ≡ true }
+    ensures run { IsRun R.mark R.left W.mark W.written W.flushed (L.is_answer answers.now) reader.old reader.new
+        writer.old writer.new result }
+    // Read: nothing was written.
     ensures nothing_written { IsErrOf result RunError.Read → writer.new ≡ writer.old }
-
-    // Memory: no call failed. The answers to some first lines were written whole, and nothing else. They are not the
-    // answers to all lines, unless the input has no line.
-    ensures memory_unmarked { IsErrOf result RunError.Memory →
-        (R.mark reader.new ≡ R.mark reader.old) × (W.mark writer.new ≡ W.mark writer.old) }
-    ensures some_answered { IsErrOf result RunError.Memory → IfSome (R.left reader.old)
-        (AnswersFirst (L.is_answer answers.now) (W.written writer.old) (W.written writer.new)) }
-
-    // Write: a write or the flush failed, or a write took no byte, and no read failed. A beginning of the answers was
-    // written.
-    ensures write { IsErrOf result RunError.Write → W.mark writer.new ≡ true }
-    ensures no_read_failed { IsErrOf result RunError.Write → R.mark reader.new ≡ R.mark reader.old }
-    ensures some_written { IsErrOf result RunError.Write → IfSome (R.left reader.old)
-        (BeginsAnswers (L.is_answer answers.now) (W.written writer.old) (W.written writer.new)) }
 {
     let input = read_to_end(alloc, reader)?;
     answer_lines(alloc, answers, &input, writer)?;

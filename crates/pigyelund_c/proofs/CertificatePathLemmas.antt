@@ -4,7 +4,7 @@ use Rattle.std.proofs.lemmas.List.{take_more}
 use Rattle.std.specs.Prelude.{◌↔◌}
 use Rattle.rpki_chain.specs.declared.path.Step.{Step}
 use Rattle.rpki_resources.specs.Triples.{IsTriple, Triple}
-use Rattle.rpki_extensions.proofs.VerifiedKinds.{result_of_each}
+use Rattle.rpki_extensions.proofs.VerifiedKinds.{AreRuns, result_of_each, verified_of_each}
 use Rattle.rpki_extensions.specs.Kinds.{AreSteps, ClaimTriple, IsResultOfEach}
 use Rattle.rpki_extensions.specs.declared.encoding.Encoding.{Encoding}
 use Rattle.rpki_extensions.specs.Paths.{IsVerifiedPath}
@@ -58,11 +58,17 @@ module _ (run : List ℕ) (encoding : Encoding) where
   -- and of each kind it is what a path of claims leaves
   pub kinds_of_path : (anchor set : Triple) (cs : List Certificate) → IsTriple anchor
       → IsLeftOnPath run encoding anchor cs set
-      → (certificates : List Extensions) × (steps : List (Step ClaimTriple))
+      ↔ ((certificates : List Extensions) × (steps : List (Step ClaimTriple))
       × AreCertificatesAt run encoding cs certificates × AreSteps certificates steps
-      × IsResultOfEach anchor steps set
-  kinds_of_path anchor set cs is path =
-      let found = extensions_of cs anchor set path in
-      let kinds = result_of_each found.0 anchor set
-      (record { asn = is.asn.are_runs; ipv4 = is.ipv4.0.are_runs; ipv6 = is.ipv6.are_runs }) found.2 in
-      (found.0, kinds.0, found.1, kinds.1, kinds.2)
+      × IsResultOfEach anchor steps set)
+  kinds_of_path anchor set cs is =
+      let runs : AreRuns anchor =
+      record { asn = is.asn.are_runs; ipv4 = is.ipv4.0.are_runs; ipv6 = is.ipv6.are_runs } in (
+        λ path.
+            let found = extensions_of cs anchor set path in
+            let kinds = result_of_each found.0 anchor set runs found.2 in
+            (found.0, kinds.0, found.1, kinds.1, kinds.2),
+        λ (certificates, steps, are, own, left).
+            certificates_of cs certificates anchor set are
+            (verified_of_each certificates steps anchor set runs own left),
+      )

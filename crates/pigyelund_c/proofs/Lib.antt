@@ -1,4 +1,5 @@
 pub mod CertificatePathLemmas
 pub mod CoverOctetLemmas
+pub mod OutcomeLemmas
 pub mod RangeLemmas
 pub mod RequestLemmas

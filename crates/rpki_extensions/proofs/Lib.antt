@@ -1,4 +1,5 @@
 pub mod Common
+pub mod DecidedRuns
 pub mod EncodingLemmas
 pub mod IssuedSetLemmas
 pub mod KindPaths

@@ -65,11 +65,11 @@ and_then {V} {W} {E} {Has} {Next} {Fails} {NextFails} one next = record {
 -- ---- one claim
 
 -- no runs hold no number
-none_held : (n : ℕ) → Holds [] n → ⊥
+pub none_held : (n : ℕ) → Holds [] n → ⊥
 none_held n (k, x, lt, e, w) = omega arith
 
 -- runs of a set without numbers are no runs
-no_runs : (S : ℕ → Type 0) (runs : Runs) → IsRunsOf S runs → ((n : ℕ) → S n → ⊥) → runs ≡ []
+pub no_runs : (S : ℕ → Type 0) (runs : Runs) → IsRunsOf S runs → ((n : ℕ) → S n → ⊥) → runs ≡ []
 no_runs S [] is none = refl
 no_runs S (run ∷ runs) is none =
     let within : (run.0 ≤ run.0) × (run.0 ≤ run.1) = (omega arith, is.ordered 0 run (omega arith)) in

@@ -1,5 +1,5 @@
 -- The first certificate of a path that is refused, one certificate after another.
-use Rattle.rpki_extensions.proofs.Common.{List, [], arith, get_or, length, take, ℕ, ◌<◌, ◌∷◌, ◌≡◌}
+use Rattle.rpki_extensions.proofs.Common.{List, [], arith, get_or, length, refl, take, ℕ, ◌<◌, ◌∷◌, ◌≡◌}
 use Rattle.rpki_extensions.proofs.Common.{Triple, HasVerifyError, IsVerified, IsVerifiedPath, Extensions}
 use Rattle.std.proofs.Common.{suc, zero}
 use Rattle.rpki_extensions.specs.Paths.{IsFirstVerifyError}
@@ -33,3 +33,14 @@ module _ {A : Type 0} where
       → IsFirstVerifyError anchor certificates refusal → IsRefusedAt anchor certificates refusal.step refusal.reason
   refused_at anchor certificates refusal (certificate, small, is, (issuer, path, refused)) =
       refused_from certificates refusal.step certificate anchor issuer refusal.reason small is path refused
+
+  -- a certificate that is refused at an index is the first one
+  pub refused_first : (certificates : List Extensions) (at : ℕ) (anchor : Triple) (reason : VerifyError A)
+      → IsRefusedAt anchor certificates at reason
+      → IsFirstVerifyError anchor certificates (record { step = at; reason = reason })
+  refused_first [] at anchor reason refused = absurd refused
+  refused_first (certificate ∷ certificates) zero anchor reason refused =
+      (certificate, omega arith, refl, (anchor, refl, refused))
+  refused_first (certificate ∷ certificates) (suc at) anchor reason (next, one, refused) =
+      let (found, small, is, (issuer, path, refusal)) = refused_first certificates at next reason refused in
+      (found, omega (arith, small), is, (issuer, (next, one, path), refusal))

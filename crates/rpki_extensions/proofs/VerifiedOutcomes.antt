@@ -44,7 +44,7 @@ lists_none claim set h inherits = rw inherits at h
 
 module _ {A : Type 0} where
   -- the claims of a trust anchor list a set, or one is inherited
-  one_list : (claims : ClaimTriple)
+  pub one_list : (claims : ClaimTriple)
       → OneOutcome (AreListed claims.asn claims.ipv4 claims.ipv6)
       (λ (reason : VerifyError A). (reason ≡ Inherited) × IsOneInherited claims.asn claims.ipv4 claims.ipv6)
   one_list claims = record {

@@ -2,7 +2,7 @@
 //!
 //! For one input a call has at most one value or one refusal, apart from out of memory. A path of certificates is a
 //! path of claims for each kind of resources.
-ghost use Rattle.std.specs.Prelude.{◌<◌, ◌^◌, ◌+◌, IfSome, List, Option, length, take, ℕ};
+ghost use Rattle.std.specs.Prelude.{◌<◌, ◌^◌, ◌+◌, ◌↔◌, IfSome, List, Option, length, take, ℕ};
 ghost use Rattle.std.specs.List.{All};
 ghost use Rattle.rpki_chain.specs.declared.path.Step.{Step};
 ghost use Rattle.rpki_resources.specs.Triples.{IsTriple, Triple};
@@ -61,17 +61,17 @@ pub fn outcomes_of_paths<A: Allocator>()
 
 /// States that a path of certificates is a path of claims of each kind.
 ///
-/// - `result`: if a path leaves a set, each certificate has claims. The set of each kind is the result of the path of
-///   the claims of that kind.
-/// - `refusal`: if a certificate overclaims, it and those before it have claims. The overclaimed resources are the
-///   first refusal of the paths of claims.
+/// - `result`: a path leaves a set if and only if each certificate has claims, and the set of each kind is the result
+///   of the path of the claims of that kind.
+/// - `refusal`: a certificate is the first one that overclaims if and only if two things hold. It and those before it
+///   have claims. The overclaimed resources are the first refusal of the paths of claims.
 pub fn kinds_of_paths<A: Allocator>()
     ensures result { (anchor set : Triple) (certificates : List Extensions) → IsTriple anchor →
-        IsVerifiedPath anchor certificates set → (steps : List (Step ClaimTriple))
-        × AreSteps certificates steps × IsResultOfEach anchor steps set }
+        IsVerifiedPath anchor certificates set ↔ ((steps : List (Step ClaimTriple))
+        × AreSteps certificates steps × IsResultOfEach anchor steps set) }
     ensures refusal { (anchor : Triple) (certificates : List Extensions)
         (refusal : VerifyPathError A) → NamesExcess refusal.reason →
-        IsFirstVerifyError anchor certificates refusal → (steps : List (Step ClaimTriple))
+        IsFirstVerifyError anchor certificates refusal ↔ ((steps : List (Step ClaimTriple))
         × AreSteps (take (refusal.step + 1) certificates) steps
-        × IsFirstOfEach anchor steps refusal.step refusal.reason }
+        × IsFirstOfEach anchor steps refusal.step refusal.reason) }
 {}

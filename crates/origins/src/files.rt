@@ -3,8 +3,8 @@ ghost use Rattle.std.specs.Prelude.{◌≡◌, false, None};
 
 use crate::options::{Input, STANDARD_INPUT};
 use lines_engine::device::{DeviceFault, Source};
+use lines_engine::retrying::Retrying;
 use origins_lines::inputs::{Inputs, Selection};
-use origins_lines::retrying::Retrying;
 use std::fs;
 use std::fs::File;
 use std::io::{Read, Stdin};

@@ -17,15 +17,15 @@ use crate::report::{Counted, Summary};
 use lines_engine::adapters::{FromRead, IntoBufWriter, IntoWrite};
 use lines_engine::device::{Sink, Source};
 use lines_engine::error::RunError;
-use origins_lines::check::STATE;
-use origins_lines::check_sink::Watched;
+use lines_engine::retrying::Retrying;
+use lines_engine::until_end::UntilEnd;
+use lines_engine::watched::Watched;
+use origins_lines::check::{STATE, Seen};
 use origins_lines::error::{ChangesError, OriginsError};
 use origins_lines::explanation::Form;
 use origins_lines::inputs::Report;
-use origins_lines::retrying::Retrying;
 use origins_lines::routes::answer_inputs;
 use origins_lines::tables::{list_inputs, write_changes};
-use origins_lines::until_end::UntilEnd;
 use rpki_base::Asn;
 use rpki_base::memory::OrMemory;
 use std::fs::File;
@@ -119,7 +119,7 @@ fn checked<W: Sink + Drop>(
         return (writer, ended, false);
     }
     let place = if answers.json { STATE } else { 0 };
-    let mut watched = Watched::with_place(writer, place);
+    let mut watched = Watched::new(writer, Seen::nothing(place));
     let ended = write_answers(rt, input, answers, &mut watched);
     let has_found = watched.has_found();
     (watched.into_inner(), ended, has_found)

@@ -4,10 +4,9 @@ use Rattle.origins_lines.proofs.Common.{◌≡◌, ◌≤◌, ◌⊎◌, IsTrue,
 use Rattle.std.proofs.lemmas.Bool.{cases_lt}
 use Rattle.std.proofs.lemmas.List.{get_or_append_left, get_or_push, take-append-le, take_all, take_more}
 use Rattle.std.proofs.Common.{append-nil, append_assoc, get_or, min, refl, take, true, ◌+◌, ◌<◌}
-use Rattle.std.specs.Prelude.{IfSome, Option, ◌==◌, if◌then◌else◌}
-use Rattle.std.specs.Io.KnownBytes.{Appends, Keeps}
-use Rattle.origins_lines.specs.Checks.{column_after, column_of, column_with, is_same_state, known_seen, seen_behind}
-use Rattle.origins_lines.specs.Checks.{seen_nothing, seen_with}
+use Rattle.std.specs.Prelude.{◌==◌, if◌then◌else◌}
+use Rattle.origins_lines.specs.Checks.{column_after, column_of, column_with, is_same_state, is_state_after}
+use Rattle.origins_lines.specs.Checks.{seen_behind, seen_nothing, seen_with}
 use Rattle.origins_lines.specs.declared.check.Seen.{Seen}
 
 -- the column behind one more octet
@@ -49,11 +48,6 @@ pub behind_both : (seen : Seen) (octets more : List ℕ)
     → seen_behind seen (octets ++ more) ≡ seen_behind (seen_behind seen octets) more
 behind_both seen [] more = refl
 behind_both seen (octet ∷ octets) more = behind_both (seen_with seen octet) octets more
-
-pub behind_one : (seen : Seen) (octets : List ℕ) (i : ℕ) → i < length octets
-    → seen_behind seen (take (i + 1) octets) ≡ seen_with (seen_behind seen (take i octets)) (get_or octets i 0)
-behind_one seen octets i less =
-    rw (take_more octets i 0 less) (behind_both seen (take i octets) (get_or octets i 0 ∷ []))
 
 -- the place stays
 pub same_place : (seen : Seen) (octets : List ℕ) → (seen_behind seen octets).place ≡ seen.place
@@ -103,15 +97,12 @@ whole_seen place octets = all_seen place [] (seen_nothing place) octets (nothing
 same_seen : (a b : Seen) → a.place ≡ b.place → is_same_state a b ≡ true → a ≡ b
 same_seen a b place same = grind (arith)
 
--- a watched sink grows as its own does, and tells what it has found
-pub known_more : (old new : Option (List ℕ)) (seen : Seen) (octets : List ℕ) → Appends old new octets
-    → Appends (known_seen seen old) (known_seen (seen_behind seen octets) new) octets
-known_more old new seen octets grew = grind (arith, behind_both, same_place, same_seen)
+-- the state after octets and one more
+pub state_with : (seen : Seen) (octets : List ℕ) (octet : ℕ) → is_state_after seen octets ≡ true
+    → is_state_after (seen_with seen octet) (octets ++ octet ∷ []) ≡ true
+state_with seen octets octet so_far = grind (arith, behind_both, same_place, same_seen)
 
-pub known_kept : (old new : Option (List ℕ)) (seen : Seen) → Keeps old new
-    → Keeps (known_seen seen old) (known_seen seen new)
-known_kept old new seen kept = grind (arith)
-
-pub known_found : (seen : Seen) (known : Option (List ℕ))
-    → IfSome (known_seen seen known) (λ octets. IsTrue seen.has_found ↔ HasFound seen.place octets)
-known_found seen known = grind (arith, whole_seen, same_place, same_seen)
+-- what the state says of octets
+pub state_found : (seen : Seen) (octets : List ℕ) → is_state_after seen octets ≡ true
+    → IsTrue seen.has_found ↔ HasFound seen.place octets
+state_found seen octets so_far = grind (arith, whole_seen, same_place, same_seen)

@@ -1,6 +1,6 @@
 -- The lines that a check looks for: at a place they have 'i' or 'e', as the answers to invalid routes and errors do.
 use Rattle.std.specs.Prelude.{◌≡◌, ◌==◌, ◌&&◌, ◌||◌, ℕ, ◌+◌, ◌<◌, ◌⊎◌, ◌↔◌, Bool, false, IsTrue, List, [], ◌∷◌}
-use Rattle.std.specs.Prelude.{Option, None, Some, length, min, nat_le, not, slice_index_or, take, if◌then◌else◌}
+use Rattle.std.specs.Prelude.{length, min, nat_le, not, slice_index_or, take, if◌then◌else◌}
 use Rattle.roa_origin.specs.Validities.{IsValidity}
 use Rattle.roa_origin.specs.Vrps.{Vrp}
 use Rattle.roa_origin.specs.declared.validation.Validity.TheVariants.{Invalid}
@@ -71,8 +71,6 @@ is_same a b = if a then b else not b
 abbrev pub is_same_state : Seen → Seen → Bool
 is_same_state a b = a.column == b.column && is_same a.has_found b.has_found
 
--- the known octets if `seen` is the state of a check of them; otherwise they are unknown
-abbrev pub known_seen : Seen → Option (List ℕ) → Option (List ℕ)
-known_seen seen None = None
-known_seen seen (Some octets) =
-    if is_same_state (seen_behind (seen_nothing seen.place) octets) seen then Some octets else None
+-- whether the state is that of a check of these octets
+abbrev pub is_state_after : Seen → List ℕ → Bool
+is_state_after seen octets = is_same_state (seen_behind (seen_nothing seen.place) octets) seen

@@ -1,5 +1,5 @@
--- Definitions: the lines of routes, and their answers by VRPs. Also the rest of a reader, what is read of files, the
--- bytes that runs leave in a writer by the octets of their inputs, and the lines that a check looks for in these bytes.
+-- Definitions: the lines of routes, and their answers by VRPs. Also what is read of files, the bytes that runs leave in
+-- a writer by the octets of their inputs, and the lines that a check looks for in these bytes.
 pub mod Answers
 pub mod Begun
 pub mod Checks
@@ -9,7 +9,6 @@ pub mod Forms
 pub mod Inputs
 pub mod JsonAnswers
 pub mod Outcomes
-pub mod Readers
 pub mod Routes
 pub mod Runs
 pub mod Words

@@ -1,6 +1,8 @@
 //! Finds invalid routes and invalid lines in the answers to routes.
-ghost use Rattle.std.specs.Prelude.{◌≡◌, ◌++◌, ◌↔◌, ◌⊎◌, [], ℕ, IsTrue, List};
-ghost use Rattle.origins_lines.specs.Checks.{IsSeen, IsFaultInitial, column_with, seen_behind, seen_nothing, seen_with};
+ghost use Rattle.std.specs.Prelude.{◌≡◌, ◌↔◌, ◌⊎◌, [], IsTrue};
+ghost use Rattle.origins_lines.specs.Checks.{IsSeen, IsFaultInitial, column_with, seen_nothing, seen_with};
+
+use lines_engine::watched::Watch;
 
 /// The state of a check after some bytes.
 ///
@@ -17,7 +19,7 @@ pub struct Seen {
     pub has_found: bool,
 }
 
-/// The place of the state's first byte in an object of [`JsonRoutes`](crate::JsonRoutes).
+/// The place of the state's first byte in an object of JSON ([`Routes`](crate::Routes)).
 pub const STATE: u8 = 10;
 
 /// Returns whether a check looks for lines that begin with `byte`.
@@ -68,7 +70,7 @@ impl Seen {
     }
 
     /// Returns the state after one more byte.
-    fn with(self, byte: u8) -> Seen
+    fn after(self, byte: u8) -> Seen
         ensures { result ≡ seen_with self byte }
     {
         Seen {
@@ -77,16 +79,22 @@ impl Seen {
             has_found: self.has_found_with(byte),
         }
     }
+}
 
-    /// Returns the state after the bytes of `piece`.
-    pub fn with_all(self, piece: &[u8]) -> Seen
-        ensures seen { (octets : List ℕ) → IsSeen self.place octets self → IsSeen self.place (octets ++ piece.now) result }
-        ensures value { result ≡ seen_behind self piece.now }
-    {
-        let mut seen = self;
-        for byte in piece {
-            seen = seen.with(*byte);
-        }
-        seen
+impl Watch for Seen {
+    ghost use Rattle.origins_lines.specs.Checks.{HasFound, is_state_after};
+
+    ghost sees = { λ seen octets. is_state_after seen octets };
+
+    ghost is_found = { λ seen octets. HasFound seen.place octets };
+
+    #[tactic(auto, using(crate::proofs::CheckLemmas::state_with))]
+    fn with(self, byte: u8) -> Seen {
+        self.after(byte)
+    }
+
+    #[tactic(auto, using(crate::proofs::CheckLemmas::state_found))]
+    fn has_found(self) -> bool {
+        self.has_found
     }
 }

@@ -4,14 +4,14 @@ use crate::routes::{ANSWERS, FILES, ROUTES};
 use crate::slices::{Habits, SliceSink};
 use lines_engine::adapters::FromRead;
 use lines_engine::error::RunError;
+use lines_engine::retrying::Retrying;
+use lines_engine::until_end::UntilEnd;
 use origins_lines::error::{
     ChangesError, InputsError, OriginsError, ReadSlurmError, ReadUnexpiredError, ReadVrpsError,
 };
 use origins_lines::explanation::Form;
 use origins_lines::file::{Numbers, read_file};
-use origins_lines::retrying::Retrying;
 use origins_lines::routes::answer_by;
-use origins_lines::until_end::UntilEnd;
 use roa_vrps::FileFault;
 use roa_vrps::expiry::ExpiryFault;
 use std::alloc::Global;

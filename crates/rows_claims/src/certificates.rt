@@ -121,11 +121,18 @@ struct Certificate<A: Allocator> {
 impl<A: Allocator> Certificate<A> {
     fn extensions(&self) -> Extensions<'_> {
         Extensions {
-            numbers: self.numbers.as_deref(),
-            addresses: self.addresses.as_deref(),
+            numbers: slice_of(&self.numbers),
+            addresses: slice_of(&self.addresses),
             encoding: self.encoding,
             mode: self.mode,
         }
+    }
+}
+
+fn slice_of<A: Allocator>(octets: &Option<Vec<u8, A>>) -> Option<&[u8]> {
+    match octets {
+        Some(octets) => Some(octets.as_slice()),
+        None => None,
     }
 }
 

@@ -1,10 +1,7 @@
 //! The first prefix that is not inside a set of resources.
-use crate::elements;
+use crate::{elements, triples};
 use roa_check::outside;
-use rpki_base::memory::OrMemory;
 use rpki_prefix::MaxLenPrefix;
-use rpki_resources::repository::resources::ResourceSet;
-use rpki_resources::repository::resources::set::FromStrError;
 use std::alloc::{AllocError, Allocator};
 use test_support::print::{cut_at, refused};
 
@@ -22,20 +19,12 @@ fn of_prefixes<A: Allocator + Copy>(
     lists: &str,
     prefixes: &[MaxLenPrefix],
 ) -> Result<String<A>, AllocError> {
-    match first_outside(alloc, lists, prefixes) {
-        Ok(found) => format!(in alloc; "{found:?}"),
+    match triples::read(alloc, lists) {
+        Ok(set) => index_text(alloc, outside(&set, prefixes)),
         Err(error) => refused(alloc, error),
     }
 }
 
-/// Returns the index of the first prefix that is not inside the set that three lists denote.
-fn first_outside<A: Allocator + Copy>(
-    alloc: A,
-    lists: &str,
-    prefixes: &[MaxLenPrefix],
-) -> Result<Option<usize>, OrMemory<FromStrError>> {
-    let (asn, addresses) = cut_at(lists, ';');
-    let (ipv4, ipv6) = cut_at(addresses, ';');
-    let set = ResourceSet::from_strs(alloc, asn, ipv4, ipv6)?;
-    Ok(outside(&set, prefixes))
+fn index_text<A: Allocator>(alloc: A, found: Option<usize>) -> Result<String<A>, AllocError> {
+    format!(in alloc; "{found:?}")
 }

@@ -57,7 +57,10 @@ def said_by(words: tuple[str, ...], copy: Path, bin_folder: Path | None = None, 
     if bin_folder:
         own["PATH"] = f"{bin_folder}:{os.environ['PATH']}"
     how = {"stdin": subprocess.DEVNULL, "stdout": subprocess.PIPE, "stderr": subprocess.STDOUT, "timeout": 300}
-    ran = subprocess.run(words, cwd=copy, env=os.environ | own | variables, text=True, errors="replace", **how)
+    try:
+        ran = subprocess.run(words, cwd=copy, env=os.environ | own | variables, text=True, errors="replace", **how)
+    except subprocess.TimeoutExpired as late:
+        return 124, f"no end after {late.timeout} seconds"
     return ran.returncode, ran.stdout
 
 

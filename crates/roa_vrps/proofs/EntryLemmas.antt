@@ -75,52 +75,29 @@ time_some text a h empty = let e = (number_answers (2 ^ 64 - 1) text (Err Empty)
 
 line_one : (column : Option ℕ) (line : List ℕ) (a b : Option ℕ) → IsLineExpiry column line a
     → IsLineExpiry column line b → a ≡ b
-line_one None line a b h k = h ∙ sym k
-line_one (Some n) line None None h k = refl
-line_one (Some n) line None (Some b) h k = absurd (time_some _ b k h)
-line_one (Some n) line (Some a) None h k = absurd (time_some _ a h k)
-line_one (Some n) line (Some a) (Some b) h k = ap Some (time_one _ a b h k)
+line_one column line a b h k = grind (arith, time_one, time_some)
 
 line_apart : (column : Option ℕ) (line : List ℕ) (a : Option ℕ) → IsLineExpiry column line a
     → HasLineExpiryFault column line → ⊥
-line_apart None line a h wrong = wrong
-line_apart (Some n) line None h (some, none) = some h
-line_apart (Some n) line (Some a) h (some, none) = none a h
+line_apart column line a h wrong = grind (arith)
 
 item_one : (value : Json) (a b : Option ℕ) → IsItemExpiry value a → IsItemExpiry value b → a ≡ b
-item_one value None None h k = refl
-item_one value None (Some b) h (text, is, _) = absurd (cc (sym h ∙ is))
-item_one value (Some a) None (text, is, _) k = absurd (cc (sym k ∙ is))
-item_one value (Some a) (Some b) (s, is, h) (t, iz, k) =
-    let same : s ≡ t = cc in ap Some (time_one t a b (rw same at h) k)
+item_one value a b h k = grind (arith, time_one)
 
 item_apart : (value : Json) (a : Option ℕ) (f : ExpiresFault) → IsItemExpiry value a → HasExpiresFault value f → ⊥
-item_apart value None (Member w) h (some, wrong) = grind (arith)
-item_apart value None Number h (text, is, _) = cc (sym h ∙ is)
-item_apart value (Some a) (Member w) (text, is, _) (_, wrong) =
-    wrong_apart IsNumeric _ (number text) w is (text, refl) wrong
-item_apart value (Some a) Number (s, is, h) (t, iz, none) =
-    let same : s ≡ t = cc in none a (rw same at h)
+item_apart value a f h wrong = grind (arith, wrong_apart)
 
 item_fault_one : (value : Json) (d e : ExpiresFault) → HasExpiresFault value d → HasExpiresFault value e → d ≡ e
-item_fault_one value (Member w) (Member v) (_, h) (_, k) = ap Member (wrong_one IsNumeric _ w v h k)
-item_fault_one value (Member w) Number (_, h) (text, is, _) =
-    absurd (wrong_apart IsNumeric _ (number text) w is (text, refl) h)
-item_fault_one value Number (Member w) (text, is, _) (_, k) =
-    absurd (wrong_apart IsNumeric _ (number text) w is (text, refl) k)
-item_fault_one value Number Number h k = refl
+item_fault_one value d e h k = grind (arith, wrong_apart, wrong_one)
 
 entry_one : (e : Entry) (a b : Option ℕ) → HasExpiry e a → HasExpiry e b → a ≡ b
-entry_one (line_entry place column line) a b h k = line_one column line a b h k
-entry_one (item_entry place value) a b h k = item_one value a b h k
+entry_one e a b h k = grind (arith, item_one, line_one)
 
 entry_apart : (e : Entry) (a : Option ℕ) (f : ExpiryFault) → HasExpiry e a → HasEntryFault e f → ⊥
-entry_apart (line_entry place column line) a f h (wrong, _) = line_apart column line a h wrong
-entry_apart (item_entry place value) a f h (w, wrong, _) = item_apart value a w h wrong
+entry_apart e a f h wrong = grind (arith, item_apart, line_apart)
 
 entry_fault_one : (e : Entry) (d f : ExpiryFault) → HasEntryFault e d → HasEntryFault e f → d ≡ f
-entry_fault_one (line_entry place column line) d f (_, h) (_, k) = h ∙ sym k
-entry_fault_one (item_entry place value) d f (w, h, is) (v, k, iz) = rw (is, iz, item_fault_one value w v h k) refl
+entry_fault_one e d f h k = grind (arith, item_fault_one)
 
 pub expiries_one : (entries : List Entry) (a b : Dates) → AreExpiries entries a → AreExpiries entries b → a ≡ b
 expiries_one [] a b h k = h ∙ sym k

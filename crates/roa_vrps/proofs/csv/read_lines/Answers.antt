@@ -1,4 +1,4 @@
-use Rattle.roa_vrps.proofs.Common.{arith, refl, eqb-false, eqb-true, nil_from_length, Header, Vrp}
+use Rattle.roa_vrps.proofs.Common.{arith, refl, eqb-false, eqb-true, nil_from_length, Header}
 use Rattle.roa_vrps.proofs.CsvLemmas.{read_no_vrp, read_none, read_over, read_some, read_vrp, read_wrong}
 use Rattle.roa_vrps.proofs.csv.read_lines.Goals as goal
 

@@ -46,6 +46,7 @@ from reference.addresses import Family
 from reference.calls_from_c import (
     ADDRESSES, BOTH, LENIENT, NUMBERS, ON_SETS, REFUSE, STRICT, TRIM, Octets, Place, Question, answer, vrp_of, written
 )
+from reference.lines import COMMANDS
 from reference.random_lines import Maker
 from reference.sets import merged
 
@@ -449,7 +450,7 @@ def of_lines() -> Iterator[Question]:
     """Yields valid and damaged lines of each command, and lines without a known command."""
     for line in (b"", b" ", b"\xff", b"norm", b"norm v5 0.0.0.0", b"cover as AS1", b"NORM as AS1", b"der as inherit\0"):
         yield Question("answer", (), (line, b""))
-    for command in ("norm", "cover", "der", "read", "path"):
+    for command in COMMANDS:
         maker = Maker(command, 34)
         for _ in range(60):
             yield Question("answer", (), (maker.line(), b""))

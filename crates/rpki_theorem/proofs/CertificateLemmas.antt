@@ -1,7 +1,7 @@
 -- What certificates leave, and what an accepted certificate lists.
-use Rattle.rpki_theorem.proofs.Common.{All, Claim, ExceedsAt, Holds, IsIssued, IsLeft, IsPathResult, Leaves, List}
+use Rattle.rpki_theorem.proofs.Common.{Claim, Exceeds, Holds, IsIssued, IsLeft, IsPathResult, Leaves, List}
 use Rattle.rpki_theorem.proofs.Common.{Lists}
-use Rattle.rpki_theorem.proofs.Common.{Refuse, Runs, Step, absurd, arith, get_or, length, subst, take, ℕ, ◌<◌, ◌↔◌, ◌≡◌}
+use Rattle.rpki_theorem.proofs.Common.{Refuse, Runs, Step, arith, get_or, length, subst, sym, take, ℕ, ◌<◌, ◌↔◌, ◌≡◌}
 use Rattle.rpki_theorem.proofs.Common.{◌⊎◌}
 use Rattle.rpki_theorem.proofs.NumberLemmas.{Holds-decided, Leaves-decided, all_decided}
 use Rattle.rpki_chain.specs.declared.path.Overclaim.{Overclaim}
@@ -77,7 +77,10 @@ module _ {R : Type 0} (claim : R → Claim) (root : Runs) where
       → IsPathResult claim (Holds root) steps set → at < length steps → get_or steps at step ≡ step
       → step.mode ≡ Refuse → Lists (claim step.claim) n → IsLeft claim (Holds root) (take at steps) n
   inside_issuer set steps at n step h lt is refuse listed =
-      grind (arith, IsLeft-decided (take at steps) n, h.accepted at n)
+      let S = IsLeft claim (Holds root) (take at steps) in
+      holds_unless (IsLeft-decided (take at steps) n) (λ outside.
+      h.accepted at n
+      (step, lt, is, subst (λ m. Exceeds S (claim step.claim) m n) (sym refuse) (listed, outside)))
 
 -- a path of certificates: each that is accepted in mode Refuse lists only what those before it leave
 pub accepted_on_path : (anchor set : Triple) (certificates : List Extensions)

@@ -78,7 +78,14 @@ pub built_of_blocks : {B : Type 0} (f : B → ℕ × ℕ) (start made : Runs) (b
 built_of_blocks f start made blocks set none added h =
     let same : made ≡ map f blocks = grind (arith, none, added) in
     let k : IsRunsOf (Holds (map f blocks)) set = subst (λ runs. IsRunsOf (Holds runs) set) same h in
-    grind (arith, k, Holds-map f blocks)
+    record {
+      members = λ n. (
+        λ held. (Holds-map f blocks n).0 ((k.members n).0 held),
+        λ covered. (k.members n).1 ((Holds-map f blocks n).1 covered),
+      );
+      ordered = k.ordered;
+      apart = k.apart;
+    }
 
 -- two sets have the same numbers if and only if they were made of the same numbers
 pub same_members : (S U : ℕ → Type 0) (a b : Runs) → IsRunsOf S a → IsRunsOf U b

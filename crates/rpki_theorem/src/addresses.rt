@@ -89,7 +89,7 @@ pub fn written<F: Family, A: Allocator + Copy>(
     rpki_ipres::der::laws::canonical(); // and encode alike only then
     a.recall_invariant();
     b.recall_invariant();
-    let equal = a == b;
+    let equal = *a == *b;
     let text = format!(in alloc; "{a}")?;
     let other_text = format!(in alloc; "{b}")?;
     let mut octets = Vec::new(alloc);

@@ -18,7 +18,9 @@
 
 pub mod addresses;
 pub mod certificates;
+pub mod claims;
 pub mod numbers;
 pub mod reads;
+pub mod resources;
 pub mod routes;
 pub mod sets;

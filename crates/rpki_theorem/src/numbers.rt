@@ -77,7 +77,7 @@ pub fn written<A: Allocator + Copy>(
     rpki_as::der::laws::written_sets(); // and encode alike only then
     a.recall_invariant();
     b.recall_invariant();
-    let equal = a == b;
+    let equal = *a == *b;
     let text = format!(in alloc; "{a}")?;
     let other_text = format!(in alloc; "{b}")?;
     let mut octets = Vec::new(alloc);

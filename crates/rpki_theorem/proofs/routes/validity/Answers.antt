@@ -1,10 +1,9 @@
 -- A route has one validity by a list and by the table of the list.
-use Rattle.rpki_theorem.proofs.Common.{refl}
 use Rattle.rpki_theorem.proofs.routes.validity.Goals as goal
 
 pub returns-in-Ok-clause-table : goal.returns-in-Ok-clause-table
 returns-in-Ok-clause-table g c =
     let route = c.args.route in
     let asn = c.args.asn in
-    c.laws_of_validities.ensures.one route asn c.in-Ok.table c.origin-2.result c.origin-listed.result c.origin-2.ensures
+    c.laws_of_validities.ensures.one route asn _ c.origin.result c.origin-listed.result c.origin.ensures
     (c.in-Ok.ensures.validity route asn c.origin-listed.result c.origin-listed.ensures)

@@ -1,5 +1,4 @@
 -- Both sets are the runs of their blocks, and blocks have one list of runs.
-use Rattle.rpki_theorem.proofs.Common.{arith}
 use Rattle.rpki_theorem.proofs.NumberLemmas.{same_members}
 use Rattle.rpki_theorem.proofs.sets.chains.Goals as goal
 

@@ -1,0 +1,8 @@
+-- The cursor takes the value at the front of the octets.
+use Rattle.rpki_theorem.proofs.ReadLemmas.{found_at_front}
+use Rattle.rpki_theorem.proofs.numbers.read.Goals as goal
+
+pub returns-clause-lenient : goal.returns-clause-lenient
+returns-clause-lenient g c =
+    found_at_front _ _ _ c.args.octets.now c.take_from-lenient.result c.new-cursor.ensures.octets
+    (c.take_from-lenient.ensures.reads c.new-cursor.ensures.mode)

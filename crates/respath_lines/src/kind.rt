@@ -3,14 +3,17 @@ ghost use Rattle.respath_lines.specs.Kinds.{IsKindNamed};
 
 /// The kind of the blocks of a list: AS numbers, or addresses of a family.
 #[derive(Clone, Copy)]
-pub(crate) enum Kind {
+pub enum Kind {
+    /// AS numbers.
     As,
+    /// IPv4 addresses.
     V4,
+    /// IPv6 addresses.
     V6,
 }
 
 /// Returns the kind with the name `as`, `v4` or `v6`, or None for any other word.
-pub(crate) fn kind_named(word: &str) -> Option<Kind>
+pub fn kind_named(word: &str) -> Option<Kind>
     ensures { IsKindNamed word.now result }
 {
     match word {

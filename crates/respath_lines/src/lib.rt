@@ -15,14 +15,14 @@ ghost use Rattle.respath_lines.specs.Answer.{IsAnswer};
 mod command;
 mod cover;
 mod der;
-mod kind;
+pub mod kind;
 pub mod laws;
 pub mod lines;
 mod lists;
 mod norm;
 mod path;
 mod read;
-mod steps;
+pub mod steps;
 mod write_answer;
 
 use command::cut_at_space;

@@ -116,7 +116,7 @@ fn read_step<A: Allocator + Copy, L: Lists<A>>(
 }
 
 /// Returns the mode with the name `refuse` or `trim`, or None for any other word.
-fn mode_named(word: &str) -> Option<Overclaim>
+pub fn mode_named(word: &str) -> Option<Overclaim>
     ensures { MatchOption result ((word.now ≢ codes "refuse") × (word.now ≢ codes "trim"))
         (IsMode word.now) }
 {

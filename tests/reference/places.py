@@ -1,8 +1,7 @@
 """The answers of `respath --where`.
 
 After an error or a refusal they have a tab and the position of the first wrong or overclaimed element. The reference
-does not compute it from beginnings of the line. It reads each element alone, and it claims each element of a refused
-step alone.
+reads each element alone, and it claims each element of a refused step alone.
 """
 
 import re
@@ -11,8 +10,8 @@ from collections.abc import Iterator
 from . import lines, texts
 from .faults import Fault
 
-# The commands whose argument is a list or a path of lists.
-LISTED = ("norm", "cover", "der", "path")
+# The commands whose argument is neither a list nor a path of lists.
+NOT_LISTED = ("read",)
 # The errors that no single element causes.
 OF_LINE = ("error: not UTF-8", "error: unknown kind", "error: unknown command")
 _CONTROL = re.compile("[\x00-\x1f\x7f-\x9f]")
@@ -75,7 +74,7 @@ def place_of(line: bytes, answer: str) -> str | None:
         return None
     command, rest = texts.cut(line.decode(), " ")
     kind, argument = texts.cut(rest, " ")
-    if command not in LISTED:
+    if command in NOT_LISTED:
         return None
     if command != "path":
         return first_wrong(kind, argument)

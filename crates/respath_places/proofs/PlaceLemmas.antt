@@ -1,25 +1,16 @@
--- Where texts may be cut, and how they are shown.
-use Rattle.respath_places.proofs.Common.{Bool, List, [], append_assoc, arith, drop, get_or, length, ℕ, ◌++◌, ◌+◌, ◌-◌}
-use Rattle.respath_places.proofs.Common.{◌<◌, ◌≡◌, ◌≤◌, ◌∷◌}
-use Rattle.std.proofs.Common.{length-take}
-use Rattle.std.proofs.lemmas.List.{append-nil, map-append}
-use Rattle.std.proofs.lemmas.List.Sums.{count_by-le-length}
-use Rattle.std.proofs.lemmas.Str.{IsCharBoundary-after_ascii, encodes-append}
-use Rattle.std.specs.Prelude.{count_by, encode_utf8, encode_utf8_all, map, slice_range}
-use Rattle.std.specs.Str.{IsCharBoundary, IsUtf8}
+-- The characters of a text as they are shown, and results of calls.
+use Rattle.respath_places.proofs.Common.{IsTrue, List, Option, Some, [], append_assoc, arith, map, map-append, refl, ℕ}
+use Rattle.respath_places.proofs.Common.{◌++◌, ◌≡◌, ◌∷◌, ◌↔◌}
+use Rattle.std.proofs.lemmas.List.{append-nil}
+use Rattle.std.proofs.lemmas.Str.{encodes-append}
+use Rattle.std.specs.Prelude.{Err, MatchOption, None, Ok, Result, encode_utf8, encode_utf8_all, is_ok, ⊤}
+use Rattle.rpki_text.specs.Reading.{Answers}
+use Rattle.respath_lines.specs.declared.kind.Kind.{Kind}
+use Rattle.respath_places.specs.Faults.{IsElementAt, IsFirstWrong, IsListOfStep, IsWrongStep}
 use Rattle.respath_places.specs.Places.{shown_char}
-
--- a text may be cut behind an ASCII byte
-pub boundary_after : (text : List ℕ) (place : ℕ) → IsUtf8 text → 0 < place → place ≤ length text
-    → get_or text (place - 1) 0 < 128 → IsCharBoundary text place
-boundary_after text place utf8 some within low =
-    let same : place - 1 + 1 ≡ place = omega arith in
-    rw same at (IsCharBoundary-after_ascii text (place - 1) utf8 (omega arith) low)
-
--- a count of bytes of a part fits
-pub count_fits : (p : ℕ → Bool) (text : List ℕ) (low high : ℕ) → count_by p (slice_range text low high) ≤ high - low
-count_fits p text low high =
-    grind (arith, count_by-le-length p (slice_range text low high), length-take (high - low) (drop low text))
+use Rattle.respath_places.specs.declared.place.InList.TheVariants.{Step}
+use Rattle.respath_places.specs.declared.place.Place.{Place}
+use Rattle.respath_places.specs.declared.place.Place.TheVariants.{Element, NoStep}
 
 -- the characters of a text are shown one by one
 pub shown_more : (old place new : List ℕ) (cs : List ℕ) (c shown : ℕ) → shown ≡ shown_char c
@@ -34,6 +25,21 @@ shown_more old place new cs c shown is so_far wrote =
       append-nil,
     )
 
--- an index behind a cut
-pub behind_cut : (cut : ℕ) → cut + 1 - 1 ≡ cut
-behind_cut cut = omega arith
+-- a reader returns a value just if the text has one
+pub read_ok : {A E : Type 0} (Has : A → Type 0) (Fails : E → Type 0) (r : Result A E) → Answers Has Fails r
+    → IsTrue (is_ok r) ↔ ((value : A) × Has value)
+read_ok Has Fails (Ok value) answers = (λ _. (value, answers.found), λ _. refl)
+read_ok Has Fails (Err fault) answers = (λ ok. cc, λ has. let no = answers.each_value has.0 has.1 in cc)
+
+-- what is said of a place that is found
+pub weaker : (P Q : Place → Type 0) (r : Option Place) → ((place : Place) → P place → Q place) → MatchOption r ⊤ P
+    → MatchOption r ⊤ Q
+weaker P Q None each found = tt
+weaker P Q (Some place) each found = each place found
+
+-- the first wrong element of the list of a step
+pub in_step : (kind : Kind) (step : ℕ) (part list : List ℕ) (index : ℕ) → IsListOfStep part list
+    → IsFirstWrong kind list index → (place : Place) → IsElementAt (Step step) list index place
+    → IsWrongStep kind step part place
+in_step kind step part list index is first (Element in_list number text) at = (list, is, (index, first, at))
+in_step kind step part list index is first (NoStep number text) at = absurd at

@@ -1,14 +1,32 @@
 -- The lines that a check looks for: the errors and the refusals.
-use Rattle.std.specs.Prelude.{◌==◌, ◌&&◌, ◌||◌, ℕ, ◌+◌, Bool, false, List, [], ◌∷◌, Option, None, Some, length, nat_lt}
-use Rattle.std.specs.Prelude.{not, slice_index, if◌then◌else◌}
-use Rattle.std.specs.List.{Any}
-use Rattle.rpki_text.specs.Lines.{lines_of}
-use Rattle.respath_places.specs.Words.{IsErrorOrRefusal, error_word, refused_word}
+use Rattle.std.specs.Prelude.{◌==◌, ◌&&◌, ◌||◌, ℕ, ◌+◌, Bool, true, false, IsTrue, List, [], ◌∷◌, codes, length}
+use Rattle.std.specs.Prelude.{nat_lt, not, slice_index, if◌then◌else◌}
 use Rattle.respath_places.specs.declared.check.Seen.{Seen}
 
--- one of the lines of the octets is an error or a refusal
+-- the answer to an invalid line begins with it
+abbrev pub error_word : List ℕ
+error_word = codes "error: "
+
+-- the answer to a path with a refused step begins with it
+abbrev pub refused_word : List ℕ
+refused_word = codes "refused "
+
+-- whether octets begin with a word
+abbrev pub begins_with : List ℕ → List ℕ → Bool
+begins_with [] octets = true
+begins_with (first ∷ word) [] = false
+begins_with (first ∷ word) (octet ∷ octets) = first == octet && begins_with word octets
+
+-- whether the octets after a line end, 0a, begin with a word
+abbrev pub has_later : List ℕ → List ℕ → Bool
+has_later word [] = false
+has_later word (octet ∷ octets) = (octet == 10 && begins_with word octets) || has_later word octets
+
+-- a line of the octets begins with one of the words
 abbrev pub HasFaultLine : List ℕ → Type 0
-HasFaultLine octets = Any IsErrorOrRefusal (lines_of octets)
+HasFaultLine octets =
+    IsTrue ((begins_with error_word octets || has_later error_word octets)
+    || (begins_with refused_word octets || has_later refused_word octets))
 
 -- The number of octets by which a line has matched a word, after one more octet. It is one more than the length of the
 -- word if the line does not begin as the word does, or goes on after the word.
@@ -18,12 +36,12 @@ matched_with word count octet =
     else (if nat_lt count (length word) && (slice_index word count == octet) then count + 1 else length word + 1)
 
 -- the state before any octet
-abbrev pub checked_nothing : Seen
-checked_nothing = record { error = 0; refused = 0; has_found = false }
+abbrev pub seen_nothing : Seen
+seen_nothing = record { error = 0; refused = 0; has_found = false }
 
 -- the state after one more octet
-abbrev pub checked_with : Seen → ℕ → Seen
-checked_with seen octet = record {
+abbrev pub seen_with : Seen → ℕ → Seen
+seen_with seen octet = record {
   error = matched_with error_word seen.error octet;
   refused = matched_with refused_word seen.refused octet;
   has_found =
@@ -33,20 +51,11 @@ checked_with seen octet = record {
 }
 
 -- the state after more octets
-abbrev pub checked_behind : Seen → List ℕ → Seen
-checked_behind seen [] = seen
-checked_behind seen (octet ∷ octets) = checked_behind (checked_with seen octet) octets
-
--- whether two booleans are equal
-abbrev pub are_equal : Bool → Bool → Bool
-are_equal a b = if a then b else not b
+abbrev pub seen_after : Seen → List ℕ → Seen
+seen_after seen [] = seen
+seen_after seen (octet ∷ octets) = seen_after (seen_with seen octet) octets
 
 -- whether two states are equal
-abbrev pub are_equal_states : Seen → Seen → Bool
-are_equal_states a b = (a.error == b.error) && ((a.refused == b.refused) && are_equal a.has_found b.has_found)
-
--- the known octets if `seen` is the state of a check of them; otherwise they are unknown
-abbrev pub known_checked : Seen → Option (List ℕ) → Option (List ℕ)
-known_checked seen None = None
-known_checked seen (Some octets) =
-    if are_equal_states (checked_behind checked_nothing octets) seen then Some octets else None
+abbrev pub is_same : Seen → Seen → Bool
+is_same a b =
+    (a.error == b.error) && ((a.refused == b.refused) && (if a.has_found then b.has_found else not b.has_found))

@@ -1,7 +1,4 @@
 pub mod Answers
 pub mod Checks
 pub mod Faults
-pub mod Laws
 pub mod Places
-pub mod Questions
-pub mod Words

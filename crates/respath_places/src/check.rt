@@ -1,6 +1,8 @@
-//! Finds errors and refusals in the answers to lines.
+//! Finds errors and refusals in written answers.
 ghost use Rattle.std.specs.Prelude.{◌≡◌, ◌<◌, length};
-ghost use Rattle.respath_places.specs.Checks.{matched_with, checked_behind, checked_nothing, checked_with};
+ghost use Rattle.respath_places.specs.Checks.{HasFaultLine, is_same, matched_with, seen_after, seen_nothing, seen_with};
+
+use lines_engine::watched::Watch;
 
 /// The start of each answer that reports an invalid line.
 const ERROR: &[u8] = b"error: ";
@@ -8,19 +10,16 @@ const ERROR: &[u8] = b"error: ";
 /// The start of each answer that reports a refused step of a path.
 const REFUSED: &[u8] = b"refused ";
 
-/// The state of a check after some bytes.
+/// The state of a check for lines that begin with `error: ` or `refused `, as answers to invalid lines and to refused
+/// paths do. A line whose end is not written yet counts as a line.
 ///
-/// The check looks for lines that begin with `error: ` or `refused `. It counts for each of the two words how many of
-/// its bytes the line has matched. The count is one more than the length of the word if the line does not begin as the
-/// word does, or goes on after the word.
+/// A count is that of the bytes of a word that the line has matched. It is one more than the length of the word if the
+/// line does not begin as the word does, or goes on after the word.
 #[derive(Clone, Copy, Debug)]
-pub(crate) struct Seen {
-    /// The count for `error: `.
+pub struct Seen {
     error: usize,
-    /// The count for `refused `.
     refused: usize,
-    /// Whether one of the lines begins with one of the words.
-    pub(crate) has_found: bool,
+    has_found: bool,
 }
 
 /// Returns the count for a word after one more byte.
@@ -39,8 +38,8 @@ fn matched_with(word: &[u8], count: usize, byte: u8) -> usize
 
 impl Seen {
     /// Returns the state before any byte.
-    pub(crate) fn nothing() -> Seen
-        ensures { result ≡ checked_nothing }
+    pub fn nothing() -> Seen
+        ensures { result ≡ seen_nothing }
     {
         Seen {
             error: 0,
@@ -50,8 +49,8 @@ impl Seen {
     }
 
     /// Returns the state after one more byte.
-    fn with(self, byte: u8) -> Seen
-        ensures { result ≡ checked_with self byte }
+    fn next(self, byte: u8) -> Seen
+        ensures { result ≡ seen_with self byte }
     {
         let error = matched_with(ERROR, self.error, byte);
         let refused = matched_with(REFUSED, self.refused, byte);
@@ -62,15 +61,19 @@ impl Seen {
             has_found: self.has_found || is_found,
         }
     }
+}
 
-    /// Returns the state after the bytes of `piece`.
-    pub(crate) fn with_all(self, piece: &[u8]) -> Seen
-        ensures { result ≡ checked_behind self piece.now }
-    {
-        let mut seen = self;
-        for byte in piece {
-            seen = seen.with(*byte);
-        }
-        seen
+impl Watch for Seen {
+    ghost sees = { λ seen bytes. is_same (seen_after seen_nothing bytes) seen };
+
+    ghost is_found = { λ _. HasFaultLine };
+
+    fn with(self, byte: u8) -> Seen {
+        self.next(byte)
+    }
+
+    #[tactic(auto, using(crate::proofs::CheckLemmas::seen_found))]
+    fn has_found(self) -> bool {
+        self.has_found
     }
 }

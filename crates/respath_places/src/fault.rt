@@ -1,70 +1,91 @@
-//! The faults of a line that its answer reports.
-ghost use Rattle.std.specs.Prelude.{◌≡◌, ◌↔◌, IsTrue, MatchOption};
-ghost use Rattle.respath_places.specs.Faults.{Reports, ReportsNothing, IsErrorOfLine, fault_word};
-ghost use Rattle.respath_places.specs.Words.{Begins};
+//! The first wrong element of a list or a path.
+ghost use Rattle.std.specs.Prelude.{⊤, ◌↔◌, IsTrue, MatchOption};
+ghost use Rattle.respath_lines.specs.Path.{IsNoStep};
+ghost use Rattle.respath_places.specs.Faults.{IsBlockText, IsElement, IsElementAt, IsFirstWrong, IsList, IsListOfStep, IsStep, IsWrongPath};
 
-/// A fault of an element of a list, or of a part of a path.
-#[derive(Clone, Copy, Debug, PartialEq, Eq)]
-pub(crate) enum Fault {
-    /// An element of a list is wrong.
-    Element,
-    /// A part of a path is not a step.
-    NoStep,
-    /// A step claims more resources than are left before it, and may not.
-    Overclaim,
-}
+use crate::place::{InList, Place};
+use respath_lines::kind::Kind;
+use respath_lines::steps::mode_named;
+use rpki_as_block::block::AsBlock;
+use rpki_ip_block::block::IpBlock;
+use rpki_text::cut::cut_at;
+use std::str::FromStr;
 
-/// Returns whether a text begins with a word.
-#[tactic(auto, using(crate::proofs::FaultLemmas::begins_if))]
-fn begins(text: &str, word: &str) -> bool
-    ensures { IsTrue result ↔ Begins text.now word.now }
+/// Returns whether a text denotes a block of a kind.
+#[tactic(auto, using(crate::proofs::PlaceLemmas::read_ok))]
+fn is_block(kind: Kind, text: &str) -> bool
+    ensures { IsTrue result ↔ IsBlockText kind text.now }
 {
-    text.starts_with(word)
+    match kind {
+        Kind::As => AsBlock::from_str(text).is_ok(),
+        Kind::V4 => IpBlock::from_v4_str(text).is_ok(),
+        Kind::V6 => IpBlock::from_v6_str(text).is_ok(),
+    }
 }
 
-/// Returns whether an answer is an error that no element of a list causes.
-fn is_of_line(answer: &str) -> bool
-    ensures { IsTrue result ↔ IsErrorOfLine answer.now }
+/// Returns whether the text between two commas of a list is empty or a block, without white space at its ends.
+fn is_element(kind: Kind, part: &str) -> bool
+    ensures { IsTrue result ↔ IsElement kind part.now }
 {
-    answer == "error: not UTF-8"
-        || answer == "error: unknown command"
-        || answer == "error: unknown kind"
+    let element = part.trim();
+    element.is_empty() || is_block(kind, element)
 }
 
-/// Returns the fault that an answer reports, if an element of a list or a part of a path can cause it.
-pub(crate) fn fault_of(answer: &str) -> Option<Fault>
-    ensures { MatchOption result (ReportsNothing answer.now) (Reports answer.now) }
+/// Returns the index of the first wrong element of a list.
+pub(crate) fn wrong_element(kind: Kind, list: &str) -> Option<usize>
+    ensures { MatchOption result (IsList kind list.now) (IsFirstWrong kind list.now) }
 {
-    if answer == "error: unknown step" {
-        return Some(Fault::NoStep);
-    }
-    if is_of_line(answer) {
-        return None;
-    }
-    if begins(answer, "error: ") {
-        return Some(Fault::Element);
-    }
-    if begins(answer, "refused ") {
-        return Some(Fault::Overclaim);
-    }
-    None
+    list.split(',').position(|part| !is_element(kind, part))
 }
 
-impl Fault {
-    /// Returns the word that the answer to a beginning of a line begins with if it has such a fault.
-    fn word(self) -> &'static str
-        ensures { result.now ≡ fault_word self }
-    {
-        match self {
-            Fault::Element | Fault::NoStep => "error: ",
-            Fault::Overclaim => "refused ",
-        }
-    }
+/// Returns the place of the element of an index. Places count elements from 1.
+pub(crate) fn element_at<'t>(in_list: InList, list: &'t str, index: usize) -> Option<Place<'t>>
+    ensures { MatchOption result ⊤ (IsElementAt in_list list.now index) }
+{
+    let number = index.checked_add(1)?;
+    let text = list.split(',').nth(index)?;
+    Some(Place::Element(in_list, number, text))
+}
 
-    /// Returns whether the answer to a beginning of a line reports such a fault.
-    pub(crate) fn is_in(self, answer: &str) -> bool
-        ensures { IsTrue result ↔ Begins answer.now (fault_word self) }
-    {
-        begins(answer, self.word())
+/// Returns the list of a step, which is empty for `inherit` and `missing`, or None if the part of a path is not a step.
+pub(crate) fn list_of_step(part: &str) -> Option<&str>
+    ensures { MatchOption result (IsNoStep part.now) (λ list. IsListOfStep part.now list.now) }
+{
+    let text = part.trim();
+    if text == "inherit" || text == "missing" {
+        return Some("");
+    }
+    let (word, list) = cut_at(text, ' ');
+    match mode_named(word) {
+        Some(_) => Some(list),
+        None => None,
+    }
+}
+
+/// Returns whether a part of a path is a step whose list has no wrong element.
+fn is_step(kind: Kind, part: &str) -> bool
+    ensures { IsTrue result → IsStep kind part.now }
+{
+    match list_of_step(part) {
+        Some(list) => wrong_element(kind, list).is_none(),
+        None => false,
+    }
+}
+
+/// Returns the place of the first wrong element of a wrong path, or of its first part that is not a step.
+///
+/// A path without a bar can be wrong only in its first list.
+pub(crate) fn wrong_in_path<'t>(kind: Kind, path: &'t str) -> Option<Place<'t>>
+    ensures { MatchOption result ⊤ (IsWrongPath kind path.now) }
+{
+    let (root, steps) = cut_at(path, '|');
+    if let Some(index) = wrong_element(kind, root) {
+        return element_at(InList::Root, root, index);
+    }
+    let step = steps.split('|').position(|part| !is_step(kind, part))?;
+    let part = steps.split('|').nth(step)?;
+    match list_of_step(part) {
+        Some(list) => element_at(InList::Step(step), list, wrong_element(kind, list)?),
+        None => Some(Place::NoStep(step, part)),
     }
 }

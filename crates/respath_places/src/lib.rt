@@ -1,24 +1,90 @@
-//! The positions of errors and refusals in the lines of `respath` ([`place_of`]), and a run that writes them
-//! ([`run_with_places`]).
+//! The commands of `respath`, with the places of errors and refusals ([`CommandsWithPlaces`]).
 //!
-//! [`Watched`] is a sink that says whether an error or a refusal was written. This example is in
-//! `respath_places::run_with_places`:
+//! [`check::Seen`] looks for errors and refusals in written answers. The program `respath` runs the commands:
 //!
 //! ```rust
-//! engine::run(alloc, &CommandsWithPlaces, reader, writer)
+//! engine::run(rt.alloc(), &CommandsWithPlaces, &mut reader, writer)
 //! ```
 #![tactic(auto)]
 
-mod check;
-pub mod check_sink;
-mod fault;
-pub mod laws;
-pub mod lines;
-mod place;
-pub mod places;
-mod question;
-mod search;
+ghost use Rattle.std.specs.Prelude.{⊤, IfOk, MatchOption};
+ghost use Rattle.respath_places.specs.Answers.{IsAnswerWithPlace, IsPlace};
 
-pub use check_sink::Watched;
-pub use lines::run_with_places;
-pub use places::{place_of, put_answer_with_place};
+pub mod check;
+mod fault;
+mod overclaim;
+mod place;
+
+use crate::fault::{element_at, wrong_element, wrong_in_path};
+use crate::overclaim::overclaimed_in_path;
+use crate::place::{InList, Place, push_place};
+use lines_engine::answers::Answers;
+use respath_lines::kind::kind_named;
+use respath_lines::put_answer;
+use rpki_text::cut::cut_at;
+use std::alloc::{AllocError, Allocator};
+
+/// The commands of `respath`, with a tab and a place after an error or a refusal that has one, for an engine that takes
+/// any [`Answers`].
+///
+/// An error in a list or a path has the place of the first element that is neither empty nor a block, or of the first
+/// part of the path that is not a step. A refusal has the place of the first element of the refused step that has
+/// overclaimed resources. Elements are counted from 1, empty ones included, and steps from 0.
+///
+/// - `element 3: AS7-AS3` is the third element of a list.
+/// - `root, element 2: x` is the second element of the first list of a path.
+/// - `step 0, element 2: AS12` is the second element of the list of the first step.
+/// - `step 1: trimm 4` is a part of the path that is not a step.
+///
+/// The text after the colon has no white space at its ends, and `?` in place of each control character. No clause says
+/// that each such answer has a place, or which element of a refused step is named.
+#[derive(Clone, Copy, Debug, PartialEq, Eq)]
+pub struct CommandsWithPlaces;
+
+impl Answers for CommandsWithPlaces {
+    ghost is_answer = { λ _ line text. IsAnswerWithPlace line text };
+
+    fn answer<A: Allocator + Copy>(
+        &self,
+        alloc: A,
+        line: &[u8],
+        text: &mut String<A>,
+    ) -> Result<(), AllocError> {
+        put_answer(alloc, line, text)?;
+        match place_of(alloc, line, text.as_str())? {
+            Some(place) => push_place(place, text),
+            None => Ok(()),
+        }
+    }
+}
+
+/// Returns the place of what an answer reports of its line. Only the argument of `read` is neither a path nor a list.
+fn place_of<'l, A: Allocator + Copy>(
+    alloc: A,
+    line: &'l [u8],
+    answer: &str,
+) -> Result<Option<Place<'l>>, AllocError>
+    ensures { IfOk result (λ found. MatchOption found ⊤ (IsPlace line.now answer.now)) }
+{
+    let Ok(text) = str::from_utf8(line) else {
+        return Ok(None);
+    };
+    let (command, rest) = cut_at(text, ' ');
+    let (kind, argument) = cut_at(rest, ' ');
+    let Some(kind) = kind_named(kind) else {
+        return Ok(None);
+    };
+    if !answer.starts_with("error: ") {
+        return overclaimed_in_path(alloc, kind, argument, answer);
+    }
+    if command == "read" || answer == "error: unknown command" || answer == "error: unknown kind" {
+        return Ok(None);
+    }
+    if command == "path" {
+        return Ok(wrong_in_path(kind, argument));
+    }
+    match wrong_element(kind, argument) {
+        Some(index) => Ok(element_at(InList::Argument, argument, index)),
+        None => Ok(None),
+    }
+}

@@ -12,9 +12,12 @@ use crate::help::{HELP, USAGE, VERSION};
 use crate::options::{Misuse, Options, Task, parse};
 use lines_engine::adapters::{FromRead, IntoBufWriter};
 use lines_engine::device::Sink;
+use lines_engine::engine;
 use lines_engine::error::RunError;
+use lines_engine::watched::Watched;
 use respath_lines::run;
-use respath_places::{Watched, run_with_places};
+use respath_places::CommandsWithPlaces;
+use respath_places::check::Seen;
 use std::io::{BufWriter, Read, Stdout};
 use std::process::ExitCode;
 use std::{env, fs, io};
@@ -125,7 +128,7 @@ fn answer_lines<'a, R: Read + Drop>(
         finish(name, writer, ended)?;
         return Ok(false);
     }
-    let mut watched = Watched::new(writer);
+    let mut watched = Watched::new(writer, Seen::nothing());
     let ended = write_answers(rt, options, reader, &mut watched);
     let has_found = watched.has_found();
     finish(name, watched.into_inner(), ended)?;
@@ -147,7 +150,7 @@ fn write_answers<R: Read + Drop, W: Sink>(
 {
     let mut reader = FromRead::new(reader);
     if options.places {
-        run_with_places(rt.alloc(), &mut reader, writer)
+        engine::run(rt.alloc(), &CommandsWithPlaces, &mut reader, writer)
     } else {
         run(rt.alloc(), &mut reader, writer)
     }

@@ -9,7 +9,7 @@ use Rattle.respath_places.proofs.place.push_shown.Goals as goal
 -- one more character
 pub loop-c-preserved : goal.loop-c-preserved
 loop-c-preserved g c =
-    shown_more (string_bytes c.args.place.now) (string_bytes c.loop-c.place) (string_bytes c.push.new.self)
+    shown_more (string_bytes c.args.answer.now) (string_bytes c.loop-c.answer) (string_bytes c.push.new.self)
     c.loop-c.yielded c.in-Some.c
     c.shown_char.result c.shown_char.ensures c.loop-c.invariant c.in_ok-push.ensures.bytes
 

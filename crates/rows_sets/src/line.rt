@@ -1,10 +1,8 @@
 //! Answers to lines, by their commands.
 use crate::question::Question;
-use crate::{long, sets};
+use crate::{as_sets, ip_sets, long};
 use rows_chains::{chains, small_sets};
-use rpki_as::blocks::AsBlocks;
 use rpki_ip::family::AddressFamily;
-use rpki_ipres::blocks::IpBlocks;
 use std::alloc::{AllocError, Allocator};
 use test_support::print::cut_at;
 use test_support::refusals::Call;
@@ -43,18 +41,9 @@ fn set_answer<A: Allocator + Copy>(
     operands: &str,
 ) -> Result<String<A>, AllocError> {
     match kind {
-        "as" => sets::answer::<A, AsBlocks<A>>(alloc, (), question, operands),
-        "v4" => of_family(alloc, AddressFamily::Ipv4, question, operands),
-        "v6" => of_family(alloc, AddressFamily::Ipv6, question, operands),
+        "as" => as_sets::answer(alloc, question, operands),
+        "v4" => ip_sets::answer(alloc, AddressFamily::Ipv4, question, operands),
+        "v6" => ip_sets::answer(alloc, AddressFamily::Ipv6, question, operands),
         _ => String::from_str(alloc, "no such kind"),
     }
-}
-
-fn of_family<A: Allocator + Copy>(
-    alloc: A,
-    family: AddressFamily,
-    question: Question,
-    operands: &str,
-) -> Result<String<A>, AllocError> {
-    sets::answer::<A, IpBlocks<A>>(alloc, family, question, operands)
 }

@@ -13,8 +13,6 @@ mod line;
 mod long;
 mod question;
 mod requests;
-mod set;
-mod sets;
 
 use line::Line;
 use std::alloc::{AllocError, Global};

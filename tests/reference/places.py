@@ -10,8 +10,8 @@ from collections.abc import Iterator
 from . import lines, texts
 from .faults import Fault
 
-# The commands whose argument is neither a list nor a path of lists.
-NOT_LISTED = ("read",)
+# The commands whose argument is a list or a path of lists.
+LISTED = tuple(it for it in lines.COMMANDS if it != "read")
 # The errors that no single element causes.
 OF_LINE = ("error: not UTF-8", "error: unknown kind", "error: unknown command")
 _CONTROL = re.compile("[\x00-\x1f\x7f-\x9f]")
@@ -74,7 +74,7 @@ def place_of(line: bytes, answer: str) -> str | None:
         return None
     command, rest = texts.cut(line.decode(), " ")
     kind, argument = texts.cut(rest, " ")
-    if command in NOT_LISTED:
+    if command not in LISTED:
         return None
     if command != "path":
         return first_wrong(kind, argument)

@@ -18,10 +18,10 @@ from itertools import islice
 
 import page_errors
 from top import TOP
-from reference import lines, places, random_lines, texts
+from reference import random_lines, texts
+from reference.places import LISTED
 from rows import CRATES, PROGRAM, ask, lines_of
 
-LISTED = tuple(it for it in lines.COMMANDS if it not in places.NOT_LISTED)
 WRONG = ("error: ", "refused at step ")
 GOOD = {"as": "AS64500", "v4": "192.0.2.0/25", "v6": "2001:db8::/33"}
 BAD = {"as": ("AS7-AS3", "x"), "v4": ("10.0.0.0/33", "1.2.3"), "v6": ("::1::", "1.2.3.4")}

@@ -1,5 +1,5 @@
 -- Answers by a table are answers by the list that it was made of.
-use Rattle.origins_lines.proofs.Common.{arith, Bool, List, Option, [], ℕ, ◌∷◌, ◌≡◌, IfSome, OnOk, Result, AnswersAll}
+use Rattle.origins_lines.proofs.Common.{arith, Bool, List, Option, [], ℕ, ◌∷◌, IfSome, OnOk, Result, AnswersAll}
 use Rattle.origins_lines.proofs.Common.{AnswersEnded, AnswersFirst, BeginsAnswers, HasAnswered}
 use Rattle.origins_lines.proofs.Common.{Form, IsVrpFile, Vrp, ByFile}
 use Rattle.std.specs.List.{AllZip}

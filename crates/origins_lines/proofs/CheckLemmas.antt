@@ -2,8 +2,8 @@
 use Rattle.origins_lines.proofs.Common.{List, [], ap, arith, inl, inr, ◌∙◌, length, length-append, ℕ, ◌++◌, ◌∷◌}
 use Rattle.origins_lines.proofs.Common.{◌≡◌, ◌≤◌, ◌⊎◌, IsTrue, ◌↔◌, HasFound, IsSeen, IsFaultInitial}
 use Rattle.std.proofs.lemmas.Bool.{cases_lt}
-use Rattle.std.proofs.lemmas.List.{get_or_append_left, get_or_push, take-append-le, take_all, take_more}
-use Rattle.std.proofs.Common.{append-nil, append_assoc, get_or, min, refl, take, true, ◌+◌, ◌<◌}
+use Rattle.std.proofs.lemmas.List.{get_or_append_left, get_or_push, take-append-le, take_all}
+use Rattle.std.proofs.Common.{append-nil, append_assoc, min, refl, true, ◌+◌}
 use Rattle.std.specs.Prelude.{◌==◌, if◌then◌else◌}
 use Rattle.origins_lines.specs.Checks.{column_after, column_of, column_with, is_same_state, is_state_after}
 use Rattle.origins_lines.specs.Checks.{seen_behind, seen_nothing, seen_with}
@@ -97,10 +97,16 @@ whole_seen place octets = all_seen place [] (seen_nothing place) octets (nothing
 same_seen : (a b : Seen) → a.place ≡ b.place → is_same_state a b ≡ true → a ≡ b
 same_seen a b place same = grind (arith)
 
+same_self : (a : Seen) → is_same_state a a ≡ true
+same_self a = grind (arith)
+
 -- the state after octets and one more
 pub state_with : (seen : Seen) (octets : List ℕ) (octet : ℕ) → is_state_after seen octets ≡ true
     → is_state_after (seen_with seen octet) (octets ++ octet ∷ []) ≡ true
-state_with seen octets octet so_far = grind (arith, behind_both, same_place, same_seen)
+state_with seen octets octet so_far =
+    let nothing = seen_nothing seen.place in
+    let is : seen_behind nothing octets ≡ seen = same_seen _ seen (same_place nothing octets) so_far in
+    rw (behind_both nothing octets (octet ∷ []), is) (same_self (seen_with seen octet))
 
 -- what the state says of octets
 pub state_found : (seen : Seen) (octets : List ℕ) → is_state_after seen octets ≡ true

@@ -9,7 +9,6 @@ use Rattle.std.proofs.lemmas.List.Quantifiers.{Any-push}
 use Rattle.roa_origin.specs.Validities.{HasCoveringAsn, IsMatched, IsRouteCovered, IsValidity}
 use Rattle.roa_origin.specs.Vrps.{HasAs, Matches}
 use Rattle.roa_origin.specs.declared.validation.Validity.{Validity}
-use Rattle.roa_origin.specs.declared.validation.Validity.TheVariants as Validity
 use Rattle.roa_origin.proofs.ListMembers.{those_are, those_have}
 use Rattle.origins_lines.specs.declared.explanation.Reason.TheVariants.{As, Length, Match}
 use Rattle.origins_lines.specs.declared.outcome.Outcome.TheVariants.{InvalidAs, InvalidLength, NotFound, Valid}

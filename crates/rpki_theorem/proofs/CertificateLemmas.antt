@@ -25,12 +25,15 @@ listed_inside issuer issued claim mode h refuse n listed =
     subst (λ m. IsIssued (Holds issuer) claim m issued) refuse h in
     holds_unless (Holds-decided issuer n) (λ outside. k.accepted n (listed, outside))
 
--- each number of the set is the issuer's and is claimed, and each such number is in the set
+-- each number of the set is the issuer's and is claimed, each such number is in the set, and an accepted certificate
+-- lists only numbers of the issuer
 pub issued_members : (issuer : Triple) (certificate : Extensions) (set : Triple) → IsVerified issuer certificate set
     → (asn : Claim) × (v4 : Claim) × (v6 : Claim) × AreClaims certificate asn v4 v6
     × ((n : ℕ) → Holds set.asn n ↔ (Holds issuer.asn n × Leaves asn n))
     × ((n : ℕ) → Holds set.ipv4 n ↔ (Holds issuer.ipv4 n × Leaves v4 n))
     × ((n : ℕ) → Holds set.ipv6 n ↔ (Holds issuer.ipv6 n × Leaves v6 n))
+    × (certificate.mode ≡ Refuse → (n : ℕ) → (Lists asn n → Holds issuer.asn n)
+    × (Lists v4 n → Holds issuer.ipv4 n) × (Lists v6 n → Holds issuer.ipv6 n))
 issued_members issuer certificate set (asn, v4, v6, claims, each) = (
   asn,
   v4,
@@ -39,18 +42,6 @@ issued_members issuer certificate set (asn, v4, v6, claims, each) = (
   each.asn.runs.members,
   each.of_families.0.runs.members,
   each.of_families.1.runs.members,
-)
-
--- an accepted certificate lists only numbers of the issuer
-pub accepted_inside : (issuer : Triple) (certificate : Extensions) (set : Triple) → IsVerified issuer certificate set
-    → (asn : Claim) × (v4 : Claim) × (v6 : Claim) × AreClaims certificate asn v4 v6
-    × (certificate.mode ≡ Refuse → (n : ℕ) → (Lists asn n → Holds issuer.asn n)
-    × (Lists v4 n → Holds issuer.ipv4 n) × (Lists v6 n → Holds issuer.ipv6 n))
-accepted_inside issuer certificate set (asn, v4, v6, claims, each) = (
-  asn,
-  v4,
-  v6,
-  claims,
   λ refuse n. (
     listed_inside issuer.asn set.asn asn certificate.mode each.asn refuse n,
     listed_inside issuer.ipv4 set.ipv4 v4 certificate.mode each.of_families.0 refuse n,
@@ -85,14 +76,15 @@ module _ {R : Type 0} (claim : R → Claim) (root : Runs) where
 -- a path of certificates: each that is accepted in mode Refuse lists only what those before it leave
 pub accepted_on_path : (anchor set : Triple) (certificates : List Extensions)
     → ((steps : List (Step ClaimTriple)) × AreSteps certificates steps × IsResultOfEach anchor steps set)
-    → (steps : List (Step ClaimTriple)) × AreSteps certificates steps × ((at n : ℕ) (step : Step ClaimTriple)
-    → at < length steps → get_or steps at step ≡ step → step.mode ≡ Refuse
+    → (steps : List (Step ClaimTriple)) × AreSteps certificates steps × IsResultOfEach anchor steps set
+    × ((at n : ℕ) (step : Step ClaimTriple) → at < length steps → get_or steps at step ≡ step → step.mode ≡ Refuse
     → (Lists step.claim.asn n → IsLeft (λ claims. claims.asn) (Holds anchor.asn) (take at steps) n)
     × (Lists step.claim.ipv4 n → IsLeft (λ claims. claims.ipv4) (Holds anchor.ipv4) (take at steps) n)
     × (Lists step.claim.ipv6 n → IsLeft (λ claims. claims.ipv6) (Holds anchor.ipv6) (take at steps) n))
 accepted_on_path anchor set certificates (steps, are, each) = (
   steps,
   are,
+  each,
   λ at n step lt is refuse. (
     inside_issuer (λ claims. claims.asn) anchor.asn set.asn steps at n step each.asn lt is refuse,
     inside_issuer (λ claims. claims.ipv4) anchor.ipv4 set.ipv4 steps at n step each.ipv4 lt is refuse,

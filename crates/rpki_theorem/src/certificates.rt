@@ -37,11 +37,9 @@ pub fn issued<A: Allocator + Copy>(
         × AreClaims certificate.now asn v4 v6
         × ((n : ℕ) → Holds set.asn n ↔ (Holds issuer.now.asn n × Leaves asn n))
         × ((n : ℕ) → Holds set.ipv4 n ↔ (Holds issuer.now.ipv4 n × Leaves v4 n))
-        × ((n : ℕ) → Holds set.ipv6 n ↔ (Holds issuer.now.ipv6 n × Leaves v6 n))) }
-    ensures accepted { IfOk result (λ set. (asn : Claim) × (v4 : Claim) × (v6 : Claim)
-        × AreClaims certificate.now asn v4 v6 × (certificate.now.mode ≡ Refuse → (n : ℕ)
-        → (Lists asn n → Holds issuer.now.asn n) × (Lists v4 n → Holds issuer.now.ipv4 n)
-        × (Lists v6 n → Holds issuer.now.ipv6 n))) }
+        × ((n : ℕ) → Holds set.ipv6 n ↔ (Holds issuer.now.ipv6 n × Leaves v6 n))
+        × (certificate.now.mode ≡ Refuse → (n : ℕ) → (Lists asn n → Holds issuer.now.asn n)
+        × (Lists v4 n → Holds issuer.now.ipv4 n) × (Lists v6 n → Holds issuer.now.ipv6 n))) }
     ensures refused { IfErr result (IfRefused (HasVerifyError issuer.now certificate.now)) }
 {
     verified_octets(alloc, issuer, certificate)
@@ -60,10 +58,9 @@ pub fn path<A: Allocator + Copy>(
 ) -> Result<ResourceSet<A>, OrMemory<VerifyPathError<A>>>
     ensures inside { IfOk result (HasEachOf anchor.now) }
     ensures left { IfOk result (λ set. (steps : List (Step ClaimTriple))
-        × AreSteps certificates.now steps × IsResultOfEach anchor.now steps set) }
-    ensures accepted { IfOk result (λ set. (steps : List (Step ClaimTriple))
-        × AreSteps certificates.now steps × ((at n : ℕ) (step : Step ClaimTriple)
-        → at < length steps → slice_index_or steps at step ≡ step → step.mode ≡ Refuse
+        × AreSteps certificates.now steps × IsResultOfEach anchor.now steps set
+        × ((at n : ℕ) (step : Step ClaimTriple) → at < length steps
+        → slice_index_or steps at step ≡ step → step.mode ≡ Refuse
         → (Lists step.claim.asn n
         → IsLeft (λ claims. claims.asn) (Holds anchor.now.asn) (take at steps) n)
         × (Lists step.claim.ipv4 n

@@ -10,7 +10,10 @@
 //! ```rust
 //! let listed = origin(route, asn, vrps);
 //! match OriginTable::new(alloc, vrps) {
-//!     Ok(table) => (listed, Ok(table.origin(route, asn))),
+//!     Ok(table) => {
+//!         let found = table.origin(route, asn);
+//!         (listed, Ok((table, found)))
+//!     }
 //!     Err(error) => (listed, Err(error)),
 //! }
 //! ```

@@ -1,5 +1,6 @@
 //! The validity of a route, and the prefixes of an authorization that are outside of a holder's set.
 ghost use Rattle.std.specs.Prelude.{◌≡◌, IfOk};
+ghost use Rattle.std.specs.List.Sorted.{IsPermutation};
 ghost use Rattle.roa_check.specs.Inside.{IsFirstOutside};
 ghost use Rattle.roa_origin.specs.Validities.{IsValidity};
 
@@ -9,20 +10,23 @@ use rpki_prefix::{MaxLenPrefix, Prefix};
 use rpki_resources::ResourceSet;
 use std::alloc::{AllocError, Allocator};
 
-/// Returns the validity of a route by a list of VRPs, without memory; and by a table of them.
+/// Returns the validity of a route by a list of VRPs, without memory; and a table of them, with the validity by it.
 pub fn validity<A: Allocator + Copy>(
     alloc: A,
     route: Prefix,
     asn: Asn,
     vrps: &[Vrp],
-) -> (Validity, Result<Validity, AllocError>)
+) -> (Validity, Result<(OriginTable<A>, Validity), AllocError>)
     ensures list { IsValidity route asn vrps.now result.0 }
-    ensures table { IfOk result.1 (λ validity. validity ≡ result.0) }
+    ensures table { IfOk result.1 (λ made. IsPermutation vrps.now made.0 × (made.1 ≡ result.0)) }
 {
     roa_origin::laws::laws_of_validities(); // so that the proof sees that there is one validity
     let listed = origin(route, asn, vrps);
     match OriginTable::new(alloc, vrps) {
-        Ok(table) => (listed, Ok(table.origin(route, asn))),
+        Ok(table) => {
+            let found = table.origin(route, asn);
+            (listed, Ok((table, found)))
+        }
         Err(error) => (listed, Err(error)),
     }
 }

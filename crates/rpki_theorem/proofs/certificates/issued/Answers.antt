@@ -1,16 +1,11 @@
 -- The set is verified by claims of the certificate.
-use Rattle.rpki_theorem.proofs.CertificateLemmas.{accepted_inside, issued_members}
+use Rattle.rpki_theorem.proofs.CertificateLemmas.{issued_members}
 use Rattle.rpki_theorem.proofs.ReadLemmas.{ok_of, refused_of}
 use Rattle.rpki_theorem.proofs.certificates.issued.Goals as goal
 
 pub returns-clause-claimed : goal.returns-clause-claimed
 returns-clause-claimed g c =
     ok_of _ _ _ c.verified_octets.result (issued_members c.args.issuer.now c.args.certificate.now)
-    c.verified_octets.ensures.verified
-
-pub returns-clause-accepted : goal.returns-clause-accepted
-returns-clause-accepted g c =
-    ok_of _ _ _ c.verified_octets.result (accepted_inside c.args.issuer.now c.args.certificate.now)
     c.verified_octets.ensures.verified
 
 pub returns-clause-refused : goal.returns-clause-refused

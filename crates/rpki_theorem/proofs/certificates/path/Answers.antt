@@ -6,15 +6,9 @@ use Rattle.rpki_theorem.proofs.certificates.path.Goals as goal
 pub returns-clause-left : goal.returns-clause-left
 returns-clause-left g c =
     let law = c.kinds_of_paths.ensures.result c.args.anchor.now in
-    ok_of _ _ _ c.verified_path.result (λ set. law set c.args.certificates.now c.recall_invariant.ensures)
-    c.verified_path.ensures.path
-
-pub returns-clause-accepted : goal.returns-clause-accepted
-returns-clause-accepted g c =
-    let law = c.kinds_of_paths.ensures.result c.args.anchor.now in
     let all = c.args.certificates.now in
     ok_of _ _ _ c.verified_path.result
-    (λ set h. accepted_on_path c.args.anchor.now set all (law set all c.recall_invariant.ensures h))
+    (λ set h. accepted_on_path c.args.anchor.now set all ((law set all c.recall_invariant.ensures).0 h))
     c.verified_path.ensures.path
 
 pub returns-clause-refused : goal.returns-clause-refused
@@ -23,4 +17,4 @@ returns-clause-refused g c = refused_of _ _ _ c.verified_path.result (λ e h. h)
 pub returns-clause-excess : goal.returns-clause-excess
 returns-clause-excess g c =
     let law = c.kinds_of_paths.ensures.refusal c.args.anchor.now c.args.certificates.now in
-    refused_of _ _ _ c.verified_path.result (λ e h named. law e named h) c.verified_path.ensures.path
+    refused_of _ _ _ c.verified_path.result (λ e h named. (law e named).0 h) c.verified_path.ensures.path

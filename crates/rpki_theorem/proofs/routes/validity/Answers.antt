@@ -5,5 +5,6 @@ pub returns-in-Ok-clause-table : goal.returns-in-Ok-clause-table
 returns-in-Ok-clause-table g c =
     let route = c.args.route in
     let asn = c.args.asn in
-    c.laws_of_validities.ensures.one route asn _ c.origin.result c.origin-listed.result c.origin.ensures
-    (c.in-Ok.ensures.validity route asn c.origin-listed.result c.origin-listed.ensures)
+    let one = c.laws_of_validities.ensures.one route asn _ c.origin-found.result c.origin-listed.result c.origin-found.ensures
+    (c.in-Ok.ensures.validity route asn c.origin-listed.result c.origin-listed.ensures) in
+    (c.in-Ok.ensures.vrps, one)

@@ -1,5 +1,5 @@
 //! Sets of addresses of a family: from builders, texts and DER, and back; and what paths of claims leave of them.
-ghost use Rattle.std.specs.Prelude.{◌≡◌, ℕ, ◌↔◌, List, All, IsTrue, IfOk, MatchResult, Some, string_bytes};
+ghost use Rattle.std.specs.Prelude.{◌≡◌, ◌++◌, ℕ, ◌↔◌, List, All, IsTrue, IfOk, MatchResult, Some, string_bytes};
 ghost use Rattle.rpki_text.specs.Memory.{IfRefused, IsMemory};
 ghost use Rattle.rpki_text.specs.Reading.{AnswersOrMemory};
 ghost use Rattle.rpki_der.specs.Der.{Front, NoFront, Spells};
@@ -101,6 +101,8 @@ pub fn written<F: Family, A: Allocator + Copy>(
 
 /// Prints a set of a family and parses the text. Encodes it, appends `behind`, and decodes it by both cursors.
 ///
+/// Returns the text, the octets, and what was read back.
+///
 /// # Errors
 ///
 /// [`AllocError`]: out of memory for a text or for octets.
@@ -108,10 +110,12 @@ pub fn read_back<F: Family, A: Allocator + Copy>(
     alloc: A,
     set: &FamilyBlocks<F, A>,
     behind: &[u8],
-) -> Result<Reads<A>, AllocError>
-    ensures text { IfOk result (λ back. MatchResult back.0 (λ read. read ≡ set.now) IsMemory) }
-    ensures lenient { IfOk result (λ back. MatchResult back.1 (λ read. read ≡ set.now) IsMemory) }
-    ensures strict { IfOk result (λ back. MatchResult back.2 (λ read. read ≡ set.now) IsMemory) }
+) -> Result<(String<A>, Vec<u8, A>, Reads<A>), AllocError>
+    ensures printed { IfOk result (λ back. string_bytes back.0 ≡ set_text F.FAMILY set.now) }
+    ensures encoded { IfOk result (λ back. back.1.items ≡ ip_set_der set.now ++ behind.now) }
+    ensures text { IfOk result (λ back. MatchResult back.2.0 (λ read. read ≡ set.now) IsMemory) }
+    ensures lenient { IfOk result (λ back. MatchResult back.2.1 (λ read. read ≡ set.now) IsMemory) }
+    ensures strict { IfOk result (λ back. MatchResult back.2.2 (λ read. read ≡ set.now) IsMemory) }
 {
     set.recall_invariant();
     let text = format!(in alloc; "{set}")?;
@@ -123,7 +127,7 @@ pub fn read_back<F: Family, A: Allocator + Copy>(
     let lenient = IpBlocks::take_from_with_family(alloc, &mut cursor, F::FAMILY);
     let mut strict_cursor = Cursor::new_strict(octets.as_slice());
     let strict = IpBlocks::take_from_with_family(alloc, &mut strict_cursor, F::FAMILY);
-    Ok((parsed, lenient, strict))
+    Ok((text, octets, (parsed, lenient, strict)))
 }
 
 /// The result of a path of claims on addresses of a family: what it leaves, or its first refusal.

@@ -1,5 +1,5 @@
 //! Claims in text and DER, and back: missing, inherited or listed AS numbers and addresses.
-ghost use Rattle.std.specs.Prelude.{◌≡◌, ◌≢◌, List, MatchResult, IfOk, ℕ};
+ghost use Rattle.std.specs.Prelude.{◌≡◌, ◌≢◌, ◌++◌, List, MatchResult, IfOk, ℕ, string_bytes};
 ghost use Rattle.rpki_text.specs.Memory.{IfRefused, IsMemory};
 ghost use Rattle.rpki_text.specs.Reading.{AnswersOrMemory};
 ghost use Rattle.rpki_der.specs.Der.{Front, NoFront, Spells};
@@ -7,9 +7,9 @@ ghost use Rattle.rpki_der.specs.FamiliesDer.{families_der};
 ghost use Rattle.rpki_chain.specs.Choices.{if_present};
 ghost use Rattle.rpki_chain.specs.declared.choice.ResourcesChoice.TheVariants.{Missing};
 ghost use Rattle.rpki_as.specs.AsDer.{IsAsResources, IsPresentAsClaim, as_resources_octets};
-ghost use Rattle.rpki_as.specs.ResourcesText.{HasAsResourcesFault, IsAsResourcesText};
+ghost use Rattle.rpki_as.specs.ResourcesText.{HasAsResourcesFault, IsAsResourcesText, as_resources_text};
 ghost use Rattle.rpki_ipres.specs.Resources.{ArePresentClaims, IsWholeClaim};
-ghost use Rattle.rpki_ipres.specs.ResourcesDer.{IsIpFamilies, ip_resources_der};
+ghost use Rattle.rpki_ipres.specs.ResourcesDer.{IsIpFamilies, ip_families_der, ip_resources_der};
 
 use rpki_as::{AsResources, FromStrError};
 use rpki_der::{Cursor, DerError};
@@ -71,6 +71,8 @@ pub fn addresses<A: Allocator + Copy>(
 
 /// Prints AS resources and parses the text. Encodes them, appends `behind`, and decodes them by both cursors.
 ///
+/// Returns the text, the octets, and what was read back.
+///
 /// # Preconditions
 ///
 /// The resources aren't missing.
@@ -82,11 +84,13 @@ pub fn numbers_read_back<A: Allocator + Copy>(
     alloc: A,
     claim: &AsResources<A>,
     behind: &[u8],
-) -> Result<NumbersRead<A>, AllocError>
+) -> Result<(String<A>, Vec<u8, A>, NumbersRead<A>), AllocError>
     requires { claim.now ≢ Missing }
-    ensures text { IfOk result (λ back. MatchResult back.0 (λ read. read ≡ claim.now) IsMemory) }
-    ensures lenient { IfOk result (λ back. MatchResult back.1 (λ read. read ≡ claim.now) IsMemory) }
-    ensures strict { IfOk result (λ back. MatchResult back.2 (λ read. read ≡ claim.now) IsMemory) }
+    ensures printed { IfOk result (λ back. string_bytes back.0 ≡ as_resources_text claim.now) }
+    ensures encoded { IfOk result (λ back. back.1.items ≡ as_resources_octets claim.now ++ behind.now) }
+    ensures text { IfOk result (λ back. MatchResult back.2.0 (λ read. read ≡ claim.now) IsMemory) }
+    ensures lenient { IfOk result (λ back. MatchResult back.2.1 (λ read. read ≡ claim.now) IsMemory) }
+    ensures strict { IfOk result (λ back. MatchResult back.2.2 (λ read. read ≡ claim.now) IsMemory) }
 {
     let text = format!(in alloc; "{claim}")?;
     let parsed = AsResources::from_str(alloc, text.as_str());
@@ -97,10 +101,12 @@ pub fn numbers_read_back<A: Allocator + Copy>(
     let lenient = AsResources::take_from(alloc, &mut cursor);
     let mut strict_cursor = Cursor::new_strict(octets.as_slice());
     let strict = AsResources::take_from(alloc, &mut strict_cursor);
-    Ok((parsed, lenient, strict))
+    Ok((text, octets, (parsed, lenient, strict)))
 }
 
 /// Encodes the claims of both families, appends `behind`, and decodes them by both cursors.
+///
+/// Returns the octets, and what was read back.
 ///
 /// # Preconditions
 ///
@@ -114,12 +120,13 @@ pub fn addresses_read_back<A: Allocator + Copy>(
     v4: &IpResources<A>,
     v6: &IpResources<A>,
     behind: &[u8],
-) -> Result<(AddressesRead<A>, AddressesRead<A>), AllocError>
+) -> Result<(Vec<u8, A>, AddressesRead<A>, AddressesRead<A>), AllocError>
     requires whole { IsWholeClaim v4.now }
     requires present { v4.now ≡ Missing → v6.now ≢ Missing }
-    ensures lenient { IfOk result (λ back. MatchResult back.0
+    ensures encoded { IfOk result (λ back. back.0.items ≡ ip_families_der v4.now v6.now ++ behind.now) }
+    ensures lenient { IfOk result (λ back. MatchResult back.1
         (λ read. read ≡ (if_present v4.now, if_present v6.now)) IsMemory) }
-    ensures strict { IfOk result (λ back. MatchResult back.1
+    ensures strict { IfOk result (λ back. MatchResult back.2
         (λ read. read ≡ (if_present v4.now, if_present v6.now)) IsMemory) }
 {
     rpki_ipres::laws::claims_of_families(); // so that the proof sees that a whole claim is one on IPv4
@@ -130,5 +137,5 @@ pub fn addresses_read_back<A: Allocator + Copy>(
     let lenient = IpResources::take_families_from(alloc, &mut cursor);
     let mut strict_cursor = Cursor::new_strict(octets.as_slice());
     let strict = IpResources::take_families_from(alloc, &mut strict_cursor);
-    Ok((lenient, strict))
+    Ok((octets, lenient, strict))
 }

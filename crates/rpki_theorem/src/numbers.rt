@@ -1,5 +1,5 @@
 //! Sets of AS numbers: from builders, texts and DER, and back; and what paths of claims leave of them.
-ghost use Rattle.std.specs.Prelude.{◌≡◌, ℕ, ◌↔◌, List, IsTrue, IfOk, MatchResult, Some, string_bytes};
+ghost use Rattle.std.specs.Prelude.{◌≡◌, ◌++◌, ℕ, ◌↔◌, List, IsTrue, IfOk, MatchResult, Some, string_bytes};
 ghost use Rattle.rpki_text.specs.Memory.{IfRefused, IsMemory};
 ghost use Rattle.rpki_text.specs.Reading.{AnswersOrMemory};
 ghost use Rattle.rpki_der.specs.Der.{Front, NoFront, Spells};
@@ -89,6 +89,8 @@ pub fn written<A: Allocator + Copy>(
 
 /// Prints a set and parses the text. Encodes it in one SEQUENCE, appends `behind`, and decodes it by both cursors.
 ///
+/// Returns the text, the octets, and what was read back.
+///
 /// # Errors
 ///
 /// [`AllocError`]: out of memory for a text or for octets.
@@ -96,10 +98,12 @@ pub fn read_back<A: Allocator + Copy>(
     alloc: A,
     set: &AsBlocks<A>,
     behind: &[u8],
-) -> Result<Reads<A>, AllocError>
-    ensures text { IfOk result (λ back. MatchResult back.0 (λ read. read ≡ set.now) IsMemory) }
-    ensures lenient { IfOk result (λ back. MatchResult back.1 (λ read. read ≡ set.now) IsMemory) }
-    ensures strict { IfOk result (λ back. MatchResult back.2 (λ read. read ≡ set.now) IsMemory) }
+) -> Result<(String<A>, Vec<u8, A>, Reads<A>), AllocError>
+    ensures printed { IfOk result (λ back. string_bytes back.0 ≡ as_list_text set.now) }
+    ensures encoded { IfOk result (λ back. back.1.items ≡ as_sequence_octets set.now ++ behind.now) }
+    ensures text { IfOk result (λ back. MatchResult back.2.0 (λ read. read ≡ set.now) IsMemory) }
+    ensures lenient { IfOk result (λ back. MatchResult back.2.1 (λ read. read ≡ set.now) IsMemory) }
+    ensures strict { IfOk result (λ back. MatchResult back.2.2 (λ read. read ≡ set.now) IsMemory) }
 {
     let text = format!(in alloc; "{set}")?;
     let parsed = AsBlocks::from_str(alloc, text.as_str());
@@ -114,7 +118,7 @@ pub fn read_back<A: Allocator + Copy>(
     let lenient = AsBlocks::take_from(alloc, &mut cursor);
     let mut strict_cursor = Cursor::new_strict(octets.as_slice());
     let strict = AsBlocks::take_from(alloc, &mut strict_cursor);
-    Ok((parsed, lenient, strict))
+    Ok((text, octets, (parsed, lenient, strict)))
 }
 
 /// The result of a path of claims on AS numbers: what it leaves, or its first refusal.

@@ -5,6 +5,7 @@ pub returns-in-Ok-clause-table : goal.returns-in-Ok-clause-table
 returns-in-Ok-clause-table g c =
     let route = c.args.route in
     let asn = c.args.asn in
-    let one = c.laws_of_validities.ensures.one route asn _ c.origin-found.result c.origin-listed.result c.origin-found.ensures
-    (c.in-Ok.ensures.validity route asn c.origin-listed.result c.origin-listed.ensures) in
-    (c.in-Ok.ensures.vrps, one)
+    let found = c.origin-found in
+    let listed = c.origin-listed in
+    let same = c.in-Ok.ensures.validity route asn listed.result listed.ensures in
+    (c.in-Ok.ensures.vrps, c.laws_of_validities.ensures.one route asn _ found.result listed.result found.ensures same)

@@ -22,5 +22,6 @@ mod newline;
 pub mod retrying;
 pub mod steps;
 pub mod stream;
+pub mod text;
 pub mod until_end;
 pub mod watched;

@@ -17,7 +17,7 @@ module _ (One Other : List ℕ → List ℕ → Type 0)
   each_turned (line ∷ lines) (text ∷ texts) each = (turned line text each.0, each_turned lines texts each.1)
   each_turned lines texts each = absurd each
 
-  answered_turned : (old new : Option (List ℕ)) (lines rest : List (List ℕ)) (unwritten : List ℕ)
+  pub answered_turned : (old new : Option (List ℕ)) (lines rest : List (List ℕ)) (unwritten : List ℕ)
       → HasAnswered One old new lines rest unwritten → HasAnswered Other old new lines rest unwritten
   answered_turned old new lines rest unwritten had = grind (arith, each_turned)
 

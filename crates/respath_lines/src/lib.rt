@@ -28,7 +28,7 @@ mod write_answer;
 use command::cut_at_space;
 use cover::cover;
 use der::der;
-pub use lines::run;
+pub use lines::{answer_text, run};
 use norm::norm;
 use path::path;
 use read::read;

@@ -1,5 +1,5 @@
 //! A run of `respath`: the input's lines, each answered by its command.
-ghost use Rattle.std.specs.Prelude.{◌≡◌, true, false, IfSome, OnOk, IsErrOf};
+ghost use Rattle.std.specs.Prelude.{◌≡◌, [], true, false, IfOk, IfSome, OnOk, IsErrOf, Some};
 ghost use Rattle.std.specs.Io.KnownBytes.{IsAtEnd};
 ghost use Rattle.lines_engine.specs.Run.{AnswersAll, AnswersFirst, BeginsAnswers};
 ghost use Rattle.respath_lines.specs.Answer.{IsAnswer};
@@ -7,8 +7,8 @@ ghost use Rattle.respath_lines.specs.Answer.{IsAnswer};
 use crate::put_answer;
 use lines_engine::answers::Answers;
 use lines_engine::device::{Sink, Source};
-use lines_engine::engine;
 use lines_engine::error::RunError;
+use lines_engine::{engine, text};
 use std::alloc::{AllocError, Allocator};
 
 /// The commands of `respath`, for an engine that takes any [`Answers`].
@@ -84,4 +84,17 @@ pub fn run<A: Allocator + Copy, R: Source, W: Sink>(
         (BeginsAnswers IsAnswer (W.written writer.old) (W.written writer.new)) }
 {
     engine::run(alloc, &Commands, reader, writer)
+}
+
+/// Returns the answers to all lines of a text, in order, each as one line.
+///
+/// The last line may lack its end. The octets are those that [`run`] writes for this input. The call needs no device.
+///
+/// # Errors
+///
+/// [`AllocError`] if an allocation fails.
+pub fn answer_text<A: Allocator + Copy>(alloc: A, input: &[u8]) -> Result<Vec<u8, A>, AllocError>
+    ensures { IfOk result (λ written. AnswersAll IsAnswer (Some []) (Some written.items) input.now) }
+{
+    text::answer_text(alloc, &Commands, input)
 }

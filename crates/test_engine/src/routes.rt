@@ -5,7 +5,7 @@ use lines_engine::error::RunError;
 use origins_lines::error::ReadVrpsError;
 use origins_lines::explanation::Form;
 use origins_lines::file::read_file;
-use origins_lines::routes::answer_by;
+use origins_lines::routes::{answer_by, answer_text};
 use std::alloc::Global;
 use test_support::{Outcome, Refusing, refuse_in_turn};
 
@@ -52,6 +52,16 @@ fn each_request_is_refused_in_turn(rt: HostRuntime) {
         match refused {
             Ok(requests) => assert!(rt; requests > 5, "{requests} requests"),
             Err(number) => assert!(rt; false, "request {number}"),
+        }
+    }
+}
+
+#[test]
+fn a_text_in_memory_has_the_answers_of_a_run(rt: HostRuntime) {
+    for file in &FILES {
+        match answer_text(rt.alloc(), file, Form::Words, false, ROUTES) {
+            Ok(written) => assert!(rt; written.as_slice() == ANSWERS),
+            Err(_) => assert!(rt; false, "{file:?}"),
         }
     }
 }

@@ -2,6 +2,7 @@
 use crate::observed_run::{BUFFER_LEN, Devices, Engine, Row, Seen, run_own};
 use crate::slices::Habits;
 use lines_engine::error::RunError;
+use respath_lines::answer_text;
 use std::alloc::Global;
 use std::process::Abort;
 use test_support::{Outcome, Refusing, refuse_in_turn};
@@ -259,4 +260,22 @@ fn each_request_is_refused_in_turn(rt: HostRuntime) {
             }
         }
     }
+}
+
+/// Returns whether a text in memory has the answers of a run.
+fn has_answers(alloc: Global, row: &Row) -> bool {
+    match answer_text(alloc, row.input) {
+        Ok(written) => written.as_slice() == row.output,
+        Err(_) => false,
+    }
+}
+
+#[test]
+fn a_text_in_memory_has_the_answers_of_a_run(rt: HostRuntime) {
+    for row in &ENDS_OF_LINES {
+        let has_answers = has_answers(rt.alloc(), row);
+        assert!(rt; has_answers, "{:?}", row.input);
+    }
+    assert!(rt; has_answers(rt.alloc(), &LINES));
+    assert!(rt; has_answers(rt.alloc(), &LONG));
 }

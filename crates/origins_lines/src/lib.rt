@@ -22,6 +22,7 @@ pub mod outcome;
 pub mod route;
 pub mod routes;
 pub mod tables;
+pub mod text;
 
 pub use answers::Routes;
 pub use begun::{AskedRoute, BegunRoute};

@@ -1,13 +1,11 @@
 //! Answers routes by the VRPs of files.
-ghost use Rattle.std.specs.Prelude.{◌≡◌, [], false, true, IfErr, IfOk, IfSome, List, OnOk, IsErrOf, Some, length};
+ghost use Rattle.std.specs.Prelude.{◌≡◌, false, true, IfOk, IfSome, List, OnOk, IsErrOf, length};
 ghost use Rattle.std.specs.Io.KnownBytes.{IsAtEnd};
 ghost use Rattle.lines_engine.specs.Run.{AnswersAll, AnswersEnded, AnswersFirst, BeginsAnswers};
 ghost use Rattle.lines_engine.specs.declared.error.RunError.TheVariants as RunError;
 ghost use Rattle.origins_lines.specs.Forms.{IsAnswerIn};
 ghost use Rattle.origins_lines.specs.Inputs.{AreInputsRead, ByInputs, IsInputsError};
 ghost use Rattle.roa_origin.specs.Vrps.{Vrp};
-ghost use Rattle.roa_vrps.specs.Files.{HasFileFault, IsVrpFile};
-ghost use Rattle.rpki_text.specs.Memory.{IfRefused};
 ghost use Rattle.origins_lines.specs.declared.error.OriginsError.TheVariants as OriginsError;
 
 use crate::answers::Routes;
@@ -17,10 +15,7 @@ use crate::inputs::{InputVrps, Inputs, Report, Selection, read_inputs};
 use lines_engine::device::{Sink, Source};
 use lines_engine::error::RunError;
 use lines_engine::stream::answer_as_read;
-use lines_engine::text;
 use roa_origin::{OriginTable, Vrp};
-use roa_vrps::{FileFault, read_vrps};
-use rpki_text::memory::OrMemory;
 use std::alloc::Allocator;
 
 /// Reads the VRPs of files, then answers each line of routes by one line, in order and as it is read (RFC 6811, 2).
@@ -174,38 +169,4 @@ pub fn answer_by<A: Allocator + Copy, R: Source, W: Sink>(
         why,
     };
     answer_as_read(alloc, &answers, routes, writer)
-}
-
-/// Returns the answers to all lines of routes by the VRPs of a file, in order, each as one line (RFC 6811, 2).
-///
-/// - `vrps`: the file of VRPs.
-/// - `form`: whether an answer is words or an object of JSON.
-/// - `why`: whether each answer also lists the VRPs that cover the route.
-/// - `routes`: the lines of routes. The last line may lack its end.
-///
-/// The octets are those that [`answer_by`] writes for these VRPs and routes. The call needs no device.
-///
-/// # Errors
-///
-/// - `Refused`: the first fault of the file of VRPs.
-/// - `Memory`: out of memory.
-pub fn answer_text<A: Allocator + Copy>(
-    alloc: A,
-    vrps: &[u8],
-    form: Form,
-    why: bool,
-    routes: &[u8],
-) -> Result<Vec<u8, A>, OrMemory<FileFault>>
-    ensures answered { IfOk result (λ written. (listed : List Vrp) × IsVrpFile vrps.now listed
-        × AnswersAll (IsAnswerIn form why listed) (Some []) (Some written.items) routes.now) }
-    ensures wrong { IfErr result (IfRefused (HasFileFault vrps.now)) }
-{
-    let listed = read_vrps(alloc, vrps)?;
-    let table = OriginTable::new(alloc, listed.as_slice())?;
-    let answers = Routes {
-        table: &table,
-        form,
-        why,
-    };
-    Ok(text::answer_text(alloc, &answers, routes)?)
 }

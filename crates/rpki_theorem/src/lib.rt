@@ -4,8 +4,8 @@
 //! returns their results. Its clauses say what the results are. They cite only definitions of the crates below.
 //! `docs/AUDIT.md` has the theorem, and an order in which to read it.
 //!
-//! A router's cache changes its table by calls that are not in this crate, and neither are SLURM files, devices and calls
-//! from C. This sentence is in `routes`:
+//! A router's cache changes its table by calls that are not in this crate, and neither are SLURM files, devices and
+//! calls from C. This sentence is in `routes`:
 //!
 //! ```rust
 //! let listed = origin(route, asn, vrps);

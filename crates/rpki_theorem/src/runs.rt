@@ -40,5 +40,5 @@ pub fn origins<A: Allocator + Copy>(
         × AnswersAll (IsAnswerIn form why listed) (Some []) (Some written.items) routes.now) }
     ensures wrong { IfErr result (IfRefused (HasFileFault vrps.now)) }
 {
-    origins_lines::routes::answer_text(alloc, vrps, form, why, routes)
+    origins_lines::text::answer_text(alloc, vrps, form, why, routes)
 }

@@ -5,7 +5,8 @@ use lines_engine::error::RunError;
 use origins_lines::error::ReadVrpsError;
 use origins_lines::explanation::Form;
 use origins_lines::file::read_file;
-use origins_lines::routes::{answer_by, answer_text};
+use origins_lines::routes::answer_by;
+use origins_lines::text::answer_text;
 use std::alloc::Global;
 use test_support::{Outcome, Refusing, refuse_in_turn};
 

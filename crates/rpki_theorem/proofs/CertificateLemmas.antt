@@ -3,10 +3,14 @@ use Rattle.rpki_theorem.proofs.Common.{Claim, Exceeds, Holds, IsIssued, IsLeft, 
 use Rattle.rpki_theorem.proofs.Common.{Lists}
 use Rattle.rpki_theorem.proofs.Common.{Refuse, Runs, Step, arith, get_or, length, subst, sym, take, ℕ, ◌<◌, ◌↔◌, ◌≡◌}
 use Rattle.rpki_theorem.proofs.Common.{◌⊎◌}
+use Rattle.std.proofs.Common.{[], ◌∷◌, refl, suc, zero}
 use Rattle.rpki_theorem.proofs.NumberLemmas.{Holds-decided, Leaves-decided, all_decided}
 use Rattle.rpki_chain.specs.declared.path.Overclaim.{Overclaim}
+use Rattle.rpki_extensions.specs.Anchors.{IsAnchorSet}
+use Rattle.rpki_extensions.specs.Below.{IsLeftBelow}
 use Rattle.rpki_extensions.specs.Claims.{AreClaims}
 use Rattle.rpki_extensions.specs.Issued.{IsVerified}
+use Rattle.rpki_extensions.specs.Paths.{IsVerifiedPath}
 use Rattle.rpki_extensions.specs.Kinds.{AreSteps, ClaimTriple, IsResultOfEach}
 use Rattle.rpki_extensions.specs.declared.extensions.Extensions.{Extensions}
 use Rattle.rpki_resources.specs.Triples.{Triple}
@@ -91,3 +95,32 @@ accepted_on_path anchor set certificates (steps, are, each) = (
     inside_issuer (λ claims. claims.ipv6) anchor.ipv6 set.ipv6 steps at n step each.ipv6 lt is refuse,
   ),
 )
+
+-- ---- certificates below an anchor
+
+-- each certificate in mode Refuse lists only what those before it leave of the root
+abbrev pub AcceptedBelow : Triple → List Extensions → ℕ → Extensions → Type 0
+AcceptedBelow root certificates at certificate =
+    (issuer : Triple) × IsVerifiedPath root (take at certificates) issuer
+    × (asn : Claim) × (v4 : Claim) × (v6 : Claim) × AreClaims certificate asn v4 v6
+    × (certificate.mode ≡ Refuse → (n : ℕ) → (Lists asn n → Holds issuer.asn n)
+    × (Lists v4 n → Holds issuer.ipv4 n) × (Lists v6 n → Holds issuer.ipv6 n))
+
+accepted_at : (root set : Triple) (certificates : List Extensions) → IsVerifiedPath root certificates set → (at : ℕ)
+    (certificate : Extensions) → at < length certificates → get_or certificates at certificate ≡ certificate
+    → AcceptedBelow root certificates at certificate
+accepted_at root set [] path at certificate lt is = absurd (omega (arith, lt))
+accepted_at root set (first ∷ more) (next, verified, path) zero certificate lt is =
+    let (asn, v4, v6, claims, _, _, _, lists) = issued_members root first next verified in
+    subst (λ c. AcceptedBelow root (first ∷ more) 0 c) is (root, refl, asn, v4, v6, claims, lists)
+accepted_at root set (first ∷ more) (next, verified, path) (suc at) certificate lt is =
+    let (issuer, before, asn, v4, v6, claims, lists) =
+    accepted_at next set more path at certificate (omega (arith, lt)) is in
+    (issuer, (next, verified, before), asn, v4, v6, claims, lists)
+
+-- so it is below an anchor
+pub accepted_below : (anchor : Extensions) (certificates : List Extensions) (set : Triple)
+    → IsLeftBelow anchor certificates set → (root : Triple) × IsAnchorSet anchor root
+    × IsVerifiedPath root certificates set × ((at : ℕ) (certificate : Extensions) → at < length certificates
+    → get_or certificates at certificate ≡ certificate → AcceptedBelow root certificates at certificate)
+accepted_below anchor certificates set (root, is, path) = (root, is, path, accepted_at root set certificates path)

@@ -6,12 +6,14 @@ ghost use Rattle.rpki_chain.specs.Paths.{IsLeft, Leaves, Lists};
 ghost use Rattle.rpki_chain.specs.Runs.{Holds};
 ghost use Rattle.rpki_chain.specs.declared.path.Overclaim.TheVariants.{Refuse};
 ghost use Rattle.rpki_chain.specs.declared.path.Step.{Step};
-ghost use Rattle.rpki_resources.specs.Triples.{HasEachOf};
+ghost use Rattle.rpki_resources.specs.Triples.{HasEachOf, Triple};
+ghost use Rattle.rpki_extensions.specs.Anchors.{IsAnchorSet};
 ghost use Rattle.rpki_extensions.specs.Below.{IsLeftBelow, IsVerifyBelowError, LiesInAnchor};
 ghost use Rattle.rpki_extensions.specs.Claims.{AreClaims};
 ghost use Rattle.rpki_extensions.specs.Issued.{HasVerifyError};
 ghost use Rattle.rpki_extensions.specs.Kinds.{AreSteps, ClaimTriple, IsFirstOfEach, IsResultOfEach, NamesExcess};
-ghost use Rattle.rpki_extensions.specs.Paths.{IsFirstVerifyError};
+ghost use Rattle.rpki_extensions.specs.Paths.{IsFirstVerifyError, IsVerifiedPath};
+ghost use Rattle.rpki_extensions.specs.declared.extensions.Extensions.{Extensions};
 
 use rpki_extensions::laws::kinds_of_paths;
 use rpki_extensions::{
@@ -91,6 +93,14 @@ pub fn below<A: Allocator + Copy>(
 ) -> Result<ResourceSet<A>, OrMemory<VerifyBelowError<A>>>
     ensures inside { IfOk result (LiesInAnchor anchor.now) }
     ensures left { IfOk result (IsLeftBelow anchor.now certificates.now) }
+    ensures accepted { IfOk result (λ set. (root : Triple) × IsAnchorSet anchor.now root
+        × IsVerifiedPath root certificates.now set × ((at : ℕ) (certificate : Extensions)
+        → at < length certificates.now
+        → slice_index_or certificates.now at certificate ≡ certificate
+        → (issuer : Triple) × IsVerifiedPath root (take at certificates.now) issuer
+        × (asn : Claim) × (v4 : Claim) × (v6 : Claim) × AreClaims certificate asn v4 v6
+        × (certificate.mode ≡ Refuse → (n : ℕ) → (Lists asn n → Holds issuer.asn n)
+        × (Lists v4 n → Holds issuer.ipv4 n) × (Lists v6 n → Holds issuer.ipv6 n)))) }
     ensures refused { IfErr result (IfRefused (IsVerifyBelowError anchor.now certificates.now)) }
 {
     verified_below(alloc, anchor, certificates)

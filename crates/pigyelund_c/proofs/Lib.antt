@@ -1,4 +1,5 @@
 pub mod CertificatePathLemmas
+mod ClaimedLemmas
 pub mod CoverOctetLemmas
 pub mod OutcomeLemmas
 pub mod RangeLemmas

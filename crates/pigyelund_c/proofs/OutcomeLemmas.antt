@@ -28,7 +28,6 @@ use Rattle.pigyelund_c.specs.Verified.{IsOutcome, IsOutcomeIn, IsVerifyRefusal, 
 use Rattle.pigyelund_c.specs.declared.encodings.Present.{Present}
 use Rattle.pigyelund_c.specs.declared.encodings.Present.TheVariants.{Neither, Numbers as HasNumbers}
 use Rattle.pigyelund_c.specs.declared.encodings.Present.TheVariants.{Addresses as HasAddresses, Both}
-use Rattle.pigyelund_c.specs.declared.refusal.ArgumentError.{ArgumentError}
 use Rattle.pigyelund_c.specs.declared.refusal.ArgumentError.TheVariants.{NoEncoding, NoMode, NoPresence}
 use Rattle.pigyelund_c.specs.declared.refusal.ArgumentError.TheVariants.{NoFamily, Outside}
 use Rattle.pigyelund_c.specs.declared.refusal.ReadSetError.{ReadSetError}

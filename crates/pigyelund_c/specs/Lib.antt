@@ -1,4 +1,5 @@
 pub mod Certificates
+pub mod Claimed
 pub mod Covers
 pub mod Numbers
 pub mod PairStatuses

@@ -1,5 +1,5 @@
 //! Lemmas about the results of the exported calls.
-ghost use Rattle.std.specs.Prelude.{ℕ, ◌<◌, ◌^◌, ◌↔◌, List, length};
+ghost use Rattle.std.specs.Prelude.{◌≡◌, ℕ, ◌<◌, ◌^◌, ◌↔◌, List, length, slice_index_or, take};
 ghost use Rattle.rpki_chain.specs.declared.path.Step.{Step};
 ghost use Rattle.rpki_extensions.specs.Kinds.{AreSteps, ClaimTriple, IsResultOfEach};
 ghost use Rattle.rpki_extensions.specs.Outcomes.{OneOutcome};
@@ -7,7 +7,10 @@ ghost use Rattle.rpki_extensions.specs.Paths.{IsVerifiedPath};
 ghost use Rattle.rpki_extensions.specs.declared.encoding.Encoding.{Encoding};
 ghost use Rattle.rpki_extensions.specs.declared.extensions.Extensions.{Extensions};
 ghost use Rattle.rpki_resources.specs.Triples.{IsTriple, Triple};
-ghost use Rattle.pigyelund_c.specs.Paths.{AreCertificatesAt, IsLeftOnPath};
+ghost use Rattle.pigyelund_c.specs.Certificates.{IsCertificate, IsCertificateAt};
+ghost use Rattle.pigyelund_c.specs.Claimed.{GetsClaimed};
+ghost use Rattle.pigyelund_c.specs.Paths.{AreCertificatesAt, IsLeftOnPath, IsPathOutcome};
+ghost use Rattle.pigyelund_c.specs.Sets.{IsSet};
 ghost use Rattle.pigyelund_c.specs.Verified.{IsNoOutcome, IsOutcome};
 ghost use Rattle.pigyelund_c.specs.declared.certificate.Certificate.{Certificate};
 
@@ -35,4 +38,26 @@ pub fn outcomes_of_verification()
         → length issuer_ip < 2 ^ 64 → length cert_ip < 2 ^ 64
         → OneOutcome (IsOutcome issuer_as issuer_ip present cert_as cert_ip encoding mode)
         (IsNoOutcome issuer_as issuer_ip present cert_as cert_ip encoding mode) }
+{}
+
+/// States what a certificate gets: exactly the numbers of its issuer's set that it claims.
+///
+/// In mode 0 an accepted certificate lists no other number. On a path the issuer's set is what the certificates before
+/// it leave.
+pub fn sets_of_certificates()
+    ensures verify { (issuer_as issuer_ip : List ℕ) (present : ℕ) (cert_as cert_ip : List ℕ)
+        (encoding mode : ℕ) (set : Triple)
+        → IsOutcome issuer_as issuer_ip present cert_as cert_ip encoding mode set
+        → (way : Encoding) × (issuer : Triple) × (certificate : Extensions)
+        × IsSet way issuer_as issuer_ip issuer
+        × IsCertificate present cert_as cert_ip way mode certificate
+        × GetsClaimed issuer certificate set }
+    ensures path { (anchor_as anchor_ip run : List ℕ) (cs : List Certificate) (encoding : ℕ)
+        (set : Triple) → IsPathOutcome anchor_as anchor_ip run cs encoding set
+        → (way : Encoding) × (anchor : Triple) × IsSet way anchor_as anchor_ip anchor
+        × IsLeftOnPath run way anchor cs set × ((at : ℕ) (c : Certificate) → at < length cs
+        → slice_index_or cs at c ≡ c
+        → (issuer : Triple) × (next : Triple) × (certificate : Extensions)
+        × IsLeftOnPath run way anchor (take at cs) issuer × IsCertificateAt run way c certificate
+        × GetsClaimed issuer certificate next) }
 {}

@@ -84,6 +84,8 @@ pub fn written<F: Family, A: Allocator + Copy>(
         ↔ ((n : ℕ) → Holds a.now n ↔ Holds b.now n)) }
     ensures octets { IfOk result (λ made. (made.3.items ≡ made.4.items)
         ↔ ((n : ℕ) → Holds a.now n ↔ Holds b.now n)) }
+    ensures first { IfOk result (λ made. (string_bytes made.1 ≡ set_text F.FAMILY a.now)
+        × (made.3.items ≡ ip_set_der a.now)) }
 {
     rpki_ipres::laws::printed_sets(); // so that the proof sees that sets print alike only if they are equal
     rpki_ipres::der::laws::canonical(); // and encode alike only then

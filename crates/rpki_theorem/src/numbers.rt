@@ -6,7 +6,7 @@ ghost use Rattle.rpki_der.specs.Der.{Front, NoFront, Spells};
 ghost use Rattle.rpki_chain.specs.Paths.{IsFirstRefusal, IsPathResult, path_refusal_text};
 ghost use Rattle.rpki_chain.specs.Runs.{Holds, IsRunsOfBlocks};
 ghost use Rattle.rpki_as_block.specs.Blocks.{as_bounds};
-ghost use Rattle.rpki_as.specs.AsDer.{IsAsBlockSequence, as_sequence_octets};
+ghost use Rattle.rpki_as.specs.AsDer.{IsAsBlockSequence, as_sequence_octets, as_set_octets};
 ghost use Rattle.rpki_as.specs.Blocks.{IsAsSet};
 ghost use Rattle.rpki_as.specs.Faults.{overclaimed_as_text};
 ghost use Rattle.rpki_as.specs.ListText.{IsAsListText, HasAsListFault, as_list_text};
@@ -72,6 +72,8 @@ pub fn written<A: Allocator + Copy>(
         ↔ ((n : ℕ) → Holds a.now n ↔ Holds b.now n)) }
     ensures octets { IfOk result (λ made. (made.3.items ≡ made.4.items)
         ↔ ((n : ℕ) → Holds a.now n ↔ Holds b.now n)) }
+    ensures first { IfOk result (λ made. (string_bytes made.1 ≡ as_list_text a.now)
+        × (made.3.items ≡ as_set_octets a.now)) }
 {
     rpki_as::laws::printed_sets(); // so that the proof sees that sets print alike only if they are equal
     rpki_as::der::laws::written_sets(); // and encode alike only then

@@ -1,5 +1,5 @@
 //! The answers of the programs to texts in memory, without devices.
-ghost use Rattle.std.specs.Prelude.{[], Bool, IfErr, IfOk, List, Some};
+ghost use Rattle.std.specs.Prelude.{[], IfErr, IfOk, List, Some};
 ghost use Rattle.rpki_text.specs.Memory.{IfRefused};
 ghost use Rattle.lines_engine.specs.Run.{AnswersAll};
 ghost use Rattle.respath_lines.specs.Answer.{IsAnswer};

@@ -23,6 +23,8 @@ pub mod addresses;
 pub mod certificates;
 pub mod claims;
 pub mod numbers;
+#[cfg(test)]
+mod premises;
 pub mod reads;
 pub mod resources;
 pub mod routes;

@@ -20,7 +20,7 @@ def reached() -> set[Path]:
     found: set[Path] = set()
     left = list((CRATES / "rpki_theorem" / "src").glob("*.rt"))
     while left:
-        for crate, name in re.findall(r"use Rattle\.(\w+)\.specs\.(\w+)\.\{", left.pop().read_text()):
+        for crate, name in re.findall(r"use Rattle\.(\w+)\.specs\.(\w+)(?:\.\{| as )", left.pop().read_text()):
             file = CRATES / crate / "specs" / f"{name}.antt"
             if file.is_file() and file not in found:
                 found.add(file)

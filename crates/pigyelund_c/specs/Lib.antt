@@ -1,5 +1,4 @@
 pub mod Certificates
-pub mod Claimed
 pub mod Covers
 pub mod Numbers
 pub mod PairStatuses

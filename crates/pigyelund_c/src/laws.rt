@@ -1,6 +1,7 @@
 //! Lemmas about the results of the exported calls.
 ghost use Rattle.std.specs.Prelude.{◌≡◌, ℕ, ◌<◌, ◌^◌, ◌↔◌, List, length, slice_index_or, take};
 ghost use Rattle.rpki_chain.specs.declared.path.Step.{Step};
+ghost use Rattle.rpki_extensions.specs.Issued.{GetsClaimed};
 ghost use Rattle.rpki_extensions.specs.Kinds.{AreSteps, ClaimTriple, IsResultOfEach};
 ghost use Rattle.rpki_extensions.specs.Outcomes.{OneOutcome};
 ghost use Rattle.rpki_extensions.specs.Paths.{IsVerifiedPath};
@@ -8,14 +9,15 @@ ghost use Rattle.rpki_extensions.specs.declared.encoding.Encoding.{Encoding};
 ghost use Rattle.rpki_extensions.specs.declared.extensions.Extensions.{Extensions};
 ghost use Rattle.rpki_resources.specs.Triples.{IsTriple, Triple};
 ghost use Rattle.pigyelund_c.specs.Certificates.{IsCertificate, IsCertificateAt};
-ghost use Rattle.pigyelund_c.specs.Claimed.{GetsClaimed};
 ghost use Rattle.pigyelund_c.specs.Paths.{AreCertificatesAt, IsLeftOnPath, IsPathOutcome};
 ghost use Rattle.pigyelund_c.specs.Sets.{IsSet};
 ghost use Rattle.pigyelund_c.specs.Verified.{IsNoOutcome, IsOutcome};
 ghost use Rattle.pigyelund_c.specs.declared.certificate.Certificate.{Certificate};
 
-/// States that the certificates of a path leave a set if and only if the path of their extensions leaves it, and if and
-/// only if the set of each kind is the result of the path of the claims of that kind.
+/// States two equivalents of the fact that the certificates of a path leave a set.
+///
+/// - `extensions`: the path of their extensions leaves the set.
+/// - `kinds`: the set of each kind is the result of the path of the claims of that kind.
 #[tactic(auto, using(crate::proofs::CertificatePathLemmas::path_of_extensions, crate::proofs::CertificatePathLemmas::kinds_of_path))]
 pub fn laws_of_paths()
     ensures extensions { (run : List ℕ) (encoding : Encoding) (anchor set : Triple)

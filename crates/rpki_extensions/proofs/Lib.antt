@@ -1,3 +1,4 @@
+pub mod ClaimedLemmas
 pub mod Common
 pub mod DecidedRuns
 pub mod EncodingLemmas

@@ -10,7 +10,7 @@ ghost use Rattle.rpki_extensions.specs.Anchors.{IsAnchorSet, IsNoAnchor};
 ghost use Rattle.rpki_extensions.specs.Below.{IsLeftBelow, IsVerifyBelowError};
 ghost use Rattle.rpki_extensions.specs.Claims.{AreAddressClaims, AreClaimed, AreClaims, AreNoClaims, HasAddressesFault, HasNumbersFault, IsNumbersClaim};
 ghost use Rattle.rpki_extensions.specs.Encodings.{HasAddressValueFault, HasAsFault, IsAddressValue, IsAsValue};
-ghost use Rattle.rpki_extensions.specs.Issued.{HasVerifyError, IsVerified};
+ghost use Rattle.rpki_extensions.specs.Issued.{GetsClaimed, HasVerifyError, IsVerified};
 ghost use Rattle.rpki_extensions.specs.Kinds.{AreSteps, ClaimTriple, IsFirstOfEach, IsResultOfEach, NamesExcess};
 ghost use Rattle.rpki_extensions.specs.Outcomes.{HasFewOctets, OneOutcome};
 ghost use Rattle.rpki_extensions.specs.Paths.{IsFirstVerifyError, IsVerifiedPath};
@@ -47,6 +47,15 @@ pub fn outcomes_of_certificates<A: Allocator>()
         OneOutcome (IsAnchorSet certificate) (IsNoAnchor {A = A} certificate) }
     ensures verified { (issuer : Triple) (certificate : Extensions) → HasFewOctets certificate →
         OneOutcome (IsVerified issuer certificate) (HasVerifyError {A = A} issuer certificate) }
+{}
+
+/// States what a verified certificate gets: exactly the numbers of its issuer's set that it claims.
+///
+/// In mode Refuse a verified certificate lists no other number.
+#[tactic(auto, using(crate::proofs::ClaimedLemmas::gets_claimed))]
+pub fn sets_of_certificates()
+    ensures { (issuer set : Triple) (certificate : Extensions) → IsVerified issuer certificate set →
+        GetsClaimed issuer certificate set }
 {}
 
 /// States that a path of certificates has at most one outcome, below a set and below the extensions of a trust anchor.

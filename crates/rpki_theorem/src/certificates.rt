@@ -1,26 +1,25 @@
 //! Certificates: what remains of an issuer's resources, and what an accepted certificate lists.
-ghost use Rattle.std.specs.Prelude.{◌≡◌, ℕ, ◌+◌, ◌<◌, ◌↔◌, List, IfOk, IfErr, length, slice_index_or, take};
+ghost use Rattle.std.specs.Prelude.{◌≡◌, ℕ, ◌+◌, ◌<◌, List, IfOk, IfErr, length, slice_index_or, take};
 ghost use Rattle.rpki_text.specs.Memory.{IfRefused};
-ghost use Rattle.rpki_chain.specs.Claims.{Claim};
-ghost use Rattle.rpki_chain.specs.Paths.{IsLeft, Leaves, Lists};
+ghost use Rattle.rpki_chain.specs.Paths.{IsLeft, Lists};
 ghost use Rattle.rpki_chain.specs.Runs.{Holds};
 ghost use Rattle.rpki_chain.specs.declared.path.Overclaim.TheVariants.{Refuse};
 ghost use Rattle.rpki_chain.specs.declared.path.Step.{Step};
 ghost use Rattle.rpki_resources.specs.Triples.{HasEachOf, Triple};
 ghost use Rattle.rpki_extensions.specs.Anchors.{IsAnchorSet};
 ghost use Rattle.rpki_extensions.specs.Below.{IsLeftBelow, IsVerifyBelowError, LiesInAnchor};
-ghost use Rattle.rpki_extensions.specs.Claims.{AreClaims};
-ghost use Rattle.rpki_extensions.specs.Issued.{HasVerifyError};
+ghost use Rattle.rpki_extensions.specs.Issued.{GetsClaimed, HasVerifyError};
 ghost use Rattle.rpki_extensions.specs.Kinds.{AreSteps, ClaimTriple, IsFirstOfEach, IsResultOfEach, NamesExcess};
 ghost use Rattle.rpki_extensions.specs.Paths.{IsFirstVerifyError, IsVerifiedPath};
 ghost use Rattle.rpki_extensions.specs.declared.extensions.Extensions.{Extensions};
 
-use rpki_extensions::laws::kinds_of_paths;
+use rpki_extensions::laws::{kinds_of_paths, sets_of_certificates};
 use rpki_extensions::{
     Extensions, VerifyBelowError, VerifyError, VerifyPathError, verified_below, verified_octets,
     verified_path,
 };
-use rpki_resources::{OrMemory, ResourceSet};
+use rpki_resources::ResourceSet;
+use rpki_text::memory::OrMemory;
 use std::alloc::Allocator;
 
 /// Returns the part of the issuer's resources that a certificate claims.
@@ -35,15 +34,10 @@ pub fn issued<A: Allocator + Copy>(
     certificate: &Extensions<'_>,
 ) -> Result<ResourceSet<A>, OrMemory<VerifyError<A>>>
     ensures inside { IfOk result (HasEachOf issuer.now) }
-    ensures claimed { IfOk result (λ set. (asn : Claim) × (v4 : Claim) × (v6 : Claim)
-        × AreClaims certificate.now asn v4 v6
-        × ((n : ℕ) → Holds set.asn n ↔ (Holds issuer.now.asn n × Leaves asn n))
-        × ((n : ℕ) → Holds set.ipv4 n ↔ (Holds issuer.now.ipv4 n × Leaves v4 n))
-        × ((n : ℕ) → Holds set.ipv6 n ↔ (Holds issuer.now.ipv6 n × Leaves v6 n))
-        × (certificate.now.mode ≡ Refuse → (n : ℕ) → (Lists asn n → Holds issuer.now.asn n)
-        × (Lists v4 n → Holds issuer.now.ipv4 n) × (Lists v6 n → Holds issuer.now.ipv6 n))) }
+    ensures claimed { IfOk result (GetsClaimed issuer.now certificate.now) }
     ensures refused { IfErr result (IfRefused (HasVerifyError issuer.now certificate.now)) }
 {
+    sets_of_certificates(); // so that the proof sees which numbers a verified certificate gets
     verified_octets(alloc, issuer, certificate)
 }
 
@@ -97,11 +91,12 @@ pub fn below<A: Allocator + Copy>(
         × IsVerifiedPath root certificates.now set × ((at : ℕ) (certificate : Extensions)
         → at < length certificates.now
         → slice_index_or certificates.now at certificate ≡ certificate
-        → (issuer : Triple) × IsVerifiedPath root (take at certificates.now) issuer
-        × (asn : Claim) × (v4 : Claim) × (v6 : Claim) × AreClaims certificate asn v4 v6
-        × (certificate.mode ≡ Refuse → (n : ℕ) → (Lists asn n → Holds issuer.asn n)
-        × (Lists v4 n → Holds issuer.ipv4 n) × (Lists v6 n → Holds issuer.ipv6 n)))) }
+        → (issuer : Triple) × (next : Triple)
+        × IsVerifiedPath root (take at certificates.now) issuer
+        × IsVerifiedPath root (take (at + 1) certificates.now) next
+        × GetsClaimed issuer certificate next)) }
     ensures refused { IfErr result (IfRefused (IsVerifyBelowError anchor.now certificates.now)) }
 {
+    sets_of_certificates(); // so that the proof sees which numbers each certificate gets
     verified_below(alloc, anchor, certificates)
 }

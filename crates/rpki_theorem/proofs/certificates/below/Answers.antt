@@ -11,5 +11,6 @@ returns-clause-refused g c = refused_of _ _ _ c.verified_below.result (λ e h. h
 
 pub returns-clause-accepted : goal.returns-clause-accepted
 returns-clause-accepted g c =
-    ok_of _ _ _ c.verified_below.result (accepted_below c.args.anchor.now c.args.certificates.now)
+    ok_of _ _ _ c.verified_below.result
+    (accepted_below c.sets_of_certificates.ensures c.args.anchor.now c.args.certificates.now)
     c.verified_below.ensures.below

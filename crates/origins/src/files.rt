@@ -33,7 +33,7 @@ impl<'a> NamedFiles<'a> {
 impl Inputs for NamedFiles<'_> {
     type File = OpenFile;
 
-    /// What files hold is not modelled.
+    /// The content of files is not modelled.
     ghost text = { λ _ _. None };
 
     ghost mark = { λ files. files.failed };
@@ -63,7 +63,7 @@ pub struct OpenFile {
     failed: bool,
 }
 
-/// What an open file reads from.
+/// The reader of an open file.
 #[derive(Debug, Drop)]
 enum Reader {
     File(Retrying<File>),

@@ -25,7 +25,7 @@ pub enum RouteFault {
     Asn(ParseAsnError),
 }
 
-/// Prints the fault of a prefix in the words of its own `Display`, of which no contract tells the text.
+/// Prints the fault of a prefix with the words of its `Display`. No contract states the text of that `Display`.
 fn fmt_prefix_fault<W: fmt::Write>(
     fault: &ParsePrefixError,
     f: &mut fmt::Formatter<W>,

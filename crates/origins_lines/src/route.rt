@@ -41,12 +41,9 @@ enum Kind {
 ///
 /// - A prefix, a space and an AS number. White space may precede or follow each.
 /// - A line of `bgpdump -m`, whose fields are separated by `|`. The first field is one of these:
-///
-///   | first field | line |
-///   |---|---|
-///   | `TABLE_DUMP`, `TABLE_DUMP2` | a route of a table (RFC 6396, 4.2 and 4.3) |
-///   | `BGP4MP`, `BGP4MP_ET`, `BGP4MP_LOCAL`, `BGP4MP_ET_LOCAL` | an update, or the state of a session (RFC 6396, 4.4) |
-///   | `TABLE_DUMP2_AP`, and these names of updates with `_AP` at their ends | the same, with a path identifier (RFC 8050) |
+///   - `TABLE_DUMP`, `TABLE_DUMP2`: a route of a table (RFC 6396, 4.2 and 4.3);
+///   - `BGP4MP`, `BGP4MP_ET`, `BGP4MP_LOCAL`, `BGP4MP_ET_LOCAL`: an update, or the state of a session (RFC 6396, 4.4);
+///   - `TABLE_DUMP2_AP`, or a name of an update with `_AP` at its end: the same, with a path identifier (RFC 8050).
 ///
 /// The sixth field is the prefix and the seventh the path. In a line with a path identifier the eighth is the path. The
 /// third field of an update is `A` if the line announces the route. Returns None if the third field is `W` or `STATE`:

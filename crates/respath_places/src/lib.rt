@@ -27,9 +27,9 @@ use std::alloc::{AllocError, Allocator};
 /// The commands of `respath`, with a tab and a place after an error or a refusal that has one, for an engine that takes
 /// any [`Answers`].
 ///
-/// An error in a list or a path has the place of the first element that is neither empty nor a block, or of the first
-/// part of the path that is not a step. A refusal has the place of the first element of the refused step that has
-/// overclaimed resources. Elements are counted from 1, empty ones included, and steps from 0.
+/// The place of an error in a list is the first element that is neither empty nor a block. In a path it can also be the
+/// first part that is not a step. The place of a refusal is the first element of the refused step that has overclaimed
+/// resources. Elements are counted from 1, empty ones included, and steps from 0.
 ///
 /// - `element 3: AS7-AS3` is the third element of a list.
 /// - `root, element 2: x` is the second element of the first list of a path.

@@ -17,7 +17,7 @@ pub enum Task<'a> {
     Answer {
         /// The options of the answers.
         options: Options,
-        /// The names of the files, in order. If there is none, the standard input is answered.
+        /// The names of the files, in order. Without a name, the standard input is answered.
         names: Vec<&'a str>,
     },
     /// Print the help text.

@@ -1,37 +1,41 @@
 //! Sets of addresses.
 use crate::measure::Set;
 use rpki_base::memory::OrMemory;
+use rpki_chain::path::Step;
 use rpki_der::sequences::encode_sequence;
 use rpki_der::{Cursor, DerError};
 use rpki_ip::addr::Addr;
+use rpki_ip::prefix::Prefix;
 use rpki_ip::range::AddressRange;
 use rpki_ipres::block::IpBlock;
 use rpki_ipres::blocks::IpBlocks;
+use rpki_ipres::resources::IpResources;
 use std::alloc::{AllocError, Global};
-
-/// The distance between the beginnings of neighbouring blocks.
-const STEP: u128 = 1 << 64;
-
-/// The distance between the beginnings of the two sets.
-const OFFSET: u128 = 1 << 32;
+use std::io;
 
 impl Set for IpBlocks {
     type Block = IpBlock;
 
-    /// Returns blocks of three addresses each.
-    fn blocks(alloc: Global, count: usize, is_other: bool) -> Result<Vec<IpBlock>, AllocError> {
-        let mut blocks = Vec::new(alloc);
-        let mut next = Some(if is_other { OFFSET } else { 0 });
-        for _ in 0..count {
-            let Some(min) = next else { break };
-            let Some(max) = u128::checked_add(min, 2) else {
-                break
-            };
-            let range = AddressRange::new(Addr::from_bits(min), Addr::from_bits(max));
-            blocks.push(IpBlock::Range(range))?;
-            next = min.checked_add(STEP);
-        }
-        Ok(blocks)
+    type Claim = IpResources;
+
+    /// Returns a prefix, or a range of three addresses. Every second prefix of the first set contains a block of the
+    /// other one.
+    fn block(at: u32, is_other: bool, is_single: bool) -> Option<IpBlock> {
+        let offset = if is_other { 1 << 32 } else { 0 };
+        let min = u128::checked_mul(u128::from(at), 1 << 64)?.checked_add(offset)?;
+        let length = if is_other || at.checked_rem(2) == Some(0) {
+            112
+        } else {
+            80
+        };
+        from_min(min, 2, if is_single { Some(length) } else { None })
+    }
+
+    /// Returns a prefix of `56 - length` bits, or a range of `length + 1` addresses.
+    fn block_on_path(at: u32, length: u32, is_single: bool) -> Option<IpBlock> {
+        let min = u128::checked_mul(u128::from(at), 1 << 88)?.checked_add(1 << 125)?;
+        let bits = u8::try_from(u32::checked_sub(56, length)?).ok()?;
+        from_min(min, length, if is_single { Some(bits) } else { None })
     }
 
     fn from_blocks(alloc: Global, blocks: &[IpBlock]) -> Result<IpBlocks, AllocError> {
@@ -58,6 +62,24 @@ impl Set for IpBlocks {
         self.iter().len()
     }
 
+    fn differing(&self, other: &IpBlocks) -> usize {
+        self.iter()
+            .zip(other.iter())
+            .filter(|(one, other)| one != other)
+            .count()
+    }
+
+    fn claim(self) -> IpResources {
+        IpResources::blocks(self)
+    }
+
+    fn verify_path(&self, alloc: Global, steps: &[Step<IpResources>]) -> io::Result<IpBlocks> {
+        match IpBlocks::verify_path(self, alloc, steps) {
+            Ok(left) => Ok(left),
+            Err(_) => Err(io::ErrorKind::InvalidData.into()),
+        }
+    }
+
     fn octets(alloc: Global, blocks: &[IpBlock]) -> Result<Vec<u8>, AllocError> {
         let mut octets = Vec::new(alloc);
         encode_sequence(blocks, &mut octets)?;
@@ -70,5 +92,17 @@ impl Set for IpBlocks {
 
     fn append(&self, octets: &mut Vec<u8>) -> Result<(), AllocError> {
         self.encode(octets)
+    }
+}
+
+/// Returns the prefix that begins at an address, or the range from there to the address that is `length` above.
+fn from_min(min: u128, length: u32, bits: Option<u8>) -> Option<IpBlock> {
+    let first = Addr::from_bits(min);
+    match bits {
+        Some(bits) if bits <= 128 => Some(IpBlock::Prefix(Prefix::new(first, bits))),
+        _ => {
+            let last = Addr::from_bits(u128::checked_add(min, u128::from(length))?);
+            Some(IpBlock::Range(AddressRange::new(first, last)))
+        }
     }
 }

@@ -32,7 +32,7 @@ impl Numbers {
     }
 
     /// Returns a number below the limit, or 0 if the limit is 0.
-    fn below(&mut self, limit: u64) -> u64 {
+    pub fn below(&mut self, limit: u64) -> u64 {
         self.next().checked_rem(limit).unwrap_or(0)
     }
 

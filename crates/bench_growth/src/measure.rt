@@ -1,5 +1,7 @@
 //! Measurements of sets of any kind.
+use crate::lists::{self, Kind, List};
 use rpki_base::memory::OrMemory;
+use rpki_chain::path::Step;
 use rpki_der::{Cursor, DerError};
 use std::alloc::{AllocError, Global};
 use std::io;
@@ -12,8 +14,17 @@ const STRIDE: usize = 7919;
 pub trait Set: Sized + Drop {
     type Block: Copy;
 
-    /// Returns `count` ascending blocks. The blocks of the other set begin at an offset.
-    fn blocks(alloc: Global, count: usize, is_other: bool) -> Result<Vec<Self::Block>, AllocError>;
+    /// What a step of a path claims.
+    type Claim: Drop;
+
+    /// Returns the block at an index of a set. The blocks of the other set begin at an offset.
+    ///
+    /// The block is a range or, if it is single, one AS number or a prefix. It is none if it would pass the last AS
+    /// number or address.
+    fn block(at: u32, is_other: bool, is_single: bool) -> Option<Self::Block>;
+
+    /// Returns the block at an index of a set on a path. A block of greater length contains one of smaller length.
+    fn block_on_path(at: u32, length: u32, is_single: bool) -> Option<Self::Block>;
 
     fn from_blocks(alloc: Global, blocks: &[Self::Block]) -> Result<Self, AllocError>;
 
@@ -27,6 +38,15 @@ pub trait Set: Sized + Drop {
 
     /// Returns how many blocks the set has.
     fn count(&self) -> usize;
+
+    /// Returns how many blocks differ from the block at the same index of the other set.
+    fn differing(&self, other: &Self) -> usize;
+
+    /// Returns the claim of the set.
+    fn claim(self) -> Self::Claim;
+
+    /// Returns what remains of the set after a path.
+    fn verify_path(&self, alloc: Global, steps: &[Step<Self::Claim>]) -> io::Result<Self>;
 
     /// Returns a SEQUENCE of blocks in their order.
     fn octets(alloc: Global, blocks: &[Self::Block]) -> Result<Vec<u8>, AllocError>;
@@ -43,10 +63,22 @@ pub trait Set: Sized + Drop {
 pub struct Measured<'a> {
     pub rt: &'a HostRuntime,
     pub kind: &'a str,
+    pub lists: Kind,
     pub count: usize,
 }
 
 impl Measured<'_> {
+    /// Returns the blocks of a list.
+    fn blocks<S: Set>(self, list: List) -> Result<Vec<S::Block>, AllocError> {
+        lists::blocks::<S>(self.rt.alloc(), self.lists, list, self.count)
+    }
+
+    /// Returns the set of a list.
+    pub fn set<S: Set>(self, list: List) -> Result<S, AllocError> {
+        let blocks = self.blocks::<S>(list)?;
+        S::from_blocks(self.rt.alloc(), &blocks)
+    }
+
     /// Prints the time of a call since the start, and the size of its result.
     pub fn report(self, name: &str, start: Instant, given: usize, unit: &str) -> io::Result<()> {
         self.report_time(name, start)?;
@@ -91,7 +123,7 @@ impl Call {
 
 /// Builds two sets, and measures the building of the first one from a list and the calls on both.
 pub fn measure_operations<S: Set>(run: Measured<'_>) -> io::Result<()> {
-    let blocks = S::blocks(run.rt.alloc(), run.count, false)?;
+    let blocks = run.blocks::<S>(List::One)?;
     let one: S = measure_building(run, &blocks)?;
     measure_with_other(run, &one)
 }
@@ -105,7 +137,7 @@ fn measure_building<S: Set>(run: Measured<'_>, blocks: &[S::Block]) -> io::Resul
 }
 
 fn measure_with_other<S: Set>(run: Measured<'_>, one: &S) -> io::Result<()> {
-    let other: S = other_set(run.rt.alloc(), run.count)?;
+    let other: S = run.set(List::Other)?;
     measure_calls(run, one, &other)
 }
 
@@ -114,11 +146,6 @@ fn measure_calls<S: Set>(run: Measured<'_>, one: &S, other: &S) -> io::Result<()
         measure_call(run, call, one, other)?;
     }
     measure_contains(run, one, other)
-}
-
-fn other_set<S: Set>(alloc: Global, count: usize) -> Result<S, AllocError> {
-    let blocks = S::blocks(alloc, count, true)?;
-    S::from_blocks(alloc, &blocks)
 }
 
 /// Measures the time to make a set from two sets.
@@ -142,7 +169,7 @@ fn measure_contained<S: Set>(run: Measured<'_>, one: &S, union: &S) -> io::Resul
 
 /// Reads blocks from a SEQUENCE in which they don't ascend, and writes their set.
 pub fn measure_der<S: Set>(run: Measured<'_>) -> io::Result<()> {
-    let octets = octets::<S>(run.rt.alloc(), run.count)?;
+    let octets = octets::<S>(run)?;
     measure_octets::<S>(run, &octets)
 }
 
@@ -153,7 +180,7 @@ fn measure_octets<S: Set>(run: Measured<'_>, octets: &[u8]) -> io::Result<()> {
 
 /// Reads canonical octets, once leniently and once strictly.
 pub fn measure_modes<S: Set>(run: Measured<'_>) -> io::Result<()> {
-    let octets = canonical::<S>(run.rt.alloc(), run.count)?;
+    let octets = canonical::<S>(run)?;
     measure_in_modes::<S>(run, &octets)
 }
 
@@ -164,15 +191,15 @@ fn measure_in_modes<S: Set>(run: Measured<'_>, octets: &[u8]) -> io::Result<()> 
 }
 
 /// Returns a SEQUENCE of ascending blocks.
-fn canonical<S: Set>(alloc: Global, count: usize) -> Result<Vec<u8>, AllocError> {
-    let blocks = S::blocks(alloc, count, false)?;
-    S::octets(alloc, &blocks)
+fn canonical<S: Set>(run: Measured<'_>) -> Result<Vec<u8>, AllocError> {
+    let blocks = run.blocks::<S>(List::One)?;
+    S::octets(run.rt.alloc(), &blocks)
 }
 
 /// Returns a SEQUENCE of blocks that aren't ascending.
-fn octets<S: Set>(alloc: Global, count: usize) -> Result<Vec<u8>, AllocError> {
-    let blocks = S::blocks(alloc, count, false)?;
-    octets_of::<S>(alloc, &blocks)
+fn octets<S: Set>(run: Measured<'_>) -> Result<Vec<u8>, AllocError> {
+    let blocks = run.blocks::<S>(List::One)?;
+    octets_of::<S>(run.rt.alloc(), &blocks)
 }
 
 fn octets_of<S: Set>(alloc: Global, blocks: &[S::Block]) -> Result<Vec<u8>, AllocError> {

@@ -1,9 +1,9 @@
 #!/usr/bin/env python3
-"""regress.py [--write]: compares how many instructions the programs take with the figures in bench/regress.txt.
+"""regress.py [--within PERCENT] [--write]: compares the instructions of programs with the figures in bench/regress.txt.
 
 Valgrind's callgrind counts the instructions of the built programs, and of calls from C, on inputs that are made here.
 The same program and input give the same count, independent of other work of the machine. The script prints each count
-that is more than one part in twenty off its figure, in either direction. Then the status is 1. It is also 1 for an
+that is more than PERCENT (or 5) percent off its figure, in either direction. Then the status is 1. It is also 1 for an
 input without a figure, because nothing was compared. A commit that changes counts on purpose also changes the figures
 (--write).
 
@@ -12,6 +12,7 @@ with others, without valgrind, or if a program is not built. Calls from C are le
 built, and --write then writes nothing.
 """
 
+import argparse
 import os
 import platform
 import random
@@ -33,7 +34,6 @@ RESPATH = TOP / "crates" / "respath" / "out" / "respath"
 GROWTH = TOP / "crates" / "bench_growth" / "out" / "bench_growth"
 ORIGINS = TOP / "crates" / "origins" / "out" / "origins"
 LIBRARY = TOP / "crates" / "pigyelund_c" / "out" / "libpigyelund_c.a"
-PARTS = 20
 KINDS = ("as", "v4", "v6")
 CALLS = ("verify", "union", "intersection", "difference", "contains")
 
@@ -68,9 +68,15 @@ def shuffled(elements: list[str]) -> list[str]:
 
 
 def path(kind: str, count: int) -> str:
-    """Returns a path of ten steps. Each has nearly as many blocks as are left."""
-    steps = (f"{('refuse', 'trim')[at % 2]} {', '.join(ranges(kind, count, 1000 - at))}" for at in range(10))
-    return f"path {kind} {', '.join(ranges(kind, count))} | {' | '.join(steps)}\n"
+    """Returns a path of ten steps, none of which is refused.
+
+    Each leaves out every hundredth of the ranges. A `trim` lists the ranges again that the steps before it left out.
+    """
+    whole, steps = ranges(kind, count), []
+    for step in range(10):
+        mode, left_out = (("refuse", range(step + 1)), ("trim", range(step, step + 1)))[step % 2]
+        steps.append(f"{mode} {', '.join(it for at, it in enumerate(whole) if at % 100 not in left_out)}")
+    return f"path {kind} {', '.join(whole)} | {' | '.join(steps)}\n"
 
 
 def short_lines(count: int) -> str:
@@ -185,6 +191,9 @@ def inputs(folder: Path) -> Iterator[Input]:
     for name, given in lines():
         yield Input(name, (RESPATH,), given)
     yield Input("sets", (GROWTH, "5000"))
+    yield Input("sets-mixed", (GROWTH, "mixed", "5000"))
+    for words in ("path 5000 1000", "path 5000 2", "mixed path 5000 10"):
+        yield Input(words.replace(" ", "-"), (GROWTH, *words.split()))
     yield Input("origins", (GROWTH, "origins", "20000", "20000"))
     yield from of_origins(folder)
     if not calls_left_out():
@@ -198,7 +207,7 @@ def counted() -> Iterator[tuple[str, int]]:
         yield from zip((it.name for it in asked), pool.map(instructions, asked), strict=True)
 
 
-def left_out() -> str:
+def left_out(is_written: bool) -> str:
     """Returns why nothing is counted, or an empty text if the inputs are counted."""
     if shutil.which("valgrind") is None:
         return "valgrind is not there"
@@ -206,7 +215,7 @@ def left_out() -> str:
         if not program.exists():
             return f"{program.name} is not built"
     figures = FIGURES.read_text().split("\n")[0] if FIGURES.exists() else ""
-    if "--write" not in sys.argv and figures != what_counts():
+    if not is_written and figures != what_counts():
         return f"the figures are by {figures}"
     return ""
 
@@ -223,7 +232,7 @@ def what_counts() -> str:
     return ", ".join([kit, " ".join(platform.libc_ver()), processor[1] if processor else platform.machine()])
 
 
-def compare() -> int:
+def compare(within: float) -> int:
     """Prints each count that is off its figure, each figure without an input, and each input without a figure."""
     figures = {name: int(figure) for name, figure in map(str.split, FIGURES.read_text().splitlines()[1:])}
     if need := calls_left_out():
@@ -235,7 +244,7 @@ def compare() -> int:
         if name not in figures:
             off += 1
             print(f"{name}: {count} instructions, no stored figure")
-        elif abs(count - figures[name]) * PARTS > figures[name]:
+        elif abs(count - figures[name]) * 100 > figures[name] * within:
             off += 1
             print(f"{name}: {count} instructions, where {figures[name]} are stored")
     if gone:
@@ -256,11 +265,14 @@ def write() -> int:
 
 def main() -> int:
     """Compares the counts with the figures, or writes them."""
-    reason, is_written = left_out(), "--write" in sys.argv
-    if reason:
+    parser = argparse.ArgumentParser()
+    parser.add_argument("--within", type=float, default=5, metavar="PERCENT")
+    parser.add_argument("--write", action="store_true")
+    asked = parser.parse_args()
+    if reason := left_out(asked.write):
         print(f"left out: instructions are not counted: {reason}")
-        return int(is_written)
-    return write() if is_written else compare()
+        return int(asked.write)
+    return write() if asked.write else compare(asked.within)
 
 
 if __name__ == "__main__":

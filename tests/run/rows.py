@@ -156,12 +156,12 @@ def compare_verified_set(writes: bool) -> bool:
 
 
 def asked_of_origins(given: list[str]) -> Iterator[tuple[str, list[str]]]:
-    """Yields the questions to `bench_growth` about origins, each with its answers. It skips the paths."""
+    """Yields the questions to `bench_growth` about origins, each with its answers. It skips those about sets."""
     word, before = "", None
     for argument in given:
         if not argument.isdigit():
             word, before = argument, None
-        elif word == "path":
+        elif word in ("mixed", "path", "ranges"):
             continue
         elif word in made_routes.WORST:
             yield f"{word} {argument}", made_routes.worst_answers(word, int(argument))

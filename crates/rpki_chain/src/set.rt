@@ -215,6 +215,25 @@ impl<T: Block, A: Allocator> BlockSet<T, A> {
         A: Copy,
         ensures { IfOk result (IsIntersection self.now other.now) }
     {
+        // The check whether a short list lies in a far longer one searches the longer list. So a far shorter list comes
+        // first.
+        if other.as_slice().len() <= self.as_slice().len() / 64 {
+            return other.common_with(alloc, self);
+        }
+        self.common_with(alloc, other)
+    }
+
+    /// Returns the intersection of `self` and `other`. If `other` has every item of `self`, the result shares the
+    /// memory of `self`.
+    ///
+    /// # Errors
+    ///
+    /// [`AllocError`]: out of memory for the result, or a reference count is at its maximum.
+    fn common_with(&self, alloc: A, other: &BlockSet<T, A>) -> Result<Self, AllocError>
+    where
+        A: Copy,
+        ensures { IfOk result (IsIntersection self.now other.now) }
+    {
         match self.trim(alloc, other) {
             Ok(()) => self.clone(),
             Err(OrMemory::Refused(common)) => Ok(common),

@@ -1,9 +1,6 @@
-use Rattle.rpki_chain.proofs.Common.{refl}
-use Rattle.rpki_chain.proofs.SetLawLemmas.{common_inside}
-use Rattle.rpki_chain.proofs.SetLemmas.{made}
+-- The order of two sets doesn't matter for what they have in common.
+use Rattle.rpki_chain.proofs.IssuedClaims.{common_left}
 use Rattle.rpki_chain.proofs.set.BlockSet.intersection.Goals as goal
 
-pub returns-in-Ok : goal.returns-in-Ok
-returns-in-Ok g c =
-    let own = c.clone.ensures in
-    made c.clone.result own.same (common_inside _ _ own.set.are_runs (c.in-Ok.ensures.ok.0 refl))
+pub returns-then-as_slice : goal.returns-then-as_slice
+returns-then-as_slice g c = common_left _ _ _ c.common_with.ensures

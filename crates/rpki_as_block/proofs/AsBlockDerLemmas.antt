@@ -1,12 +1,13 @@
 -- What is written of blocks of AS numbers.
 use Rattle.rpki_as_block.proofs.Common.{List, Ok, Option, Result, Some, arith, length, refl, subst, sym, true, ℕ, ◌++◌}
-use Rattle.rpki_as_block.proofs.Common.{◌<◌, ◌^◌, ◌≡◌, ◌≤◌, length-append, as_number_octets, IsNew, same_reading}
-use Rattle.rpki_as_block.proofs.Common.{length-header, u32_is, value_is, IsReading, optional, HasAsNumbers, IsAsBlock}
-use Rattle.rpki_as_block.proofs.Common.{IsSetBlock, as_block_octets, as_range_content, as_block_has_octets}
+use Rattle.rpki_as_block.proofs.Common.{[], ◌<◌, ◌^◌, ◌∷◌, ◌≡◌, ◌≤◌, length-append, as_number_octets, IsNew}
+use Rattle.rpki_as_block.proofs.Common.{same_reading, length-header, u32_is, value_is, IsReading, HasAsNumbers}
+use Rattle.rpki_as_block.proofs.Common.{IsAsBlock, IsSetBlock, as_block_octets, as_range_content, as_block_has_octets}
 use Rattle.rpki_as_block.proofs.Common.{as_block_reading, as_block_modal, IsStrictBlock, as_block_at, as_block_by}
 use Rattle.rpki_as_block.proofs.Common.{as_bounds, new_as_block, AsBlock, Id, Range}
 use Rattle.rpki_der.proofs.SequenceModes.{optional_back_by}
 use Rattle.rpki_der.specs.Der.{Spells, header, integer}
+use Rattle.rpki_der.specs.Reading.{optional, refined, value_at}
 use Rattle.rpki_der.specs.Views.{Takes, is_strict, left}
 use Rattle.rpki_der.specs.declared.error.DerError.{DerError}
 use Rattle.rpki_der.specs.declared.cursor.Cursor.{Cursor}
@@ -68,6 +69,13 @@ block_numbers bytes x is = grind (arith)
 pub read_again : (x : AsBlock) (rest : List ℕ) → HasAsNumbers x
     → as_block_at (as_block_octets x ++ rest) ≡ Ok (x, rest)
 read_again x rest numbers = as_block_reading.again (as_block_octets x) x rest (block_written x numbers.0 numbers.1)
+
+-- octets that begin with a block aren't at their end
+pub block_found : (bytes : List ℕ) (x : AsBlock) (rest : List ℕ) → as_block_at bytes ≡ Ok (x, rest)
+    → optional as_block_at bytes ≡ Ok (Some x, rest)
+unfolding optional refined value_at
+block_found [] x rest e = absurd cc
+block_found (b ∷ bytes) x rest e = grind (arith)
 
 -- strictly, these octets are found, of the blocks that sets have
 pub set_block_is : (bytes : List ℕ) (x : AsBlock) → IsStrictBlock bytes x → Spells IsSetBlock as_block_octets bytes x

@@ -11,4 +11,5 @@ pub mod RangeCoverLemmas
 pub mod RangeLemmas
 pub mod RangeTextLemmas
 pub mod ShortestPrefixes
+pub mod UsualPrefixes
 pub mod WholeRangeLemmas

@@ -3,6 +3,7 @@ mod error;
 pub mod laws;
 mod prefix;
 mod range;
+pub mod usual;
 
 pub use error::DecodePrefixError;
 pub use rpki_der::family::DecodeFamilyError;

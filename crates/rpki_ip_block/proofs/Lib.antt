@@ -10,4 +10,5 @@ pub mod IpBlockDerModes
 pub mod IpBlockDerWritten
 pub mod PrintedBlockLemmas
 pub mod PrintedLists
+pub mod UsualBlocks
 pub mod WholeBlockReadings

@@ -7,6 +7,7 @@ ghost use Rattle.rpki_ip.specs.RangeDer.{span_of};
 ghost use Rattle.rpki_ip_block.specs.BlockReading.{is_set_range, range_in_by, span};
 
 pub mod laws;
+mod usual;
 
 use crate::block::IpBlock;
 use rpki_der::sequences::{Encode, ReadNext};
@@ -16,6 +17,7 @@ use rpki_ip::family::AddressFamily;
 use rpki_ip::prefix::Prefix;
 use rpki_ip::range::AddressRange;
 use std::alloc::{AllocError, Allocator};
+use usual::usual_block;
 
 impl IpBlock {
     ghost use Rattle.std.specs.Prelude.{◌≡◌, ℕ, List, Ok, Some, true, ◌≤◌, ◌<◌, ◌+◌, ◌++◌, length, vec_len, OnOk, OnErr, IsOk};
@@ -169,9 +171,29 @@ impl IpBlock {
     ghost use Rattle.rpki_ip_block.specs.BlockReading.{ip_block_by, next_ip_block_by};
     ghost use Rattle.rpki_ip_block.specs.Blocks.{ip_bounds};
 
-    /// Reads a block of a family, for both calls above.
-    #[tactic(auto, unfolding(rpki_der::specs::Reading::optional, rpki_der::specs::Reading::refined, rpki_der::specs::SequenceReading::by_tag))]
+    /// Reads a block of a family, for both calls above. `usual_block` reads most blocks from a lenient cursor in one
+    /// pass.
+    #[tactic(auto, using(crate::proofs::UsualBlocks::lenient_found))]
     fn take_opt_from_with_family_by_mode(
+        cursor: &mut Cursor<'_>,
+        family: AddressFamily,
+    ) -> Result<Option<IpBlock>, DerError>
+        ensures by_mode { Takes (λ block. block) cursor.old cursor.new result
+            (optional (ip_block_by (is_strict cursor.old) (bits_of family))) }
+        ensures mode { is_strict cursor.new ≡ is_strict cursor.old }
+    {
+        if !cursor.is_strict() {
+            if let Some((block, rest)) = usual_block(cursor.rest(), family) {
+                *cursor = Cursor::new(rest);
+                return Ok(Some(block));
+            }
+        }
+        Self::take_opt_of_values(cursor, family)
+    }
+
+    /// Reads a block of any form, value by value.
+    #[tactic(auto, unfolding(rpki_der::specs::Reading::optional, rpki_der::specs::Reading::refined, rpki_der::specs::SequenceReading::by_tag))]
+    fn take_opt_of_values(
         cursor: &mut Cursor<'_>,
         family: AddressFamily,
     ) -> Result<Option<IpBlock>, DerError>

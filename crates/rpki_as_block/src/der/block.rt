@@ -2,11 +2,12 @@
 ghost use Rattle.std.specs.Prelude.{◌≡◌, ◌≤◌, length};
 ghost use Rattle.rpki_block.specs.Beyond.{is_beyond};
 ghost use Rattle.rpki_der.specs.Reading.{Gives};
-ghost use Rattle.rpki_der.specs.Views.{left, tlv};
+ghost use Rattle.rpki_der.specs.Views.{is_strict, left, tlv};
 ghost use Rattle.rpki_as_block.specs.AsDer.{as_range_content};
 ghost use Rattle.rpki_as_block.specs.AsDerReading.{as_range_in, skip_block_of, skip_pair};
 ghost use Rattle.rpki_block.specs.Ranges.{range_bounds};
 
+use super::usual::usual_block;
 use crate::block::AsBlock;
 use crate::range::AsRange;
 use rpki_base::asn::Asn;
@@ -125,7 +126,7 @@ impl AsBlock {
     ghost use Rattle.rpki_as_block.specs.Blocks.{as_bounds};
     ghost use Rattle.rpki_der.specs.Reading.{Gives, optional};
     ghost use Rattle.rpki_der.specs.Views.{Takes, is_strict, tlv};
-    ghost use Rattle.rpki_as_block.specs.AsDerReading.{as_block_by, is_new_form, next_block_by, skip_block_at, skip_block_of};
+    ghost use Rattle.rpki_as_block.specs.AsDerReading.{as_block_at, as_block_by, is_new_form, next_block_by, skip_block_at, skip_block_of};
 
     fn put<A: Allocator>(&self, out: &mut Vec<u8, A>) -> Result<(), AllocError>
         ensures ok { OnOk result (out.new.items ≡ out.old.items ++ as_block_octets self.now) }
@@ -154,10 +155,40 @@ impl AsBlock {
         }
     }
 
-    #[tactic(auto, unfolding(rpki_der::specs::Reading::optional, rpki_der::specs::Reading::refined, rpki_der::specs::Reading::passing, rpki_der::specs::SequenceReading::by_tag))]
+    #[tactic(auto, unfolding(rpki_der::specs::Reading::optional, rpki_der::specs::Reading::refined, rpki_der::specs::Reading::passing))]
     fn take_opt_from_by_mode(cursor: &mut Cursor<'_>) -> Result<Option<AsBlock>, DerError>
         ensures by_mode { Takes (λ block. block) cursor.old cursor.new result
             (optional (as_block_by (is_strict cursor.old))) }
+        ensures mode { is_strict cursor.new ≡ is_strict cursor.old }
+    {
+        let mut ahead = *cursor;
+        let Some(block) = AsBlock::take_opt_in_any_form(&mut ahead)? else {
+            return Ok(None);
+        };
+        if cursor.is_strict() && !block.is_new_form() {
+            return Err(DerError::NotCanonical);
+        }
+        *cursor = ahead;
+        Ok(Some(block))
+    }
+
+    // Takes a block as from a lenient cursor. `usual_block` reads most blocks in one pass.
+    #[tactic(auto, using(crate::proofs::AsBlockDerLemmas::block_found))]
+    fn take_opt_in_any_form(cursor: &mut Cursor<'_>) -> Result<Option<AsBlock>, DerError>
+        ensures exact { Takes (λ block. block) cursor.old cursor.new result (optional as_block_at) }
+        ensures mode { is_strict cursor.new ≡ is_strict cursor.old }
+    {
+        let Some((block, rest)) = usual_block(cursor.rest()) else {
+            return AsBlock::take_opt_of_values(cursor);
+        };
+        *cursor = cursor_at(rest, cursor.is_strict());
+        Ok(Some(block))
+    }
+
+    // Takes a block of any form, value by value.
+    #[tactic(auto, unfolding(rpki_der::specs::Reading::optional, rpki_der::specs::Reading::refined, rpki_der::specs::SequenceReading::by_tag))]
+    fn take_opt_of_values(cursor: &mut Cursor<'_>) -> Result<Option<AsBlock>, DerError>
+        ensures exact { Takes (λ block. block) cursor.old cursor.new result (optional as_block_at) }
         ensures mode { is_strict cursor.new ≡ is_strict cursor.old }
     {
         let mut ahead = *cursor;
@@ -169,9 +200,6 @@ impl AsBlock {
             tag::SEQUENCE => AsBlock::Range(range_within(value.cursor())?),
             _ => return Err(DerError::BadTag),
         };
-        if cursor.is_strict() && !block.is_new_form() {
-            return Err(DerError::NotCanonical);
-        }
         *cursor = ahead;
         Ok(Some(block))
     }
@@ -241,6 +269,19 @@ impl AsBlock {
             tag::SEQUENCE => skip_pair_within(value.cursor()),
             _ => Err(DerError::BadTag),
         }
+    }
+}
+
+/// Returns a cursor of the given mode, strict (true) or lenient (false), at the start of `octets`.
+#[inline(always)]
+fn cursor_at(octets: &[u8], strict: bool) -> Cursor<'_>
+    ensures octets { left result ≡ octets.now }
+    ensures mode { is_strict result ≡ strict }
+{
+    if strict {
+        Cursor::new_strict(octets)
+    } else {
+        Cursor::new(octets)
     }
 }
 

@@ -268,7 +268,8 @@ impl Prefix {
 }
 
 // Returns the address that begins with the octets, followed by zeros.
-fn beginning_with(octets: &[u8]) -> Addr
+#[inline(always)]
+pub(super) fn beginning_with(octets: &[u8]) -> Addr
     requires { length octets.now ≤ 16 }
     ensures { result ≡ big_endian octets.now * 2 ^ (128 - 8 * length octets.now) }
 {

@@ -1,10 +1,10 @@
 -- The columns that a line names.
-use Rattle.roa_vrps.proofs.Common.{List, None, Option, Some, [], ap, arith, refl, suc, ℕ, ◌+◌, ◌-◌, ◌<◌, ◌≡◌}
-use Rattle.roa_vrps.proofs.Common.{after_first, IsColumn, IsHeader, Names, field, is_comma, Columns, sym, ◌∙◌}
+use Rattle.roa_vrps.proofs.Common.{List, Option, [], arith, suc, ℕ, ◌+◌, ◌-◌, ◌<◌, ◌≡◌}
+use Rattle.roa_vrps.proofs.Common.{after_first, IsColumn, IsHeader, Names, field, is_comma, Columns}
 use borrow.Author.Tests.{ltb-true, ltb-false}
 use Rattle.roa_vrps.specs.Columns.{IsExpiresColumn, IsNeeded}
 use Rattle.roa_vrps.specs.declared.columns.Column.{Column}
-use Rattle.roa_vrps.specs.declared.columns.Column.TheVariants.{Asn, Expires, MaxLen, Prefix}
+use Rattle.roa_vrps.specs.declared.columns.Column.TheVariants.{Asn, MaxLen, Prefix}
 use Rattle.roa_vrps.proofs.FieldLemmas.{field_empty}
 
 -- an empty text is no column's name
@@ -43,10 +43,7 @@ pub column_one : (column : Column) (line : List ℕ) (m n : ℕ) → IsColumn co
 column_one column line m n h k = grind (arith, ltb-false, ltb-true)
 
 expires_one : (line : List ℕ) (a b : Option ℕ) → IsExpiresColumn line a → IsExpiresColumn line b → a ≡ b
-expires_one line None None h k = refl
-expires_one line None (Some n) h k = absurd (h n k.named)
-expires_one line (Some m) None h k = absurd (k m h.named)
-expires_one line (Some m) (Some n) h k = ap Some (column_one Expires line m n h k)
+expires_one line a b h k = grind (arith, column_one)
 
 needed_one : (a b : Columns) (m n : ℕ) → a.asn ≡ b.asn → a.prefix ≡ b.prefix → a.max_len ≡ b.max_len
     → IsNeeded a m → IsNeeded b n → m ≡ n
@@ -62,6 +59,5 @@ header_one line a b h k =
     let asn = column_one Asn line a.asn b.asn h.asn k.asn in
     let prefix = column_one Prefix line a.prefix b.prefix h.prefix k.prefix in
     let max_len = column_one MaxLen line a.max_len b.max_len h.max_len k.max_len in
-    let needed = needed_one a b a.needed b.needed asn prefix max_len h.needed k.needed in
-    same_columns a b asn prefix max_len (expires_one line a.expires b.expires h.expires k.expires)
-    (h.count ∙ sym k.count) needed (h.is_named ∙ sym k.is_named)
+    same_columns a b asn prefix max_len (expires_one line a.expires b.expires h.expires k.expires) (cc)
+    (needed_one a b a.needed b.needed asn prefix max_len h.needed k.needed) (cc)

@@ -1,9 +1,9 @@
 -- The lines of a file, read one after another; a file writes one list of VRPs, or has one fault.
 use Rattle.roa_vrps.proofs.Common.{List, [], append-nil, append_assoc, arith, inl, inr, refl, sym, ℕ, ◌++◌, ◌+◌, ◌∙◌}
 use Rattle.roa_vrps.proofs.Common.{◌∷◌, ◌≡◌, ◌≢◌, usual, HasRowFault, IsRow, Columns, FileFault, Line, MaxLenValue}
-use Rattle.roa_vrps.proofs.Common.{NoVrp, Blank, Header, Vrp, VrpFault, Row}
+use Rattle.roa_vrps.proofs.Common.{NoVrp, Vrp, VrpFault, Row}
 use Rattle.rpki_text.specs.Lines.{lines_of}
-use Rattle.roa_vrps.specs.Csv.{AreRows, HaveFirstFault, HasCsvFault, HasLineFault, HasUnknownHeader, IsCsvFile}
+use Rattle.roa_vrps.specs.Csv.{AreRows, HaveFirstFault, HasCsvFault, HasLineFault, IsCsvFile}
 use Rattle.roa_vrps.specs.Csv.{columns_after, vrps_of}
 use Rattle.roa_vrps.specs.Entries.{AreCsvEntries, AreRead, AreReadOf, AreRowEntries, Entry, entries_of, line_entry}
 use Rattle.roa_vrps.specs.Rows.{IsUnknownHeader}
@@ -31,14 +31,7 @@ pub record IsReadSo {A : Type 0} (asked : Bool) (text rest : List ℕ) (number :
 -- nothing is read yet
 pub read_none : {A : Type 0} (asked : Bool) (text : List ℕ) (vrps : Vrps) (found : Vec (Option ℕ) A) → vrps ≡ []
     → found.items ≡ [] → IsReadSo asked text text 0 usual vrps (Ok found)
-read_none asked text vrps found none empty = record {
-  values = λ more rows. rw none rows;
-  faults = λ fault wrong. wrong;
-  begins = λ later. later;
-  entries = [];
-  entries_are = λ more rows. rows;
-  read = λ _. empty;
-}
+read_none asked text vrps found none empty = grind (arith)
 
 module _ {A : Type 0} (asked : Bool) (text rest after line : List ℕ) (number : ℕ) (columns : Columns) (vrps : Vrps)
     (expiries : Result (Vec (Option ℕ) A) ExpiryFault)
@@ -86,11 +79,10 @@ module _ {A : Type 0} (asked : Bool) (text rest : List ℕ) (number : ℕ) (colu
     (expiries : Result (Vec (Option ℕ) A) ExpiryFault)
     (had : IsReadSo asked text rest number columns vrps expiries) (end : rest ≡ []) where
   read_all : AreRows usual (lines_of text) vrps
-  read_all = rw append-nil at (had.values [] (rw end refl))
+  read_all = grind (arith, append-nil, had.values [])
 
   pub read_some : vrps ≢ [] → IsCsvFile text vrps × AreReadOf asked (AreCsvEntries text) expiries
-  read_some some =
-      ((read_all, some), (had.entries, rw append-nil at (had.entries_are [] (rw end refl)), had.read))
+  read_some some = ((read_all, some), (had.entries, rw append-nil at (had.entries_are [] (rw end refl)), had.read))
 
   pub read_no_vrp : vrps ≡ [] → HasLineFault text NoVrp
   read_no_vrp none = rw none at read_all
@@ -99,11 +91,7 @@ module _ {A : Type 0} (asked : Bool) (text rest : List ℕ) (number : ℕ) (colu
 pub rows_begin : (columns : Columns) (lines : List (List ℕ)) (vrps : Vrps) → AreRows columns lines vrps → vrps ≢ []
     → BeginVrps columns lines
 rows_begin columns [] vrps none some = absurd (some none)
-rows_begin columns (line ∷ lines) vrps (Vrp vrp, is, more, same, rows) some = (Vrp vrp, is, inl (λ none. cc none))
-rows_begin columns (line ∷ lines) vrps (Blank, is, more, same, rows) some =
-    (Blank, is, inr (rows_begin columns lines more rows (λ none. some (same ∙ none))))
-rows_begin columns (line ∷ lines) vrps (Header next, is, more, same, rows) some =
-    (Header next, is, inr (rows_begin next lines more rows (λ none. some (same ∙ none))))
+rows_begin columns (line ∷ lines) vrps h some = grind (arith, rows_begin (columns_after columns h.0) lines)
 
 -- lines write one list of VRPs
 rows_one : (columns : Columns) (lines : List (List ℕ)) (a b : Vrps) → AreRows columns lines a
@@ -115,25 +103,25 @@ rows_one columns (line ∷ lines) a b h k = grind (arith, row_one, rows_one (col
 rows_apart : (number : ℕ) (columns : Columns) (lines : List (List ℕ)) (a : Vrps) (fault : FileFault)
     → AreRows columns lines a → HaveFirstFault number columns lines fault → ⊥
 rows_apart number columns [] a fault h wrong = wrong
-rows_apart number columns (line ∷ lines) a fault (row, is, more, a_is, rows) (inl (wrong, has, _)) =
+rows_apart number columns (line ∷ lines) a fault (row, is, more, _, rows) (inl (wrong, has, _)) =
     row_apart columns line row wrong is has
-rows_apart number columns (line ∷ lines) a fault (row, is, more, a_is, rows) (inr (other, iz, later)) =
-    let same = row_one columns line row other is iz in
-    rows_apart (number + 1) (columns_after columns row) lines more fault rows (rw same later)
+rows_apart number columns (line ∷ lines) a fault (row, is, more, _, rows) (inr (other, iz, later)) =
+    grind (
+      arith,
+      row_one columns line row other is iz,
+      rows_apart (number + 1) (columns_after columns row) lines more
+          fault rows,
+    )
 
 -- lines have one first fault
 first_one : (number : ℕ) (columns : Columns) (lines : List (List ℕ)) (d e : FileFault)
     → HaveFirstFault number columns lines d → HaveFirstFault number columns lines e → d ≡ e
 first_one number columns [] d e h k = absurd h
-first_one number columns (line ∷ lines) d e (inl (v, h, is)) (inl (w, k, iz)) =
-    rw (is, iz, row_fault_one columns line v w h k) refl
-first_one number columns (line ∷ lines) d e (inl (v, h, _)) (inr (row, is, _)) =
-    absurd (row_apart columns line row v is h)
-first_one number columns (line ∷ lines) d e (inr (row, is, _)) (inl (w, k, _)) =
-    absurd (row_apart columns line row w is k)
-first_one number columns (line ∷ lines) d e (inr (row, is, h)) (inr (other, iz, k)) =
-    let one = row_one columns line row other is iz in
-    first_one (number + 1) (columns_after columns other) lines d e (rw one at h) k
+first_one number columns (line ∷ lines) d e (inl h) (inl k) = grind (arith, row_fault_one columns line h.0 k.0 h.1 k.1)
+first_one number columns (line ∷ lines) d e (inl h) (inr k) = absurd (row_apart columns line k.0 h.0 k.1 h.1)
+first_one number columns (line ∷ lines) d e (inr h) (inl k) = absurd (row_apart columns line h.0 k.0 h.1 k.1)
+first_one number columns (line ∷ lines) d e (inr h) (inr k) =
+    first_one (number + 1) (columns_after columns k.0) lines d e (rw (row_one columns line h.0 k.0 h.1 k.1) at h.2) k.2
 
 -- so a file writes one list, and then has no fault, or has one
 pub csv_one : (text : List ℕ) (a b : Vrps) → IsCsvFile text a → IsCsvFile text b → a ≡ b
@@ -141,17 +129,12 @@ csv_one text a b h k = rows_one usual (lines_of text) a b h.0 k.0
 
 -- a row isn't an unknown header
 row_known : (line : List ℕ) (row : Row) → IsRow usual line row → IsUnknownHeader line → ⊥
-row_known line Blank (_, blank) unknown = unknown.body.some_text blank
-row_known line (Header next) (_, _, header) unknown = unknown.body.no_header next header
-row_known line (Vrp vrp) (_, _, inl texts) unknown = unknown.no_asn (vrp.1, texts.asn_is)
-row_known line (Vrp vrp) (_, _, inr (_, texts)) unknown = unknown.no_asn (vrp.1, texts.asn_is)
+row_known line row is unknown = grind (arith)
 
 -- so lines that write VRPs begin with none
 rows_known : (lines others : List (List ℕ)) (line : List ℕ) (a : Vrps) → AreRows usual lines a → lines ≡ line ∷ others
     → IsUnknownHeader line → ⊥
-rows_known [] others line a rows same unknown = cc same
-rows_known (first ∷ lines) others line a (row, is, _, _, _) same unknown =
-    let equal : first ≡ line = cc in row_known first row is (rw equal unknown)
+rows_known lines others line a rows same unknown = grind (arith, row_known)
 
 line_fault_apart : (text : List ℕ) (a : Vrps) (fault : FileFault) → IsCsvFile text a → HasLineFault text fault → ⊥
 line_fault_apart text a fault h k = grind (arith, rows_apart, rows_one)
@@ -160,12 +143,7 @@ line_fault_one : (text : List ℕ) (d e : FileFault) → HasLineFault text d →
 line_fault_one text d e h k = grind (arith, first_one, rows_apart)
 
 pub csv_apart : (text : List ℕ) (a : Vrps) (fault : FileFault) → IsCsvFile text a → HasCsvFault text fault → ⊥
-csv_apart text a fault h (inl ((line, others, same, unknown), _)) =
-    rows_known (lines_of text) others line a h.0 same unknown
-csv_apart text a fault h (inr (_, k)) = line_fault_apart text a fault h k
+csv_apart text a fault h wrong = grind (arith, line_fault_apart, rows_known)
 
 pub csv_fault_one : (text : List ℕ) (d e : FileFault) → HasCsvFault text d → HasCsvFault text e → d ≡ e
-csv_fault_one text d e (inl (_, is)) (inl (_, iz)) = is ∙ sym iz
-csv_fault_one text d e (inl (unknown, _)) (inr (known, _)) = absurd (known unknown)
-csv_fault_one text d e (inr (known, _)) (inl (unknown, _)) = absurd (known unknown)
-csv_fault_one text d e (inr (_, h)) (inr (_, k)) = line_fault_one text d e h k
+csv_fault_one text d e h k = grind (arith, line_fault_one)

@@ -1,20 +1,17 @@
 -- Entries one after another; an entry has one expiry, or one fault, and so have entries.
-use Rattle.roa_vrps.proofs.Common.{Err, List, None, Ok, Option, Some, Vec, [], ap, arith, inl, inr, length, refl, sym}
+use Rattle.roa_vrps.proofs.Common.{Err, List, Ok, Option, Some, Vec, [], arith, inl, inr, length, refl, sym}
 use Rattle.roa_vrps.proofs.Common.{ℕ, ◌++◌, ◌+◌, ◌-◌, ◌^◌, ◌∙◌, ◌∷◌, ◌≡◌, ◌≢◌, length-append, Items, Json, item}
-use Rattle.roa_vrps.proofs.Common.{no_items, AreItems, IsRow, Columns, Row, Blank, Header, Vrp}
-use Rattle.std.specs.Prelude.{Bool, suc}
-use Rattle.json.specs.Json.{number}
+use Rattle.roa_vrps.proofs.Common.{no_items, AreItems, Columns, Row}
+use Rattle.std.specs.Prelude.{Bool}
 use Rattle.rpki_text.proofs.NumberLemmas.{number_answers}
 use Rattle.rpki_text.proofs.NumberTexts.{IsNumberText-one}
-use Rattle.rpki_text.specs.declared.number.ParseIntError.TheVariants.{Empty}
 use Rattle.roa_vrps.specs.Csv.{AreRows, columns_after, vrps_of}
 use Rattle.roa_vrps.specs.Entries.{AreExpiries, AreRead, AreRowEntries, Entry, HasEntryFault, HasExpiresFault}
 use Rattle.roa_vrps.specs.Entries.{HasExpiry, HasLineExpiryFault, HaveWrongExpiry, IsItemExpiry, IsLineExpiry}
-use Rattle.roa_vrps.specs.Entries.{IsNumeric, entries_of, item_entries, item_entry, line_entry}
+use Rattle.roa_vrps.specs.Entries.{entries_of, item_entries}
 use Rattle.roa_vrps.specs.Expiries.{IsTimeText}
 use Rattle.roa_vrps.specs.Fields.{field}
 use Rattle.roa_vrps.specs.declared.fault.ExpiresFault.{ExpiresFault}
-use Rattle.roa_vrps.specs.declared.fault.ExpiresFault.TheVariants.{Member, Number}
 use Rattle.roa_vrps.specs.declared.fault.ExpiryFault.{ExpiryFault}
 use Rattle.roa_vrps.proofs.ItemLemmas.{Vrps}
 use Rattle.roa_vrps.proofs.MemberLemmas.{wrong_apart, wrong_one}
@@ -34,27 +31,21 @@ expiries_push (e ∷ entries) last xs x (y, iz, more, same, rest) is =
 wrong_push : (entries : List Entry) (last : Entry) (xs : Dates) (f : ExpiryFault) → AreExpiries entries xs
     → HasEntryFault last f → HaveWrongExpiry (entries ++ last ∷ []) f
 wrong_push [] last xs f none wrong = inl wrong
-wrong_push (e ∷ entries) last xs f (y, iz, more, _, rest) wrong =
-    inr ((y, iz), wrong_push entries last more f rest wrong)
+wrong_push (e ∷ entries) last xs f h wrong = grind (arith, wrong_push entries last)
 
 wrong_keep : (entries : List Entry) (last : Entry) (f : ExpiryFault) → HaveWrongExpiry entries f
     → HaveWrongExpiry (entries ++ last ∷ []) f
 wrong_keep [] last f wrong = absurd wrong
-wrong_keep (e ∷ entries) last f (inl wrong) = inl wrong
-wrong_keep (e ∷ entries) last f (inr (some, later)) = inr (some, wrong_keep entries last f later)
+wrong_keep (e ∷ entries) last f wrong = grind (arith, wrong_keep entries last)
 
 module _ {A : Type 0} (asked : Bool) (entries : List Entry) (last : Entry) where
   pub push_expiry : (xs ys : Vec (Option ℕ) A) (x : Option ℕ) → AreRead asked entries (Ok xs) → HasExpiry last x
       → ys.items ≡ xs.items ++ x ∷ [] → AreRead asked (entries ++ last ∷ []) (Ok ys)
-  push_expiry xs ys x had is same =
-      λ wanted.
-      let all : AreExpiries (entries ++ last ∷ []) ys.items =
-      rw same (expiries_push entries last xs.items x (had wanted) is) in
-      all
+  push_expiry xs ys x had is same = grind (arith, expiries_push)
 
   pub push_wrong : (xs : Vec (Option ℕ) A) (f : ExpiryFault) → AreRead asked entries (Ok xs) → HasEntryFault last f
       → AreRead {A = A} asked (entries ++ last ∷ []) (Err f)
-  push_wrong xs f had wrong = λ wanted. wrong_push entries last xs.items f (had wanted) wrong
+  push_wrong xs f had wrong = grind (arith, wrong_push)
 
 pub keep_wrong : (A : Type 0) (asked : Bool) (entries : List Entry) (last : Entry) (f : ExpiryFault)
     → AreRead {A = A} asked entries (Err f) → AreRead {A = A} asked (entries ++ last ∷ []) (Err f)
@@ -63,7 +54,7 @@ keep_wrong A asked entries last f had = λ wanted. wrong_keep entries last f (ha
 -- the field of a line is neither empty nor a time
 pub line_fault : (column : Option ℕ) (n : ℕ) (line text part : List ℕ) → column ≡ Some n → text ≡ line
     → part ≡ field n text → part ≢ [] → ((time : ℕ) → ¬ IsTimeText part time) → HasLineExpiryFault column line
-line_fault column n line text part is same at some none = rw (is, ← same, ← at) (some, none)
+line_fault column n line text part is same at some none = grind (arith)
 
 -- ---- one expiry, or one fault
 
@@ -71,7 +62,7 @@ time_one : (text : List ℕ) (a b : ℕ) → IsTimeText text a → IsTimeText te
 time_one text a b h k = IsNumberText-one (2 ^ 64 - 1) text a b h k
 
 time_some : (text : List ℕ) (a : ℕ) → IsTimeText text a → text ≢ []
-time_some text a h empty = let e = (number_answers (2 ^ 64 - 1) text (Err Empty) empty).each_value a h in cc
+time_some text a h empty = grind (arith, number_answers)
 
 line_one : (column : Option ℕ) (line : List ℕ) (a b : Option ℕ) → IsLineExpiry column line a
     → IsLineExpiry column line b → a ≡ b
@@ -101,56 +92,45 @@ entry_fault_one e d f h k = grind (arith, item_fault_one)
 
 pub expiries_one : (entries : List Entry) (a b : Dates) → AreExpiries entries a → AreExpiries entries b → a ≡ b
 expiries_one [] a b h k = h ∙ sym k
-expiries_one (e ∷ entries) a b (x, is, more, same, rest) (y, iz, others, other, last) =
-    rw (same, other, entry_one e x y is iz, expiries_one entries more others rest last) refl
+expiries_one (e ∷ entries) a b h k = grind (arith, entry_one, expiries_one entries)
 
 pub expiries_apart : (entries : List Entry) (a : Dates) (f : ExpiryFault) → AreExpiries entries a
     → HaveWrongExpiry entries f → ⊥
 expiries_apart [] a f h wrong = wrong
-expiries_apart (e ∷ entries) a f (x, is, _, _, _) (inl wrong) = entry_apart e x f is wrong
-expiries_apart (e ∷ entries) a f (_, _, more, _, rest) (inr (_, later)) = expiries_apart entries more f rest later
+expiries_apart (e ∷ entries) a f h (inl wrong) = entry_apart e h.0 f h.1 wrong
+expiries_apart (e ∷ entries) a f h (inr wrong) = expiries_apart entries h.2 f h.4 wrong.1
 
 pub first_wrong_one : (entries : List Entry) (d f : ExpiryFault) → HaveWrongExpiry entries d → HaveWrongExpiry entries f
     → d ≡ f
 first_wrong_one [] d f h k = absurd h
 first_wrong_one (e ∷ entries) d f (inl h) (inl k) = entry_fault_one e d f h k
-first_wrong_one (e ∷ entries) d f (inl h) (inr ((x, is), _)) = absurd (entry_apart e x d is h)
-first_wrong_one (e ∷ entries) d f (inr ((x, is), _)) (inl k) = absurd (entry_apart e x f is k)
-first_wrong_one (e ∷ entries) d f (inr (_, h)) (inr (_, k)) = first_wrong_one entries d f h k
+first_wrong_one (e ∷ entries) d f (inl h) (inr k) = absurd (entry_apart e k.0.0 d k.0.1 h)
+first_wrong_one (e ∷ entries) d f (inr h) (inl k) = absurd (entry_apart e h.0.0 f h.0.1 k)
+first_wrong_one (e ∷ entries) d f (inr h) (inr k) = first_wrong_one entries d f h.1 k.1
 
 -- ---- lines and items have one list of entries, one for each VRP
 
 pub row_entries_one : (place : ℕ) (columns : Columns) (lines : List (List ℕ)) (a b : List Entry)
     → AreRowEntries place columns lines a → AreRowEntries place columns lines b → a ≡ b
 row_entries_one place columns [] a b h k = h ∙ sym k
-row_entries_one place columns (line ∷ lines) a b (row, is, more, same, rest) (other, iz, others, equal, last) =
-    let one = row_one columns line row other is iz in
-    let more_is =
-    row_entries_one (place + 1) (columns_after columns other) lines more others (rw one at rest) last in
-    rw (same, equal, one, more_is) refl
+row_entries_one place columns (line ∷ lines) a b h k =
+    grind (arith, row_one, row_entries_one (place + 1) (columns_after columns h.0) lines)
 
 pub expiries_counted : (entries : List Entry) (a : Dates) → AreExpiries entries a → length a ≡ length entries
 expiries_counted [] a h = rw h refl
-expiries_counted (e ∷ entries) a (_, _, more, same, rest) =
-    rw same (ap suc (expiries_counted entries more rest))
+expiries_counted (e ∷ entries) a h = grind (arith, expiries_counted entries)
 
 line_counted : (place : ℕ) (columns : Columns) (line : List ℕ) (row : Row)
     → length (entries_of place columns line row) ≡ length (vrps_of row)
-line_counted place columns line Blank = refl
-line_counted place columns line (Header next) = refl
-line_counted place columns line (Vrp vrp) = refl
+line_counted place columns line row = grind (arith)
 
 pub rows_counted : (place : ℕ) (columns : Columns) (lines : List (List ℕ)) (vrps : Vrps) (entries : List Entry)
     → AreRows columns lines vrps → AreRowEntries place columns lines entries → length entries ≡ length vrps
 rows_counted place columns [] vrps entries h k = rw (h, k) refl
-rows_counted place columns (line ∷ lines) vrps entries (row, is, more, are, rows) (other, iz, later, same, rest) =
-    let one = row_one columns line row other is iz in
-    let counted =
-    rows_counted (place + 1) (columns_after columns other) lines more later (rw one at rows) rest in
-    rw (are, same, one, length-append, length-append, line_counted place columns line other, counted) refl
+rows_counted place columns (line ∷ lines) vrps entries h k =
+    grind (arith, row_one, length-append, line_counted, rows_counted (place + 1) (columns_after columns h.0) lines)
 
 pub items_counted : (place : ℕ) (items : Items) (vrps : Vrps) → AreItems items vrps
     → length (item_entries place items) ≡ length vrps
 items_counted place no_items vrps h = rw h refl
-items_counted place (item value items) vrps (_, _, more, are, rest) =
-    rw are (ap suc (items_counted (place + 1) items more rest))
+items_counted place (item value items) vrps h = grind (arith, items_counted (place + 1) items)

@@ -1,14 +1,13 @@
 -- A file has one list of expiries, or one fault.
-use Rattle.roa_vrps.proofs.Common.{Err, List, MatchResult, Ok, Option, Result, Some, Vec, [], ap, arith, inl, inr}
-use Rattle.roa_vrps.proofs.Common.{length, refl, true, ℕ, ◌∙◌, ◌∷◌, ◌≡◌, Items, array, document, object}
-use Rattle.roa_vrps.proofs.Common.{AnswersOrMemory, usual, values_in, roas}
+use Rattle.roa_vrps.proofs.Common.{Err, List, MatchResult, Ok, Option, Result, Vec, arith, inl, inr}
+use Rattle.roa_vrps.proofs.Common.{length, refl, true, ℕ, ◌≡◌, Items}
+use Rattle.roa_vrps.proofs.Common.{AnswersOrMemory}
 use Rattle.std.specs.Prelude.{IfErr}
 use Rattle.rpki_text.proofs.TextListLemmas.{AnswersOrMemory-from_found}
-use Rattle.rpki_text.specs.Lines.{lines_of}
 use Rattle.rpki_text.specs.Memory.{IfRefused, IsMemory}
 use Rattle.rpki_text.specs.declared.memory.OrMemory.{OrMemory}
 use Rattle.roa_vrps.specs.Asking.{MayWantMemory}
-use Rattle.roa_vrps.specs.Entries.{AreReadOf, Entry, item_entries}
+use Rattle.roa_vrps.specs.Entries.{AreReadOf, Entry}
 use Rattle.roa_vrps.specs.ExpiryFiles.{AreDated, AreFileEntries, AreFileExpiries, AreTextEntries, HasExpiryFault}
 use Rattle.roa_vrps.specs.ExpiryFiles.{HasWrongExpiry, IsUnexpiredFile}
 use Rattle.roa_vrps.specs.Files.{IsVrpFile, IsVrpText}
@@ -21,26 +20,14 @@ use Rattle.roa_vrps.proofs.ItemLemmas.{Vrps}
 
 module _ (text : List ℕ) where
   roas_one : (a b : Items) → HasRoas text a → HasRoas text b → a ≡ b
-  roas_one a b (ms, h, is) (ns, k, iz) =
-      let d : document text ≡ Some (object ms) = h.1 in
-      let e : document text ≡ Some (object ns) = k.1 in
-      cc
+  roas_one a b h k = grind (arith)
 
   text_entries_one : (a b : List Entry) → AreTextEntries text a → AreTextEntries text b → a ≡ b
-  text_entries_one a b (inl (_, (is, h, same))) (inl (_, (js, k, other))) = rw (same, other, roas_one is js h k) refl
-  text_entries_one a b (inl (opens, _)) (inr (csv, _)) = absurd (csv.no_object opens)
-  text_entries_one a b (inr (csv, _)) (inl (opens, _)) = absurd (csv.no_object opens)
-  text_entries_one a b (inr (_, h)) (inr (_, k)) = row_entries_one 1 usual (lines_of text) a b h k
+  text_entries_one a b h k = grind (arith, roas_one, row_entries_one)
 
   text_counted : (vrps : Vrps) (entries : List Entry) → IsVrpText text vrps → AreTextEntries text entries
       → length entries ≡ length vrps
-  text_counted vrps entries (inl (_, ((ms, h, (is, a, are)), _))) (inl (_, (js, k, same))) =
-      let one = roas_one is js (ms, h, a) k in
-      rw same (items_counted 1 js vrps (rw one at are))
-  text_counted vrps entries (inl (opens, _)) (inr (csv, _)) = absurd (csv.no_object opens)
-  text_counted vrps entries (inr (csv, _)) (inl (opens, _)) = absurd (csv.no_object opens)
-  text_counted vrps entries (inr (_, (rows, _))) (inr (_, are)) =
-      rows_counted 1 usual (lines_of text) vrps entries rows are
+  text_counted vrps entries h k = grind (arith, items_counted, rows_counted)
 
 module _ (file : List ℕ) where
   entries_one : (a b : List Entry) → AreFileEntries file a → AreFileEntries file b → a ≡ b
@@ -54,11 +41,7 @@ module _ (file : List ℕ) where
   -- what is read of the entries is the expiries of the file, or its fault
   pub dated_read : {A : Type 0} (vrps : Vrps) (expiries : Vec (Option ℕ) A)
       → IsVrpFile file vrps × AreReadOf true (AreFileEntries file) (Ok expiries) → AreDated file vrps expiries.items
-  dated_read vrps expiries (are, (entries, is, read)) = record {
-    vrps_are = are;
-    expiries_are = (entries, is, read refl);
-    one_each = expiries_counted entries expiries.items (read refl) ∙ file_counted vrps entries are is;
-  }
+  dated_read vrps expiries h = grind (arith, expiries_counted, file_counted)
 
   pub wrong_read : (A : Type 0) (vrps : Vrps) (f : ExpiryFault)
       → IsVrpFile file vrps × AreReadOf {A = A} true (AreFileEntries file) (Err f) → HasExpiryFault file f

@@ -1,6 +1,7 @@
 -- A text in either form writes one list of VRPs, or has one fault, and so does a file.
-use Rattle.roa_vrps.proofs.Common.{Err, List, MatchResult, Ok, Result, inl, inr, sym, ℕ, ◌∙◌, ◌≡◌, IsUtf8, MaxLenValue}
-use Rattle.roa_vrps.proofs.Common.{AnswersOrMemory, FileFault, HasJsonFault, IsJsonFile, usual}
+use Rattle.roa_vrps.proofs.Common.{Err, List, MatchResult, Ok, Result, inl, inr, sym, ℕ, ◌∙◌, ◌≡◌, IsUtf8}
+use Rattle.roa_vrps.proofs.Common.{MaxLenValue, arith}
+use Rattle.roa_vrps.proofs.Common.{AnswersOrMemory, FileFault, HasJsonFault, IsJsonFile}
 use Rattle.std.specs.Prelude.{Bool, IfErr}
 use Rattle.rpki_text.specs.Memory.{IfRefused, IsMemory, MatchOrMemory}
 use Rattle.rpki_text.specs.declared.memory.OrMemory.{OrMemory}
@@ -14,17 +15,13 @@ use Rattle.roa_vrps.specs.Files.{HasFileFault, HasVrpTextFault, IsCsvText, IsObj
 use Rattle.roa_vrps.specs.JsonFiles.{AreJsonEntries}
 use Rattle.roa_vrps.specs.declared.found.Found.{Found}
 use Rattle.roa_vrps.specs.Marks.{IsUnmarked}
-use Rattle.rpki_text.specs.Lines.{lines_of}
 use Rattle.roa_vrps.proofs.CsvLemmas.{csv_apart, csv_fault_one, csv_one, rows_begin}
 use Rattle.roa_vrps.proofs.ItemLemmas.{Vrps}
 use Rattle.roa_vrps.proofs.JsonLemmas.{json_apart, json_fault_one, json_one}
 
 -- a file has one text
 pub unmarked_one : (file a b : List ℕ) → IsUnmarked file a → IsUnmarked file b → a ≡ b
-unmarked_one file a b (inl h) (inl k) = cc
-unmarked_one file a b (inl h) (inr (_, none)) = absurd (none a h)
-unmarked_one file a b (inr (_, none)) (inl k) = absurd (none b k)
-unmarked_one file a b (inr (h, _)) (inr (k, _)) = sym h ∙ k
+unmarked_one file a b h k = grind (arith)
 
 -- what is found in the text is found in the file, and so is when memory is wanting
 pub file_found : {A : Type 0} (asked : Bool) (file text : List ℕ) (r : Result (Found A) (OrMemory FileFault))
@@ -34,9 +31,7 @@ pub file_found : {A : Type 0} (asked : Bool) (file text : List ℕ) (r : Result 
     → MatchResult r (λ v. IsVrpFile file v.vrps.items × AreReadOf asked (AreFileEntries file) v.expiries)
     (IfRefused (HasFileFault file))
     × IfErr r (λ e. IsMemory e → MayWantMemory file)
-file_found asked file text (Ok v) is (are, (entries, h, read)) = (((text, is, are), (entries, (text, is, h), read)), tt)
-file_found asked file text (Err (Refused f)) is wrong = ((text, is, wrong), λ memory. absurd memory)
-file_found asked file text (Err (Memory e)) is wants = (tt, λ memory. (text, is, wants))
+file_found asked file text r is h = grind (arith)
 
 -- the entries of a text in either form
 pub json_found : {A : Type 0} (asked : Bool) (text : List ℕ) (r : Result (Found A) (OrMemory FileFault))
@@ -45,9 +40,7 @@ pub json_found : {A : Type 0} (asked : Bool) (text : List ℕ) (r : Result (Foun
     (λ e. MatchOrMemory e (HasJsonFault text) (IsUtf8 text))
     → MatchResult r (λ v. IsVrpText text v.vrps.items × AreReadOf asked (AreTextEntries text) v.expiries)
     (λ e. MatchOrMemory e (HasVrpTextFault text) (MayTextWantMemory text))
-json_found asked text (Ok v) opens (are, (entries, h, read)) = (inl (opens, are), (entries, inl (opens, h), read))
-json_found asked text (Err (Refused f)) opens wrong = inl (opens, wrong)
-json_found asked text (Err (Memory e)) opens wants = inl (opens, wants)
+json_found asked text r opens h = grind (arith)
 
 pub csv_found : {A : Type 0} (asked : Bool) (text : List ℕ) (r : Result (Found A) (OrMemory FileFault))
     → IsCsvText text
@@ -107,8 +100,7 @@ file_answers text view r found =
 
 -- memory may be requested for a file with VRPs
 text_wants : (text : List ℕ) (vrps : Vrps) → IsVrpText text vrps → MayTextWantMemory text
-text_wants text vrps (inl (object, ((_, is, (_, _, _)), _))) = inl (object, is.0)
-text_wants text vrps (inr (csv, (rows, some))) = inr (csv, rows_begin usual (lines_of text) vrps rows some)
+text_wants text vrps h = grind (arith, rows_begin)
 
 pub file_wants : (file : List ℕ) (vrps : Vrps) → IsVrpFile file vrps → MayWantMemory file
-file_wants file vrps (text, is, are) = (text, is, text_wants text vrps are)
+file_wants file vrps h = grind (arith, text_wants)

@@ -20,14 +20,14 @@ module _ (value : Json) where
   same_texts a b p q m n h k = grind (arith, text_one)
 
   item_one : (x y : MaxLenValue × ℕ) → IsItem value x → IsItem value y → x ≡ y
-  item_one x y (a, p, m, h, is) (b, q, n, k, iz) =
-      let (asn, prefix, max) = same_texts a b p q m n h k in
-      vrp_one b q n x y (rw (asn, prefix, max) at is) iz
+  item_one x y h k =
+      let same = same_texts h.0 k.0 h.1 k.1 h.2 k.2 h.3 k.3 in
+      vrp_one k.0 k.1 k.2 x y (rw (same.0, same.1, same.2) at h.4) k.4
 
   item_apart : (x : MaxLenValue × ℕ) (f : ItemFault) → IsItem value x → HasItemFault value f → ⊥
-  item_apart x (Vrp f) (a, p, m, h, is) (b, q, n, k, wrong) =
-      let (asn, prefix, max) = same_texts a b p q m n h k in
-      fields_apart b q n x.0 x.1 f (rw (asn, prefix, max) at is) wrong
+  item_apart x (Vrp f) h wrong =
+      let same = same_texts h.0 wrong.0 h.1 wrong.1 h.2 wrong.2 h.3 wrong.3 in
+      fields_apart wrong.0 wrong.1 wrong.2 x.0 x.1 f (rw (same.0, same.1, same.2) at h.4) wrong.4
   item_apart x (Member part f) h wrong = grind (arith, text_apart)
 
   item_fault_one : (d e : ItemFault) → HasItemFault value d → HasItemFault value e → d ≡ e

@@ -31,19 +31,14 @@ pub record AreReadSo {A : Type 0} (asked : Bool) (depth : ℕ) (first now : List
 -- nothing is read yet
 pub read_none : {A : Type 0} (asked : Bool) (depth : ℕ) (first : List Token) (vrps : Vrps) (found : Vec (Option ℕ) A)
     → vrps ≡ [] → found.items ≡ [] → AreReadSo asked depth first first vrps (Ok found)
-read_none asked depth first vrps found none empty = record {
-  entries = [];
-  read = λ _. empty;
-  fails = λ failed. failed;
-  reads = λ items rest is. rw none (items, is, (λ more are. are), (λ fault wrong. wrong), refl);
-}
+read_none asked depth first vrps found none empty = grind (arith)
 
 module _ {A : Type 0} (asked : Bool) (depth : ℕ) (first now taken r : List Token) (value : Json) (vrps : Vrps)
     (expiries : Result (Vec (Option ℕ) A) ExpiryFault) (had : AreReadSo asked depth first now vrps expiries)
     (next : json.value depth taken ≡ Some (value, r))
     (going : (json.after_end_array now ≡ None) × (taken ≡ now)) where
   one_more : items_in depth now ≡ parse_map (item value) (items_in depth r)
-  one_more = an_item depth now r value going.0 (rw going.1 at next)
+  one_more = grind (arith, an_item)
 
   -- one item more
   pub read_more : (vrp : MaxLenValue × ℕ) (all : Result (Vec (Option ℕ) A) ExpiryFault) → IsItem value vrp
@@ -73,7 +68,7 @@ module _ {A : Type 0} (asked : Bool) (depth : ℕ) (first now taken r : List Tok
 
   -- or aren't
   pub read_bad : left (items_in depth r) ≡ None → items_in depth first ≡ None
-  read_bad failed = had.fails (one_more ∙ ap (parse_map (item value)) (left_none (items_in depth r) failed))
+  read_bad failed = grind (arith, left_none, one_more)
 
 -- no item is left
 pub read_all : {A : Type 0} (asked : Bool) (depth : ℕ) (first now rest : List Token) (found : Found A)

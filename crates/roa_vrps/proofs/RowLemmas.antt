@@ -1,12 +1,9 @@
 -- A line writes one thing alone, or has one fault.
-use Rattle.roa_vrps.proofs.Common.{List, MatchResult, Result, Err, Ok, Some, [], ap, arith, inl, inr, sym, ℕ, ◌-◌, ◌^◌}
-use Rattle.roa_vrps.proofs.Common.{◌∙◌, ◌≡◌, ◌≢◌, ◌⊎◌, IsUtf8, trim, HasMaxLenError, IsMaxLenOf, MaxLenValue, IsHeader}
+use Rattle.roa_vrps.proofs.Common.{List, MatchResult, Result, Some, [], ap, arith, inl, inr, ℕ, ◌-◌, ◌^◌}
+use Rattle.roa_vrps.proofs.Common.{◌≡◌, ◌≢◌, ◌⊎◌, IsUtf8, trim, HasMaxLenError, IsMaxLenOf, MaxLenValue, IsHeader}
 use Rattle.roa_vrps.proofs.Common.{AreVrpTexts, HasRowFault, HaveFault, IsBody, IsRow, Columns, VrpFault, Row, Vrp}
-use Rattle.std.specs.Prelude.{Bool, IsTrue, not, true, false, ◌↔◌}
-use Rattle.std.proofs.Common.{refl}
 use Rattle.roa_vrps.specs.Rows.{AreFieldTexts, ArePairTexts, FitsColumns, HasCountFault, HaveColumnsFault}
-use Rattle.roa_vrps.specs.Rows.{HaveFieldsFault, IsUnknownHeader, WritesAsn, WritesPrefix}
-use Rattle.roa_vrps.specs.Fields.{field}
+use Rattle.roa_vrps.specs.Rows.{HaveFieldsFault, WritesPrefix}
 use Rattle.rpki_text.specs.declared.number.ParseIntError.TheVariants.{Empty}
 use Rattle.rpki_prefix.specs.PrefixText.{HasPrefixTextFault}
 use Rattle.rpki_prefix.specs.declared.error.ParsePrefixError.{ParsePrefixError}
@@ -80,19 +77,13 @@ module _ (a p m : List ℕ) where
   field_texts_apart x (MaxLenFormat f) (inr (empty, h)) (some, (_, _, wrong)) =
       some (ap MaxLenFormat (same_number_fault m f Empty wrong empty))
   field_texts_apart x (MaxLen f) (inr (empty, h)) (_, (_, (q, n, _, number, _))) = number_apart m n Empty number empty
-  field_texts_apart x (Asn f) (inr (empty, h)) (_, wrong) = wrong x.1 h.asn_is
-  field_texts_apart x (Prefix f) (inr (empty, h)) (_, (_, wrong)) =
-      IsPrefixText-no_fault p x.0.prefix f h.prefix_is wrong
-  field_texts_apart x NotUtf8 (inr (empty, h)) (_, wrong) = wrong
-  field_texts_apart x (TooManyFields found named) (inr (empty, h)) (_, wrong) = wrong
-  field_texts_apart x (TooFewFields found needed) (inr (empty, h)) (_, wrong) = wrong
+  field_texts_apart x f (inr (empty, h)) (_, wrong) = search (arith, IsPrefixText-no_fault)
 
   -- what is found in two texts, or in three, is found in the fields
   pub pair_found : (r : Result (MaxLenValue × ℕ) VrpFault) → m ≡ []
       → MatchResult r (λ x. ArePairTexts a p x.0 x.1) (HaveFieldsFault a p [])
       → MatchResult r (AreFieldTexts a p m) (HaveFieldsFault a p m)
-  pair_found (Ok x) empty is = inr (empty, is)
-  pair_found (Err f) empty wrong = rw empty wrong
+  pair_found r empty is = grind (arith)
 
   not_empty : m ≢ [] → HaveFault a p m (MaxLenFormat Empty) → ⊥
   not_empty some (_, _, empty) = some empty
@@ -100,19 +91,11 @@ module _ (a p m : List ℕ) where
   pub three_found : (r : Result (MaxLenValue × ℕ) VrpFault) → m ≢ []
       → MatchResult r (λ x. AreVrpTexts a p m x.0 x.1) (HaveFault a p m)
       → MatchResult r (AreFieldTexts a p m) (HaveFieldsFault a p m)
-  three_found (Ok x) some is = inl is
-  three_found (Err f) some wrong = ((λ is. not_empty some (rw is at wrong)), wrong)
+  three_found r some is = grind (arith)
 
 -- a text with a fault is no prefix
 pub no_prefix : (text : List ℕ) (f : ParsePrefixError) → HasPrefixTextFault text f → ¬ WritesPrefix text
 no_prefix text f wrong (q, is) = search (arith, IsPrefixText-no_fault)
-
--- the tests of the first two fields decide whether a line is an unknown header
-pub header_tests : (line : List ℕ) (p : Bool) → IsBody line → ¬ WritesAsn (field 0 line)
-    → IsTrue p ↔ WritesPrefix (field 1 line) → IsTrue (not p) ↔ IsUnknownHeader line
-header_tests line true body none (to, from) = ((λ e. cc e), λ h. absurd (h.no_prefix (to refl)))
-header_tests line false body none (to, from) =
-    ((λ e. record { body = body; no_asn = none; no_prefix = λ w. cc (from w) }), λ h. refl)
 
 -- a line that is to write a VRP
 pub body_of : (line : List ℕ) → IsUtf8 line → trim line ≢ [] → ((next : Columns) → ¬ IsHeader line next) → IsBody line
@@ -139,10 +122,7 @@ module _ (columns : Columns) (line : List ℕ) where
   count_one d e h k = grind (arith)
 
   fails_one : (d e : VrpFault) → Fails d → Fails e → d ≡ e
-  fails_one d e (inl h) (inl k) = count_one d e h k
-  fails_one d e (inl h) (inr (fits, _)) = absurd (count_apart d fits h)
-  fails_one d e (inr (fits, _)) (inl k) = absurd (count_apart e fits k)
-  fails_one d e (inr (_, h)) (inr (_, k)) = have_one _ _ _ d e h.1 k.1
+  fails_one d e h k = grind (arith, count_apart, count_one, have_one)
 
   pub row_one : (x y : Row) → IsRow columns line x → IsRow columns line y → x ≡ y
   row_one (Vrp p) (Vrp q) (_, _, h) (_, _, k) = ap Vrp (fields_one _ _ _ p q h k)
@@ -158,7 +138,4 @@ module _ (columns : Columns) (line : List ℕ) where
   row_apart x f h (inr (body, wrong)) = body_apart x f h body wrong
 
   pub row_fault_one : (d e : VrpFault) → HasRowFault columns line d → HasRowFault columns line e → d ≡ e
-  row_fault_one d e (inl (is, _)) (inl (iz, _)) = is ∙ sym iz
-  row_fault_one d e (inl (_, none)) (inr (body, _)) = absurd (none body.utf8)
-  row_fault_one d e (inr (body, _)) (inl (_, none)) = absurd (none body.utf8)
-  row_fault_one d e (inr (_, h)) (inr (_, k)) = fails_one d e h k
+  row_fault_one d e h k = grind (arith, count_apart, count_one, have_one)

@@ -13,7 +13,6 @@ use Rattle.rpki_text.specs.Numbers.{AreDigitsFrom, IsNumberText}
 use Rattle.rpki_addr.specs.AddressFronts.{IsAtFront}
 use Rattle.rpki_addr.specs.AddressText.{IsIpText}
 use Rattle.rpki_addr.specs.declared.addr.IpAddr.{IpAddr}
-use Rattle.rpki_addr.specs.declared.addr.IpAddr.TheVariants.{V4, V6}
 use Rattle.rpki_addr.proofs.AddressBytes.{no_slash}
 use Rattle.rpki_addr.proofs.WrittenBytes.{IsWrittenByte, ipv4_written, ipv6_written, wider}
 use Rattle.rpki_base.specs.AsnPlaces.{IsAsnBetween}
@@ -32,12 +31,7 @@ within low high above below xs h =
 -- the AS number before a comma is the first field
 pub asn_first : (text rest : List ℕ) (asn end : ℕ) → IsAsnBetween 0 end text asn
     → take (length text - end) (drop end text) ≡ comma ∷ rest → IsFirstField (λ field. IsAsnText field asn) text rest
-asn_first text rest asn end h e = record {
-  field = take (end - 0) (drop 0 text);
-  split = grind (arith, take-append-drop (end - 0) text, take_rest text end);
-  shown = within 48 122 (lit≤ tt) (lit≤ tt) _ h.bytes;
-  writes = h.number;
-}
+asn_first text rest asn end h e = grind (arith, take-append-drop, take_rest, within)
 
 -- digits are a number text
 digits_are_number : (ds : List ℕ) (n : ℕ) → 0 < length ds → AllDigits 10 ds → digits_value 10 ds ≡ n → n ≤ 255
@@ -61,8 +55,7 @@ number_first text n end h some small =
 
 -- the bytes of an address and of digits are shown
 addr_written : (text : List ℕ) (a : IpAddr) → IsIpText text a → All IsWrittenByte text
-addr_written text (V4 n) h = All-weaker _ IsWrittenByte wider text (ipv4_written text n h)
-addr_written text (V6 n) h = ipv6_written text n h
+addr_written text a h = grind (arith, All-weaker, ipv4_written, ipv6_written, wider)
 
 written_shown : (text : List ℕ) → All IsWrittenByte text → AreShown text
 written_shown text h = All-weaker IsWrittenByte (IsInRange 45 126) (λ b byte. grind arith) text h

@@ -1,9 +1,9 @@
 -- A line of the usual form writes the VRP of its first three fields.
-use Rattle.roa_vrps.proofs.Common.{List, [], ap, append-nil, append_assoc, arith, drop, false, inl, inr, length, lit≤}
-use Rattle.roa_vrps.proofs.Common.{None, Option, Some, refl, suc, zero, ℕ, ◌++◌, ◌+◌, ◌-◌, ◌<◌, ◌∙◌, ◌∷◌, ◌≡◌, ◌≢◌}
+use Rattle.roa_vrps.proofs.Common.{List, [], append-nil, append_assoc, arith, drop, false, inl, inr, length, lit≤}
+use Rattle.roa_vrps.proofs.Common.{None, Option, Some, refl, suc, zero, ℕ, ◌++◌, ◌+◌, ◌<◌, ◌∙◌, ◌∷◌, ◌≡◌, ◌≢◌}
 use Rattle.roa_vrps.proofs.Common.{length-append, length-take, All-append, All-cons, All-weaker, IsInRange, IsUtf8, All}
 use Rattle.roa_vrps.proofs.Common.{after_first, before_first, count_by, trim, comma, after_commas, field, is_comma}
-use Rattle.roa_vrps.proofs.Common.{unquoted, IsHeader, IsBody, IsRow, MaxLenValue, Names, AreFurther, AreShown}
+use Rattle.roa_vrps.proofs.Common.{unquoted, IsHeader, IsRow, MaxLenValue, Names, AreFurther, AreShown}
 use Rattle.roa_vrps.proofs.Common.{EndsField, IsUsualLine, Columns, Vrp}
 use Rattle.std.proofs.Common.{IfSome, codes, cond, lit<}
 use Rattle.std.proofs.lemmas.Bool.Decides.{nat_tests}
@@ -20,7 +20,6 @@ use Rattle.rpki_addr.specs.declared.addr.IpAddr.{IpAddr}
 use Rattle.rpki_base.specs.AsnText.{IsAsnText}
 use Rattle.rpki_prefix.specs.PrefixText.{HasParts}
 use Rattle.roa_vrps.specs.Fields.{field_count}
-use Rattle.roa_vrps.specs.Rows.{HasColumns, IsTooLong}
 use Rattle.roa_vrps.specs.UsualRows.{AllowUsual, IsDigitText, IsFirstField, IsVrpOf}
 use Rattle.roa_vrps.specs.declared.columns.Column.TheVariants.{MaxLen}
 use Rattle.roa_vrps.proofs.UsualFieldLemmas.{usual_line}
@@ -45,7 +44,7 @@ position_none (x ∷ xs) h =
     rw other (omega (arith, later))
 
 before_comma : (xs ys : List ℕ) → AreShown xs → before_first is_comma (xs ++ comma ∷ ys) ≡ xs
-before_comma xs ys h = rw (position_shown xs ys h) (take_at xs (comma ∷ ys) (length xs) refl)
+before_comma xs ys h = grind (arith, position_shown, take_at)
 
 before_end : (xs : List ℕ) → AreShown xs → before_first is_comma xs ≡ xs
 before_end xs h = rw (position_none xs h) (take_all (length xs) xs (omega arith))
@@ -55,7 +54,7 @@ drop_one_more xs ys =
     rw (append_assoc xs (comma ∷ []) ys) at (drop_at (xs ++ comma ∷ []) ys (length xs + 1) (length_push xs comma))
 
 after_comma : (xs ys : List ℕ) → AreShown xs → after_first is_comma (xs ++ comma ∷ ys) ≡ ys
-after_comma xs ys h = rw (position_shown xs ys h) (drop_one_more xs ys)
+after_comma xs ys h = grind (arith, drop_one_more, position_shown)
 
 -- shown bytes have neither white space nor quotes at their ends
 no_quote : (xs : List ℕ) → AreShown xs → unquoted xs ≡ xs
@@ -131,12 +130,7 @@ ascii line h =
     IsUtf8-from_ascii line (IsAscii-from_all line below)
 
 not_blank : (line : List ℕ) → AreVisible line → 0 < length line → trim line ≢ []
-not_blank line h some none =
-    let first = All-get_or (IsInRange 44 126) line 0 0 some h in
-    let last = All-get_or (IsInRange 44 126) line (length line - 1) 0 (omega (arith, some)) h in
-    let same =
-    trim_visible line (ascii line h) some (omega (arith, first.0), first.1) (omega (arith, last.0), last.1) in
-    omega (arith, some, ap length (same ∙ none))
+not_blank line h some none = grind (arith, All-get_or, ascii, trim_visible)
 
 module _ (columns : Columns) (line : List ℕ) (vrp : MaxLenValue × ℕ) (count : ℕ) (h : IsUsualLine line vrp count) where
   visible : AreVisible line
@@ -172,22 +166,7 @@ module _ (columns : Columns) (line : List ℕ) (vrp : MaxLenValue × ℕ) (count
 
   -- so a line of the usual form is a VRP, where the columns allow it
   pub usual_row : AllowUsual columns count → IsRow columns line (Vrp vrp)
-  usual_row allow =
-      let body : IsBody line = record {
-        utf8 = ascii line visible;
-        some_text = not_blank line visible some;
-        no_header = no_header line visible;
-      } in
-      let columns_there : HasColumns columns line = record {
-        asn = omega (arith, fields, allow.asn);
-        prefix = omega (arith, fields, allow.prefix);
-        max_len = omega (arith, fields, allow.max_len);
-      } in
-      let not_long : ¬ IsTooLong columns line = λ long. omega (arith, fields, allow.count long.0, long.1) in (
-        body,
-        (not_long, columns_there),
-        rw (allow.asn, allow.prefix, allow.max_len, first, second, third) (inl h.texts),
-      )
+  usual_row allow = grind (arith, ascii, fields, first, no_header, not_blank, second, some, third, visible)
 
 -- and so is what is found in it, if anything
 pub usual_found : (columns : Columns) (line first second left : List ℕ) (asn : ℕ) (a : IpAddr) (n m count : ℕ)

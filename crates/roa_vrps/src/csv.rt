@@ -18,8 +18,8 @@ use std::alloc::Allocator;
 ///
 /// # Errors
 ///
-/// - `Refused` with [`FileFault::UnknownHeader`] if the first line is meant to be a header and is none that is known.
-///   Else it has [`FileFault::Line`] for the first invalid line, or [`FileFault::NoVrp`] if no line has a VRP.
+/// - `Refused` with [`FileFault::UnknownHeader`] if the first line is meant to be a header and is not a known one.
+///   Otherwise it has [`FileFault::Line`] for the first invalid line, or [`FileFault::NoVrp`] if no line has a VRP.
 /// - `Memory` if an allocation fails.
 pub(crate) fn read_csv<A: Allocator + Copy>(
     alloc: A,
@@ -36,7 +36,7 @@ pub(crate) fn read_csv<A: Allocator + Copy>(
     read_lines(alloc, text, asked)
 }
 
-/// Returns whether the first line is meant to be a header, and is none that is known.
+/// Returns whether the first line is meant to be a header and is not a known one.
 fn has_unknown_header(text: &[u8]) -> bool
     ensures { IsTrue result ↔ HasUnknownHeader text.now }
 {

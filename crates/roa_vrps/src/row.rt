@@ -133,7 +133,7 @@ fn read_pair(asn: &str, prefix: &str) -> Result<Vrp, VrpFault>
     Ok((MaxLenPrefix::saturating_new(whole, Some(whole.len())), asn))
 }
 
-/// Returns whether a line is meant to be a header, and is none that is known.
+/// Returns whether a line is meant to be a header and is not a known one.
 pub(crate) fn is_unknown_header(line: &[u8]) -> bool
     ensures { IsTrue result ↔ IsUnknownHeader line.now }
 {

@@ -9,13 +9,13 @@ from random import Random
 from . import der, ip, resources
 from .addresses import Family, print_address, print_v4
 from .asn import LAST, AsBlock
-from .lines import FAMILIES
+from .lines import COMMANDS, FAMILIES
 from .resources import Families
 from .sets import merged
 
 SPACES = (" ", "", "  ", "\t", "\r", "\u00a0", "\u2003", "\u3000", "\x0b", "\u0085", "\x1c")
 DAMAGE = "0123456789abcdefASx.:/-+,| \u00a0\u0661%[]"
-WORDS = ("norm", "cover", "der", "read", "path", "Norm", "", "paths")
+WORDS = (*COMMANDS, "Norm", "", "paths")
 FOREIGN_KINDS = ("v5", "", "AS", "ipv4")
 
 
@@ -32,9 +32,9 @@ class Maker:
 
     def line(self) -> bytes:
         """Returns a line as octets."""
-        kinds = tuple(FAMILIES) if self.command == "cover" else ("as", *FAMILIES)
+        _, kinds = COMMANDS[self.command]
         kind = self.random.choice(kinds)
-        argument = self._damaged(ARGUMENTS[self.command](self, kind))
+        argument = self._damaged(ARGUMENTS.get(self.command, Maker.list_text)(self, kind))
         if self.one_in(200):
             kind = self.random.choice((*kinds, *FOREIGN_KINDS))
         command = self.random.choice(WORDS) if self.one_in(200) else self.command
@@ -297,9 +297,8 @@ class Maker:
         return self.random.choice((*named, self.random.randrange(0x100)))
 
 
+# The commands whose argument is more than a list of blocks, with the function that makes one.
 ARGUMENTS: dict[str, Callable[[Maker, str], str]] = {
-    "norm": Maker.list_text,
-    "cover": Maker.list_text,
     "der": Maker.claim_text,
     "read": Maker.hexadecimal,
     "path": Maker.path_text,

@@ -1,13 +1,11 @@
 -- Steps on groups of lines.
-use Rattle.lines_engine.proofs.Common.{List, Option, [], ap, append_assoc, arith, drop, get_or, length, length-append}
-use Rattle.lines_engine.proofs.Common.{common_steps, refl, set, suc, sym, take, zero, ℕ, ◌++◌, ◌+◌, ◌<◌, ◌∷◌, ◌≡◌, ◌≢◌}
-use Rattle.lines_engine.proofs.Common.{add-one, IsCutAt, lines_of}
-use Rattle.lines_engine.proofs.Common.{AnswersSomeOf, BeginsAnswersOf, HasAnswered, HasAnsweredLine, AnswersAreBegun}
-use Rattle.lines_engine.proofs.Common.{group_lines}
-use Rattle.std.proofs.lemmas.List.Elements.{All-push, All-set}
+use Rattle.lines_engine.proofs.Common.{List, Option, [], ap, arith, drop, get_or, length, length-append}
+use Rattle.lines_engine.proofs.Common.{common_steps, refl, set, suc, sym, take, zero, ℕ, ◌++◌, ◌+◌, ◌<◌, ◌∷◌, ◌≡◌}
+use Rattle.lines_engine.proofs.Common.{add-one, IsCutAt, Result, lines_of, AreAnswered, HasAnswered}
+use Rattle.lines_engine.proofs.Common.{group_lines, RunError}
 use Rattle.std.proofs.Math.Seq.{drop-cons}
 use Rattle.lines_engine.specs.declared.group.BegunLine.{BegunLine}
-use Rattle.lines_engine.proofs.RunLemmas.{answered_more, answered_then}
+use Rattle.lines_engine.proofs.RunLemmas.{before_are, then_are}
 use Rattle.lines_engine.proofs.StreamLemmas.{lines-joined}
 
 -- what is after the end of a line is shorter
@@ -59,57 +57,19 @@ module _ {B : Type 0} where
       lines-joined [] rest line behind more (λ k small. absurd (omega (arith, small))) cut in
       rw (are, group_lines-push group asked (lines_of (behind ++ more)), is, ← joined) had
 
-  module _ (Is : B → List ℕ → Type 0) where
-    pub AnswersAreBegun-push : (group : List (BegunLine B)) (asked : BegunLine B) → AnswersAreBegun Is group
-        → Is asked.begun asked.line.now → AnswersAreBegun Is (group ++ asked ∷ [])
-    AnswersAreBegun-push group asked all new = All-push (λ (x : BegunLine B). Is x.begun x.line.now) group asked all new
-
-    pub AnswersAreBegun-set : (group : List (BegunLine B)) (i : ℕ) (asked : BegunLine B) → Is asked.begun asked.line.now
-        → AnswersAreBegun Is group → AnswersAreBegun Is (set group i asked)
-    AnswersAreBegun-set group i asked new all =
-        All-set (λ (x : BegunLine B). Is x.begun x.line.now) group i asked new all
-
--- what was written of the answers to some lines was written of those to these lines and others
-answered_before : (Is : List ℕ → List ℕ → Type 0) (a b : Option (List ℕ)) (lines rest others : List (List ℕ))
-    (unwritten : List ℕ) → HasAnswered Is a b lines rest unwritten
-    → HasAnswered Is a b (lines ++ others) (rest ++ others) unwritten
-answered_before Is a b lines rest others unwritten had = grind (arith, append_assoc)
-
--- a list with an element has one in front of others
-some_before : (rest others : List (List ℕ)) → rest ≢ [] → rest ++ others ≢ []
-some_before [] others some none = some refl
-some_before (x ∷ rest) others some none = cc
-
 module _ (Is : List ℕ → List ℕ → Type 0) where
-  -- a line of a group is answered, or a beginning of its answer was written
+  -- a line of a group is answered
   pub group_more : {B : Type 0} (a b c : Option (List ℕ)) (lines : List (List ℕ)) (group : List (BegunLine B)) (i : ℕ)
-      (asked : BegunLine B) (unwritten : List ℕ) → i < length group → asked ≡ get_or group i asked
-      → HasAnswered Is a b lines (group_lines (drop i group)) [] → HasAnsweredLine Is b c asked.line.now unwritten
-      → HasAnswered Is a c lines (group_lines (drop (i + 1) group)) unwritten
-  group_more a b c lines group i asked unwritten less is had one =
-      answered_more Is a b c lines _ _ unwritten (rw (group_lines-drop group i asked less is) at had) one
+      (asked : BegunLine B) (r : Result (Unit {0}) RunError) → i < length group → asked ≡ get_or group i asked
+      → HasAnswered Is a b lines (group_lines (drop i group)) []
+      → ((rest : List (List ℕ)) → AreAnswered Is b c (asked.line.now ∷ rest) rest r)
+      → AreAnswered Is a c lines (group_lines (drop (i + 1) group)) r
+  group_more a b c lines group i asked r less is had one =
+      then_are Is a b c lines _ _ r (rw (group_lines-drop group i asked less is) at had) (one _)
 
-  -- lines are answered up to a group: then all of the group, some, or a beginning of its answers is written
-  module _ (a b c : Option (List ℕ)) (lines group others all : List (List ℕ)) (are : all ≡ group ++ others)
-      (had : HasAnswered Is a b lines all []) where
-    pub group_all : HasAnswered Is b c group [] [] → HasAnswered Is a c lines others []
-    group_all each =
-        answered_then Is a b c lines all others [] had
-        (rw are (answered_before Is b c group [] others [] each))
-
-    pub group_some : AnswersSomeOf Is b c group → AnswersSomeOf Is a c lines
-    group_some (rest, some, each) = (
-      rest ++ others,
-      some_before rest others some,
-      answered_then Is a b c lines all _ [] had (rw are (answered_before Is b c group rest others [] each)),
-    )
-
-    pub group_begun : BeginsAnswersOf Is b c group → BeginsAnswersOf Is a c lines
-    group_begun (rest, (unwritten, each)) = (
-      rest ++ others,
-      (
-        unwritten,
-        answered_then Is a b c lines all _ unwritten had
-            (rw are (answered_before Is b c group rest others unwritten each)),
-      ),
-    )
+  -- lines are answered up to a group, and then the lines of the group
+  pub group_are : (a b c : Option (List ℕ)) (lines group others all : List (List ℕ)) (r : Result (Unit {0}) RunError)
+      → all ≡ group ++ others → HasAnswered Is a b lines all [] → AreAnswered Is b c group [] r
+      → AreAnswered Is a c lines others r
+  group_are a b c lines group others all r are had each =
+      then_are Is a b c lines all others r had (rw are (before_are Is b c group [] others r each))

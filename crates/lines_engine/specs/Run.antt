@@ -1,7 +1,7 @@
 -- What a run writes. `old` and `new` are the known bytes of the writer before and after the run. `Is` says which texts
 -- are answers to a line.
 use Rattle.std.specs.Prelude.{◌≡◌, ◌≢◌, ℕ, Bool, true, List, [], ◌∷◌, ◌++◌, Option, None, Some, IfSome, ⊤}
-use Rattle.std.specs.Prelude.{Result, OnOk, IsErrOf}
+use Rattle.std.specs.Prelude.{MatchResult, Result, Ok, Err, OnOk, IsErrOf}
 use Rattle.std.specs.List.{AllZip, flat_map}
 use Rattle.std.specs.Io.KnownBytes.{Appends, IsAtEnd}
 use Rattle.rpki_text.specs.Cuts.{HasNo}
@@ -18,13 +18,6 @@ pub record HasWritten (old new : Option (List ℕ)) (bytes unwritten : List ℕ)
   pub written : List ℕ
   pub bytes_are : bytes ≡ written ++ unwritten
   pub wrote : Appends old new written
-
--- The line was answered. Its answer and an end of line were written, except `unwritten` at their end.
-pub record HasAnsweredLine (Is : List ℕ → List ℕ → Type 0) (old new : Option (List ℕ)) (line unwritten : List ℕ)
-    : Type 0 where
-  pub text : List ℕ
-  pub is_answer : Is line text
-  pub wrote : HasWritten old new (as_line text) unwritten
 
 -- These lines were answered in order, except `rest` at their end. The answers were written as lines, except `unwritten`
 -- at their end.
@@ -59,6 +52,37 @@ AnswersSomeOf Is old new lines = (rest : List (List ℕ)) × (rest ≢ []) × Ha
 abbrev pub BeginsAnswersOf : (List ℕ → List ℕ → Type 0) → Option (List ℕ) → Option (List ℕ) → List (List ℕ) → Type 0
 BeginsAnswersOf Is old new lines =
     (rest : List (List ℕ)) × ((unwritten : List ℕ) × HasAnswered Is old new lines rest unwritten)
+
+-- The mark of a writer before and after a call that writes: only a write that fails sets it. No call reads.
+abbrev pub MarksWriter : Bool → Bool → Result (Unit {0}) RunError → Type 0
+MarksWriter old new (Ok value) = new ≡ old
+MarksWriter old new (Err Memory) = new ≡ old
+MarksWriter old new (Err Write) = new ≡ true
+MarksWriter old new (Err Read) = ⊥
+
+-- A call that writes a text and an end of line ended with `result`. Ok: they were written whole. Memory: the writer,
+-- whose known bytes `written` gives, is unchanged. Write: a beginning of them was written.
+abbrev pub IsLineWritten : {W : Type 0} → (W → Option (List ℕ)) → W → W → List ℕ → Result (Unit {0}) RunError → Type 0
+IsLineWritten written writer writer' text (Ok value) =
+    HasWritten (written writer) (written writer') (as_line text) []
+IsLineWritten written writer writer' text (Err Memory) = writer' ≡ writer
+IsLineWritten written writer writer' text (Err Write) =
+    (unwritten : List ℕ) × HasWritten (written writer) (written writer') (as_line text) unwritten
+IsLineWritten written writer writer' text (Err Read) = ⊥
+
+-- What was written of the answers to these lines before an error. Memory: the answers to some first lines, not to all,
+-- were written whole. Write: a beginning of the answers was written. There was no read.
+abbrev pub BreaksOff : (List ℕ → List ℕ → Type 0) → Option (List ℕ) → Option (List ℕ) → List (List ℕ) → RunError
+    → Type 0
+BreaksOff Is old new lines Memory = AnswersSomeOf Is old new lines
+BreaksOff Is old new lines Write = BeginsAnswersOf Is old new lines
+BreaksOff Is old new lines Read = ⊥
+
+-- a call that answers these lines, except `rest` at their end, ended with `result`
+abbrev pub AreAnswered : (List ℕ → List ℕ → Type 0) → Option (List ℕ) → Option (List ℕ)
+    → List (List ℕ) → List (List ℕ) → Result (Unit {0}) RunError → Type 0
+AreAnswered Is old new lines rest result =
+    MatchResult result (λ _. HasAnswered Is old new lines rest []) (BreaksOff Is old new lines)
 
 -- The answers to some first lines of the input were written whole. The other lines are those of `part`, which was read,
 -- followed by `left`, which is left to read. `input` and `left` are the known bytes of the reader before and after the

@@ -1,8 +1,9 @@
 //! The engine that reads the whole input before it answers a line, and the steps that both engines share.
-ghost use Rattle.std.specs.Prelude.{◌≡◌, ◌<◌, [], ℕ, true, false, vec_len, IfOk, IfErr, IfSome, OnOk, OnErr, IsErrOf, List};
+ghost use Rattle.std.specs.Prelude.{◌≡◌, ◌<◌, [], ◌∷◌, ℕ, true, false, vec_len, IfOk, IfErr, IfSome, OnOk, OnErr, IsErrOf, List};
+ghost use Rattle.rpki_text.specs.Lines.{lines_of};
 ghost use Rattle.std.specs.Io.KnownBytes.{IsAtEnd, Keeps};
 ghost use Rattle.std.specs.String.{string_bytes};
-ghost use Rattle.lines_engine.specs.Run.{HasWritten, AnswersAll, AnswersFirst, BeginsAnswers, IsRun, as_line};
+ghost use Rattle.lines_engine.specs.Run.{AreAnswered, HasWritten, IsLineWritten, IsRun, MarksWriter};
 
 use crate::answers::Answers;
 use crate::device::{DeviceFault, Sink, Source};
@@ -34,7 +35,7 @@ pub(crate) fn read_buffer<A: Allocator>(alloc: A) -> Result<Vec<u8, A>, AllocErr
 /// - [`RunError::Write`]: a write or the flush failed, or a write took no byte. A beginning of the answers was written.
 /// - [`RunError::Memory`]: an allocation failed. The answers to some first lines were written whole, and nothing else.
 ///   They are not the answers to all lines, unless the input is empty.
-#[tactic(auto, using(crate::proofs::RunLemmas::unanswered, crate::proofs::RunLemmas::unflushed))]
+#[tactic(auto, using(crate::proofs::RunLemmas::unanswered, crate::proofs::RunLemmas::run_failed, crate::proofs::RunLemmas::run_flushed))]
 pub fn run<A: Allocator + Copy, L: Answers, R: Source, W: Sink>(
     alloc: A,
     answers: &L,
@@ -94,6 +95,7 @@ pub fn read_to_end<A: Allocator + Copy, R: Source>(
 }
 
 /// Writes to `writer` the answer to each line of `text`, in order, as one line.
+#[tactic(auto, using(crate::proofs::RunLemmas::answered_none, crate::proofs::RunLemmas::answered_then, crate::proofs::RunLemmas::then_are))]
 fn answer_lines<A: Allocator + Copy, L: Answers, W: Sink>(
     alloc: A,
     answers: &L,
@@ -101,27 +103,36 @@ fn answer_lines<A: Allocator + Copy, L: Answers, W: Sink>(
     writer: &mut W,
 ) -> Result<(), RunError>
     requires clear { W.mark writer.old ≡ false }
-    ensures unmarked { OnOk result (W.mark writer.new ≡ W.mark writer.old) }
-    ensures answered { OnOk result (AnswersAll (L.is_answer answers.now) (W.written writer.old) (W.written writer.new)
-        text.now) }
-    ensures memory_unmarked { IsErrOf result RunError.Memory
-        → W.mark writer.new ≡ W.mark writer.old }
-    ensures some_answered { IsErrOf result RunError.Memory
-        → AnswersFirst (L.is_answer answers.now) (W.written writer.old) (W.written writer.new) text.now }
-    ensures write { IsErrOf result RunError.Write → W.mark writer.new ≡ true }
-    ensures some_written { IsErrOf result RunError.Write
-        → BeginsAnswers (L.is_answer answers.now) (W.written writer.old) (W.written writer.new) text.now }
-    ensures not_read { IsErrOf result RunError.Read → ⊥ }
+    ensures marked { MarksWriter (W.mark writer.old) (W.mark writer.new) result }
+    ensures answered { AreAnswered (L.is_answer answers.now) (W.written writer.old) (W.written writer.new)
+        (lines_of text.now) [] result }
 {
     let mut answer = String::new(alloc);
     let mut rest = text;
     while !rest.is_empty() {
         let (line, after) = cut_at_line_end(rest);
-        answers.answer(alloc, line, &mut answer)?;
-        write_line(&mut answer, writer)?;
+        answer_line(alloc, answers, line, &mut answer, writer)?;
         rest = after;
     }
     Ok(())
+}
+
+/// Writes the answer to `line` to `writer`, as one line.
+#[tactic(auto, using(crate::proofs::RunLemmas::line_are, crate::proofs::RunLemmas::none_are))]
+pub(crate) fn answer_line<A: Allocator + Copy, L: Answers, W: Sink>(
+    alloc: A,
+    answers: &L,
+    line: &[u8],
+    text: &mut String<A>,
+    writer: &mut W,
+) -> Result<(), RunError>
+    requires clear { W.mark writer.old ≡ false }
+    ensures marked { MarksWriter (W.mark writer.old) (W.mark writer.new) result }
+    ensures answered { (rest : List (List ℕ)) → AreAnswered (L.is_answer answers.now) (W.written writer.old)
+        (W.written writer.new) (line.now ∷ rest) rest result }
+{
+    answers.answer(alloc, line, text)?;
+    write_line(text, writer)
 }
 
 /// Appends an end of line to `text`, and then writes it to `writer`.
@@ -131,14 +142,8 @@ pub(crate) fn write_line<A: Allocator, W: Sink>(
     writer: &mut W,
 ) -> Result<(), RunError>
     requires clear { W.mark writer.old ≡ false }
-    ensures unmarked { OnOk result (W.mark writer.new ≡ W.mark writer.old) }
-    ensures whole { OnOk result (HasWritten (W.written writer.old) (W.written writer.new)
-        (as_line (string_bytes text.old)) []) }
-    ensures memory { IsErrOf result RunError.Memory → writer.new ≡ writer.old }
-    ensures write { IsErrOf result RunError.Write → W.mark writer.new ≡ true }
-    ensures some_written { IsErrOf result RunError.Write → (unwritten : List ℕ)
-        × HasWritten (W.written writer.old) (W.written writer.new) (as_line (string_bytes text.old)) unwritten }
-    ensures not_read { IsErrOf result RunError.Read → ⊥ }
+    ensures marked { MarksWriter (W.mark writer.old) (W.mark writer.new) result }
+    ensures written { IsLineWritten W.written writer.old writer.new (string_bytes text.old) result }
 {
     text.push('\n')?;
     write_all(writer, text.as_bytes()).map_err(|_| RunError::Write)

@@ -1,9 +1,9 @@
 //! Groups of lines. The answers to the lines of a group are made side by side, and written in order.
-ghost use Rattle.std.specs.Prelude.{◌≡◌, ◌<◌, ◌≤◌, ◌+◌, ◌++◌, length, ℕ, List, [], false, true, vec_len, IfOk, OnErr, OnOk, IsErrOf};
+ghost use Rattle.std.specs.Prelude.{◌≡◌, ◌<◌, ◌≤◌, ◌+◌, ◌++◌, length, ℕ, List, [], false, vec_len, IfOk, OnErr, OnOk};
 ghost use Rattle.rpki_text.specs.Cuts.{HasNo};
 ghost use Rattle.rpki_text.specs.Lines.{lines_of};
 ghost use Rattle.lines_engine.specs.Groups.{AnswersAreBegun, group_lines};
-ghost use Rattle.lines_engine.specs.Run.{AnswersSomeOf, BeginsAnswersOf, HasAnswered};
+ghost use Rattle.lines_engine.specs.Run.{AreAnswered, MarksWriter};
 
 use crate::device::Sink;
 use crate::engine::write_line;
@@ -45,18 +45,10 @@ pub(crate) fn answer_groups<A: Allocator + Copy, L: Steps, W: Sink>(
 ) -> Result<(), RunError>
     requires clear { W.mark writer.old ≡ false }
     requires empty { part.old.items ≡ [] }
-    ensures unmarked { OnOk result (W.mark writer.new ≡ W.mark writer.old) }
     ensures unended { OnOk result (HasNo 10 part.new.items) }
-    ensures answered { OnOk result ((more : List ℕ) → HasAnswered (L.is_answer answers.now)
-        (W.written writer.old) (W.written writer.new)
-        (lines_of (piece.now ++ more)) (lines_of (part.new.items ++ more)) []) }
-    ensures memory_unmarked { IsErrOf result RunError.Memory → W.mark writer.new ≡ W.mark writer.old }
-    ensures some_answered { IsErrOf result RunError.Memory → (more : List ℕ) → AnswersSomeOf
-        (L.is_answer answers.now) (W.written writer.old) (W.written writer.new) (lines_of (piece.now ++ more)) }
-    ensures write { IsErrOf result RunError.Write → W.mark writer.new ≡ true }
-    ensures some_written { IsErrOf result RunError.Write → (more : List ℕ) → BeginsAnswersOf
-        (L.is_answer answers.now) (W.written writer.old) (W.written writer.new) (lines_of (piece.now ++ more)) }
-    ensures not_read { IsErrOf result RunError.Read → ⊥ }
+    ensures marked { MarksWriter (W.mark writer.old) (W.mark writer.new) result }
+    ensures answered { (more : List ℕ) → AreAnswered (L.is_answer answers.now) (W.written writer.old)
+        (W.written writer.new) (lines_of (piece.now ++ more)) (lines_of (part.new.items ++ more)) result }
 {
     if piece.is_empty() {
         return Ok(());
@@ -129,16 +121,9 @@ fn end_lines<A: Allocator + Copy, L: Steps, W: Sink>(
 ) -> Result<(), RunError>
     requires clear { W.mark writer.old ≡ false }
     requires begun { AnswersAreBegun (L.is_begun answers.now) group.now }
-    ensures unmarked { OnOk result (W.mark writer.new ≡ W.mark writer.old) }
-    ensures answered { OnOk result (HasAnswered (L.is_answer answers.now) (W.written writer.old)
-        (W.written writer.new) (group_lines group.now) [] []) }
-    ensures memory_unmarked { IsErrOf result RunError.Memory → W.mark writer.new ≡ W.mark writer.old }
-    ensures some_answered { IsErrOf result RunError.Memory → AnswersSomeOf (L.is_answer answers.now)
-        (W.written writer.old) (W.written writer.new) (group_lines group.now) }
-    ensures write { IsErrOf result RunError.Write → W.mark writer.new ≡ true }
-    ensures some_written { IsErrOf result RunError.Write → BeginsAnswersOf (L.is_answer answers.now)
-        (W.written writer.old) (W.written writer.new) (group_lines group.now) }
-    ensures not_read { IsErrOf result RunError.Read → ⊥ }
+    ensures marked { MarksWriter (W.mark writer.old) (W.mark writer.new) result }
+    ensures answered { AreAnswered (L.is_answer answers.now) (W.written writer.old) (W.written writer.new)
+        (group_lines group.now) [] result }
 {
     for asked in group {
         answers.end(alloc, asked.line, &asked.begun, text)?;

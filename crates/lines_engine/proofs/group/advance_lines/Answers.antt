@@ -1,5 +1,6 @@
 use Rattle.lines_engine.proofs.Common.{arith, length, refl, ◌<◌, ◌∙◌}
-use Rattle.lines_engine.proofs.GroupLemmas.{AnswersAreBegun-set, group_lines-set}
+use Rattle.std.proofs.lemmas.List.Elements.{All-set}
+use Rattle.lines_engine.proofs.GroupLemmas.{group_lines-set}
 use Rattle.lines_engine.proofs.group.advance_lines.Goals as goal
 
 pub loop-asked-preserved : goal.loop-asked-preserved
@@ -8,7 +9,7 @@ loop-asked-preserved g c =
     let had = c.loop-asked.invariant.begun c.loop-asked.asked-index c.asked-item.result less in
     record {
       begun =
-          AnswersAreBegun-set (g.L.Steps.is_begun c.args.answers.now) _ _ _ (c.advance-is_step_left.ensures _ had)
-          c.loop-asked.invariant.begun;
+          All-set (λ asked. g.L.Steps.is_begun c.args.answers.now asked.begun asked.line.now) _ _ _
+          (c.advance-is_step_left.ensures _ had) c.loop-asked.invariant.begun;
       lines = group_lines-set _ _ c.asked-item.result _ less refl ∙ c.loop-asked.invariant.lines;
     }

@@ -1,48 +1,64 @@
-use Rattle.lines_engine.proofs.Common.{Err, ap, rules, sym}
-use Rattle.lines_engine.proofs.StreamLemmas.{last_all, last_begun, last_some, last_unflushed}
+use Rattle.lines_engine.proofs.Common.{Err, Ok, IfSome, [], ap, arith, common_steps, length, lines_of, refl}
+use Rattle.lines_engine.proofs.Common.{HasAnswered, Memory, take, ◌<◌, ◌∙◌}
+use Rattle.std.proofs.lemmas.Result.{err_from_is_err_and}
+use Rattle.lines_engine.proofs.GroupLemmas.{front_taken}
+use Rattle.lines_engine.proofs.RunLemmas.{run_failed, run_flushed}
+use Rattle.lines_engine.proofs.StreamLemmas.{but_are, but_more, but_none, last_then, left_are}
 use Rattle.lines_engine.proofs.stream.answer_as_read.Goals as goal
 
--- the last line was not answered, or a beginning of its answer was written
-pub returns-in_err-answer_last-clause-run : goal.returns-in_err-answer_last-clause-run
-returns-in_err-answer_last-clause-run g c = record {
-  unmarked = search rules;
-  read_whole = search rules;
-  answered = search rules;
-  flushed = search rules;
-  read = search rules;
-  memory_unmarked = search rules;
-  some_answered = λ is.
-      let same = rw is at c.from_residual-in_err-answer_last.ensures.1 in
-      let some = rw c.deref.ensures.value at (c.in_err-answer_last.ensures.some_answered (ap Err (sym same))) in
-      last_some (g.L.Answers.is_answer c.args.answers.now) _ _ _ c.in_ok-part.part.items c.in_ok-part.ensures.answered _
-      some;
-  write = search rules;
-  no_read_failed = search rules;
-  some_written = λ is.
-      let same = rw is at c.from_residual-in_err-answer_last.ensures.1 in
-      let begun = rw c.deref.ensures.value at (c.in_err-answer_last.ensures.some_written (ap Err (sym same))) in
-      last_begun (g.L.Answers.is_answer c.args.answers.now) _ _ _ c.in_ok-part.part.items
-      c.in_ok-part.ensures.answered _
-      begun;
-}
+pub loop-count-init : goal.loop-count-init
+loop-count-init g c = grind (arith, common_steps, but_none)
 
--- all was written, and maybe the flush failed
-pub returns-clause-run : goal.returns-clause-run
-returns-clause-run g c =
-    let all = rw c.deref.ensures.value at c.in_ok-answer_last.ensures.answered in
-    record {
-      unmarked = search rules;
-      read_whole = search rules;
-      answered =
-          last_all (g.L.Answers.is_answer c.args.answers.now) _ _ _ c.in_ok-part.part.items
-          c.in_ok-part.ensures.answered c.flush_all.result _ _ all c.flush_all.ensures.kept;
-      flushed = search rules;
-      read = search rules;
-      memory_unmarked = search rules;
-      some_answered = search rules;
-      write = search rules;
-      no_read_failed = search rules;
-      some_written = λ is.
-          last_unflushed (g.L.Answers.is_answer c.args.answers.now) _ _ _ c.in_ok-part.part.items
-          c.in_ok-part.ensures.answered _ _ all c.flush_all.ensures.kept;
-    }
+pub loop-count-preserved : goal.loop-count-preserved
+loop-count-preserved g c = grind (arith, common_steps, but_more)
+
+-- the line without an end was not answered
+pub returns-in_err-answer_last-clause-run : goal.returns-in_err-answer_last-clause-run
+returns-in_err-answer_last-clause-run g c =
+    let p = err_from_is_err_and c.from_residual-in_err-answer_last.result
+    c.from_residual-in_err-answer_last.ensures.1 in
+    let had : IfSome (g.R.Source.left c.args.reader.now)
+    (λ bytes. HasAnswered (g.L.Answers.is_answer c.args.answers.now)
+    (g.W.Sink.written c.args.writer.now) (g.W.Sink.written c.loop-count.writer) (lines_of bytes)
+    (lines_of c.loop-count.part.items) []) = grind (arith, common_steps) in
+    run_failed g.R.Source.mark g.R.Source.left g.W.Sink.mark g.W.Sink.written g.W.Sink.flushed _ _ _ _ _
+    (grind (arith, common_steps)) c.in_err-answer_last.field-0.0 _ (p.1 ∙ ap Err p.2)
+    (grind (arith, common_steps))
+    (last_then _ _ _ _ _ c.loop-count.part.items (Err c.in_err-answer_last.field-0.0) had
+    (rw c.deref.ensures.value at c.in_err-answer_last.ensures.answered))
+
+-- all was answered, and maybe the flush failed
+pub returns-then-count-eq0-clause-run : goal.returns-then-count-eq0-clause-run
+returns-then-count-eq0-clause-run g c =
+    let had : IfSome (g.R.Source.left c.args.reader.now)
+    (λ bytes. HasAnswered (g.L.Answers.is_answer c.args.answers.now)
+    (g.W.Sink.written c.args.writer.now) (g.W.Sink.written c.loop-count.writer) (lines_of bytes)
+    (lines_of c.loop-count.part.items) []) = grind (arith, common_steps) in
+    run_flushed g.R.Source.mark g.R.Source.left g.W.Sink.mark g.W.Sink.written g.W.Sink.flushed _ _ _ _ _
+    (grind (arith, common_steps)) c.answer_last.new.writer c.flush_all.result
+    (grind (arith, common_steps)) (grind (arith, common_steps))
+    (last_then _ _ _ _ _ c.loop-count.part.items (Ok tt) had
+    (rw c.deref.ensures.value at c.in_ok-answer_last.ensures.answered))
+    c.flush_all.ensures.unmarked c.flush_all.ensures.flushed c.flush_all.ensures.write c.flush_all.ensures.kept
+
+-- the input has too many bytes
+pub returns-in-None-clause-run : goal.returns-in-None-clause-run
+returns-in-None-clause-run g c =
+    let some : 0 < length (take c.in-Ok.count c.read.new.piece) = grind (arith, common_steps) in
+    run_failed g.R.Source.mark g.R.Source.left g.W.Sink.mark g.W.Sink.written g.W.Sink.flushed _ _ _ _ _
+    (grind (arith, common_steps)) Memory (Err Memory) refl (grind (arith, common_steps))
+    (but_are _ _ _ _ _ _ c.loop-count.part.items _ c.loop-count.invariant.answered c.in-Ok.ensures.bytes.0
+    (g.W.Sink.written c.loop-count.writer) [] (Err Memory)
+    (λ more. left_are _ _ c.loop-count.part.items _ more [] (Err Memory) refl some))
+
+pub returns-in_err-answer_piece-clause-run : goal.returns-in_err-answer_piece-clause-run
+returns-in_err-answer_piece-clause-run g c =
+    let p = err_from_is_err_and c.from_residual-in_err-answer_piece.result
+    c.from_residual-in_err-answer_piece.ensures.1 in
+    let again = front_taken c.deref-in-loop-count.result.now c.read.new.piece _ _ c.deref-in-loop-count.ensures.value
+    (c.read.auto.piece ∙ c.deref_mut.ensures.len) in
+    run_failed g.R.Source.mark g.R.Source.left g.W.Sink.mark g.W.Sink.written g.W.Sink.flushed _ _ _ _ _
+    (grind (arith, common_steps)) c.in_err-answer_piece.field-0.0 _ (p.1 ∙ ap Err p.2)
+    (grind (arith, common_steps))
+    (but_are _ _ _ _ _ _ c.loop-count.part.items _ c.loop-count.invariant.answered c.in-Ok.ensures.bytes.0 _ []
+    (Err c.in_err-answer_piece.field-0.0) (rw again at c.in_err-answer_piece.ensures.answered))

@@ -1,13 +1,16 @@
 /* calls CALL COUNT FILE LENGTH LENGTH LENGTH: makes a call on two sets COUNT times.
  *
- * CALL is `verify`, `union`, `intersection`, `difference` or `contains`. FILE has four DER values: the AS
- * identifiers and the IP address blocks of the issuer or first set, then those of the certificate or second set.
- * Each LENGTH is the number of octets of one of the first three values. The program prints the number of octets that
- * all calls together write. For `contains` it prints how often the result was true. */
+ * CALL is `verify`, `path`, `union`, `intersection`, `difference` or `contains`. FILE has four DER values: the AS
+ * identifiers and the IP address blocks of the issuer or first set, then those of the certificate or second set. The
+ * path of `path` has STEPS certificates with the values of the second set, which refuse and trim in turn. Each LENGTH
+ * is the number of octets of one of the first three values. The program prints the number of octets that all calls
+ * together write. For `contains` it prints how often the result was true. */
 #include "../foreign/pigyelund.h"
 #include <stdio.h>
 #include <stdlib.h>
 #include <string.h>
+
+enum { STEPS = 10 };
 
 typedef struct {
   uint8_t *octets;
@@ -33,11 +36,24 @@ static pigy_operation *operation_of(const char *call) {
   exit(2);
 }
 
+static uint32_t verify_path(pigy_set one, pigy_set other, pigy_buffers *out) {
+  pigy_certificate path[STEPS];
+  size_t verified;
+  /* The values of the second set lie side by side in the file. */
+  for (int i = 0; i < STEPS; i++)
+    path[i] = (pigy_certificate){0, other.as_len, other.as_len, other.ip_len, PIGY_HAS_BOTH,
+                                 i % 2 ? PIGY_TRIM : PIGY_REFUSE};
+  return pigy_verify_path(one.as, one.as_len, one.ip, one.ip_len, other.as, other.as_len + other.ip_len, path, STEPS,
+                          PIGY_LENIENT, out->as, out->as_capacity, out->ip, out->ip_capacity, &out->as_len,
+                          &out->ip_len, &verified);
+}
+
 /* Returns the number of octets that one call writes, or 1 if the result of its test is true. */
 static size_t octets_of_call(const char *call, pigy_set one, pigy_set other, pigy_buffers *out) {
   uint32_t status;
   if (!strcmp(call, "contains")) return pigy_compare(pigy_contains, one, other, PIGY_LENIENT) == PIGY_OK;
   if (!strcmp(call, "verify")) status = pigy_verify_set(one, other, PIGY_LENIENT, PIGY_TRIM, out);
+  else if (!strcmp(call, "path")) status = verify_path(one, other, out);
   else status = pigy_combine(operation_of(call), one, other, PIGY_LENIENT, out);
   if (status != PIGY_OK) exit(3);
   return out->as_len + out->ip_len;

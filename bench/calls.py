@@ -2,8 +2,8 @@
 """calls.py [N ..]: counts by callgrind what a call costs from C, over two sets of N blocks of each kind.
 
 It prints the instructions of one call, in thousands, and the share of the functions of pigyelund_c, with the code that
-is inlined there. A count is the mean of eleven calls. In `verify` and `contains` each block of the second set is inside
-one of the first. In the other calls the blocks overlap. It needs gcc and valgrind, and the library (rt lib).
+is inlined there. A count is the mean of eleven calls. In `verify`, `path` and `contains` each block of the second set
+is inside one of the first. In the other calls the blocks overlap. It needs gcc and valgrind, and the library (rt lib).
 """
 
 import re
@@ -12,13 +12,12 @@ import sys
 import tempfile
 from pathlib import Path
 
-from regress import LIBRARY, TOP, kit
+from regress import CALLS, TOP, compile_calls
 
 sys.path.append(str(TOP / "tests"))
 from reference import resources  # noqa: E402
 
 TIMES = 11
-CALLS = ("verify", "union", "intersection", "difference", "contains")
 
 
 def extensions(blocks):
@@ -30,8 +29,7 @@ def extensions(blocks):
 def written(one, other):
     """Writes a file of four values, two of one set and two of the other. Returns the words that name them."""
     values = [*extensions(one), *extensions(other)]
-    with open(f"{folder}/octets", "wb") as file:
-        file.write(b"".join(values))
+    Path(folder, "octets").write_bytes(b"".join(values))
     return [f"{folder}/octets", *(str(len(it)) for it in values[:3])]
 
 
@@ -47,10 +45,7 @@ def shares(call, words):
 
 
 def annotated(log, inclusive):
-    """Returns each function with its instructions.
-
-    If `inclusive` is `yes`, they include the instructions of the functions that it calls.
-    """
+    """Returns each function with its instructions, which are inclusive of called functions if `inclusive` is `yes`."""
     words = ["callgrind_annotate", f"--inclusive={inclusive}", "--threshold=100", log]
     lines = subprocess.run(words, check=True, capture_output=True, text=True).stdout.splitlines()
     found = (re.match(r"\s*([\d,]+) \([\d. ]+%\)\s+\S*?:([\w:+<>#.]+)", line) for line in lines)
@@ -58,13 +53,12 @@ def annotated(log, inclusive):
 
 
 with tempfile.TemporaryDirectory() as folder:
-    source = [TOP / "bench" / "calls.c", LIBRARY, kit() / "c" / "liblibc_c.a"]
-    subprocess.run(["gcc", "-O2", "-o", Path(folder, "calls"), *source], check=True)
+    compile_calls(folder, "calls")
     print(f"{'call':<14}{'N':>8}{'thousands':>12}{'border':>9}")
     for count in map(int, sys.argv[1:] or [1000]):
         one = [(16 * at + 1, 16 * at + 9) for at in range(count)]
         inside = [(16 * at + 3, 16 * at + 7) for at in range(count)]
         across = [(16 * at + 5, 16 * at + 12) for at in range(count)]
         for call in CALLS:
-            took, border = shares(call, written(one, inside if call in ("verify", "contains") else across))
+            took, border = shares(call, written(one, inside if call in ("verify", "path", "contains") else across))
             print(f"{call:<14}{count:>8}{took:>12.1f}{border:>9.3f}")

@@ -9,6 +9,7 @@ without any reading. Times are in seconds of the processor, the least of some ru
 import argparse
 import os
 import random
+import re
 import shutil
 import subprocess
 import sys
@@ -98,16 +99,9 @@ def rtrlib(folder: Path) -> Path | None:
     return None
 
 
-def write(path: Path, lines: Iterator[str]) -> Path:
-    """Writes a file of these lines. Returns its path."""
-    with path.open("w", encoding="ascii") as file:
-        file.writelines(f"{line}\n" for line in lines)
-    return path
-
-
-def word(answer: str) -> str:
-    """Returns the validity in an answer."""
-    return answer.split("-")[0] if answer.startswith("invalid") else answer
+def write(path: Path, lines: Iterator[str]) -> None:
+    """Writes a file of these lines."""
+    path.write_text("".join(f"{line}\n" for line in lines), encoding="ascii")
 
 
 def prefix(one: Vrp | Route) -> str:
@@ -160,17 +154,9 @@ def measure(name: str, asked: Path | None, folder: Path, vrps: list[Vrp], option
         used = [run(words, given, answers) for _ in range(options.runs)]
         print(f"{name + ', ' + call:<36}{min(used)[0]:>8.2f}{max(memory for _, memory in used):>8.0f}")
         if call == "csv, routes":
-            found = [word(line) for line in answers.read_text(encoding="ascii").splitlines()]
+            found = re.findall(r"^(invalid|[a-z-]+)", answers.read_text(encoding="ascii"), re.MULTILINE)
     if asked is not None:
         compare(name, asked, folder, found, options.runs)
-
-
-def measure_growth(program: Path, folder: Path, count: int) -> None:
-    """Prints the memory for ten times as many routes: the same ones, ten times."""
-    once = (folder / "routes").read_bytes()
-    (folder / "more").write_bytes(once * 10)
-    seconds, memory = run([program, folder / "csv"], folder / "more", folder / "answers")
-    print(f"{f'ten times these routes: {10 * count}':<36}{seconds:>8.2f}{memory:>8.0f}")
 
 
 def main() -> int:
@@ -188,7 +174,9 @@ def main() -> int:
         for kind, make in (("nested", nested), ("flat", flat)):
             vrps = list(make(random.Random(kind), options.vrps))
             measure(kind, asked, folder, vrps, options)
-        measure_growth(options.program, folder, options.routes)
+        (folder / "more").write_bytes((folder / "routes").read_bytes() * 10)
+        seconds, memory = run([options.program, folder / "csv"], folder / "more", folder / "answers")
+        print(f"{f'ten times these routes: {10 * options.routes}':<36}{seconds:>8.2f}{memory:>8.0f}")
     return 0
 
 

@@ -27,12 +27,6 @@ def line(x1: float, y1: float, x2: float, y2: float, name: str) -> str:
     return f'<line x1="{x1:.0f}" y1="{y1:.0f}" x2="{x2:.0f}" y2="{y2:.0f}" class="{name}"/>'
 
 
-def picture(name: str, width: int, height: int, parts: list[str]) -> None:
-    head = f'<svg xmlns="http://www.w3.org/2000/svg" width="{width}" height="{height}" viewBox="0 0 {width} {height}">'
-    white = '<rect width="100%" height="100%" fill="white"/>'
-    (TOP / "docs" / name).write_text("\n".join([head, STYLE, white, *parts, "</svg>"]) + "\n")
-
-
 def ratios() -> None:
     """Draws a bar for each ratio. A ratio below 1 means that ours takes less time."""
     lines = [(row[0], float(row[3])) for row in table("input ")]
@@ -54,7 +48,9 @@ def ratios() -> None:
             ]
             y += step
         y += step
-    picture("speed-ratios.svg", left + 2 * unit + 60, height, parts)
+    width, white = left + 2 * unit + 60, '<rect width="100%" height="100%" fill="white"/>'
+    head = f'<svg xmlns="http://www.w3.org/2000/svg" width="{width}" height="{height}" viewBox="0 0 {width} {height}">'
+    (TOP / "docs" / "speed-ratios.svg").write_text("\n".join([head, STYLE, white, *parts, "</svg>"]) + "\n")
 
 
 if __name__ == "__main__":

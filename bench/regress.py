@@ -35,7 +35,7 @@ GROWTH = TOP / "crates" / "bench_growth" / "out" / "bench_growth"
 ORIGINS = TOP / "crates" / "origins" / "out" / "origins"
 LIBRARY = TOP / "crates" / "pigyelund_c" / "out" / "libpigyelund_c.a"
 KINDS = ("as", "v4", "v6")
-CALLS = ("verify", "union", "intersection", "difference", "contains")
+CALLS = ("verify", "path", "union", "intersection", "difference", "contains")
 
 
 @dataclass(frozen=True)
@@ -51,9 +51,7 @@ def written(kind: str, number: int) -> str:
     """Returns the AS number or address with a number."""
     if kind == "as":
         return f"AS{number}"
-    if kind == "v4":
-        return ".".join(str(number >> shift & 255) for shift in (24, 16, 8, 0))
-    return f"2001:db8::{number >> 16:x}:{number & 0xFFFF:x}"
+    return origins.address(32, number) if kind == "v4" else f"2001:db8::{number >> 16:x}:{number & 0xFFFF:x}"
 
 
 def ranges(kind: str, count: int, skipped: int = 0) -> list[str]:
@@ -152,11 +150,16 @@ def of_origins(folder: Path) -> Iterator[Input]:
     yield Input("diff-flat", (ORIGINS, "--diff", before, next_file))
 
 
+def compile_calls(folder: str | Path, *names: str) -> None:
+    """Compiles programs of bench/ that call the library."""
+    for name in names:
+        built = [Path(folder, name), TOP / "bench" / f"{name}.c", LIBRARY, kit() / "c" / "liblibc_c.a"]
+        subprocess.run(["gcc", "-O2", "-o", *built], check=True)
+
+
 def of_calls(folder: Path) -> Iterator[Input]:
     """Yields calls from C: on two sets of 1,000 blocks (bench/calls.c), and on a table (bench/routes.c)."""
-    for name in ("calls", "routes"):
-        built = [folder / name, TOP / "bench" / f"{name}.c", LIBRARY, kit() / "c" / "liblibc_c.a"]
-        subprocess.run(["gcc", "-O2", "-o", *built], check=True)
+    compile_calls(folder, "calls", "routes")
     whole = [bytes.fromhex(answer(f"der {kind} {', '.join(ranges(kind, 1_000))}\n")) for kind in ("as", "v4")]
     part = [bytes.fromhex(answer(f"der {kind} {', '.join(ranges(kind, 1_000, 7))}\n")) for kind in ("as", "v4")]
     (folder / "octets").write_bytes(b"".join([*whole, *part]))

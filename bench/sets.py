@@ -2,9 +2,9 @@
 """sets.py [--times] [--rust PROGRAM] ["WORD .."..]: measures calls in process, ours and those of the Rust crate `rpki`.
 
 Each argument has the words of one run of crates/bench_growth, as "1000" or "mixed path 10000 10". For each call the
-script prints its thousands of instructions: ours, those of the crate `rpki`, and their ratio. Callgrind counts what is
-between two readings of the clock, so a count has the call alone. With --times it also prints the microseconds of a
-call, the least of RUNS runs of both programs in turn. Run this on a quiet machine.
+script prints its thousands of instructions: ours, those of the crate, and their ratio. Callgrind counts what is between
+two readings of the clock, so a count has the call alone. With --times it also prints the microseconds of a call, the
+least of RUNS runs of both programs in turn. Run this on a quiet machine.
 
 bench_growth has to be built (rt run in its folder). PROGRAM is `growth` of vectors/run/rust. Without --rust cargo
 builds it, which needs the crate `rpki`. If this fails, the script prints only our figures.
@@ -21,72 +21,62 @@ from pathlib import Path
 
 from regress import GROWTH, TOP
 
-RUNS, CALLS = 20, 5
-PERIODS = 1000, 10, 2
-KINDS = "ranges", "mixed"
-ASKED = [f"{kind} {count}" for kind in KINDS for count in (1_000, 100_000)]
-ASKED += [f"{kind} path 10000 {period}" for kind in KINDS for period in PERIODS]
+RUNS, REPEATED = 20, 5
+SUBJECTS = "1000", "100000", "path 10000 1000", "path 10000 10", "path 10000 2"
+ASKED = [f"{kind} {it}" for kind in ("ranges", "mixed") for it in SUBJECTS]
 # Between calls glibc returns no memory to the kernel.
 KEEPS = {"GLIBC_TUNABLES": "glibc.malloc.mmap_threshold=4294967296:glibc.malloc.trim_threshold=4294967296"}
+CALL = re.compile(r"^([a-z_-]+) \d+ (\d+)$", re.MULTILINE)
 
 
 def counted(program: Path, words: list[str]) -> tuple[dict[str, float], set[str]]:
     """Returns the thousands of instructions of each call, and the lines that the program prints."""
     with tempfile.TemporaryDirectory() as name:
-        log = Path(name, "log")
-        valgrind = ["valgrind", "--tool=callgrind", f"--callgrind-out-file={log}", "--dump-before=clock_gettime*"]
+        valgrind = ["valgrind", "--tool=callgrind", f"--callgrind-out-file={name}/log", "--dump-before=clock_gettime*"]
         ran = subprocess.run([*valgrind, program, *words], capture_output=True, text=True, check=True)
-        dumps = [Path(f"{log}.{at}").read_text() for at in range(1, len(os.listdir(name)))]
-    counts = [int(count) / 1000 for it in dumps for count in re.findall(r"^totals: (\d+)", it, re.MULTILINE)]
-    names = re.findall(r"^([a-z_-]+) \d+ \d+$", ran.stderr, re.MULTILINE)
-    return dict(zip(names, counts[1::2], strict=True)), set(ran.stdout.splitlines())
+        dumps = [Path(name, f"log.{at}").read_text() for at in range(1, len(os.listdir(name)))]
+    counts = [sum(map(int, re.findall(r"^totals: (\d+)", it, re.MULTILINE))) / 1000 for it in dumps]
+    return dict(zip((it[0] for it in CALL.findall(ran.stderr)), counts[1::2], strict=True)), {*ran.stdout.splitlines()}
 
 
 def timed(programs: list[Path], words: list[str]) -> list[dict[str, float]]:
     """Returns the least microseconds of each call, for each program."""
     least: list[dict[str, float]] = [{} for _ in programs]
-    for _ in range(RUNS):
-        for program, found in zip(programs, least):
-            ran = subprocess.run([program, *words * CALLS], env=KEEPS, capture_output=True, text=True, check=True)
-            for name, took in re.findall(r"^([a-z_-]+) \d+ (\d+)$", ran.stderr, re.MULTILINE):
-                found[name] = min(float(took), found.get(name, float(took)))
+    for program, found in [*zip(programs, least)] * RUNS:
+        ran = subprocess.run([program, *words * REPEATED], env=KEEPS, capture_output=True, text=True, check=True)
+        for name, took in CALL.findall(ran.stderr):
+            found[name] = min(float(took), found.get(name, float(took)))
     return least
 
 
-def built(folder: str) -> Path | None:
-    """Returns the Rust program, or None if it can't be built."""
+def built(folder: str) -> list[Path]:
+    """Returns the Rust program, or nothing if it can't be built."""
     source = shutil.copytree(TOP / "vectors" / "run" / "rust", Path(folder, "source"))
     words = ["cargo", "build", "-q", "--release", "--bin", "growth", "--target-dir", folder]
-    if shutil.which("cargo") and subprocess.run(words, cwd=source).returncode == 0:
-        return Path(folder, "release", "growth")
-    return None
-
-
-def columns(figures: list[dict[str, float]], name: str) -> str:
-    """Returns the figures of a call, and the ratio of the first one to the second one."""
-    shown = "".join(f"{it[name]:>11.1f}" if name in it else f"{'-':>11}" for it in figures)
-    ratio = f"{figures[0][name] / figures[1][name]:.2f}" if name in figures[-1] and len(figures) == 2 else "-"
-    return f"{shown}{ratio:>7}"
+    is_built = shutil.which("cargo") and subprocess.run(words, cwd=source).returncode == 0
+    return [Path(folder, "release", "growth")] if is_built else []
 
 
 def main() -> int:
-    """Measures all runs, and says which answers differ."""
-    parser = argparse.ArgumentParser(description=__doc__.splitlines()[0])
+    """Measures all runs. The status is 1 if the programs print different lines."""
+    parser, status = argparse.ArgumentParser(), 0
     parser.add_argument("--times", action="store_true")
     parser.add_argument("--rust", type=Path)
     parser.add_argument("asked", nargs="*", default=ASKED)
-    options, status = parser.parse_args(), 0
+    options = parser.parse_args()
     with tempfile.TemporaryDirectory() as folder:
-        rust = options.rust or built(folder)
-        programs = [GROWTH, *([rust] if rust else [])]
-        for asked in options.asked:
-            words = asked.split()
-            counts, printed = zip(*(counted(it, words) for it in programs))
-            groups = [[*counts], *([timed(programs, words)] if options.times else [])]
-            for name in counts[-1]:
-                print(f"{asked:<22}{name:<22}" + "".join(columns(it, name) for it in groups), flush=True)
+        programs = [GROWTH, *([options.rust] if options.rust else built(folder))]
+        for words in map(str.split, options.asked):
+            figures, printed = zip(*(counted(it, words) for it in programs))
+            groups = [figures, timed(programs, words)] if options.times else [figures]
+            for name in figures[-1]:
+                shown = f"{' '.join(words):<22}{name:<22}"
+                for group in groups:
+                    shown += "".join(f"{it[name]:>11.1f}" for it in group)
+                    shown += f"{group[0][name] / group[-1][name]:>7.2f}"
+                print(shown, flush=True)
             if not printed[-1] <= printed[0]:
-                print(f"{asked}: the programs print different lines")
+                print(f"{' '.join(words)}: the programs print different lines")
                 status = 1
     return status
 

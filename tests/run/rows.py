@@ -65,14 +65,14 @@ PROGRAMS: dict[str, Callable[[str], str]] = {
 class Comparison:
     """Counts the answers that were compared, those that differ, and those that the reference does not know, by reason.
 
-    `stored` is the file of stored answers, if they are to be written.
+    `stored` is the program's file of stored answers, if they are to be written.
     """
 
-    def __init__(self, stored: Path | None = None) -> None:
+    def __init__(self, program: str = "", writes: bool = False) -> None:
         self.compared = 0
         self.differing = 0
         self.not_said: Counter[str] = Counter()
-        self.stored = stored
+        self.stored = CRATES / program / "stdout" if writes else None
         self.answers: list[object] = []
 
     def add(self, what: str, expected: object, found: object) -> None:
@@ -110,14 +110,9 @@ def lines_of(path: Path) -> list[str]:
     return path.read_bytes().decode("utf-8").removesuffix("\n").split("\n")
 
 
-def of_stored(name: str, writes: bool) -> Comparison:
-    """Returns a comparison of the stored answers of a program."""
-    return Comparison(CRATES / name / "stdout" if writes else None)
-
-
 def compare_program(name: str, answer: Callable[[str], str], writes: bool) -> bool:
     """Compares the stored answers of a program that answers each line with a line."""
-    comparison = of_stored(name, writes)
+    comparison = Comparison(name, writes)
     asked, answered = (lines_of(CRATES / name / file) for file in ("stdin", "stdout"))
     if len(asked) != len(answered):
         print(f"{name}: {len(asked)} lines have {len(answered)} answers")
@@ -132,7 +127,7 @@ def compare_program(name: str, answer: Callable[[str], str], writes: bool) -> bo
 
 def compare_holdings(writes: bool) -> bool:
     """Compares the answers of `example_holdings` to its two lines together."""
-    comparison = of_stored("example_holdings", writes)
+    comparison = Comparison("example_holdings", writes)
     asked, answered = (lines_of(CRATES / "example_holdings" / file) for file in ("stdin", "stdout"))
     expected = calls_of_callers.holdings(*asked)
     if len(expected) != len(answered):
@@ -145,7 +140,7 @@ def compare_holdings(writes: bool) -> bool:
 
 def compare_verified_set(writes: bool) -> bool:
     """Compares the output of `example_verified_set` for the issuer and the files of its stored run."""
-    comparison = of_stored("example_verified_set", writes)
+    comparison = Comparison("example_verified_set", writes)
     folder = CRATES / "example_verified_set"
     *lists, numbers, addresses, mode = lines_of(folder / "args")
     octets = [(folder / "data" / name).read_bytes().hex() for name in (numbers, addresses)]
@@ -185,7 +180,7 @@ def compare_growth() -> bool:
 
 def compare_files(writes: bool) -> bool:
     """Compares the output of `respath_program` for the file and the standard input of its stored run, with --where."""
-    comparison = of_stored("respath_program", writes)
+    comparison = Comparison("respath_program", writes)
     folder = CRATES / "respath_program"
     asked = lines_of(folder / "data" / "lines") + lines_of(folder / "stdin")
     for line, found in zip(asked, lines_of(folder / "stdout"), strict=True):

@@ -11,4 +11,5 @@ pub mod JsonAnswers
 pub mod Outcomes
 pub mod Routes
 pub mod Runs
+pub mod UsualRoutes
 pub mod Words

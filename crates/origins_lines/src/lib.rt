@@ -23,6 +23,7 @@ pub mod route;
 pub mod routes;
 pub mod tables;
 pub mod text;
+mod usual;
 
 pub use answers::Routes;
 pub use begun::{AskedRoute, BegunRoute};

@@ -6,6 +6,7 @@ ghost use Rattle.rpki_text.specs.Reading.{Answers};
 ghost use Rattle.origins_lines.specs.Routes.{AreRouteWords, HasDumpFault, HasCommaForSpace, HasFaultBy, HasReadFault, HasRouteFault, HasWordFault, HaveWordsFault, IsAsnOrigin, IsConfedWord, IsDumpRoute, IsFieldAt, IsKindOf, IsNoAsnText, IsNoFieldAt, IsOtherWord, IsReadLine, IsReadOf, IsRouteBy, IsSetWord, IsUpdateName, IsWordOrigin, IsWordsFault, HasNoOrigin, fields_of, origin_part, prefix_part};
 
 use crate::fault::RouteFault;
+use crate::usual::usual_route;
 use rpki_base::Asn;
 use rpki_base::asn::ParseAsnError;
 use rpki_prefix::Prefix;
@@ -68,8 +69,20 @@ pub fn read_route(line: &[u8]) -> Result<Option<Route>, RouteFault>
 }
 
 /// Returns the route of a line, or None if it announces none, or its first fault.
-#[tactic(auto, using(crate::proofs::RouteLineLemmas::text_found))]
+///
+/// A line of the usual form is read in one pass.
 pub(crate) fn read_route_matched(line: &[u8]) -> Result<Option<Route>, RouteFault>
+    ensures { MatchResult result (IsReadLine line.now) (HasRouteFault line.now) }
+{
+    match usual_route(line) {
+        Some(route) => Ok(Some(route)),
+        None => read_any(line),
+    }
+}
+
+/// Returns the route of a line of any form, or None if it announces none, or its first fault.
+#[tactic(auto, using(crate::proofs::RouteLineLemmas::text_found))]
+fn read_any(line: &[u8]) -> Result<Option<Route>, RouteFault>
     ensures { MatchResult result (IsReadLine line.now) (HasRouteFault line.now) }
 {
     let Ok(text) = str::from_utf8(line) else {

@@ -26,7 +26,7 @@ pub use Rattle.origins_lines.specs.Explanations.{AreReasonTexts, IsExplainedBefo
 pub use Rattle.origins_lines.specs.Explanations.{IsNextText, IsReason, is_first, item_text}
 pub use Rattle.origins_lines.specs.JsonAnswers.{IsErrorObject, IsJsonAnswer, IsJsonRouteAnswer, IsLineValue}
 pub use Rattle.origins_lines.specs.JsonAnswers.{IsVrpsMember, object_head}
-pub use Rattle.origins_lines.specs.Outcomes.{IsOutcomeOf, asked_asn, outcome_text, outcome_with}
+pub use Rattle.origins_lines.specs.Outcomes.{IsOutcomeOf, asked_asn, outcome_text}
 pub use Rattle.origins_lines.specs.Routes.{AreRouteWords, HasDumpFault, HasFaultBy, HasLineFault, HasReadFault}
 pub use Rattle.origins_lines.specs.Routes.{HasRouteFault, HasWordFault, HaveWordsFault, IsAsnOrigin, IsDumpRoute}
 pub use Rattle.origins_lines.specs.Routes.{IsFieldAt, IsLineOf, IsNoAsnText, IsNoFieldAt, IsPathPlace, IsReadLine}

@@ -9,9 +9,9 @@ pub mod KindLemmas
 pub mod LineLemmas
 pub mod Members
 pub mod OrderLemmas
-pub mod OutcomeLemmas
 pub mod RouteAnswerLemmas
 pub mod RouteLineLemmas
 pub mod StateLemmas
+pub mod UsualRouteLemmas
 pub mod VrpTextLemmas
 pub mod WhyLemmas

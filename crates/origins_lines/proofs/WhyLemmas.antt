@@ -229,10 +229,6 @@ module _ (form : Form) (route : FamilyPrefix) (is : IsFamilyPrefix route) (asn :
       let long = adjacent prefix_len all done front rest y x lens cut ends in
       grind (arith, explained_or_same route is y x of_y lawful covers_y covers_x far long)
 
-  -- it covers the route
-  pub covers_next : CoversRoute route x
-  covers_next = covers x (Contains-append_right done (x ∷ rest) x (here x rest))
-
   pub explained_next : (last : Option Vrp) (why more : List ℕ) (reason : Reason) → IsReason route asn x reason
       → IsExplainedSo form route asn done last why → IsNextText form reason last x more
       → IsExplainedSo form route asn (done ++ x ∷ []) (Some x) (why ++ more)

@@ -4,8 +4,6 @@ use Rattle.rpki_prefix.specs.Values.{FamilyPrefix}
 use Rattle.roa_origin.specs.Vrps.{Vrp}
 use Rattle.roa_origin.specs.Validities.{HasCoveringAsn, IsValidity}
 use Rattle.roa_origin.specs.declared.validation.Validity.TheVariants as Validity
-use Rattle.origins_lines.specs.declared.explanation.Reason.{Reason}
-use Rattle.origins_lines.specs.declared.explanation.Reason.TheVariants.{Match, Length, As}
 use Rattle.origins_lines.specs.declared.outcome.Outcome.{Outcome}
 use Rattle.origins_lines.specs.declared.outcome.Outcome.TheVariants.{Valid, InvalidLength, InvalidAs, NotFound}
 
@@ -19,19 +17,6 @@ IsOutcomeOf route asn vrps Valid = IsValidity route asn vrps Validity.Valid
 IsOutcomeOf route asn vrps InvalidLength = IsValidity route asn vrps Validity.Invalid × HasCoveringAsn route asn vrps
 IsOutcomeOf route asn vrps InvalidAs = IsValidity route asn vrps Validity.Invalid × ¬ HasCoveringAsn route asn vrps
 IsOutcomeOf route asn vrps NotFound = IsValidity route asn vrps Validity.NotFound
-
--- the outcome by some VRPs and one more, which covers the route: by the outcome without it, and its relation to the
--- route
-abbrev pub outcome_with : Outcome → Reason → Outcome
-outcome_with outcome Match = Valid
-outcome_with Valid Length = Valid
-outcome_with InvalidLength Length = InvalidLength
-outcome_with InvalidAs Length = InvalidLength
-outcome_with NotFound Length = InvalidLength
-outcome_with Valid As = Valid
-outcome_with InvalidLength As = InvalidLength
-outcome_with InvalidAs As = InvalidAs
-outcome_with NotFound As = InvalidAs
 
 -- the text printed for an outcome
 abbrev pub outcome_text : Outcome → List ℕ

@@ -116,10 +116,9 @@ fn write_answer<A: Allocator>(
     ensures { OnOk result (IsRouteAnswer why asked.now.lookup.vrps asked.now.route.prefix asked.now.asn
         (string_bytes text.new)) }
 {
-    if !why {
-        text.push_str(word_for(outcome_of(&asked.lookup)))?;
-        return Ok(());
+    text.push_str(word_for(outcome_of(&asked.lookup)))?;
+    if why {
+        push_why(text, Form::Words, asked)?;
     }
-    let outcome = push_why(text, Form::Words, asked)?;
-    text.insert_str(0, word_for(outcome))
+    Ok(())
 }

@@ -1,17 +1,15 @@
 //! Explains the outcome for a route by the VRPs that cover it.
-ghost use Rattle.std.specs.Prelude.{◌≡◌, ◌↔◌, ◌+◌, ◌≤◌, ◌++◌, ℕ, List, IfOk, IsTrue, OnOk, codes, length, take};
+ghost use Rattle.std.specs.Prelude.{◌≡◌, ◌↔◌, ◌+◌, ◌≤◌, ◌++◌, ℕ, List, IsTrue, OnOk, codes, length, take};
 ghost use Rattle.std.specs.String.{string_bytes};
 ghost use Rattle.roa_origin.specs.Tables.{as_sent};
 ghost use Rattle.roa_origin.specs.Vrps.{IsLawfulVrp};
 ghost use Rattle.origins_lines.specs.Begun.{IsLookedUp};
 ghost use Rattle.origins_lines.specs.Explanations.{IsReason, IsNextText, IsExplanationText, asn_key, max_length_key, prefix_key, reason_and_vrp_text, reason_key, reason_text, vrp_back, vrp_front, vrp_object};
-ghost use Rattle.origins_lines.specs.Outcomes.{IsOutcomeOf, outcome_with};
 
 use crate::begun::AskedRoute;
 use crate::buffer::{
     MAX_ASN, MAX_PREFIX, push_before, put_all, put_asn, put_dash_and_len, put_prefix,
 };
-use crate::outcome::Outcome;
 use roa_origin::Vrp;
 use rpki_addr::addr::print::{put, put_octet};
 use rpki_base::Asn;
@@ -77,8 +75,7 @@ fn reason_for(route: Prefix, asn: Asn, vrp: &Vrp) -> Reason
     }
 }
 
-/// Appends each VRP that covers a route, once, with its relation to the route. Returns the outcome for the route, which
-/// these relations decide.
+/// Appends each VRP that covers a route, once, with its relation to the route.
 ///
 /// # Preconditions
 ///
@@ -87,41 +84,24 @@ pub(crate) fn push_why<A: Allocator>(
     text: &mut String<A>,
     form: Form,
     asked: &AskedRoute<'_>,
-) -> Result<Outcome, AllocError>
+) -> Result<(), AllocError>
     requires { IsLookedUp asked.now }
-    ensures text { OnOk result ((why : List ℕ)
+    ensures { OnOk result ((why : List ℕ)
         × IsExplanationText form asked.now.route.prefix asked.now.asn asked.now.lookup.vrps why
         × (string_bytes text.new ≡ string_bytes text.old ++ why)) }
-    ensures outcome { IfOk result (IsOutcomeOf asked.now.route.prefix asked.now.asn asked.now.lookup.vrps) }
 {
     let route = asked.route.prefix;
     let asn = asked.asn;
     route.recall_invariant();
-    let mut outcome = Outcome::NotFound;
     let mut last = None;
     for vrp in asked.lookup.covering() {
         vrp.0.recall_invariant();
         vrp.1.recall_invariant();
         let reason = reason_for(route, asn, &vrp);
-        outcome = outcome_with(outcome, reason);
         push_next(text, form, reason, &last, &vrp)?;
         last = Some(vrp);
     }
-    Ok(outcome)
-}
-
-/// Adds one VRP to an outcome, and returns the new outcome for the route.
-///
-/// `outcome` is the outcome by the VRPs before it. The VRP covers the route, and `reason` is its relation to the route.
-fn outcome_with(outcome: Outcome, reason: Reason) -> Outcome
-    ensures { result ≡ outcome_with outcome reason }
-{
-    match (reason, outcome) {
-        (Reason::Match, _) => Outcome::Valid,
-        (Reason::Length, Outcome::InvalidAs | Outcome::NotFound) => Outcome::InvalidLength,
-        (Reason::As, Outcome::NotFound) => Outcome::InvalidAs,
-        (Reason::Length | Reason::As, _) => outcome,
-    }
+    Ok(())
 }
 
 /// Appends a VRP with its relation to a route. Appends nothing if the VRP is the same, as it is sent, as `last`, the

@@ -1,5 +1,5 @@
--- The VRPs so far are explained after the text, and they decide the outcome so far.
-use Rattle.origins_lines.proofs.Common.{List, ℕ, ◌++◌, ◌≡◌, string_bytes, IsOutcomeOf}
+-- The VRPs so far are explained after the text.
+use Rattle.origins_lines.proofs.Common.{List, ℕ, ◌++◌, ◌≡◌, string_bytes}
 use Rattle.origins_lines.proofs.WhyLemmas.{IsExplainedSo}
 use Rattle.origins_lines.proofs.explanation.push_why.Given as goal
 
@@ -7,4 +7,3 @@ abbrev pub invariant-loop-vrp : goal.invariant-loop-vrp
 invariant-loop-vrp g l =
     (why : List ℕ) × IsExplainedSo l.form l.asked.route.prefix l.asked.asn l.yielded l.last why
     × (string_bytes l.text ≡ string_bytes l.fn.text ++ why)
-    × IsOutcomeOf l.asked.route.prefix l.asked.asn l.yielded l.outcome

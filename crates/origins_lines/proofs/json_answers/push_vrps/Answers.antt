@@ -9,6 +9,6 @@ returns-then-not-why g c = rw c.if-not-why.true ([], refl, sym (append-nil (stri
 
 pub returns : goal.returns
 returns g c =
-    let why = c.in_ok-push_why.ensures.text in
+    let why = c.in_ok-push_why.ensures in
     rw c.if-not-why.false
     (codes ",\"vrps\":[" ++ why.0 ++ codes "]", (why.0, why.1, refl), grind (arith, common_steps, append_assoc))

@@ -1,11 +1,14 @@
 -- An answer is the only one, and the same in whatever order the VRPs stand.
-use Rattle.origins_lines.proofs.Common.{Bool, List, None, Some, [], ap, arith, false, inl, inr, sym, true, ℕ, ◌∙◌, ◌∷◌}
+use Rattle.origins_lines.proofs.Common.{Bool, List, None, Some, [], arith, false, inl, inr, sym, true, ℕ, ◌∙◌, ◌∷◌}
 use Rattle.origins_lines.proofs.Common.{◌≡◌, Contains-permutation, IsPermutation-map, IsPermutation-sym, IsPermutation}
 use Rattle.origins_lines.proofs.Common.{Vrp, as_sent, FamilyPrefix, IsOriginAnswer, IsExplanationIf, IsRouteAnswer}
 use Rattle.origins_lines.proofs.Common.{IsExplanation, IsExplanationText, Form, IsErrorObject, IsJsonAnswer}
 use Rattle.origins_lines.proofs.Common.{IsJsonRouteAnswer, IsLineValue, IsVrpsMember, IsReason, IsExplainedBefore}
 use Rattle.origins_lines.proofs.Common.{AreReasonTexts, IsOutcomeOf, asked_asn, route_fault_text, fault_line, Option}
-use Rattle.origins_lines.proofs.Common.{Reason, Outcome}
+use Rattle.origins_lines.proofs.Common.{Reason, Outcome, Route, skipped_text}
+use Rattle.std.proofs.lemmas.Option.{none-some, same_Some}
+use Rattle.origins_lines.specs.Answers.{IsAnswerBy}
+use Rattle.origins_lines.specs.JsonAnswers.{skipped_object}
 use Rattle.roa_origin.specs.declared.validation.Validity.TheVariants as Validities
 use Rattle.roa_origin.proofs.SortedSearch.{any_moved}
 use Rattle.roa_origin.proofs.ListMembers.{same_list}
@@ -54,8 +57,7 @@ any_order why vrps others line text moved (inl (route, is, (outcome, is_outcome,
     let same = outcome_moved route.prefix asn vrps others outcome moved is_outcome in
     let explained = explanation_if_moved why vrps others route.prefix asn behind moved texts in
     inl (route, is, (outcome, same, behind, explained, whole))
-any_order why vrps others line text moved (inr (inl nothing)) = inr (inl nothing)
-any_order why vrps others line text moved (inr (inr wrong)) = inr (inr wrong)
+any_order why vrps others line text moved (inr other) = inr other
 
 vrps_member_moved : (why : Bool) (vrps others : List Vrp) (route : FamilyPrefix) (asn : ℕ) (text : List ℕ)
     → IsPermutation vrps others → IsVrpsMember why vrps route asn text → IsVrpsMember why others route asn text
@@ -70,8 +72,7 @@ json_any_order why vrps others line text moved (inl (route, is, (outcome, is_out
     let same = outcome_moved route.prefix asn vrps others outcome moved is_outcome in
     let explained = vrps_member_moved why vrps others route.prefix asn member moved texts in
     inl (route, is, (outcome, same, member, explained, whole))
-json_any_order why vrps others line text moved (inr (inl nothing)) = inr (inl nothing)
-json_any_order why vrps others line text moved (inr (inr wrong)) = inr (inr wrong)
+json_any_order why vrps others line text moved (inr other) = inr other
 
 -- ---- one answer alone
 
@@ -118,33 +119,38 @@ route_answer_one : (why : Bool) (vrps : List Vrp) (route : FamilyPrefix) (asn : 
     → IsRouteAnswer why vrps route asn text → IsRouteAnswer why vrps route asn other → text ≡ other
 route_answer_one why vrps route asn text other h h2 = grind (arith, outcome_one, why_one)
 
-none_some : {X : Type 0} {x : X} → None ≡ Some x → ⊥
-none_some e = grind (arith)
-
-some_inj : {X : Type 0} {a b : X} → Some a ≡ Some b → a ≡ b
-some_inj e = cc
+-- a line has one answer, if each route and each fault has
+by_one : (OfRoute : Route → List ℕ → Type 0) (OfFault : RouteFault → List ℕ → Type 0)
+    (skipped line text other : List ℕ)
+    → ((route : Route) → OfRoute route text → OfRoute route other → text ≡ other)
+    → ((fault : RouteFault) → OfFault fault text → OfFault fault other → text ≡ other)
+    → IsAnswerBy OfRoute skipped OfFault line text → IsAnswerBy OfRoute skipped OfFault line other → text ≡ other
+by_one OfRoute OfFault skipped line text other of_route of_fault (inl (a, is_a, h)) (inl (b, is_b, k)) =
+    of_route b (rw (same_Some a b ((route_decided line).one (Some a) (Some b) is_a is_b)) at h) k
+by_one OfRoute OfFault skipped line text other of_route of_fault (inl (a, is_a, h)) (inr (inl (nothing, k))) =
+    absurd (none-some a ((route_decided line).one None (Some a) nothing is_a))
+by_one OfRoute OfFault skipped line text other of_route of_fault (inl (a, is_a, h)) (inr (inr (f, wrong, k))) =
+    absurd ((route_decided line).apart (Some a) f is_a wrong)
+by_one OfRoute OfFault skipped line text other of_route of_fault (inr (inl (nothing, h))) (inl (b, is_b, k)) =
+    absurd (none-some b ((route_decided line).one None (Some b) nothing is_b))
+by_one OfRoute OfFault skipped line text other of_route of_fault (inr (inl (none, h))) (inr (inl (too, k))) =
+    h ∙ sym k
+by_one OfRoute OfFault skipped line text other of_route of_fault (inr (inl (nothing, h))) (inr (inr (f, wrong, k))) =
+    absurd ((route_decided line).apart None f nothing wrong)
+by_one OfRoute OfFault skipped line text other of_route of_fault (inr (inr (f, wrong, h))) (inl (b, is_b, k)) =
+    absurd ((route_decided line).apart (Some b) f is_b wrong)
+by_one OfRoute OfFault skipped line text other of_route of_fault (inr (inr (f, wrong, h))) (inr (inl (nothing, k))) =
+    absurd ((route_decided line).apart None f nothing wrong)
+by_one OfRoute OfFault skipped line text other of_route of_fault (inr (inr (f, wrong, h))) (inr (inr (g, too, k))) =
+    of_fault g (rw ((route_decided line).same f g wrong too) at h) k
 
 pub answer_one : (why : Bool) (vrps : List Vrp) (line text other : List ℕ)
     → IsOriginAnswer why vrps line text → IsOriginAnswer why vrps line other → text ≡ other
-answer_one why vrps line text other (inl (a, is_a, h)) (inl (b, is_b, k)) =
-    let same = some_inj ((route_decided line).one (Some a) (Some b) is_a is_b) in
-    route_answer_one why vrps b.prefix (asked_asn b.origin) text other (rw same at h) k
-answer_one why vrps line text other (inl (a, is_a, h)) (inr (inl (nothing, k))) =
-    absurd (none_some ((route_decided line).one None (Some a) nothing is_a))
-answer_one why vrps line text other (inl (a, is_a, h)) (inr (inr (f, wrong, k))) =
-    absurd ((route_decided line).apart (Some a) f is_a wrong)
-answer_one why vrps line text other (inr (inl (nothing, h))) (inl (b, is_b, k)) =
-    absurd (none_some ((route_decided line).one None (Some b) nothing is_b))
-answer_one why vrps line text other (inr (inl (nothing, h))) (inr (inl (nothing_too, k))) = h ∙ sym k
-answer_one why vrps line text other (inr (inl (nothing, h))) (inr (inr (f, wrong, k))) =
-    absurd ((route_decided line).apart None f nothing wrong)
-answer_one why vrps line text other (inr (inr (f, wrong, h))) (inl (b, is_b, k)) =
-    absurd ((route_decided line).apart (Some b) f is_b wrong)
-answer_one why vrps line text other (inr (inr (f, wrong, h))) (inr (inl (nothing, k))) =
-    absurd ((route_decided line).apart None f nothing wrong)
-answer_one why vrps line text other (inr (inr (f, wrong, h))) (inr (inr (g, other_wrong, k))) =
-    let same = (route_decided line).same f g wrong other_wrong in
-    h ∙ ap (λ fault. fault_line (route_fault_text fault)) same ∙ sym k
+answer_one why vrps line text other h k =
+    by_one (λ route. IsRouteAnswer why vrps route.prefix (asked_asn route.origin))
+    (λ fault text. text ≡ fault_line (route_fault_text fault)) skipped_text line text other
+    (λ route. route_answer_one why vrps route.prefix (asked_asn route.origin) text other)
+    (λ fault (is : text ≡ fault_line (route_fault_text fault)) are. is ∙ sym are) h k
 
 -- ---- one object of JSON alone
 
@@ -168,22 +174,7 @@ error_object_one fault line text other (value, is, h) (another, are, k) =
 
 pub json_answer_one : (why : Bool) (vrps : List Vrp) (line text other : List ℕ)
     → IsJsonAnswer why vrps line text → IsJsonAnswer why vrps line other → text ≡ other
-json_answer_one why vrps line text other (inl (a, is_a, h)) (inl (b, is_b, k)) =
-    let same = some_inj ((route_decided line).one (Some a) (Some b) is_a is_b) in
-    route_object_one why vrps b.prefix b.origin text other (rw same at h) k
-json_answer_one why vrps line text other (inl (a, is_a, h)) (inr (inl (nothing, k))) =
-    absurd (none_some ((route_decided line).one None (Some a) nothing is_a))
-json_answer_one why vrps line text other (inl (a, is_a, h)) (inr (inr (f, wrong, k))) =
-    absurd ((route_decided line).apart (Some a) f is_a wrong)
-json_answer_one why vrps line text other (inr (inl (nothing, h))) (inl (b, is_b, k)) =
-    absurd (none_some ((route_decided line).one None (Some b) nothing is_b))
-json_answer_one why vrps line text other (inr (inl (nothing, h))) (inr (inl (nothing_too, k))) = h ∙ sym k
-json_answer_one why vrps line text other (inr (inl (nothing, h))) (inr (inr (f, wrong, k))) =
-    absurd ((route_decided line).apart None f nothing wrong)
-json_answer_one why vrps line text other (inr (inr (f, wrong, h))) (inl (b, is_b, k)) =
-    absurd ((route_decided line).apart (Some b) f is_b wrong)
-json_answer_one why vrps line text other (inr (inr (f, wrong, h))) (inr (inl (nothing, k))) =
-    absurd ((route_decided line).apart None f nothing wrong)
-json_answer_one why vrps line text other (inr (inr (f, wrong, h))) (inr (inr (g, other_wrong, k))) =
-    let same = (route_decided line).same f g wrong other_wrong in
-    error_object_one g line text other (rw same at h) k
+json_answer_one why vrps line text other h k =
+    by_one (λ route. IsJsonRouteAnswer why vrps route.prefix route.origin) (λ fault. IsErrorObject fault line)
+    skipped_object line text other (λ route. route_object_one why vrps route.prefix route.origin text other)
+    (λ fault. error_object_one fault line text other) h k

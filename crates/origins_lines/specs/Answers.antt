@@ -22,9 +22,16 @@ IsRouteAnswer why vrps route asn text =
     (outcome : Outcome) × IsOutcomeOf route asn vrps outcome × (behind : List ℕ)
     × IsExplanationIf why vrps route asn behind × (text ≡ outcome_text outcome ++ behind)
 
--- the text is the answer to the route that the line gives, to a line that announces none, or to the fault of the line
+-- The text is the answer to the line: by OfRoute to the route that the line gives, `skipped` to a line that announces
+-- none, and by OfFault to the fault of the line.
+abbrev pub IsAnswerBy : (Route → List ℕ → Type 0) → List ℕ → (RouteFault → List ℕ → Type 0) → List ℕ → List ℕ → Type 0
+IsAnswerBy OfRoute skipped OfFault line text =
+    ((route : Route) × IsRouteLine line route × OfRoute route text)
+    ⊎ (IsSkippedLine line × (text ≡ skipped))
+    ⊎ ((fault : RouteFault) × HasRouteFault line fault × OfFault fault text)
+
+-- the text is the answer to the line in words
 abbrev pub IsOriginAnswer : Bool → List Vrp → List ℕ → List ℕ → Type 0
-IsOriginAnswer why vrps line text =
-    ((route : Route) × IsRouteLine line route × IsRouteAnswer why vrps route.prefix (asked_asn route.origin) text)
-    ⊎ (IsSkippedLine line × (text ≡ skipped_text))
-    ⊎ ((fault : RouteFault) × HasRouteFault line fault × (text ≡ fault_line (route_fault_text fault)))
+IsOriginAnswer why vrps line =
+    IsAnswerBy (λ route. IsRouteAnswer why vrps route.prefix (asked_asn route.origin)) skipped_text
+    (λ fault text. text ≡ fault_line (route_fault_text fault)) line

@@ -6,14 +6,14 @@ use Rattle.rpki_base.specs.AsnText.{asn_text}
 use Rattle.rpki_prefix.specs.PrefixText.{prefix_text}
 use Rattle.rpki_prefix.specs.Values.{FamilyPrefix}
 use Rattle.roa_origin.specs.Vrps.{Vrp}
+use Rattle.origins_lines.specs.Answers.{IsAnswerBy}
 use Rattle.origins_lines.specs.Explanations.{IsExplanationText}
 use Rattle.origins_lines.specs.Outcomes.{IsOutcomeOf, asked_asn}
-use Rattle.origins_lines.specs.Routes.{IsRouteLine, IsSkippedLine, HasRouteFault, route_fault_text}
+use Rattle.origins_lines.specs.Routes.{route_fault_text}
 use Rattle.origins_lines.specs.declared.explanation.Form.TheVariants.{Json}
 use Rattle.origins_lines.specs.declared.fault.RouteFault.{RouteFault}
 use Rattle.origins_lines.specs.declared.outcome.Outcome.{Outcome}
 use Rattle.origins_lines.specs.declared.outcome.Outcome.TheVariants.{Valid, InvalidLength, InvalidAs, NotFound}
-use Rattle.origins_lines.specs.declared.route.Route.{Route}
 
 -- the members that say the outcome: the state of the route (RFC 6811, 2), and for an invalid route the reason
 abbrev pub outcome_members : Outcome → List ℕ
@@ -68,10 +68,8 @@ IsErrorObject fault line text =
 abbrev pub skipped_object : List ℕ
 skipped_object = codes "{\"state\":\"skipped\"}"
 
--- the text is the object for the route that the line gives, for a line that announces none, or for the fault of the
--- line
+-- the text is the answer to the line as an object
 abbrev pub IsJsonAnswer : Bool → List Vrp → List ℕ → List ℕ → Type 0
-IsJsonAnswer why vrps line text =
-    ((route : Route) × IsRouteLine line route × IsJsonRouteAnswer why vrps route.prefix route.origin text)
-    ⊎ (IsSkippedLine line × (text ≡ skipped_object))
-    ⊎ ((fault : RouteFault) × HasRouteFault line fault × IsErrorObject fault line text)
+IsJsonAnswer why vrps line =
+    IsAnswerBy (λ route. IsJsonRouteAnswer why vrps route.prefix route.origin) skipped_object
+    (λ fault. IsErrorObject fault line) line

@@ -1,6 +1,6 @@
 -- Whether a filter matches a VRP is decided, for any VRP; so those that no filter matches are a filtered list.
-use Rattle.roa_slurm.proofs.Common.{Any, Bool, IsTrue, List, [], arith, false, inl, inr, length, get_or, refl, suc}
-use Rattle.roa_slurm.proofs.Common.{true, zero, ℕ, ◌++◌, ◌+◌, ◌<◌, ◌∷◌, ◌≡◌, ◌≤◌, ◌↔◌, ◌⊎◌, not, CoversPrefix}
+use Rattle.roa_slurm.proofs.Common.{Any, Bool, IsTrue, List, [], arith, false, inl, inr, length, get_or, refl}
+use Rattle.roa_slurm.proofs.Common.{true, ℕ, ◌++◌, ◌+◌, ◌<◌, ◌∷◌, ◌≡◌, ◌≤◌, ◌↔◌, ◌⊎◌, not, CoversPrefix}
 use Rattle.roa_slurm.proofs.Common.{FamilyPrefix, MaxLenValue, address_number, is_v6, ByAsn, ByBoth, ByPrefix}
 use Rattle.roa_slurm.proofs.Common.{PrefixFilter, IsApplied, IsRemoved, IsRemovedBy}
 use Rattle.std.proofs.Common.{add-one}
@@ -8,7 +8,7 @@ use Rattle.std.specs.Prelude.{filter}
 use Rattle.std.proofs.Common.{append-nil, cond}
 use Rattle.std.proofs.lemmas.List.{take_all}
 use Rattle.std.proofs.lemmas.List.Elements.{filter_more}
-use Rattle.roa_slurm.proofs.Common.{ap, sym, take, ◌∙◌}
+use Rattle.roa_slurm.proofs.Common.{sym, take, ◌∙◌}
 use Rattle.std.proofs.lemmas.Bool.{cases_eq, cases_lt}
 use Rattle.rpki_prefix.specs.Order.{last_bits}
 use Rattle.rpki_prefix.proofs.PrefixCovering.{covers_round, round_covers}
@@ -21,15 +21,10 @@ decided_le : (a b : ℕ) → IsDecided (a ≤ b)
 decided_le a b = elim (cases_lt b a) [ inl above ↦ inr (λ h. absurd (omega arith)) | inr below ↦ inl below ]
 
 decided_same : (a b : Bool) → IsDecided (a ≡ b)
-decided_same true true = inl refl
-decided_same true false = inr (λ e. cc e)
-decided_same false true = inr (λ e. cc e)
-decided_same false false = inl refl
+decided_same a b = grind (arith)
 
 decided_both : {P Q : Type 0} → IsDecided P → IsDecided Q → IsDecided (P × Q)
-decided_both (inl p) (inl q) = inl (p, q)
-decided_both (inl p) (inr other) = inr (λ h. other h.1)
-decided_both (inr other) q = inr (λ h. other h.0)
+decided_both p q = grind (arith)
 
 decided_covers : (p q : FamilyPrefix) → IsDecided (CoversPrefix p q)
 decided_covers p q =
@@ -48,8 +43,7 @@ decided_by vrp (ByBoth prefix asn) = decided_both (cases_eq vrp.1 asn) (decided_
 
 -- of a list whose first element doesn't have it, the rest does
 any_of : {X : Type 0} (P : X → Type 0) (x : X) (xs : List X) → Any P (x ∷ xs) → P x ⊎ Any P xs
-any_of P x xs (zero, y, less, same, has) = inl (rw same has)
-any_of P x xs (suc k, y, less, same, has) = inr (k, y, omega arith, same, has)
+any_of P x xs h = grind (arith)
 
 decided_any : {X : Type 0} (P : X → Type 0) → ((x : X) → IsDecided (P x)) → (xs : List X) → IsDecided (Any P xs)
 decided_any P each [] = inr (λ h. absurd (omega (arith, h.2)))
@@ -68,8 +62,7 @@ is_negative (inl holds) = false
 is_negative (inr other) = true
 
 negative_iff : {P : Type 0} (d : IsDecided P) → IsTrue (is_negative d) ↔ (¬ P)
-negative_iff (inl holds) = ((λ h. cc h), λ other. absurd (other holds))
-negative_iff (inr other) = ((λ h. other), λ h. refl)
+negative_iff d = grind (arith)
 
 pub stays : List PrefixFilter → MaxLenValue × ℕ → Bool
 stays filters vrp = is_negative (decided_any (IsRemovedBy vrp) (decided_by vrp) filters)
@@ -81,10 +74,7 @@ stays_iff filters vrp = negative_iff (decided_any (IsRemovedBy vrp) (decided_by 
 
 -- a test that says the negation of being removed is this one
 negated_same : {P : Type 0} (removed kept : Bool) → IsTrue removed ↔ P → IsTrue kept ↔ (¬ P) → not removed ≡ kept
-negated_same true true h k = absurd (k.0 refl (h.0 refl))
-negated_same true false h k = refl
-negated_same false true h k = refl
-negated_same false false h k = cc (k.1 (λ p. cc (h.1 p)))
+negated_same removed kept h k = grind (arith)
 
 pub stays_same : (filters : List PrefixFilter) (vrp : MaxLenValue × ℕ) (removed : Bool)
     → IsTrue removed ↔ IsRemoved filters vrp → not removed ≡ stays filters vrp
@@ -106,8 +96,4 @@ kept_more filters all kept i vrp less at had removed is =
 pub applied_all : (filters : List PrefixFilter) (assertions all kept after : List (MaxLenValue × ℕ)) (i : ℕ)
     → length all ≤ i → kept ≡ filter (stays filters) (take i all) → after ≡ kept ++ assertions
     → IsApplied filters assertions all after
-applied_all filters assertions all kept after i end had is = record {
-  stays = stays filters;
-  unmatched = stays_iff filters;
-  result = is ∙ ap (λ xs. xs ++ assertions) (had ∙ ap (filter (stays filters)) (take_all i all end));
-}
+applied_all filters assertions all kept after i end had is = grind (arith, stays_iff, take_all)

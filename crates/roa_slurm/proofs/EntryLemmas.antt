@@ -2,9 +2,9 @@
 use Rattle.roa_slurm.proofs.Common.{List, MatchOption, None, Option, Some, inl, inr, ℕ, ◌⊎◌, Bor, Members, string}
 use Rattle.roa_slurm.proofs.Common.{FamilyPrefix, HaveAssertionFault, HaveKeyFault, HaveKeyFilterFault, HasValue}
 use Rattle.roa_slurm.proofs.Common.{IsString, Lacks, GivesAsn, HasAsnMemberFault, HasLongest, HasLongestFault}
-use Rattle.roa_slurm.proofs.Common.{HasOptionalFault, HasOptionalText, GivesPrefix, HasRequiredText}
+use Rattle.roa_slurm.proofs.Common.{HasOptionalFault, HasOptionalText, GivesPrefix}
 use Rattle.roa_slurm.proofs.Common.{HasRequiredTextFault, IsMissing, SlurmItemFault, SlurmMember, Asn, Comment}
-use Rattle.roa_slurm.proofs.Common.{RouterPublicKey, Ski}
+use Rattle.roa_slurm.proofs.Common.{Ski}
 
 -- a text that is there or not is an optional one
 pub optional_has : (part : SlurmMember) (members : Members) (found : Option (Bor (List ℕ)))
@@ -32,10 +32,6 @@ module _ (members : Members) (fault : SlurmItemFault) where
 
   -- ---- of a filter of router keys: of the identifier, the comment
 
-  pub key_filter_identifier : (asn : Option ℕ) → GivesAsn members asn → HasOptionalFault Ski IsString members fault
-      → HaveKeyFilterFault members fault
-  key_filter_identifier asn is wrong = inr ((asn, is), inl wrong)
-
   pub key_filter_comment : (asn : Option ℕ) → GivesAsn members asn → HasOptionalText Ski members
       → HasOptionalFault Comment IsString members fault → HaveKeyFilterFault members fault
   key_filter_comment asn is identifier wrong = inr ((asn, is), inr (identifier, inl wrong))
@@ -45,12 +41,3 @@ module _ (members : Members) (fault : SlurmItemFault) where
   pub key_identifier : (asn : ℕ) → GivesAsn members (Some asn) → HasRequiredTextFault Ski members fault
       → HaveKeyFault members fault
   key_identifier asn is wrong = inr ((asn, is), inl wrong)
-
-  pub key_key : (asn : ℕ) → GivesAsn members (Some asn) → HasRequiredText Ski members
-      → HasRequiredTextFault RouterPublicKey members fault → HaveKeyFault members fault
-  key_key asn is identifier wrong = inr ((asn, is), inr (identifier, inl wrong))
-
-  pub key_comment : (asn : ℕ) → GivesAsn members (Some asn) → HasRequiredText Ski members
-      → HasRequiredText RouterPublicKey members → HasOptionalFault Comment IsString members fault
-      → HaveKeyFault members fault
-  key_comment asn is identifier key wrong = inr ((asn, is), inr (identifier, inr (key, wrong)))

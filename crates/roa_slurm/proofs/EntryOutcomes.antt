@@ -1,10 +1,10 @@
 -- The items of a list of a SLURM file, and the list, say one thing, or have one fault.
-use Rattle.std.proofs.Common.{List, None, Option, Some, [], ap, arith, inl, inr, refl, sym, ℕ, ◌+◌, ◌∙◌, ◌∷◌, ◌≡◌, ◌≢◌}
+use Rattle.std.proofs.Common.{List, None, Option, Some, arith, inl, inr, sym, ℕ, ◌+◌, ◌∙◌, ◌≡◌}
 use Rattle.std.proofs.Common.{◌⊎◌}
-use Rattle.json.specs.Json.{Items, Json, Members, array, item, member, no_items, no_members, object, string}
+use Rattle.json.specs.Json.{Items, Json, Members, item, member, no_items, no_members, object}
 use Rattle.rpki_prefix.specs.MaxLen.{MaxLenValue}
-use Rattle.roa_vrps.proofs.MemberLemmas.{wrong_apart, wrong_one}
-use Rattle.roa_slurm.proofs.Common.{FamilyPrefix, Defines, HasUnknown, HasValue, KnowsAll, Lacks, SlurmItemFault}
+use Rattle.roa_vrps.proofs.MemberLemmas.{wrong_one}
+use Rattle.roa_slurm.proofs.Common.{FamilyPrefix, HasUnknown, KnowsAll, Lacks, SlurmItemFault}
 use Rattle.roa_slurm.proofs.Common.{SlurmMember, SlurmObject, SlurmFault, AreEntries, HaveInvalid, GivesAsn}
 use Rattle.roa_slurm.proofs.Common.{GivesPrefix, HasOptionalText, HasRequiredText, HasLongest, HasAsnMemberFault}
 use Rattle.roa_slurm.proofs.Common.{HasPrefixMemberFault, HasOptionalFault, HasRequiredTextFault, IsMissing, IsString}
@@ -19,7 +19,6 @@ use Rattle.roa_slurm.specs.Entries.{HasKeyFilterFault, HasPrefixAssertionFault, 
 use Rattle.roa_slurm.specs.Entries.{HaveFilterFault, IsFilterBy, IsItemOf, IsKeyAssertion, IsKeyFilter}
 use Rattle.roa_slurm.specs.Entries.{IsPrefixAssertion, IsPrefixFilter}
 use Rattle.roa_slurm.specs.Lists.{HasList, HasListFault}
-use Rattle.roa_slurm.specs.Objects.{IsArray}
 use Rattle.roa_slurm.specs.Steps.{FaultThen}
 use Rattle.roa_slurm.specs.declared.fault.SlurmItemFault.TheVariants.{NoCriterion}
 use Rattle.roa_slurm.specs.declared.filter.PrefixFilter.{PrefixFilter}
@@ -36,28 +35,19 @@ module _ {E : Type 0} (Fails : E → Type 0) (Passes : Type 0) (Later : E → Ty
     (apart : (e : E) → Fails e → Passes → ⊥) where
   pub then_one : ((d e : E) → Fails d → Fails e → d ≡ e) → ((d e : E) → Later d → Later e → d ≡ e) → (d e : E)
       → FaultThen Fails Passes Later d → FaultThen Fails Passes Later e → d ≡ e
-  then_one one more d e (inl h) (inl k) = one d e h k
-  then_one one more d e (inl h) (inr (passes, _)) = absurd (apart d h passes)
-  then_one one more d e (inr (passes, _)) (inl k) = absurd (apart e k passes)
-  then_one one more d e (inr (_, h)) (inr (_, k)) = more d e h k
+  then_one one more d e h k = grind (arith, apart, more, one)
 
 -- ---- names
 
 pub known_apart : (whole : SlurmObject) (first : ℕ) (ms : Members) (n : ℕ) → KnowsAll whole ms
     → HasUnknown whole first ms n → ⊥
 known_apart whole first no_members n known wrong = wrong
-known_apart whole first (member key value ms) n (is, _) (inl (other, _)) = other is
-known_apart whole first (member key value ms) n (_, known) (inr (_, later)) =
-    known_apart whole (first + 1) ms n known later
+known_apart whole first (member key value ms) n h wrong = grind (arith, known_apart whole (first + 1) ms)
 
 pub unknown_one : (whole : SlurmObject) (first : ℕ) (ms : Members) (m n : ℕ) → HasUnknown whole first ms m
     → HasUnknown whole first ms n → m ≡ n
 unknown_one whole first no_members m n h k = absurd h
-unknown_one whole first (member key value ms) m n (inl (_, h)) (inl (_, k)) = h ∙ sym k
-unknown_one whole first (member key value ms) m n (inl (other, _)) (inr (is, _)) = absurd (other is)
-unknown_one whole first (member key value ms) m n (inr (is, _)) (inl (other, _)) = absurd (other is)
-unknown_one whole first (member key value ms) m n (inr (_, h)) (inr (_, k)) =
-    unknown_one whole (first + 1) ms m n h k
+unknown_one whole first (member key value ms) m n h k = grind (arith, unknown_one whole (first + 1) ms)
 
 -- ---- members of items
 
@@ -93,17 +83,13 @@ no_filter : (p : Option FamilyPrefix) (n : Option ℕ) (a : PrefixFilter) → Is
 no_filter p n a h none empty = grind (arith)
 
 none_left : {A B : Type 0} → (¬ A) ⊎ (¬ B) → A → B → ⊥
-none_left (inl lacking) a b = lacking a
-none_left (inr lacking) a b = lacking b
+none_left h a b = grind (arith)
 
 module _ (ms : Members) where
   -- ---- a filter of VRPs
 
   filter_one : (a b : PrefixFilter) → AreFilter ms a → AreFilter ms b → a ≡ b
-  filter_one a b (p, has_p, n, has_n, _, is) (q, has_q, m, has_m, _, iz) =
-      let prefix = prefix_one ms p q has_p has_q in
-      let asn = asn_one ms n m has_n has_m in
-      filter_by_one q m a b (rw (prefix, asn) at is) iz
+  filter_one a b h k = grind (arith, asn_one, prefix_one)
 
   filter_apart : (a : PrefixFilter) (f : SlurmItemFault) → AreFilter ms a → HaveFilterFault ms f → ⊥
   filter_apart a f (p, has_p, n, has_n, comment, is) (inl wrong) = prefix_apart ms p f has_p wrong
@@ -119,10 +105,7 @@ module _ (ms : Members) where
       (λ fault. Lacks Prefix ms × Lacks Asn ms × (fault ≡ NoCriterion))
 
   filter_end_one : (d e : SlurmItemFault) → FilterEnd d → FilterEnd e → d ≡ e
-  filter_end_one =
-      then_one (HasOptionalFault Comment IsString ms) (HasOptionalText Comment ms)
-      (λ fault. Lacks Prefix ms × Lacks Asn ms × (fault ≡ NoCriterion)) (comment_apart ms Comment)
-      (text_fault_one Comment ms) (λ d e h k. h.2 ∙ sym k.2)
+  filter_end_one d e h k = grind (arith, optional_apart, text_fault_one)
 
   abbrev FilterRest : SlurmItemFault → Type 0
   FilterRest = FaultThen (HasAsnMemberFault ms) ((asn : Option ℕ) × GivesAsn ms asn) FilterEnd
@@ -207,10 +190,7 @@ module _ (ms : Members) where
       (λ fault. Lacks Asn ms × Lacks Ski ms × (fault ≡ NoCriterion))
 
   key_filter_end_one : (d e : SlurmItemFault) → KeyFilterEnd d → KeyFilterEnd e → d ≡ e
-  key_filter_end_one =
-      then_one (HasOptionalFault Comment IsString ms) (HasOptionalText Comment ms)
-      (λ fault. Lacks Asn ms × Lacks Ski ms × (fault ≡ NoCriterion)) (comment_apart ms Comment)
-      (text_fault_one Comment ms) (λ d e h k. h.2 ∙ sym k.2)
+  key_filter_end_one d e h k = grind (arith, optional_apart, text_fault_one)
 
   abbrev KeyFilterRest : SlurmItemFault → Type 0
   KeyFilterRest = FaultThen (HasOptionalFault Ski IsString ms) (HasOptionalText Ski ms) KeyFilterEnd
@@ -239,10 +219,7 @@ module _ (ms : Members) where
       (HasOptionalFault Comment IsString ms)
 
   key_end_one : (d e : SlurmItemFault) → KeyEnd d → KeyEnd e → d ≡ e
-  key_end_one =
-      then_one (HasRequiredTextFault RouterPublicKey ms) (HasRequiredText RouterPublicKey ms)
-      (HasOptionalFault Comment IsString ms) (need_text_apart ms RouterPublicKey)
-      (required_fault_one RouterPublicKey ms) (text_fault_one Comment ms)
+  key_end_one d e h k = grind (arith, optional_apart, required_apart, required_fault_one, text_fault_one)
 
   abbrev KeyRest : SlurmItemFault → Type 0
   KeyRest = FaultThen (HasRequiredTextFault Ski ms) (HasRequiredText Ski ms) KeyEnd
@@ -264,17 +241,10 @@ same_object value a b h k = cc
 
 module _ (whole : SlurmObject) (value : Json) where
   shape_apart : (ms : Members) (f : SlurmItemFault) → IsItemOf whole value ms → HasShapeFault whole value f → ⊥
-  shape_apart ms f (is, known) (inl (none, _)) = none ms is
-  shape_apart ms f (is, known) (inr (ns, iz, n, unknown, _)) =
-      known_apart whole 1 ns n (rw (same_object value ms ns is iz) at known) unknown
+  shape_apart ms f h wrong = grind (arith, known_apart)
 
   shape_one : (d e : SlurmItemFault) → HasShapeFault whole value d → HasShapeFault whole value e → d ≡ e
-  shape_one d e (inl (_, h)) (inl (_, k)) = h ∙ sym k
-  shape_one d e (inl (none, _)) (inr (ns, is, _, _, _)) = absurd (none ns is)
-  shape_one d e (inr (ms, is, _, _, _)) (inl (none, _)) = absurd (none ms is)
-  shape_one d e (inr (ms, is, m, h, d_is)) (inr (ns, iz, n, k, e_is)) =
-      let number = unknown_one whole 1 ns m n (rw (same_object value ms ns is iz) at h) k in
-      rw (d_is, e_is, number) refl
+  shape_one d e h k = grind (arith, unknown_one)
 
   module _ (Fail : Members → SlurmItemFault → Type 0)
       (one : (ms : Members) (d e : SlurmItemFault) → Fail ms d → Fail ms e → d ≡ e) where
@@ -345,51 +315,32 @@ key_item_fault_one value = entry_fault_one BgpsecAssertionItem value HaveKeyFaul
 pub entries_one : {X : Type 0} (Is : Json → X → Type 0) → ((j : Json) (x y : X) → Is j x → Is j y → x ≡ y)
     → (items : Items) (a b : List X) → AreEntries Is items a → AreEntries Is items b → a ≡ b
 entries_one Is one no_items a b h k = h ∙ sym k
-entries_one Is one (item value items) a b (x, is, more, same, rest) (y, iz, others, equal, last) =
-    rw (same, equal, one value x y is iz, entries_one Is one items more others rest last) refl
+entries_one Is one (item value items) a b h k = grind (arith, one, entries_one Is one items)
 
 module _ {X : Type 0} (Is : Json → X → Type 0) (Fails : Json → SlurmItemFault → Type 0)
     (apart : (j : Json) (x : X) (f : SlurmItemFault) → Is j x → Fails j f → ⊥) where
   entries_apart : (first : ℕ) (items : Items) (a : List X) (n : ℕ) (f : SlurmItemFault) → AreEntries Is items a
       → HaveInvalid Is Fails first items n f → ⊥
   entries_apart first no_items a n f h wrong = wrong
-  entries_apart first (item value items) a n f (x, is, _, _, _) (inl (wrong, _)) = apart value x f is wrong
-  entries_apart first (item value items) a n f (x, is, more, same, rest) (inr (_, _, later)) =
-      entries_apart (first + 1) items more n f rest later
+  entries_apart first (item value items) a n f h wrong = grind (arith, apart, entries_apart (first + 1) items)
 
   module _ (one : (j : Json) (d e : SlurmItemFault) → Fails j d → Fails j e → d ≡ e) where
     invalid_one : (first : ℕ) (items : Items) (m n : ℕ) (d e : SlurmItemFault) → HaveInvalid Is Fails first items m d
         → HaveInvalid Is Fails first items n e → (m ≡ n) × (d ≡ e)
     invalid_one first no_items m n d e h k = absurd h
-    invalid_one first (item value items) m n d e (inl (h, is)) (inl (k, iz)) = (is ∙ sym iz, one value d e h k)
-    invalid_one first (item value items) m n d e (inl (h, _)) (inr (x, is, _)) = absurd (apart value x d is h)
-    invalid_one first (item value items) m n d e (inr (x, is, _)) (inl (k, _)) = absurd (apart value x e is k)
-    invalid_one first (item value items) m n d e (inr (_, _, later)) (inr (_, _, last)) =
-        invalid_one (first + 1) items m n d e later last
+    invalid_one first (item value items) m n d e h k = grind (arith, apart, one, invalid_one (first + 1) items)
 
   module _ (part : SlurmMember) (ms : Members) where
     pub list_apart : (a : List X) (f : SlurmFault) → HasListFault Is Fails part ms f → HasList Is part ms a → ⊥
-    list_apart a f (inl (wrong, is, _)) (items, has, _) =
-        wrong_apart IsArray _ (array items) wrong has (items, refl) is
-    list_apart a f (inr (items, has, n, wrong, fails, _)) (others, haz, are) =
-        let same : others ≡ items = cc in entries_apart 1 items a n wrong (rw same at are) fails
+    list_apart a f wrong h = grind (arith, entries_apart)
 
     pub some_list_apart : (f : SlurmFault) → HasListFault Is Fails part ms f → (a : List X) × HasList Is part ms a → ⊥
     some_list_apart f wrong (a, has) = list_apart a f wrong has
 
     pub list_fault_one : ((j : Json) (d e : SlurmItemFault) → Fails j d → Fails j e → d ≡ e) → (d e : SlurmFault)
         → HasListFault Is Fails part ms d → HasListFault Is Fails part ms e → d ≡ e
-    list_fault_one one d e (inl (f, h, d_is)) (inl (g, k, e_is)) = rw (d_is, e_is, wrong_one IsArray _ f g h k) refl
-    list_fault_one one d e (inl (f, h, _)) (inr (items, has, _, _, _, _)) =
-        absurd (wrong_apart IsArray _ (array items) f has (items, refl) h)
-    list_fault_one one d e (inr (items, has, _, _, _, _)) (inl (g, k, _)) =
-        absurd (wrong_apart IsArray _ (array items) g has (items, refl) k)
-    list_fault_one one d e (inr (items, has, m, f, h, d_is)) (inr (others, haz, n, g, k, e_is)) =
-        let same : items ≡ others = cc in
-        let (number, fault) = invalid_one one 1 others m n f g (rw same at h) k in
-        rw (d_is, e_is, number, fault) refl
+    list_fault_one one d e h k = grind (arith, invalid_one, wrong_one)
 
 pub list_one : {X : Type 0} (Is : Json → X → Type 0) → ((j : Json) (x y : X) → Is j x → Is j y → x ≡ y)
     → (part : SlurmMember) (ms : Members) (a b : List X) → HasList Is part ms a → HasList Is part ms b → a ≡ b
-list_one Is one part ms a b (items, has, h) (others, haz, k) =
-    let same : items ≡ others = cc in entries_one Is one others a b (rw same at h) k
+list_one Is one part ms a b h k = grind (arith, entries_one)

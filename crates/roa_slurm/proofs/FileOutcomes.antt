@@ -1,14 +1,13 @@
 -- A SLURM file says one thing, or has one fault.
-use Rattle.std.proofs.Common.{List, MatchResult, Err, Ok, Result, Some, ap, arith, inl, inr, refl, sym, ℕ, ◌∙◌, ◌≡◌}
-use Rattle.std.proofs.Common.{◌≢◌}
-use Rattle.json.specs.Json.{Members, document, number, object}
+use Rattle.std.proofs.Common.{List, MatchResult, Result, arith, inl, inr, sym, ℕ, ◌∙◌, ◌≡◌}
+use Rattle.json.specs.Json.{Members}
 use Rattle.rpki_prefix.specs.MaxLen.{MaxLenValue}
 use Rattle.rpki_text.proofs.TextListLemmas.{AnswersOrMemory-from_found}
 use Rattle.rpki_text.specs.Memory.{IfRefused}
 use Rattle.rpki_text.specs.Reading.{AnswersOrMemory}
 use Rattle.rpki_text.specs.declared.memory.OrMemory.{OrMemory}
 use Rattle.roa_vrps.proofs.FileLemmas.{unmarked_one}
-use Rattle.roa_vrps.proofs.MemberLemmas.{wrong_apart, wrong_one}
+use Rattle.roa_vrps.proofs.MemberLemmas.{wrong_one}
 use Rattle.roa_vrps.specs.JsonFiles.{IsJsonObject}
 use Rattle.roa_vrps.specs.Marks.{IsUnmarked}
 use Rattle.roa_slurm.proofs.Common.{HasUnknown, KnowsAll, SlurmFault, SlurmMember, SlurmObject}
@@ -17,19 +16,15 @@ use Rattle.roa_slurm.proofs.EntryOutcomes.{key_item_fault_one, known_apart, list
 use Rattle.roa_slurm.proofs.EntryOutcomes.{prefix_assertion_apart, prefix_assertion_fault_one, prefix_assertion_one}
 use Rattle.roa_slurm.proofs.EntryOutcomes.{prefix_filter_apart, prefix_filter_fault_one, prefix_filter_one}
 use Rattle.roa_slurm.proofs.EntryOutcomes.{list_apart, some_list_apart, then_one, unknown_one}
-use Rattle.std.specs.Prelude.{IfErr, codes}
+use Rattle.std.specs.Prelude.{IfErr}
 use Rattle.std.specs.Str.{IsUtf8}
 use Rattle.rpki_text.specs.Memory.{IsMemory}
-use Rattle.rpki_text.specs.declared.memory.OrMemory.TheVariants.{Memory, Refused}
 use Rattle.roa_slurm.specs.Lists.{HasList, HasListFault}
 use Rattle.roa_slurm.specs.SlurmFiles.{MayWantMemory}
 use Rattle.roa_slurm.specs.Steps.{FaultThen}
-use Rattle.roa_slurm.specs.declared.bgpsec.KeyAssertion.{KeyAssertion}
-use Rattle.roa_slurm.specs.declared.bgpsec.KeyFilter.{KeyFilter}
 use Rattle.roa_slurm.specs.Entries.{HasKeyAssertionFault, HasKeyFilterFault, HasPrefixAssertionFault}
 use Rattle.roa_slurm.specs.Entries.{HasPrefixFilterFault, IsKeyAssertion, IsKeyFilter, IsPrefixAssertion}
 use Rattle.roa_slurm.specs.Entries.{IsPrefixFilter}
-use Rattle.roa_slurm.specs.Objects.{IsNumber, IsObject}
 use Rattle.roa_slurm.specs.SlurmFiles.{AreSlurm, HasAssertions, HasAssertionsFault, HasFilters, HasFiltersFault}
 use Rattle.roa_slurm.specs.SlurmFiles.{HasPart, HasPartFault, HasSlurmFault, HasSlurmTextFault, HasVersion}
 use Rattle.roa_slurm.specs.SlurmFiles.{HasVersionFault, HaveSlurmFault, IsSlurmFile, IsSlurmText, SlurmValue}
@@ -42,17 +37,10 @@ use Rattle.roa_slurm.specs.declared.object.SlurmObject.TheVariants.{Assertions, 
 
 module _ (ms : Members) where
   version_apart : (f : SlurmFault) → HasVersionFault ms f → HasVersion ms → ⊥
-  version_apart f (inl (wrong, is, _)) has =
-      wrong_apart IsNumber _ (number (codes "1")) wrong has (codes "1", refl) is
-  version_apart f (inr (text, has, other, _)) is = let same : text ≡ codes "1" = cc in other same
+  version_apart f wrong has = grind (arith)
 
   version_one : (d e : SlurmFault) → HasVersionFault ms d → HasVersionFault ms e → d ≡ e
-  version_one d e (inl (f, h, d_is)) (inl (g, k, e_is)) = rw (d_is, e_is, wrong_one IsNumber _ f g h k) refl
-  version_one d e (inl (f, h, _)) (inr (text, has, _, _)) =
-      absurd (wrong_apart IsNumber _ (number text) f has (text, refl) h)
-  version_one d e (inr (text, has, _, _)) (inl (g, k, _)) =
-      absurd (wrong_apart IsNumber _ (number text) g has (text, refl) k)
-  version_one d e (inr (_, _, _, d_is)) (inr (_, _, _, e_is)) = d_is ∙ sym e_is
+  version_one d e h k = grind (arith, wrong_one)
 
   -- a member that is an object
   module _ (part : SlurmMember) (whole : SlurmObject) where
@@ -60,20 +48,10 @@ module _ (ms : Members) where
     part_one a b (h, _) (k, _) = cc
 
     part_apart : (a : Members) (f : SlurmFault) → HasPart part whole ms a → HasPartFault part whole ms f → ⊥
-    part_apart a f (has, _) (inl (wrong, is, _)) = wrong_apart IsObject _ (object a) wrong has (a, refl) is
-    part_apart a f (has, known) (inr (b, haz, n, unknown, _)) =
-        let same : a ≡ b = cc in known_apart whole 1 b n (rw same at known) unknown
+    part_apart a f h wrong = grind (arith, known_apart)
 
     part_fault_one : (d e : SlurmFault) → HasPartFault part whole ms d → HasPartFault part whole ms e → d ≡ e
-    part_fault_one d e (inl (f, h, d_is)) (inl (g, k, e_is)) = rw (d_is, e_is, wrong_one IsObject _ f g h k) refl
-    part_fault_one d e (inl (f, h, _)) (inr (a, has, _, _, _)) =
-        absurd (wrong_apart IsObject _ (object a) f has (a, refl) h)
-    part_fault_one d e (inr (a, has, _, _, _)) (inl (g, k, _)) =
-        absurd (wrong_apart IsObject _ (object a) g has (a, refl) k)
-    part_fault_one d e (inr (a, has, m, h, d_is)) (inr (b, haz, n, k, e_is)) =
-        let same : a ≡ b = cc in
-        let place = unknown_one whole 1 b m n (rw same at h) k in
-        rw (d_is, e_is, place) refl
+    part_fault_one d e h k = grind (arith, unknown_one, wrong_one)
 
   -- ---- the filters
 
@@ -149,17 +127,14 @@ module _ (ms : Members) where
   -- ---- the file's object
 
   names_apart : (f : SlurmFault) → (n : ℕ) × HasUnknown File 1 ms n × (f ≡ Unknown n) → KnowsAll File ms → ⊥
-  names_apart f (n, unknown, _) known = known_apart File 1 ms n known unknown
+  names_apart f h known = grind (arith, known_apart)
 
   names_one : (d e : SlurmFault) → (n : ℕ) × HasUnknown File 1 ms n × (d ≡ Unknown n)
       → (n : ℕ) × HasUnknown File 1 ms n × (e ≡ Unknown n) → d ≡ e
-  names_one d e (m, h, d_is) (n, k, e_is) = rw (d_is, e_is, unknown_one File 1 ms m n h k) refl
+  names_one d e h k = grind (arith, unknown_one)
 
   slurm_one : (x y : SlurmValue) → AreSlurm ms x → AreSlurm ms y → x ≡ y
-  slurm_one x y h k =
-      let filters = filters_one x.filters y.filters h.filters k.filters in
-      let assertions = assertions_one x.assertions y.assertions h.assertions k.assertions in
-      grind (arith, filters, assertions)
+  slurm_one x y h k = grind (arith, assertions_one, filters_one)
 
   slurm_apart : (x : SlurmValue) (f : SlurmFault) → AreSlurm ms x → HaveSlurmFault ms f → ⊥
   slurm_apart x f h (inl (n, unknown, _)) = known_apart File 1 ms n h.known unknown
@@ -191,10 +166,7 @@ module _ (ms : Members) where
 -- ---- the text, and the file
 
 members_one : (text : List ℕ) (a b : Members) → IsJsonObject text a → IsJsonObject text b → a ≡ b
-members_one text a b h k =
-    let d : document text ≡ Some (object a) = h.1 in
-    let e : document text ≡ Some (object b) = k.1 in
-    cc
+members_one text a b h k = grind (arith)
 
 module _ (text : List ℕ) where
   text_one : (x y : SlurmValue) → IsSlurmText text x → IsSlurmText text y → x ≡ y
@@ -239,11 +211,8 @@ module _ (file : List ℕ) where
   pub slurm_found : {V : Type 0} (text : List ℕ) (view : V → SlurmValue) (r : Result V (OrMemory SlurmFault))
       → IsUnmarked file text → MatchResult r (λ v. IsSlurmText text (view v)) (IfRefused (HasSlurmTextFault text))
       → MatchResult r (λ v. IsSlurmFile file (view v)) (IfRefused (HasSlurmFault file))
-  slurm_found text view (Ok v) is h = (text, is, h)
-  slurm_found text view (Err (Refused f)) is h = (text, is, h)
-  slurm_found text view (Err (Memory e)) is h = tt
+  slurm_found text view r is h = grind (arith)
 
   pub slurm_wants : {V : Type 0} (text : List ℕ) (r : Result V (OrMemory SlurmFault)) → IsUnmarked file text
       → IfErr r (λ e. IsMemory e → IsUtf8 text) → IfErr r (λ e. IsMemory e → MayWantMemory file)
-  slurm_wants text (Ok v) is h = tt
-  slurm_wants text (Err e) is h = λ memory. (text, is, h memory)
+  slurm_wants text r is h = grind (arith)

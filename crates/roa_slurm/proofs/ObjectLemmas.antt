@@ -6,15 +6,14 @@ use Rattle.roa_slurm.proofs.Common.{SlurmObject}
 known_push : {A : Type 0} (whole : SlurmObject) (ms : List (Bor (List ℕ) × Value A)) (m : Bor (List ℕ) × Value A)
     → KnowsAll whole (members_view ms) → Defines whole m.0.now → KnowsAll whole (members_view (ms ++ m ∷ []))
 known_push whole [] m known is = (is, tt)
-known_push whole (n ∷ ms) m known is = (known.0, known_push whole ms m known.1 is)
+known_push whole (n ∷ ms) m known is = grind (arith, known_push whole ms)
 
 -- the next member is one that the RFC defines
 pub known_more : {A : Type 0} (whole : SlurmObject) (all : List (Bor (List ℕ) × Value A)) (i : ℕ)
     (m : Bor (List ℕ) × Value A) → i < length all → m ≡ get_or all i m
     → KnowsAll whole (members_view (take i all)) → Defines whole m.0.now
     → KnowsAll whole (members_view (take (i + 1) all))
-known_more whole all i m less is known defined =
-    rw (take_more all i m less, ← is) (known_push whole (take i all) m known defined)
+known_more whole all i m less is known defined = grind (arith, known_push, take_more)
 
 -- or it is the first that the RFC doesn't define
 pub unknown_at : {A : Type 0} (whole : SlurmObject) (first at : ℕ) (all : List (Bor (List ℕ) × Value A)) (i : ℕ)

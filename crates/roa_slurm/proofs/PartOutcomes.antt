@@ -1,13 +1,13 @@
 -- The members of an item of a SLURM file say one thing, or have one fault.
-use Rattle.std.proofs.Common.{List, None, Option, Some, [], ap, arith, inl, inr, refl, sym, ℕ, ◌-◌, ◌^◌, ◌∙◌, ◌≡◌, ◌≢◌}
+use Rattle.std.proofs.Common.{List, None, Option, Some, ap, arith, inl, inr, refl, sym, ℕ, ◌∙◌, ◌≡◌}
 use Rattle.std.proofs.Common.{◌⊎◌}
 use Rattle.rpki_base.proofs.AsnLemmas.{IsAsnText-one}
 use Rattle.rpki_base.specs.declared.asn.ParseAsnError.{ParseAsnError}
 use Rattle.rpki_prefix.proofs.PrefixTextLemmas.{HasPrefixTextFault-one, IsPrefixText-no_fault, IsPrefixText-one}
 use Rattle.rpki_prefix.proofs.PrefixTextLemmas.{number_apart, same_number_fault}
 use Rattle.rpki_text.proofs.NumberTexts.{IsNumberText-one}
-use Rattle.roa_vrps.proofs.MemberLemmas.{wrong_apart, wrong_one}
-use Rattle.roa_vrps.proofs.RowLemmas.{max_apart, max_error_one}
+use Rattle.roa_vrps.proofs.MemberLemmas.{wrong_one}
+use Rattle.roa_vrps.proofs.RowLemmas.{max_error_one}
 use Rattle.json.specs.Json.{Json, Members, number, string}
 use Rattle.roa_slurm.proofs.Common.{FamilyPrefix, HasValue, IsString, Lacks, GivesAsn, HasAsnMemberFault, HasLongest}
 use Rattle.roa_slurm.proofs.Common.{HasLongestFault, HasOptionalFault, HasOptionalText, GivesPrefix}
@@ -16,7 +16,6 @@ use Rattle.roa_slurm.proofs.Common.{SlurmItemFault, SlurmMember}
 use Rattle.roa_slurm.specs.Objects.{IsNumber}
 use Rattle.roa_slurm.specs.Parts.{HasMaxLengthFault}
 use Rattle.roa_slurm.specs.declared.member.SlurmMember.TheVariants.{Asn, MaxPrefixLength, Prefix}
-use Rattle.roa_slurm.specs.declared.fault.SlurmItemFault.TheVariants.{InvalidAsn, InvalidPrefix, MaxLen, MaxLenFormat}
 
 module _ (part : SlurmMember) (members : Members) where
   -- a member of a kind, or none, has no fault
@@ -26,29 +25,26 @@ module _ (part : SlurmMember) (members : Members) where
 
   value_apart : (IsKind : Json → Type 0) (f : SlurmItemFault) (value : Json) → HasValue part members value
       → IsKind value → HasOptionalFault part IsKind members f → ⊥
-  value_apart IsKind f value has kind (wrong, _, is, _) = wrong_apart IsKind _ value wrong has kind is
+  value_apart IsKind f value has kind h = grind (arith)
 
   optional_fault_one : (IsKind : Json → Type 0) (d e : SlurmItemFault) → HasOptionalFault part IsKind members d
       → HasOptionalFault part IsKind members e → d ≡ e
-  optional_fault_one IsKind d e (wrong, _, is, same) (other, _, iz, equal) =
-      rw (same, equal, wrong_one IsKind _ wrong other is iz) refl
+  optional_fault_one IsKind d e h k = grind (arith, wrong_one)
 
   pub optional_apart : (f : SlurmItemFault) → HasOptionalText part members
       → HasOptionalFault part IsString members f → ⊥
-  optional_apart f (inl lacks) wrong = lacking_apart IsString f lacks wrong
-  optional_apart f (inr (text, has)) wrong = value_apart IsString f (string text) has (text, refl) wrong
+  optional_apart f h wrong = grind (arith)
 
   pub text_fault_one : (d e : SlurmItemFault) → HasOptionalFault part IsString members d
       → HasOptionalFault part IsString members e → d ≡ e
   text_fault_one d e h k = optional_fault_one IsString d e h k
 
   pub required_apart : (f : SlurmItemFault) → HasRequiredText part members → HasRequiredTextFault part members f → ⊥
-  required_apart f (text, has) (wrong, is, _) = wrong_apart IsString _ (string text) wrong has (text, refl) is
+  required_apart f h wrong = grind (arith)
 
   pub required_fault_one : (d e : SlurmItemFault) → HasRequiredTextFault part members d
       → HasRequiredTextFault part members e → d ≡ e
-  required_fault_one d e (wrong, is, same) (other, iz, equal) =
-      rw (same, equal, wrong_one IsString _ wrong other is iz) refl
+  required_fault_one d e h k = grind (arith, wrong_one)
 
   -- a member has one text
   same_string : (s t : List ℕ) → HasValue part members (string s) → HasValue part members (string t) → s ≡ t
@@ -110,12 +106,7 @@ module _ (members : Members) where
       none n (rw (same_number Asn members s t has haz) at is)
 
   pub asn_fault_one : (d e : SlurmItemFault) → HasAsnMemberFault members d → HasAsnMemberFault members e → d ≡ e
-  asn_fault_one d e (inl h) (inl k) = optional_fault_one Asn members IsNumber d e h k
-  asn_fault_one d e (inl h) (inr (t, has, _, _, _)) =
-      absurd (value_apart Asn members IsNumber d (number t) has (t, refl) h)
-  asn_fault_one d e (inr (s, has, _, _, _)) (inl k) =
-      absurd (value_apart Asn members IsNumber e (number s) has (s, refl) k)
-  asn_fault_one d e (inr (_, _, _, f, same)) (inr (_, _, _, g, equal)) = rw (same, equal, asn_error_one f g) refl
+  asn_fault_one d e h k = grind (arith, asn_error_one, optional_fault_one)
 
   -- ---- a required one
 
@@ -131,10 +122,7 @@ module _ (members : Members) where
   pub required_prefix_fault_one : (d e : SlurmItemFault)
       → HasPrefixMemberFault members d ⊎ IsMissing Prefix members d
       → HasPrefixMemberFault members e ⊎ IsMissing Prefix members e → d ≡ e
-  required_prefix_fault_one d e (inl h) (inl k) = prefix_fault_one d e h k
-  required_prefix_fault_one d e (inl h) (inr (lacks, _)) = absurd (prefix_apart None d lacks h)
-  required_prefix_fault_one d e (inr (lacks, _)) (inl k) = absurd (prefix_apart None e lacks k)
-  required_prefix_fault_one d e (inr h) (inr k) = missing_one Prefix d e h k
+  required_prefix_fault_one d e h k = grind (arith, prefix_apart, prefix_fault_one)
 
   pub required_asn_apart : (n : ℕ) (f : SlurmItemFault) → GivesAsn members (Some n)
       → HasAsnMemberFault members f ⊎ IsMissing Asn members f → ⊥
@@ -143,45 +131,21 @@ module _ (members : Members) where
 
   pub required_asn_fault_one : (d e : SlurmItemFault) → HasAsnMemberFault members d ⊎ IsMissing Asn members d
       → HasAsnMemberFault members e ⊎ IsMissing Asn members e → d ≡ e
-  required_asn_fault_one d e (inl h) (inl k) = asn_fault_one d e h k
-  required_asn_fault_one d e (inl h) (inr (lacks, _)) = absurd (asn_apart None d lacks h)
-  required_asn_fault_one d e (inr (lacks, _)) (inl k) = absurd (asn_apart None e lacks k)
-  required_asn_fault_one d e (inr h) (inr k) = missing_one Asn d e h k
+  required_asn_fault_one d e h k = grind (arith, asn_apart, asn_fault_one)
 
   -- ---- the maximum length
 
   module _ (prefix : FamilyPrefix) where
     pub longest_one : (m n : ℕ) → HasLongest members prefix m → HasLongest members prefix n → m ≡ n
-    longest_one m n (inl (_, h)) (inl (_, k)) = h ∙ sym k
-    longest_one m n (inl (lacks, _)) (inr (t, has, _, _)) =
-        absurd (lacks_no_value MaxPrefixLength members (number t) lacks has)
-    longest_one m n (inr (s, has, _, _)) (inl (lacks, _)) =
-        absurd (lacks_no_value MaxPrefixLength members (number s) lacks has)
-    longest_one m n (inr (s, has, is, _)) (inr (t, haz, iz, _)) =
-        IsNumberText-one (2 ^ 8 - 1) t m n (rw (same_number MaxPrefixLength members s t has haz) at is) iz
+    longest_one m n h k = grind (arith, IsNumberText-one)
 
     pub longest_apart : (n : ℕ) (f : SlurmItemFault) → HasLongest members prefix n → HasLongestFault members prefix f
         → ⊥
-    longest_apart n f (inl (lacks, _)) (inl wrong) = lacking_apart MaxPrefixLength members IsNumber f lacks wrong
-    longest_apart n f (inl (lacks, _)) (inr (t, has, _)) = lacks_no_value MaxPrefixLength members (number t) lacks has
-    longest_apart n f (inr (s, has, _, _)) (inl wrong) =
-        value_apart MaxPrefixLength members IsNumber f (number s) has (s, refl) wrong
-    longest_apart n f (inr (s, has, is, _)) (inr (t, haz, inl (wrong, fails, _))) =
-        number_apart t n wrong (rw (same_number MaxPrefixLength members s t has haz) at is) fails
-    longest_apart n f (inr (s, has, is, within)) (inr (t, haz, inr (m, iz, wrong, fails, _))) =
-        let text = same_number MaxPrefixLength members s t has haz in
-        let len = IsNumberText-one (2 ^ 8 - 1) t n m (rw text at is) iz in
-        max_apart prefix m wrong (rw len at within) fails
+    longest_apart n f h wrong = grind (arith, IsNumberText-one, number_apart)
 
     length_fault_one : (text : List ℕ) (d e : SlurmItemFault) → HasMaxLengthFault prefix text d
         → HasMaxLengthFault prefix text e → d ≡ e
-    length_fault_one text d e (inl (f, h, same)) (inl (g, k, equal)) =
-        rw (same, equal, same_number_fault text f g h k) refl
-    length_fault_one text d e (inl (f, h, _)) (inr (n, is, _, _, _)) = absurd (number_apart text n f is h)
-    length_fault_one text d e (inr (n, is, _, _, _)) (inl (g, k, _)) = absurd (number_apart text n g is k)
-    length_fault_one text d e (inr (m, is, f, h, same)) (inr (n, iz, g, k, equal)) =
-        let len = IsNumberText-one (2 ^ 8 - 1) text m n is iz in
-        rw (same, equal, max_error_one prefix n f g (rw len at h) k) refl
+    length_fault_one text d e h k = grind (arith, IsNumberText-one, max_error_one, number_apart, same_number_fault)
 
     pub longest_fault_one : (d e : SlurmItemFault) → HasLongestFault members prefix d
         → HasLongestFault members prefix e → d ≡ e

@@ -7,4 +7,5 @@ pub mod FileLemmas
 pub mod FileOutcomes
 pub mod ListLemmas
 pub mod ObjectLemmas
+pub mod OutcomeLemmas
 pub mod PartOutcomes

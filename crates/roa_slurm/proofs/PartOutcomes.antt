@@ -13,6 +13,7 @@ use Rattle.roa_slurm.proofs.Common.{FamilyPrefix, HasValue, IsString, Lacks, Giv
 use Rattle.roa_slurm.proofs.Common.{HasLongestFault, HasOptionalFault, HasOptionalText, GivesPrefix}
 use Rattle.roa_slurm.proofs.Common.{HasPrefixMemberFault, HasRequiredText, HasRequiredTextFault, IsMissing}
 use Rattle.roa_slurm.proofs.Common.{SlurmItemFault, SlurmMember}
+use Rattle.roa_slurm.proofs.OutcomeLemmas.{IsExact, exact_some}
 use Rattle.roa_slurm.specs.Objects.{IsNumber}
 use Rattle.roa_slurm.specs.Parts.{HasMaxLengthFault}
 use Rattle.roa_slurm.specs.declared.member.SlurmMember.TheVariants.{Asn, MaxPrefixLength, Prefix}
@@ -110,28 +111,19 @@ module _ (members : Members) where
 
   -- ---- a required one
 
-  missing_one : (part : SlurmMember) (d e : SlurmItemFault) → IsMissing part members d → IsMissing part members e
-      → d ≡ e
-  missing_one part d e (_, same) (_, equal) = same ∙ sym equal
+  pub prefix_exact : IsExact (GivesPrefix members) (HasPrefixMemberFault members)
+  prefix_exact = record { one = prefix_one; apart = prefix_apart; fault_one = prefix_fault_one }
 
-  pub required_prefix_apart : (p : FamilyPrefix) (f : SlurmItemFault) → GivesPrefix members (Some p)
-      → HasPrefixMemberFault members f ⊎ IsMissing Prefix members f → ⊥
-  required_prefix_apart p f h (inl wrong) = prefix_apart (Some p) f h wrong
-  required_prefix_apart p f (s, has, _) (inr (lacks, _)) = lacks_no_value Prefix members (string s) lacks has
+  pub asn_exact : IsExact (GivesAsn members) (HasAsnMemberFault members)
+  asn_exact = record { one = asn_one; apart = asn_apart; fault_one = asn_fault_one }
 
-  pub required_prefix_fault_one : (d e : SlurmItemFault)
-      → HasPrefixMemberFault members d ⊎ IsMissing Prefix members d
-      → HasPrefixMemberFault members e ⊎ IsMissing Prefix members e → d ≡ e
-  required_prefix_fault_one d e h k = grind (arith, prefix_apart, prefix_fault_one)
+  pub need_prefix : IsExact (λ (p : FamilyPrefix). GivesPrefix members (Some p))
+      (λ f. HasPrefixMemberFault members f ⊎ IsMissing Prefix members f)
+  need_prefix = exact_some prefix_exact (λ f lacks. lacks.0) (λ d e h k. h.1 ∙ sym k.1)
 
-  pub required_asn_apart : (n : ℕ) (f : SlurmItemFault) → GivesAsn members (Some n)
-      → HasAsnMemberFault members f ⊎ IsMissing Asn members f → ⊥
-  required_asn_apart n f h (inl wrong) = asn_apart (Some n) f h wrong
-  required_asn_apart n f (s, has, _) (inr (lacks, _)) = lacks_no_value Asn members (number s) lacks has
-
-  pub required_asn_fault_one : (d e : SlurmItemFault) → HasAsnMemberFault members d ⊎ IsMissing Asn members d
-      → HasAsnMemberFault members e ⊎ IsMissing Asn members e → d ≡ e
-  required_asn_fault_one d e h k = grind (arith, asn_apart, asn_fault_one)
+  pub need_asn : IsExact (λ (n : ℕ). GivesAsn members (Some n))
+      (λ f. HasAsnMemberFault members f ⊎ IsMissing Asn members f)
+  need_asn = exact_some asn_exact (λ f lacks. lacks.0) (λ d e h k. h.1 ∙ sym k.1)
 
   -- ---- the maximum length
 
@@ -156,3 +148,6 @@ module _ (members : Members) where
         absurd (value_apart MaxPrefixLength members IsNumber e (number s) has (s, refl) k)
     longest_fault_one d e (inr (s, has, h)) (inr (t, haz, k)) =
         length_fault_one t d e (rw (same_number MaxPrefixLength members s t has haz) at h) k
+
+    pub longest_exact : IsExact (HasLongest members prefix) (HasLongestFault members prefix)
+    longest_exact = record { one = longest_one; apart = longest_apart; fault_one = longest_fault_one }

@@ -2,7 +2,7 @@
 -- member that it doesn't define.
 use Rattle.std.specs.Prelude.{◌≡◌, ◌≢◌, ◌⊎◌, ℕ, List, codes}
 use Rattle.std.specs.Str.{IsUtf8}
-use Rattle.json.specs.Json.{Members, number, object}
+use Rattle.json.specs.Json.{Json, Members, number, object}
 use Rattle.rpki_prefix.specs.MaxLen.{MaxLenValue}
 use Rattle.roa_vrps.specs.JsonFiles.{IsJsonObject}
 use Rattle.roa_vrps.specs.Marks.{IsUnmarked}
@@ -13,8 +13,6 @@ use Rattle.roa_slurm.specs.Entries.{IsPrefixFilter}
 use Rattle.roa_slurm.specs.Lists.{HasList, HasListFault}
 use Rattle.roa_slurm.specs.Objects.{HasUnknown, HasValue, IsNumber, IsObject, IsWrongMember, KnowsAll}
 use Rattle.roa_slurm.specs.Steps.{FaultThen}
-use Rattle.roa_slurm.specs.declared.bgpsec.KeyAssertion.{KeyAssertion}
-use Rattle.roa_slurm.specs.declared.bgpsec.KeyFilter.{KeyFilter}
 use Rattle.roa_slurm.specs.declared.fault.SlurmFault.{SlurmFault}
 use Rattle.roa_slurm.specs.declared.fault.SlurmFault.TheVariants.{Member, NotObject, Unknown, UnknownIn, Version}
 use Rattle.roa_slurm.specs.declared.filter.PrefixFilter.{PrefixFilter}
@@ -48,12 +46,17 @@ HasPartFault part whole members fault =
     ⊎ ((inner : Members) × HasValue part members (object inner) × (unknown : ℕ) × HasUnknown whole 1 inner unknown
     × (fault ≡ UnknownIn part unknown))
 
+-- the first list of a part has these values, and the second list has some
+abbrev pub HasLists : {X Y : Type 0} → (Json → X → Type 0) → (Json → Y → Type 0) → SlurmMember → SlurmMember → Members
+    → List X → Type 0
+HasLists {X} {Y} Is Others first second inner xs =
+    HasList Is first inner xs × ((ys : List Y) × HasList Others second inner ys)
+
 -- the filters of a file, and filters of router keys (RFC 8416, 3.3)
 abbrev pub HasFilters : Members → List PrefixFilter → Type 0
 HasFilters members filters =
     (inner : Members) × HasPart ValidationOutputFilters Filters members inner
-    × HasList IsPrefixFilter PrefixFilters inner filters
-    × ((keys : List KeyFilter) × HasList IsKeyFilter BgpsecFilters inner keys)
+    × HasLists IsPrefixFilter IsKeyFilter PrefixFilters BgpsecFilters inner filters
 
 abbrev pub HasFiltersFault : Members → SlurmFault → Type 0
 HasFiltersFault members fault =
@@ -67,8 +70,7 @@ HasFiltersFault members fault =
 abbrev pub HasAssertions : Members → List (MaxLenValue × ℕ) → Type 0
 HasAssertions members assertions =
     (inner : Members) × HasPart LocallyAddedAssertions Assertions members inner
-    × HasList IsPrefixAssertion PrefixAssertions inner assertions
-    × ((keys : List KeyAssertion) × HasList IsKeyAssertion BgpsecAssertions inner keys)
+    × HasLists IsPrefixAssertion IsKeyAssertion PrefixAssertions BgpsecAssertions inner assertions
 
 abbrev pub HasAssertionsFault : Members → SlurmFault → Type 0
 HasAssertionsFault members fault =

@@ -15,12 +15,13 @@ use Rattle.rpki_der.specs.declared.family.AddressFamily.TheVariants.{Ipv4, Ipv6}
 use Rattle.rpki_ipres.proofs.IpResourcesWritten.{one_of_families}
 use Rattle.respath_lines.specs.Answer.{IsAnswer, IsUnknown}
 use Rattle.respath_lines.specs.Command.{argument_of, command_of, kind_of}
-use Rattle.respath_lines.specs.Cover.{IsCoverAnswer, IsCoverIp, IsCoverOf}
-use Rattle.respath_lines.specs.Der.{HasIpResourcesFault, IsDerAnswer, IsDerAs, IsDerIp, IsIpResourcesText, octets_text}
+use Rattle.respath_lines.specs.Cover.{IsCoverIp, IsCoverOf}
+use Rattle.respath_lines.specs.Der.{HasIpResourcesFault, IsDerAs, IsDerIp, IsIpResourcesText, octets_text}
 use Rattle.respath_lines.specs.Der.{one_family_der}
-use Rattle.respath_lines.specs.Norm.{IsNormAnswer, IsNormAs, IsNormIp}
-use Rattle.respath_lines.specs.Path.{IsPathAnswer, IsPathAs, IsPathIp}
-use Rattle.respath_lines.specs.Read.{IsReadAnswer, IsReadAs, IsReadIp}
+use Rattle.respath_lines.specs.Kinds.{IsByKind}
+use Rattle.respath_lines.specs.Norm.{IsNormAs, IsNormIp}
+use Rattle.respath_lines.specs.Path.{IsPathAs, IsPathIp}
+use Rattle.respath_lines.specs.Read.{IsReadAs, IsReadIp}
 use Rattle.respath_lines.specs.Shown.{error_line}
 use Rattle.respath_lines.proofs.SingleAnswers.{read_once, same_text, shown_once, single_as, single_as_resources}
 use Rattle.respath_lines.proofs.SingleAnswers.{single_cover}
@@ -70,55 +71,36 @@ module _ (list a b : List ℕ) where
 -- ---- commands
 
 -- each kind, and any other word, has at most one answer
-by_kind : (kind a b : List ℕ) → (kind ≡ codes "as" → a ≡ b) → (kind ≡ codes "v4" → a ≡ b)
-    → (kind ≡ codes "v6" → a ≡ b)
-    → (kind ≢ codes "as" → kind ≢ codes "v4" → kind ≢ codes "v6" → a ≡ b) → a ≡ b
-by_kind kind a b as_kind v4 v6 unknown =
-    same_text a b (λ other. other (unknown (λ is. other (as_kind is)) (λ is. other (v4 is)) (λ is. other (v6 is))))
-
-module _ (kind list a b : List ℕ) where
-  one_norm : IsNormAnswer kind list a → IsNormAnswer kind list b → a ≡ b
-  one_norm h k = by_kind kind a b (λ is. norm_as list a b (h.as_blocks is) (k.as_blocks is))
-      (λ is. norm_ip list a b Ipv4 (h.v4_blocks is) (k.v4_blocks is))
-      (λ is. norm_ip list a b Ipv6 (h.v6_blocks is) (k.v6_blocks is))
-      (λ no_as no_v4 no_v6. h.unknown no_as no_v4 no_v6 ∙ sym (k.unknown no_as no_v4 no_v6))
-
-  one_der : IsDerAnswer kind list a → IsDerAnswer kind list b → a ≡ b
-  one_der h k = by_kind kind a b (λ is. der_as list a b (h.as_resources is) (k.as_resources is))
-      (λ is. der_ip list a b Ipv4 (h.v4_resources is) (k.v4_resources is))
-      (λ is. der_ip list a b Ipv6 (h.v6_resources is) (k.v6_resources is))
-      (λ no_as no_v4 no_v6. h.unknown no_as no_v4 no_v6 ∙ sym (k.unknown no_as no_v4 no_v6))
-
-  one_read : IsReadAnswer kind list a → IsReadAnswer kind list b → a ≡ b
-  one_read h k = by_kind kind a b (λ is. read_as list a b (h.as_resources is) (k.as_resources is))
-      (λ is. read_ip list a b Ipv4 (h.v4_resources is) (k.v4_resources is))
-      (λ is. read_ip list a b Ipv6 (h.v6_resources is) (k.v6_resources is))
-      (λ no_as no_v4 no_v6. h.unknown no_as no_v4 no_v6 ∙ sym (k.unknown no_as no_v4 no_v6))
-
-  one_path : IsPathAnswer kind list a → IsPathAnswer kind list b → a ≡ b
-  one_path h k = by_kind kind a b (λ is. path_as list a b (h.as_numbers is) (k.as_numbers is))
-      (λ is. path_ip list a b Ipv4 (h.v4_addresses is) (k.v4_addresses is))
-      (λ is. path_ip list a b Ipv6 (h.v6_addresses is) (k.v6_addresses is))
-      (λ no_as no_v4 no_v6. h.unknown no_as no_v4 no_v6 ∙ sym (k.unknown no_as no_v4 no_v6))
-
-  -- AS numbers have no cover
-  one_cover : IsCoverAnswer kind list a → IsCoverAnswer kind list b → a ≡ b
-  one_cover h k = same_text a b (λ other.
-      let no_v4 : kind ≢ codes "v4" = λ is. other (cover_ip list a b Ipv4 (h.v4_blocks is) (k.v4_blocks is)) in
-      let no_v6 : kind ≢ codes "v6" = λ is. other (cover_ip list a b Ipv6 (h.v6_blocks is) (k.v6_blocks is)) in
-      other (h.unknown no_v4 no_v6 ∙ sym (k.unknown no_v4 no_v6)))
+by_kind : (IsAs : List ℕ → Type 0) (IsIp : AddressFamily → List ℕ → Type 0) (kind a b : List ℕ)
+    → (IsAs a → IsAs b → a ≡ b) → ((family : AddressFamily) → IsIp family a → IsIp family b → a ≡ b)
+    → IsByKind IsAs IsIp kind a → IsByKind IsAs IsIp kind b → a ≡ b
+by_kind IsAs IsIp kind a b of_as of_ip h k = same_text a b (λ other.
+    let no_as : kind ≢ codes "as" = λ is. other (of_as (h.as_numbers is) (k.as_numbers is)) in
+    let no_v4 : kind ≢ codes "v4" = λ is. other (of_ip Ipv4 (h.v4_addresses is) (k.v4_addresses is)) in
+    let no_v6 : kind ≢ codes "v6" = λ is. other (of_ip Ipv6 (h.v6_addresses is) (k.v6_addresses is)) in
+    other (h.unknown no_as no_v4 no_v6 ∙ sym (k.unknown no_as no_v4 no_v6)))
 
 -- ---- lines
 
 module _ (line a b : List ℕ) (h : IsAnswer line a) (k : IsAnswer line b) (other : a ≢ b) where
+  abbrev kind : List ℕ
+  kind = kind_of line
+
+  abbrev list : List ℕ
+  list = argument_of line
+
   of_text : ¬ IsUtf8 line
   of_text utf8 =
       let unknown : IsUnknown (command_of line) = record {
-        no_norm = λ is. other (one_norm (kind_of line) (argument_of line) a b (h.norm utf8 is) (k.norm utf8 is));
-        no_der = λ is. other (one_der (kind_of line) (argument_of line) a b (h.der utf8 is) (k.der utf8 is));
-        no_read = λ is. other (one_read (kind_of line) (argument_of line) a b (h.read utf8 is) (k.read utf8 is));
-        no_cover = λ is. other (one_cover (kind_of line) (argument_of line) a b (h.cover utf8 is) (k.cover utf8 is));
-        no_path = λ is. other (one_path (kind_of line) (argument_of line) a b (h.path utf8 is) (k.path utf8 is));
+        no_norm = λ is. other (by_kind _ _ kind a b (norm_as list a b) (norm_ip list a b) (h.norm utf8 is)
+            (k.norm utf8 is));
+        no_der = λ is. other (by_kind _ _ kind a b (der_as list a b) (der_ip list a b) (h.der utf8 is) (k.der utf8 is));
+        no_read = λ is. other (by_kind _ _ kind a b (read_as list a b) (read_ip list a b) (h.read utf8 is)
+            (k.read utf8 is));
+        no_cover = λ is. other (by_kind _ _ kind a b (λ x y. x ∙ sym y) (cover_ip list a b) (h.cover utf8 is)
+            (k.cover utf8 is));
+        no_path = λ is. other (by_kind _ _ kind a b (path_as list a b) (path_ip list a b) (h.path utf8 is)
+            (k.path utf8 is));
       } in
       other (h.unknown utf8 unknown ∙ sym (k.unknown utf8 unknown))
 

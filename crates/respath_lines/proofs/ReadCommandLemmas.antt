@@ -2,6 +2,7 @@
 use Rattle.respath_lines.proofs.Common.{Err, List, MatchResult, Ok, Result, [], arith, length, refl, subst, ℕ, ◌∷◌, ◌≡◌}
 use Rattle.respath_lines.proofs.Common.{◌≢◌, ne_eqb, fault_text, IfRefused, OrMemory, Memory, Refused, IsHexadecimal}
 use Rattle.respath_lines.proofs.Common.{HasFault, IsEnded, ShowsHexadecimal, ShowsOctets, ShowsResult}
+use Rattle.std.proofs.Common.{Some}
 use Rattle.rpki_der.specs.Der.{OneFront}
 use Rattle.rpki_der.specs.FrontLaws.{none_where_more, none_where_no_front, whole_value}
 use Rattle.rpki_der.specs.Views.{left}
@@ -40,7 +41,8 @@ module _ {X Y : Type 0} (G : List ℕ → X → Type 0) (reading : List ℕ → 
     -- what is shown of the value that octets are, or of their first fault
     pub shows_octets : (octets : List ℕ) (found : Result X (OrMemory DerError))
         → MatchResult found (G octets) (IfRefused (HasFault G reading octets)) → (answer : List ℕ)
-        → ShowsResult value_text fault_text found answer → ShowsOctets G reading value_text octets answer
+        → ShowsResult (λ value. Some (value_text value)) (λ fault. Some (fault_text fault)) found answer
+        → ShowsOctets G reading value_text octets answer
     shows_octets octets found is answer shows = grind (arith)
 
     -- what is shown of the octets that a text writes is what is shown of the text

@@ -1,136 +1,26 @@
--- A path has one result or one fault. The mode of a step without a list is not in its text, and doesn't matter.
-use Rattle.respath_lines.proofs.Common.{List, [], ap, arith, codes, get_or, inl, inr, length, refl, subst, suc, sym}
-use Rattle.respath_lines.proofs.Common.{take, zero, ℕ, ◌<◌, ◌∙◌, ◌∷◌, ◌≡◌, ◌≢◌, ◌≤◌, ◌⊎◌, All, before_first, Claim}
-use Rattle.respath_lines.proofs.Common.{Holds}
-use Rattle.respath_lines.proofs.Common.{Runs, claim_of, HaveValues, ArePath, HasRootFault, HasStepFault}
-use Rattle.respath_lines.proofs.Common.{HavePathFault, IsStepText, ShowsPath, list_of, parts_of}
+-- A path has one result or one fault.
+use Rattle.respath_lines.proofs.Common.{List, [], ap, arith, codes, inl, inr, refl, subst, sym, ℕ, ◌<◌, ◌∙◌, ◌∷◌, ◌≡◌}
+use Rattle.respath_lines.proofs.Common.{◌≢◌, ◌≤◌, ◌⊎◌, before_first, Claim, Holds, Runs, claim_of, ArePath}
+use Rattle.respath_lines.proofs.Common.{HasRootFault, HasStepFault, HavePathFault, IsStepText, ShowsPath, list_of}
+use Rattle.respath_lines.proofs.Common.{parts_of}
 use Rattle.std.proofs.lemmas.Bool.{cases_lt}
-use Rattle.std.proofs.lemmas.List.Elements.{All-cons, All-head, All-tail}
+use Rattle.std.proofs.lemmas.List.Elements.{All-head}
 use Rattle.std.specs.Str.{trim}
 use Rattle.rpki_chain.proofs.Common.{Covers-head}
-use Rattle.rpki_chain.proofs.RunLists.{IsRunsOf-same, IsRunsOf-unique}
+use Rattle.rpki_chain.proofs.RunLists.{IsRunsOf-unique}
 use Rattle.rpki_chain.specs.Runs.{IsRunsOf}
-use Rattle.rpki_chain.specs.Paths.{Exceeds, ExceedsAt, IsFirstRefusal, IsLeft, IsPathResult, Leaves, Lists}
+use Rattle.rpki_chain.specs.Paths.{ExceedsAt, IsFirstRefusal, IsLeft, IsPathResult}
 use Rattle.rpki_chain.specs.declared.path.Overclaim.{Overclaim}
 use Rattle.rpki_chain.specs.declared.path.Overclaim.TheVariants.{Refuse, Trim}
 use Rattle.rpki_chain.specs.declared.path.PathRefusal.{PathRefusal}
 use Rattle.rpki_chain.specs.declared.path.Step.{Step}
 use Rattle.rpki_text.specs.Cuts.{is_space}
-use Rattle.rpki_text.proofs.TextListLemmas.{first_fault_apart, same_first_fault}
+use Rattle.rpki_text.proofs.TextListLemmas.{HaveValues-one, first_fault_apart, same_first_fault}
 use Rattle.respath_lines.specs.Path.{IsMode, IsNoStep, IsPathOf, part_fault_text, refusal_text, word_of}
 use Rattle.respath_lines.specs.Shown.{error_line}
 use Rattle.respath_lines.specs.declared.steps.PartFault.{PartFault}
 use Rattle.respath_lines.specs.declared.steps.PartFault.TheVariants.{BadList, UnknownStep}
 use Rattle.respath_lines.proofs.SingleAnswers.{IsSingle, differ, shown_once}
-
--- ---- steps with the same claim, and the same mode if the claim lists a set
-
-abbrev IsAlike : Step Claim → Step Claim → Type 0
-IsAlike s t = (s.claim ≡ t.claim) × ((s.mode ≡ t.mode) ⊎ ((n : ℕ) → ¬ Lists s.claim n))
-
-abbrev AreAlike : List (Step Claim) → List (Step Claim) → Type 0
-AreAlike [] [] = Unit {0}
-AreAlike (s ∷ ss) (t ∷ ts) = IsAlike s t × AreAlike ss ts
-AreAlike [] (t ∷ ts) = ⊥
-AreAlike (s ∷ ss) [] = ⊥
-
-modes_back : (s t : Step Claim) → s.claim ≡ t.claim → (s.mode ≡ t.mode) ⊎ ((n : ℕ) → ¬ Lists s.claim n)
-    → (t.mode ≡ s.mode) ⊎ ((n : ℕ) → ¬ Lists t.claim n)
-modes_back s t same (inl mode) = inl (sym mode)
-modes_back s t same (inr none) = inr (subst (λ (claim : Claim). (n : ℕ) → ¬ Lists claim n) same none)
-
-alike_back : (ss ts : List (Step Claim)) → AreAlike ss ts → AreAlike ts ss
-alike_back [] [] alike = tt
-alike_back (s ∷ ss) (t ∷ ts) alike =
-    ((sym alike.0.0, modes_back s t alike.0.0 alike.0.1), alike_back ss ts alike.1)
-alike_back [] (t ∷ ts) alike = absurd alike
-alike_back (s ∷ ss) [] alike = absurd alike
-
--- the same numbers remain after them
-leave_alike : (n : ℕ) (ss ts : List (Step Claim)) → AreAlike ss ts → All (λ (s : Step Claim). Leaves s.claim n) ss
-    → All (λ (s : Step Claim). Leaves s.claim n) ts
-leave_alike n [] [] alike all = all
-leave_alike n (s ∷ ss) (t ∷ ts) alike all =
-    All-cons (λ (s : Step Claim). Leaves s.claim n) t ts
-    (subst (λ (claim : Claim). Leaves claim n) alike.0.0 (All-head (λ (s : Step Claim). Leaves s.claim n) s ss all))
-    (leave_alike n ss ts alike.1 (All-tail (λ (s : Step Claim). Leaves s.claim n) s ss all))
-leave_alike n [] (t ∷ ts) alike all = absurd alike
-leave_alike n (s ∷ ss) [] alike all = absurd alike
-
-take_alike : (at : ℕ) (ss ts : List (Step Claim)) → AreAlike ss ts → AreAlike (take at ss) (take at ts)
-take_alike zero ss ts alike = tt
-take_alike (suc at) [] [] alike = tt
-take_alike (suc at) (s ∷ ss) (t ∷ ts) alike = (alike.0, take_alike at ss ts alike.1)
-take_alike (suc at) [] (t ∷ ts) alike = absurd alike
-take_alike (suc at) (s ∷ ss) [] alike = absurd alike
-
--- the step at an index
-step_alike_at : (at : ℕ) (ss ts : List (Step Claim)) → AreAlike ss ts → (s : Step Claim) → at < length ss
-    → get_or ss at s ≡ s → (t : Step Claim) × (at < length ts) × (get_or ts at t ≡ t) × IsAlike s t
-step_alike_at at [] ts alike s below is = absurd (omega (arith, below))
-step_alike_at at (x ∷ ss) [] alike s below is = absurd alike
-step_alike_at zero (x ∷ ss) (t ∷ ts) alike s below is =
-    (t, omega arith, refl, subst (λ (y : Step Claim). IsAlike y t) is alike.0)
-step_alike_at (suc at) (x ∷ ss) (t ∷ ts) alike s below is =
-    let found = step_alike_at at ss ts alike.1 s (omega (arith, below)) is in
-    (found.0, omega (arith, found.1), found.2, found.3)
-
-module _ (S U : ℕ → Type 0) (n : ℕ) where
-  -- what is overclaimed is listed
-  exceeds_lists : (claim : Claim) (mode : Overclaim) → Exceeds S claim mode n → Lists claim n
-  exceeds_lists claim Refuse e = e.0
-  exceeds_lists claim Trim e = absurd e
-
-  exceeds_fewer : (claim : Claim) (mode : Overclaim) → (U n → S n) → Exceeds S claim mode n → Exceeds U claim mode n
-  exceeds_fewer claim Refuse back e = (e.0, λ held. e.1 (back held))
-  exceeds_fewer claim Trim back e = absurd e
-
-  exceeds_step : (s t : Step Claim) → s.claim ≡ t.claim → (s.mode ≡ t.mode) ⊎ ((n : ℕ) → ¬ Lists s.claim n)
-      → (U n → S n) → Exceeds S s.claim s.mode n → Exceeds U t.claim t.mode n
-  exceeds_step s t claims (inl modes) back e =
-      let claim : Exceeds S t.claim s.mode n = subst (λ (c : Claim). Exceeds S c s.mode n) claims e in
-      let mode : Exceeds S t.claim t.mode n = subst (λ (m : Overclaim). Exceeds S t.claim m n) modes claim in
-      exceeds_fewer t.claim t.mode back mode
-  exceeds_step s t claims (inr none) back e = absurd (none n (exceeds_lists s.claim s.mode e))
-
-module _ (S : ℕ → Type 0) where
-  exceeds_alike : (ss ts : List (Step Claim)) → AreAlike ss ts → (at n : ℕ) → ExceedsAt (λ claim. claim) S ss at n
-      → ExceedsAt (λ claim. claim) S ts at n
-  exceeds_alike ss ts alike at n (s, below, is, e) =
-      let found = step_alike_at at ss ts alike s below is in
-      let back : IsLeft (λ claim. claim) S (take at ts) n → IsLeft (λ claim. claim) S (take at ss) n = λ left. (
-        left.0,
-        leave_alike n (take at ts) (take at ss)
-            (alike_back (take at ss) (take at ts) (take_alike at ss ts alike)) left.1,
-      ) in (
-        found.0,
-        found.1,
-        found.2,
-        exceeds_step (IsLeft (λ claim. claim) S (take at ss))
-            (IsLeft (λ claim. claim) S (take at ts)) n s found.0 found.3.0 found.3.1 back e,
-      )
-
-  module _ (ss ts : List (Step Claim)) (alike : AreAlike ss ts) where
-    left_alike : (n : ℕ) → IsLeft (λ claim. claim) S ts n → IsLeft (λ claim. claim) S ss n
-    left_alike n left = (left.0, leave_alike n ts ss (alike_back ss ts alike) left.1)
-
-    result_alike : (set : Runs) → IsPathResult (λ claim. claim) S ts set → IsPathResult (λ claim. claim) S ss set
-    result_alike set h = record {
-      runs = IsRunsOf-same set (IsLeft (λ claim. claim) S ts) (IsLeft (λ claim. claim) S ss)
-          (λ n. (left_alike n, λ left. (left.0, leave_alike n ss ts alike left.1))) h.runs;
-      accepted = λ at n e. h.accepted at n (exceeds_alike ss ts alike at n e);
-    }
-
-    refusal_alike : (refusal : PathRefusal Runs) → IsFirstRefusal (λ claim. claim) S ts refusal
-        → IsFirstRefusal (λ claim. claim) S ss refusal
-    refusal_alike refusal h = record {
-      excess = IsRunsOf-same refusal.fault (ExceedsAt (λ claim. claim) S ts refusal.step)
-          (ExceedsAt (λ claim. claim) S ss refusal.step)
-          (λ n. (exceeds_alike ts ss (alike_back ss ts alike) refusal.step n, exceeds_alike ss ts alike refusal.step n))
-          h.excess;
-      some = h.some;
-      first = λ at n below e. h.first at n below (exceeds_alike ss ts alike at n e);
-    }
 
 -- ---- one result or one first refusal
 
@@ -169,22 +59,10 @@ module _ (S : ℕ → Type 0) (steps : List (Step Claim)) where
     same = one_refusal;
   }
 
--- what is shown of a path of such steps is one text
-module _ (list_text excess_text : Runs → List ℕ) (root : Runs) where
-  shows_alike : (ss ts : List (Step Claim)) → AreAlike ss ts → (text : List ℕ)
-      → ShowsPath list_text excess_text root ts text → ShowsPath list_text excess_text root ss text
-  shows_alike ss ts alike text (inl (left, is, shown)) =
-      inl (left, result_alike (Holds root) ss ts alike left is, shown)
-  shows_alike ss ts alike text (inr (refusal, is, shown)) =
-      inr (refusal, refusal_alike (Holds root) ss ts alike refusal is, shown)
-
-  path_shown : (ss ts : List (Step Claim)) → AreAlike ss ts → (a b : List ℕ)
-      → ShowsPath list_text excess_text root ss a → ShowsPath list_text excess_text root ts b → a ≡ b
-  path_shown ss ts alike a b h k =
-      shown_once (IsPathResult (λ claim. claim) (Holds root) ss) (IsFirstRefusal (λ claim. claim) (Holds root) ss)
-      (single_path (Holds root) ss) list_text (refusal_text excess_text) a b h (shows_alike ss ts alike b k)
-
 -- ---- the words of a step
+
+same_step : (s t : Step Claim) → s.claim ≡ t.claim → s.mode ≡ t.mode → s ≡ t
+same_step s t claims modes = λ i. record { claim = claims i; mode = modes i }
 
 one_mode : (word : List ℕ) (m o : Overclaim) → IsMode word m → IsMode word o → m ≡ o
 one_mode word Refuse Refuse h k = refl
@@ -218,31 +96,18 @@ module _ (part : List ℕ) where
 module _ {E : Type 0} (Writes : List ℕ → Runs → Type 0) (Fails : List ℕ → E → Type 0)
     (single : (list : List ℕ) → IsSingle (Writes list) (Fails list)) where
   one_step : (part : List ℕ) (s t : Step Claim) → IsStepText (λ claim. claim) Writes part s
-      → IsStepText (λ claim. claim) Writes part t → IsAlike s t
-  one_step part s t (inl h) (inl k) = (h.1 ∙ sym k.1, inr (λ n. subst (λ (claim : Claim). Lists claim n) h.1))
+      → IsStepText (λ claim. claim) Writes part t → s ≡ t
+  one_step part s t (inl (p, h, m)) (inl (q, k, o)) = same_step s t (h ∙ sym k) (m ∙ sym o)
   one_step part s t (inl h) (inr (inl k)) = absurd (inherit_no_missing part h.0 k.0)
   one_step part s t (inl h) (inr (inr k)) = absurd (mode_no_inherit part t.mode k.0 h.0)
   one_step part s t (inr (inl h)) (inl k) = absurd (inherit_no_missing part k.0 h.0)
-  one_step part s t (inr (inl h)) (inr (inl k)) =
-      (h.1 ∙ sym k.1, inr (λ n. subst (λ (claim : Claim). Lists claim n) h.1))
+  one_step part s t (inr (inl (p, h, m))) (inr (inl (q, k, o))) = same_step s t (h ∙ sym k) (m ∙ sym o)
   one_step part s t (inr (inl h)) (inr (inr k)) = absurd (mode_no_missing part t.mode k.0 h.0)
   one_step part s t (inr (inr h)) (inl k) = absurd (mode_no_inherit part s.mode h.0 k.0)
   one_step part s t (inr (inr h)) (inr (inl k)) = absurd (mode_no_missing part s.mode h.0 k.0)
-  one_step part s t (inr (inr (m, x, h, is))) (inr (inr (o, y, k, also))) = (
-    is ∙ ap (λ (set : Runs). claim_of set) ((single (list_of part)).one x y h k) ∙ sym also,
-    inl (one_mode (word_of part) s.mode t.mode m o),
-  )
-
-  steps_alike : (parts : List (List ℕ)) (ss ts : List (Step Claim))
-      → HaveValues (IsStepText (λ claim. claim) Writes) parts ss
-      → HaveValues (IsStepText (λ claim. claim) Writes) parts ts → AreAlike ss ts
-  steps_alike [] [] [] h k = tt
-  steps_alike [] (s ∷ ss) ts h k = absurd h
-  steps_alike [] [] (t ∷ ts) h k = absurd k
-  steps_alike (part ∷ parts) [] ts h k = absurd h
-  steps_alike (part ∷ parts) (s ∷ ss) [] h k = absurd k
-  steps_alike (part ∷ parts) (s ∷ ss) (t ∷ ts) h k =
-      (one_step part s t h.0 k.0, steps_alike parts ss ts h.1 k.1)
+  one_step part s t (inr (inr (m, x, h, is))) (inr (inr (o, y, k, also))) =
+      same_step s t (is ∙ ap (λ (set : Runs). claim_of set) ((single (list_of part)).one x y h k) ∙ sym also)
+      (one_mode (word_of part) s.mode t.mode m o)
 
   step_apart : (part : List ℕ) (s : Step Claim) (e : PartFault E) → IsStepText (λ claim. claim) Writes part s
       → HasStepFault Fails part e → ⊥
@@ -273,9 +138,10 @@ module _ {E : Type 0} (Writes : List ℕ → Runs → Type 0) (Fails : List ℕ 
 
   one_root : (parts : List (List ℕ)) (x y : Runs) (ss ts : List (Step Claim))
       → ArePath (λ claim. claim) Writes parts x ss → ArePath (λ claim. claim) Writes parts y ts
-      → (x ≡ y) × AreAlike ss ts
+      → (x ≡ y) × (ss ≡ ts)
   one_root [] x y ss ts h k = absurd h
-  one_root (list ∷ parts) x y ss ts h k = ((single list).one x y h.0 k.0, steps_alike parts ss ts h.1 k.1)
+  one_root (list ∷ parts) x y ss ts h k =
+      ((single list).one x y h.0 k.0, HaveValues-one _ one_step parts ss ts h.1 k.1)
 
   path_apart : (parts : List (List ℕ)) (root : Runs) (ss : List (Step Claim)) (e : PartFault E)
       → ArePath (λ claim. claim) Writes parts root ss → HavePathFault Fails (λ (claim : Claim). claim) Writes parts e
@@ -301,8 +167,9 @@ module _ {E : Type 0} (Writes : List ℕ → Runs → Type 0) (Fails : List ℕ 
       → IsPathOf Writes list_text excess_text Fails error_text path b → a ≡ b
   path_once list_text excess_text error_text path a b (inl (x, ss, h, shows)) (inl (y, ts, k, also)) =
       let one = one_root (parts_of path) x y ss ts h k in
-      path_shown list_text excess_text x ss ts one.1 a b shows
-      (subst (λ (root : Runs). ShowsPath list_text excess_text root ts b) (sym one.0) also)
+      let same : ShowsPath list_text excess_text x ss b = rw (one.0, one.1) also in
+      shown_once (IsPathResult (λ claim. claim) (Holds x) ss) (IsFirstRefusal (λ claim. claim) (Holds x) ss)
+      (single_path (Holds x) ss) list_text (refusal_text excess_text) a b shows same
   path_once list_text excess_text error_text path a b (inl (x, ss, h, shows)) (inr (e, f, also)) =
       absurd (path_apart (parts_of path) x ss e h f)
   path_once list_text excess_text error_text path a b (inr (d, f, is)) (inl (y, ts, k, also)) =

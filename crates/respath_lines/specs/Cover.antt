@@ -1,6 +1,6 @@
 -- The answer to `cover`: the shortest list of prefixes with the addresses of a list of blocks, or the fault of the
 -- list.
-use Rattle.std.specs.Prelude.{◌≡◌, ◌≢◌, ℕ, Bool, if◌then◌else◌, List, ◌∷◌, ◌++◌, map, codes, decimal}
+use Rattle.std.specs.Prelude.{◌≡◌, ℕ, Bool, if◌then◌else◌, List, ◌∷◌, ◌++◌, map, codes, decimal}
 use Rattle.rpki_text.specs.Cuts.{slash}
 use Rattle.rpki_text.specs.Lists.{joined}
 use Rattle.rpki_cover.specs.Prefixes.{PrefixValue}
@@ -9,9 +9,9 @@ use Rattle.rpki_cover.specs.Covers.{IsShortestCover}
 use Rattle.rpki_ip.specs.Faults as IpFaults
 use Rattle.rpki_ip.specs.PrintedText.{addr_text}
 use Rattle.rpki_der.specs.declared.family.AddressFamily.{AddressFamily}
-use Rattle.rpki_der.specs.declared.family.AddressFamily.TheVariants.{Ipv4, Ipv6}
 use Rattle.rpki_ip_block.specs.ListText.{HasBlocks, HasBlocksFault}
 use Rattle.rpki_ipres.specs.SetText.{IsSetOf}
+use Rattle.respath_lines.specs.Kinds.{IsByKind}
 use Rattle.respath_lines.specs.Shown.{ShowsValueOrFault}
 
 -- the text printed for a prefix: its address, a slash, and its length, even if that is the family's maximum
@@ -41,8 +41,7 @@ IsCoverIp family list text =
     ShowsValueOrFault (IsCoverOf family list) (cover_text family) (HasBlocksFault family list)
     IpFaults.ip_from_str_error_text text
 
--- the text is the answer to `cover` for a list of blocks of this kind
-pub record IsCoverAnswer (kind list text : List ℕ) : Type 0 where
-  pub v4_blocks : kind ≡ codes "v4" → IsCoverIp Ipv4 list text
-  pub v6_blocks : kind ≡ codes "v6" → IsCoverIp Ipv6 list text
-  pub unknown : kind ≢ codes "v4" → kind ≢ codes "v6" → text ≡ codes "error: unknown kind"
+-- the text is the answer to `cover` for a list of blocks of this kind; AS numbers have no prefixes
+abbrev pub IsCoverAnswer : List ℕ → List ℕ → List ℕ → Type 0
+IsCoverAnswer kind list =
+    IsByKind (λ text. text ≡ codes "error: unknown kind") (λ family. IsCoverIp family list) kind

@@ -14,6 +14,7 @@ use Rattle.rpki_ip_block.specs.ListText.{HasBlocks, HasBlocksFault}
 use Rattle.rpki_ipres.specs.ResourcesDer.{ip_families_der}
 use Rattle.rpki_ipres.specs.SetText.{IsSetOf}
 use Rattle.respath_lines.specs.Hexadecimal.{lower_hexadecimal}
+use Rattle.respath_lines.specs.Kinds.{IsByKind}
 use Rattle.respath_lines.specs.Shown.{ShowsValueOrFault}
 
 -- the octets of a claim in hexadecimal, or `missing` for missing resources, which have no encoding
@@ -56,8 +57,5 @@ IsDerIp family list text =
     (HasIpResourcesFault family list) IpFaults.ip_from_str_error_text text
 
 -- the text is the answer to `der` for resources of this kind
-pub record IsDerAnswer (kind list text : List ℕ) : Type 0 where
-  pub as_resources : kind ≡ codes "as" → IsDerAs list text
-  pub v4_resources : kind ≡ codes "v4" → IsDerIp Ipv4 list text
-  pub v6_resources : kind ≡ codes "v6" → IsDerIp Ipv6 list text
-  pub unknown : kind ≢ codes "as" → kind ≢ codes "v4" → kind ≢ codes "v6" → text ≡ codes "error: unknown kind"
+abbrev pub IsDerAnswer : List ℕ → List ℕ → List ℕ → Type 0
+IsDerAnswer kind list = IsByKind (IsDerAs list) (λ family. IsDerIp family list) kind

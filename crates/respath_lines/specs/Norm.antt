@@ -1,12 +1,12 @@
 -- The answer to `norm`: the set of a list, as its canonical list of blocks, or the fault of the list.
-use Rattle.std.specs.Prelude.{◌≡◌, ◌≢◌, ℕ, List, codes}
+use Rattle.std.specs.Prelude.{ℕ, List}
 use Rattle.rpki_as_block.specs.Faults as AsFaults
 use Rattle.rpki_as.specs.ListText.{IsAsListText, HasAsListFault, as_list_text}
 use Rattle.rpki_ip.specs.Faults as IpFaults
 use Rattle.rpki_der.specs.declared.family.AddressFamily.{AddressFamily}
-use Rattle.rpki_der.specs.declared.family.AddressFamily.TheVariants.{Ipv4, Ipv6}
 use Rattle.rpki_ip_block.specs.ListText.{HasBlocks, HasBlocksFault}
 use Rattle.rpki_ipres.specs.SetText.{IsSetOf, set_text}
+use Rattle.respath_lines.specs.Kinds.{IsByKind}
 use Rattle.respath_lines.specs.Shown.{ShowsValueOrFault}
 
 -- the text is the answer to `norm` for a list of AS blocks
@@ -21,8 +21,5 @@ IsNormIp family list text =
     IpFaults.ip_from_str_error_text text
 
 -- the text is the answer to `norm` for a list of blocks of this kind
-pub record IsNormAnswer (kind list text : List ℕ) : Type 0 where
-  pub as_blocks : kind ≡ codes "as" → IsNormAs list text
-  pub v4_blocks : kind ≡ codes "v4" → IsNormIp Ipv4 list text
-  pub v6_blocks : kind ≡ codes "v6" → IsNormIp Ipv6 list text
-  pub unknown : kind ≢ codes "as" → kind ≢ codes "v4" → kind ≢ codes "v6" → text ≡ codes "error: unknown kind"
+abbrev pub IsNormAnswer : List ℕ → List ℕ → List ℕ → Type 0
+IsNormAnswer kind list = IsByKind (IsNormAs list) (λ family. IsNormIp family list) kind

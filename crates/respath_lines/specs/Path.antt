@@ -19,11 +19,11 @@ use Rattle.rpki_as_block.specs.Faults as AsBlockFaults
 use Rattle.rpki_as.specs.ListText.{IsAsListText, HasAsListFault, as_list_text}
 use Rattle.rpki_ip.specs.Faults as IpFaults
 use Rattle.rpki_der.specs.declared.family.AddressFamily.{AddressFamily}
-use Rattle.rpki_der.specs.declared.family.AddressFamily.TheVariants.{Ipv4, Ipv6}
 use Rattle.rpki_ip_block.specs.ListText.{HasBlocks, HasBlocksFault}
 use Rattle.rpki_ipres.specs.SetText as IpTexts
 use Rattle.rpki_ipres.specs.SetText.{IsSetOf, set_text}
 use Rattle.rpki_text.specs.Cuts.{is_space}
+use Rattle.respath_lines.specs.Kinds.{IsByKind}
 use Rattle.respath_lines.specs.Shown.{error_line}
 use Rattle.respath_lines.specs.declared.steps.PartFault.{PartFault}
 use Rattle.respath_lines.specs.declared.steps.PartFault.TheVariants.{BadList, UnknownStep}
@@ -55,12 +55,12 @@ pub record IsNoStep (part : List ℕ) : Type 0 where
 -- ---- the parts of a path; `Writes` says which set a list denotes, and `Fails` which fault it has
 
 module _ {R : Type 0} (claim : R → Claim) (Writes : List ℕ → Runs → Type 0) where
-  -- The part is a step. It is `inherit` or `missing` alone, and then its mode doesn't matter. Or it is a mode and the
-  -- list of the claimed resources, which is empty for a missing claim.
+  -- The part is a step. It is `inherit` or `missing` alone, and then its mode is `refuse`, which has no effect. Or it
+  -- is a mode and the list of the claimed resources, which is empty for a missing claim.
   abbrev pub IsStepText : List ℕ → Step R → Type 0
   IsStepText part step =
-      ((trim part ≡ codes "inherit") × (claim step.claim ≡ Inherit))
-      ⊎ ((trim part ≡ codes "missing") × (claim step.claim ≡ Missing))
+      ((trim part ≡ codes "inherit") × (claim step.claim ≡ Inherit) × (step.mode ≡ Refuse))
+      ⊎ ((trim part ≡ codes "missing") × (claim step.claim ≡ Missing) × (step.mode ≡ Refuse))
       ⊎ (IsMode (word_of part) step.mode × (set : Runs) × Writes (list_of part) set × (claim step.claim ≡ claim_of set))
 
   -- the first part is the first list, and the others are the steps
@@ -135,8 +135,5 @@ IsPathIp family =
     (HasBlocksFault family) IpFaults.ip_from_str_error_text
 
 -- the text is the answer to `path` for resources of this kind
-pub record IsPathAnswer (kind path text : List ℕ) : Type 0 where
-  pub as_numbers : kind ≡ codes "as" → IsPathAs path text
-  pub v4_addresses : kind ≡ codes "v4" → IsPathIp Ipv4 path text
-  pub v6_addresses : kind ≡ codes "v6" → IsPathIp Ipv6 path text
-  pub unknown : kind ≢ codes "as" → kind ≢ codes "v4" → kind ≢ codes "v6" → text ≡ codes "error: unknown kind"
+abbrev pub IsPathAnswer : List ℕ → List ℕ → List ℕ → Type 0
+IsPathAnswer kind path = IsByKind (IsPathAs path) (λ family. IsPathIp family path) kind

@@ -14,10 +14,10 @@ use Rattle.rpki_as.specs.AsDerReading.{as_choice_at}
 use Rattle.rpki_as.specs.ResourcesText.{as_resources_text}
 use Rattle.rpki_der.specs.FamiliesDer.{ByFamily, of_family}
 use Rattle.rpki_der.specs.declared.family.AddressFamily.{AddressFamily}
-use Rattle.rpki_der.specs.declared.family.AddressFamily.TheVariants.{Ipv4, Ipv6}
 use Rattle.rpki_ipres.specs.ResourcesDer.{IsIpFamilies, ip_families_at}
 use Rattle.rpki_ipres.specs.SetText.{set_text}
 use Rattle.respath_lines.specs.Hexadecimal.{IsHexadecimal}
+use Rattle.respath_lines.specs.Kinds.{IsByKind}
 use Rattle.respath_lines.specs.Shown.{error_line}
 
 -- the result after a value was decoded: the value if no octets are left, and else TrailingData; an error stays the same
@@ -71,8 +71,5 @@ IsReadIp family =
     (λ (found : ByFamily Claim). family_text family (of_family family found))
 
 -- the answer to `read` for resources of this kind
-pub record IsReadAnswer (kind text answer : List ℕ) : Type 0 where
-  pub as_resources : kind ≡ codes "as" → IsReadAs text answer
-  pub v4_resources : kind ≡ codes "v4" → IsReadIp Ipv4 text answer
-  pub v6_resources : kind ≡ codes "v6" → IsReadIp Ipv6 text answer
-  pub unknown : kind ≢ codes "as" → kind ≢ codes "v4" → kind ≢ codes "v6" → answer ≡ codes "error: unknown kind"
+abbrev pub IsReadAnswer : List ℕ → List ℕ → List ℕ → Type 0
+IsReadAnswer kind text = IsByKind (IsReadAs text) (λ family. IsReadIp family text) kind

@@ -1,5 +1,5 @@
 //! Writes the result of a call as an answer. Each function replaces the content of the answer.
-ghost use Rattle.std.specs.Prelude.{◌≡◌, ℕ, List, Some, OnOk};
+ghost use Rattle.std.specs.Prelude.{◌≡◌, IfSome, OnOk};
 ghost use Rattle.std.specs.String.{string_bytes};
 ghost use Rattle.rpki_ipres.specs.SetText.{set_text};
 ghost use Rattle.respath_lines.specs.Shown.{ShowsResult, error_line};
@@ -24,8 +24,7 @@ pub(crate) fn print<T: fmt::Display, A: Allocator>(
     value: &T,
 ) -> Result<(), AllocError>
     // The answer is the text that the value prints.
-    ensures { (value_text : List ℕ) → T.output value.now ≡ Some value_text
-        → OnOk result (string_bytes answer.new ≡ value_text) }
+    ensures { IfSome (T.output value.now) (λ value_text. OnOk result (string_bytes answer.new ≡ value_text)) }
 {
     answer.clear();
     write!(answer, "{value}")
@@ -48,8 +47,7 @@ pub(crate) fn write_fault<E: fmt::Display, A: Allocator>(
     fault: &E,
 ) -> Result<(), AllocError>
     // The answer has the text that the fault prints.
-    ensures { (fault_text : List ℕ) → E.output fault.now ≡ Some fault_text
-        → OnOk result (string_bytes answer.new ≡ error_line fault_text) }
+    ensures { IfSome (E.output fault.now) (λ fault_text. OnOk result (string_bytes answer.new ≡ error_line fault_text)) }
 {
     answer.clear();
     write!(answer, "error: {fault}")
@@ -65,9 +63,7 @@ pub(crate) fn show<T: fmt::Display + Drop, E: fmt::Display + Drop, A: Allocator>
     found: Result<T, OrMemory<E>>,
 ) -> Result<(), AllocError>
     // The answer has the text that the value or the fault prints.
-    ensures { (value_text : T → List ℕ) → ((value : T) → T.output value ≡ Some (value_text value))
-        → (fault_text : E → List ℕ) → ((fault : E) → E.output fault ≡ Some (fault_text fault))
-        → OnOk result (ShowsResult value_text fault_text found (string_bytes answer.new)) }
+    ensures { OnOk result (ShowsResult T.output E.output found (string_bytes answer.new)) }
 {
     match found {
         Ok(value) => print(answer, &value),

@@ -1,4 +1,4 @@
-use Rattle.respath_lines.proofs.Common.{arith, inl, refl, subst, sym, on_ok_weaker, Holds}
+use Rattle.respath_lines.proofs.Common.{arith, inl, subst, sym, on_ok_weaker, Holds}
 use Rattle.rpki_cover.specs.Covers.{IsShortestCover}
 use Rattle.respath_lines.proofs.CoverCommandLemmas.{drained}
 use Rattle.respath_lines.proofs.cover.cover_ip.Goals as goal
@@ -13,4 +13,4 @@ returns-in-Ok g c =
     c.print_prefixes.ensures
 
 pub returns-in-Err-Refused : goal.returns-in-Err-Refused
-returns-in-Err-Refused g c = grind (arith, c.write_fault.ensures _ refl)
+returns-in-Err-Refused g c = grind (arith, c.write_fault.ensures)

@@ -1,5 +1,5 @@
-use Rattle.respath_lines.proofs.Common.{arith, refl}
+use Rattle.respath_lines.proofs.Common.{arith}
 use Rattle.respath_lines.proofs.norm.norm_ip.Goals as goal
 
 pub returns-in-Err-Refused : goal.returns-in-Err-Refused
-returns-in-Err-Refused g c = grind (arith, c.write_fault.ensures _ refl)
+returns-in-Err-Refused g c = grind (arith, c.write_fault.ensures)

@@ -1,4 +1,4 @@
-use Rattle.respath_lines.proofs.Common.{refl, on_ok_weaker, string_bytes, IsAsResources, as_choice_at, fault_text}
+use Rattle.respath_lines.proofs.Common.{on_ok_weaker, string_bytes, IsAsResources, as_choice_at}
 use Rattle.rpki_as.specs.ResourcesText.{as_resources_text}
 use Rattle.respath_lines.proofs.ReadCommandLemmas.{shows_octets, shows_text}
 use Rattle.respath_lines.proofs.read.read_as.Goals as goal
@@ -12,4 +12,4 @@ returns g c =
     (string_bytes c.show.new.answer) (rw c.in-Some.is at c.in_ok-octets.ensures)
     (shows_octets IsAsResources as_choice_at as_resources_text octets c.as_resources_in.result is
     (string_bytes c.show.new.answer) shows))
-    (c.show.ensures as_resources_text (λ claim. refl) fault_text (λ fault. refl))
+    c.show.ensures

@@ -1,5 +1,0 @@
-use Rattle.respath_lines.proofs.Common.{arith, refl}
-use Rattle.respath_lines.proofs.path.write_left_ip.Goals as goal
-
-pub returns-in-Err-Refused : goal.returns-in-Err-Refused
-returns-in-Err-Refused g c = grind (arith, c.print.ensures _ refl)

@@ -17,6 +17,7 @@ use Rattle.rpki_prefix.proofs.PrefixCovering.{covers_round, round_covers}
 abbrev IsDecided : Type 0 → Type 0
 IsDecided P = P ⊎ (¬ P)
 
+-- each condition of a filter holds or fails
 decided_le : (a b : ℕ) → IsDecided (a ≤ b)
 decided_le a b = elim (cases_lt b a) [ inl above ↦ inr (λ h. absurd (omega arith)) | inr below ↦ inl below ]
 
@@ -64,6 +65,7 @@ is_negative (inr other) = true
 negative_iff : {P : Type 0} (d : IsDecided P) → IsTrue (is_negative d) ↔ (¬ P)
 negative_iff d = grind (arith)
 
+-- whether a VRP stays: no filter matches it
 pub stays : List PrefixFilter → MaxLenValue × ℕ → Bool
 stays filters vrp = is_negative (decided_any (IsRemovedBy vrp) (decided_by vrp) filters)
 

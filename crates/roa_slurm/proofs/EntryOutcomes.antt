@@ -28,6 +28,7 @@ use Rattle.roa_slurm.specs.declared.object.SlurmObject.TheVariants.{PrefixAssert
 
 -- ---- names
 
+-- the first unknown name is the only one, and there is none if all names are known
 pub known_apart : (whole : SlurmObject) (first : ℕ) (ms : Members) (n : ℕ) → KnowsAll whole ms
     → HasUnknown whole first ms n → ⊥
 known_apart whole first no_members n known wrong = wrong
@@ -40,6 +41,7 @@ unknown_one whole first (member key value ms) m n h k = grind (arith, unknown_on
 
 -- ---- members of items
 
+-- a prefix and an AS number make at most one filter, and none if both are missing
 filter_by_one : (p : Option FamilyPrefix) (n : Option ℕ) (a b : PrefixFilter) → IsFilterBy p n a → IsFilterBy p n b
     → a ≡ b
 filter_by_one p n a b h k = grind (arith)
@@ -47,6 +49,7 @@ filter_by_one p n a b h k = grind (arith)
 no_filter : (p : Option FamilyPrefix) (n : Option ℕ) (a : PrefixFilter) → IsFilterBy p n a → p ≡ None → n ≡ None → ⊥
 no_filter p n a h none empty = grind (arith)
 
+-- one of two members is there
 none_left : {A B : Type 0} → (¬ A) ⊎ (¬ B) → A → B → ⊥
 none_left h a b = grind (arith)
 

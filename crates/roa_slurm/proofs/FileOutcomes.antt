@@ -82,6 +82,7 @@ module _ (ms : Members) where
 
 -- ---- the text, and the file
 
+-- a text is one object or none
 object_exact : (text : List ℕ) → IsExact (IsJsonObject text)
     (λ (fault : SlurmFault). ((members : Members) → ¬ IsJsonObject text members) × (fault ≡ NotObject))
 object_exact text = record {

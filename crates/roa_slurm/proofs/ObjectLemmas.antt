@@ -3,6 +3,7 @@ use Rattle.roa_slurm.proofs.Common.{List, [], arith, inl, inr, suc, take, zero, 
 use Rattle.roa_slurm.proofs.Common.{get_or, take_more, Bor, Value, members_view, Defines, HasUnknown, KnowsAll}
 use Rattle.roa_slurm.proofs.Common.{SlurmObject}
 
+-- one more name that the RFC defines
 known_push : {A : Type 0} (whole : SlurmObject) (ms : List (Bor (List ℕ) × Value A)) (m : Bor (List ℕ) × Value A)
     → KnowsAll whole (members_view ms) → Defines whole m.0.now → KnowsAll whole (members_view (ms ++ m ∷ []))
 known_push whole [] m known is = (is, tt)

@@ -57,6 +57,7 @@ module _ (part : SlurmMember) (members : Members) where
   lacks_no_value : (value : Json) → Lacks part members → HasValue part members value → ⊥
   lacks_no_value value h k = cc (sym h ∙ k)
 
+-- there is only one error of an AS number
 asn_error_one : (a b : ParseAsnError) → a ≡ b
 asn_error_one a b = search (arith)
 

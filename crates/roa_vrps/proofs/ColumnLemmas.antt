@@ -42,13 +42,16 @@ looked_all column line rest commas had end n named =
 pub column_one : (column : Column) (line : List ℕ) (m n : ℕ) → IsColumn column line m → IsColumn column line n → m ≡ n
 column_one column line m n h k = grind (arith, ltb-false, ltb-true)
 
+-- a line names at most one column `Expires`
 expires_one : (line : List ℕ) (a b : Option ℕ) → IsExpiresColumn line a → IsExpiresColumn line b → a ≡ b
 expires_one line a b h k = grind (arith, column_one)
 
+-- the same columns need the same number of fields
 needed_one : (a b : Columns) (m n : ℕ) → a.asn ≡ b.asn → a.prefix ≡ b.prefix → a.max_len ≡ b.max_len
     → IsNeeded a m → IsNeeded b n → m ≡ n
 needed_one a b m n asn prefix max_len h k = grind (arith)
 
+-- columns with equal fields are equal
 same_columns : (a b : Columns) → a.asn ≡ b.asn → a.prefix ≡ b.prefix → a.max_len ≡ b.max_len → a.expires ≡ b.expires
     → a.count ≡ b.count → a.needed ≡ b.needed → a.is_named ≡ b.is_named → a ≡ b
 same_columns a b asn prefix max_len expires count needed named = grind (arith)

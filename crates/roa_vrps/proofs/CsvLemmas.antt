@@ -136,9 +136,11 @@ rows_known : (lines others : List (List ℕ)) (line : List ℕ) (a : Vrps) → A
     → IsUnknownHeader line → ⊥
 rows_known lines others line a rows same unknown = grind (arith, row_known)
 
+-- a CSV file has no invalid line
 line_fault_apart : (text : List ℕ) (a : Vrps) (fault : FileFault) → IsCsvFile text a → HasLineFault text fault → ⊥
 line_fault_apart text a fault h k = grind (arith, rows_apart, rows_one)
 
+-- lines have at most one first fault
 line_fault_one : (text : List ℕ) (d e : FileFault) → HasLineFault text d → HasLineFault text e → d ≡ e
 line_fault_one text d e h k = grind (arith, first_one, rows_apart)
 

@@ -58,9 +58,11 @@ line_fault column n line text part is same at some none = grind (arith)
 
 -- ---- one expiry, or one fault
 
+-- a text is at most one time
 time_one : (text : List ℕ) (a b : ℕ) → IsTimeText text a → IsTimeText text b → a ≡ b
 time_one text a b h k = IsNumberText-one (2 ^ 64 - 1) text a b h k
 
+-- the text of a time is not empty
 time_some : (text : List ℕ) (a : ℕ) → IsTimeText text a → text ≢ []
 time_some text a h empty = grind (arith, number_answers)
 
@@ -120,6 +122,7 @@ pub expiries_counted : (entries : List Entry) (a : Dates) → AreExpiries entrie
 expiries_counted [] a h = rw h refl
 expiries_counted (e ∷ entries) a h = grind (arith, expiries_counted entries)
 
+-- a line has as many entries as VRPs
 line_counted : (place : ℕ) (columns : Columns) (line : List ℕ) (row : Row)
     → length (entries_of place columns line row) ≡ length (vrps_of row)
 line_counted place columns line row = grind (arith)

@@ -25,6 +25,7 @@ module _ (text : List ℕ) where
   text_entries_one : (a b : List Entry) → AreTextEntries text a → AreTextEntries text b → a ≡ b
   text_entries_one a b h k = grind (arith, roas_one, row_entries_one)
 
+  -- a text has as many entries as VRPs
   text_counted : (vrps : Vrps) (entries : List Entry) → IsVrpText text vrps → AreTextEntries text entries
       → length entries ≡ length vrps
   text_counted vrps entries h k = grind (arith, items_counted, rows_counted)
@@ -47,6 +48,7 @@ module _ (file : List ℕ) where
       → IsVrpFile file vrps × AreReadOf {A = A} true (AreFileEntries file) (Err f) → HasExpiryFault file f
   wrong_read A vrps f (are, (entries, is, read)) = inr ((vrps, are), (entries, is, read refl))
 
+  -- a file has one list of expiries, or one first invalid expiry
   dates_one : (a b : Dates) → AreFileExpiries file a → AreFileExpiries file b → a ≡ b
   dates_one a b (s, is, h) (t, iz, k) = expiries_one t a b (rw (entries_one s t is iz) at h) k
 
@@ -56,6 +58,7 @@ module _ (file : List ℕ) where
   dates_fault_one : (d e : ExpiryFault) → HasWrongExpiry file d → HasWrongExpiry file e → d ≡ e
   dates_fault_one d e (_, (s, is, h)) (_, (t, iz, k)) = first_wrong_one t d e (rw (entries_one s t is iz) at h) k
 
+  -- a file with expiries has no fault, and other files have one fault
   dated_apart : (vrps : Vrps) (a : Dates) (f : ExpiryFault) → AreDated file vrps a → HasExpiryFault file f → ⊥
   dated_apart vrps a f h (inl (g, wrong, _)) = file_apart file vrps g h.vrps_are wrong
   dated_apart vrps a f h (inr wrong) = dates_apart a f h.expiries_are wrong

@@ -85,6 +85,7 @@ module _ (a p m : List ℕ) where
       → MatchResult r (AreFieldTexts a p m) (HaveFieldsFault a p m)
   pair_found r empty is = grind (arith)
 
+  -- an empty maximum length is the only one with the fault `Empty`
   not_empty : m ≢ [] → HaveFault a p m (MaxLenFormat Empty) → ⊥
   not_empty some (_, _, empty) = some empty
 

@@ -36,6 +36,7 @@ position_shown (x ∷ xs) ys h =
     let later = position_shown xs ys (All-tail (IsInRange 45 126) x xs h) in
     rw other (omega (arith, later))
 
+-- without a comma the first field ends with the text
 position_none : (xs : List ℕ) → AreShown xs → position_or_len is_comma xs ≡ length xs
 position_none [] h = refl
 position_none (x ∷ xs) h =
@@ -49,6 +50,7 @@ before_comma xs ys h = grind (arith, position_shown, take_at)
 before_end : (xs : List ℕ) → AreShown xs → before_first is_comma xs ≡ xs
 before_end xs h = rw (position_none xs h) (take_all (length xs) xs (omega arith))
 
+-- the text after the first comma
 drop_one_more : (xs ys : List ℕ) → drop (length xs + 1) (xs ++ comma ∷ ys) ≡ ys
 drop_one_more xs ys =
     rw (append_assoc xs (comma ∷ []) ys) at (drop_at (xs ++ comma ∷ []) ys (length xs + 1) (length_push xs comma))
@@ -61,6 +63,7 @@ no_quote : (xs : List ℕ) → AreShown xs → unquoted xs ≡ xs
 no_quote [] h = refl
 no_quote (x ∷ xs) h = let byte = All-head (IsInRange 45 126) x xs h in grind (arith, nat_tests)
 
+-- a field of shown bytes is its own value
 value_shown : (xs : List ℕ) → AreShown xs → unquoted (trim xs) ≡ xs
 value_shown xs h = rw (trim_shown xs (recursion_from_All (IsInRange 45 126) xs h)) (no_quote xs h)
 
@@ -91,6 +94,7 @@ count_comma xs ys h =
 abbrev AreVisible : List ℕ → Type 0
 AreVisible = All (IsInRange 44 126)
 
+-- shown bytes are visible
 wider : (xs : List ℕ) → AreShown xs → AreVisible xs
 wider xs h = All-weaker (IsInRange 45 126) (IsInRange 44 126) (λ b byte. (omega (arith, byte.0), byte.1)) xs h
 
@@ -143,9 +147,11 @@ module _ (columns : Columns) (line : List ℕ) (vrp : MaxLenValue × ℕ) (count
       let after = All-cons (IsInRange 44 126) comma _ (lit≤ tt, lit≤ tt) two in
       rw h.split (All-append (IsInRange 44 126) h.asn _ (wider h.asn h.asn_shown) after)
 
+  -- the line is not empty
   some : 0 < length line
   some = rw (h.split, length-append) (omega arith)
 
+  -- the line has three fields and those that follow
   fields : field_count line ≡ count + 3
   fields =
       let last = sum_by-append (λ b. cond (is_comma b) 1 0) h.max_len h.more in

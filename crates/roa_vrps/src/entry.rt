@@ -2,16 +2,16 @@
 ghost use Rattle.std.specs.Prelude.{◌≡◌, ℕ, Bool, List, [], ◌∷◌, ◌++◌, IfOk, MatchOption, MatchResult};
 ghost use Rattle.std.specs.Str.{IsUtf8};
 ghost use Rattle.json.specs.Json.{number as json_number};
-ghost use Rattle.json.specs.Value.{members_view, value_view};
+ghost use Rattle.json.specs.Value.{value_view};
 ghost use Rattle.roa_vrps.specs.Entries.{AreRead, Entry, HasEntryFault, HasExpiry, IsNumeric, expires_name};
 ghost use Rattle.roa_vrps.specs.Entries.{item_entry, line_entry};
 ghost use Rattle.roa_vrps.specs.Expiries.{IsTimeText};
-ghost use Rattle.roa_vrps.specs.Members.{AreWrong, values_in};
+ghost use Rattle.roa_vrps.specs.Members.{AreWrong, named_values};
 
 use crate::fault::{ExpiresFault, ExpiryFault, MemberFault};
 use crate::field::field_at;
 use crate::found::Expiries;
-use crate::member::only;
+use crate::member::named;
 use json::Value;
 use std::alloc::{AllocError, Allocator};
 use std::str::FromStr;
@@ -115,10 +115,7 @@ fn expiry_of_item<A: Allocator>(
     ensures { MatchResult result (HasExpiry (item_entry number (value_view item.now)))
         (HasEntryFault (item_entry number (value_view item.now))) }
 {
-    let Value::Object(members) = item else {
-        return Ok(None);
-    };
-    match expires_in(members) {
+    match expires_of(item) {
         Ok(text) => match time_of(text) {
             Some(time) => Ok(Some(time)),
             None => Err(ExpiryFault::Item(number, ExpiresFault::Number)),
@@ -128,27 +125,23 @@ fn expiry_of_item<A: Allocator>(
     }
 }
 
-/// Returns the text of the only member `expires`, which has to be a number.
-fn expires_in<'a, A: Allocator>(
-    members: &Vec<(&'a str, Value<'a, A>), A>,
-) -> Result<&'a str, MemberFault>
+/// Returns the text of the only member `expires` of an item, which has to be a number.
+fn expires_of<'a, A: Allocator>(item: &Value<'a, A>) -> Result<&'a str, MemberFault>
     ensures { MatchResult result
-        (λ text. values_in expires_name (members_view members.now.items) ≡ json_number text.now ∷ [])
-        (AreWrong IsNumeric (values_in expires_name (members_view members.now.items))) }
+        (λ text. named_values expires_name (value_view item.now) ≡ json_number text.now ∷ [])
+        (AreWrong IsNumeric (named_values expires_name (value_view item.now))) }
 {
-    let value = only(members, "expires")?;
-    match value {
-        Value::Number(text) => Ok(*text),
-        _ => Err(MemberFault::Kind),
+    let value = named(item, "expires")?;
+    match value.as_number() {
+        Some(text) => Ok(text),
+        None => Err(MemberFault::Kind),
     }
 }
 
 /// Returns the time that a text gives, or None if the text is not a number of 64 bits.
+#[tactic(auto, using(crate::proofs::ExpiryLemmas::no_time, crate::proofs::ExpiryLemmas::time_is))]
 fn time_of(text: &str) -> Option<u64>
     ensures { MatchOption result ((time : ℕ) → ¬ IsTimeText text.now time) (IsTimeText text.now) }
 {
-    match u64::from_str(text) {
-        Ok(time) => Some(time),
-        Err(_) => None,
-    }
+    u64::from_str(text).ok()
 }

@@ -1,16 +1,14 @@
 //! Files of VRPs with expiries, and the VRPs that have not expired.
 //!
 //! Call [`read_unexpired`] in place of [`crate::read_vrps`] to leave out the expired VRPs of a file.
-ghost use Rattle.std.specs.Prelude.{◌≡◌, ℕ, IfErr, IfOk, List, MatchResult, length, true};
+ghost use Rattle.std.specs.Prelude.{◌≡◌, ℕ, IfErr, IfOk, List, MatchResult, length};
 ghost use Rattle.std.specs.List.{count_by};
 ghost use Rattle.rpki_prefix.specs.MaxLen.{MaxLenValue};
 ghost use Rattle.rpki_text.specs.Memory.{IfRefused, IsMemory};
 ghost use Rattle.rpki_text.specs.Reading.{AnswersOrMemory};
 ghost use Rattle.roa_vrps.specs.Asking.{MayWantMemory};
-ghost use Rattle.roa_vrps.specs.Entries.{AreReadOf};
 ghost use Rattle.roa_vrps.specs.Expiries.{is_expired, unexpired_of};
-ghost use Rattle.roa_vrps.specs.ExpiryFiles.{AreDated, AreFileEntries, HasExpiryFault, IsUnexpiredFile, unexpired_value};
-ghost use Rattle.roa_vrps.specs.Files.{IsVrpFile};
+ghost use Rattle.roa_vrps.specs.ExpiryFiles.{AreDated, HasExpiryFault, IsUnexpiredFile, unexpired_value};
 
 pub use crate::fault::{ExpiresFault, ExpiryFault};
 use crate::file::read_file;
@@ -114,25 +112,14 @@ fn read_dated<A: Allocator + Copy>(
         (IfRefused (HasExpiryFault text.now)) }
     ensures memory { IfErr result (λ error. IsMemory error → MayWantMemory text.now) }
 {
-    let found = read_valid(alloc, text)?;
-    let Found { vrps, expiries } = found;
+    let Found { vrps, expiries } = match read_file(alloc, text, true) {
+        Ok(found) => found,
+        Err(OrMemory::Refused(fault)) => return Err(OrMemory::Refused(ExpiryFault::File(fault))),
+        Err(OrMemory::Memory(error)) => return Err(OrMemory::Memory(error)),
+    };
     match expiries {
         Ok(expiries) => Ok((vrps, expiries)),
         Err(fault) => Err(OrMemory::Refused(fault)),
-    }
-}
-
-/// Returns what a file has, or its fault as a file of VRPs.
-fn read_valid<A: Allocator + Copy>(alloc: A, text: &[u8]) -> Result<Found<A>, OrMemory<ExpiryFault>>
-    ensures found { MatchResult result (λ found. IsVrpFile text.now found.vrps.items
-        × AreReadOf true (AreFileEntries text.now) found.expiries)
-        (IfRefused (HasExpiryFault text.now)) }
-    ensures memory { IfErr result (λ error. IsMemory error → MayWantMemory text.now) }
-{
-    match read_file(alloc, text, true) {
-        Ok(found) => Ok(found),
-        Err(OrMemory::Refused(fault)) => Err(OrMemory::Refused(ExpiryFault::File(fault))),
-        Err(OrMemory::Memory(error)) => Err(OrMemory::Memory(error)),
     }
 }
 

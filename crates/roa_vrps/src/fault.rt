@@ -1,5 +1,6 @@
 //! Faults of VRP files.
 ghost use Rattle.std.specs.Prelude.{◌≡◌};
+ghost use Rattle.roa_vrps.specs.declared.fault.VrpFault.TheVariants.{Asn, MaxLen, MaxLenFormat, Prefix};
 
 use crate::member::Member;
 use rpki_base::asn::ParseAsnError;
@@ -39,8 +40,6 @@ pub enum VrpFault {
 }
 
 impl From<ParseAsnError> for VrpFault {
-    ghost use Rattle.roa_vrps.specs.declared.fault.VrpFault.TheVariants.{Asn};
-
     ghost from_gives = { λ fault error. error ≡ Asn fault };
 
     fn from(fault: ParseAsnError) -> VrpFault {
@@ -49,8 +48,6 @@ impl From<ParseAsnError> for VrpFault {
 }
 
 impl From<ParsePrefixError> for VrpFault {
-    ghost use Rattle.roa_vrps.specs.declared.fault.VrpFault.TheVariants.{Prefix};
-
     ghost from_gives = { λ fault error. error ≡ Prefix fault };
 
     fn from(fault: ParsePrefixError) -> VrpFault {
@@ -59,8 +56,6 @@ impl From<ParsePrefixError> for VrpFault {
 }
 
 impl From<ParseIntError> for VrpFault {
-    ghost use Rattle.roa_vrps.specs.declared.fault.VrpFault.TheVariants.{MaxLenFormat};
-
     ghost from_gives = { λ fault error. error ≡ MaxLenFormat fault };
 
     fn from(fault: ParseIntError) -> VrpFault {
@@ -69,8 +64,6 @@ impl From<ParseIntError> for VrpFault {
 }
 
 impl From<MaxLenError> for VrpFault {
-    ghost use Rattle.roa_vrps.specs.declared.fault.VrpFault.TheVariants.{MaxLen};
-
     ghost from_gives = { λ fault error. error ≡ MaxLen fault };
 
     fn from(fault: MaxLenError) -> VrpFault {

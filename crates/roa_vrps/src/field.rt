@@ -5,22 +5,16 @@ ghost use Rattle.roa_vrps.specs.Fields.{field, field_count, unquoted};
 
 use rpki_text::cut::cut_at;
 
-/// Returns `text` without the quotes at both its ends, if it has them.
-fn without_quotes(text: &str) -> &str
-    ensures { result.now ≡ unquoted text.now }
+/// Returns the value of a field: `part` without white space at its ends, and then without quotes at its ends.
+pub fn value_of(part: &str) -> &str
+    ensures { result.now ≡ unquoted (trim part.now) }
 {
+    let text = part.trim();
     if text.len() > 1 && text.starts_with('"') && text.ends_with('"') {
         &text[1..text.len() - 1]
     } else {
         text
     }
-}
-
-/// Returns the value of a field: `part` without white space at its ends, and then without quotes at its ends.
-pub fn value_of(part: &str) -> &str
-    ensures { result.now ≡ unquoted (trim part.now) }
-{
-    without_quotes(part.trim())
 }
 
 /// Returns the value of the field after `commas` commas. It is empty if the line has fewer commas.

@@ -2,7 +2,7 @@
 ghost use Rattle.std.specs.Prelude.{◌≡◌, ℕ, List, [], ◌∷◌, ◌++◌, MatchOption, MatchResult};
 ghost use Rattle.json.specs.Json.{Json};
 ghost use Rattle.json.specs.Value.{members_view, value_view};
-ghost use Rattle.roa_vrps.specs.Members.{HasMemberFault, HasText, IsFound, Writes, name_of, values_in};
+ghost use Rattle.roa_vrps.specs.Members.{HasMemberFault, HasText, IsFound, Writes, name_of, named_values, values_in};
 
 use crate::fault::MemberFault;
 use json::Value;
@@ -101,6 +101,19 @@ fn another<'v, 'a, A: Allocator>(
     }
 }
 
+/// Returns the value of the only member of this name. A value that is not an object lacks the member.
+pub(crate) fn named<'v, 'a, A: Allocator>(
+    item: &'v Value<'a, A>,
+    name: &str,
+) -> Result<&'v Value<'a, A>, MemberFault>
+    ensures { IsFound (named_values name.now (value_view item.now)) result }
+{
+    match item {
+        Value::Object(members) => only(members, name),
+        _ => Err(MemberFault::Missing),
+    }
+}
+
 /// Returns the text of a member of an item. An item that is not an object lacks the member.
 pub(crate) fn text_of<'a, A: Allocator>(
     member: Member,
@@ -109,10 +122,7 @@ pub(crate) fn text_of<'a, A: Allocator>(
     ensures { MatchResult result (λ text. HasText member (value_view item.now) text.now)
         (HasMemberFault member (value_view item.now)) }
 {
-    let Value::Object(members) = item else {
-        return Err(MemberFault::Missing);
-    };
-    let value = only(members, member.name())?;
+    let value = named(item, member.name())?;
     match member.text(value) {
         Some(text) => Ok(text),
         None => Err(MemberFault::Kind),

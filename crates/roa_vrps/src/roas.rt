@@ -123,10 +123,7 @@ fn read_items<A: Allocator + Copy>(
                 if vrps.push(vrp).is_err() {
                     return Err(Error::OutOfMemory);
                 }
-                expiries = match add_item(asked, expiries, number, &item) {
-                    Ok(more) => more,
-                    Err(_) => return Err(Error::OutOfMemory),
-                };
+                expiries = add_item(asked, expiries, number, &item)?;
             }
             Err(fault) => {
                 skip_items(reader, depth)?;

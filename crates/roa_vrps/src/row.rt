@@ -1,5 +1,5 @@
 //! A line of a CSV file.
-ghost use Rattle.roa_vrps.specs.Rows.{AreColumns, AreFieldTexts, ArePairTexts, AreVrpTexts, FitsColumns, HasCountFault, HasRowFault, HaveColumnsFault, HaveFault, HaveFieldsFault, IsBody, IsRow, IsUnknownHeader, WritesAsn, WritesPrefix};
+ghost use Rattle.roa_vrps.specs.Rows.{AreColumns, ArePairTexts, AreVrpTexts, FitsColumns, HasCountFault, HasRowFault, HaveColumnsFault, HaveFault, HaveFieldsFault, IsBody, IsRow, IsUnknownHeader, WritesAsn, WritesPrefix};
 ghost use Rattle.std.specs.Prelude.{◌≡◌, ◌↔◌, [], IsTrue, MatchOption, MatchResult};
 ghost use Rattle.std.specs.Str.{trim};
 
@@ -83,20 +83,11 @@ fn check_count(columns: Columns, line: &str) -> Result<(), VrpFault>
 
 /// Returns the VRP in the three columns of a line, or the first fault of their texts.
 fn read_columns(columns: Columns, line: &str) -> Result<Vrp, VrpFault>
-    ensures { MatchResult result (AreColumns columns line.now)
-        (HaveColumnsFault columns line.now) }
+    ensures { MatchResult result (AreColumns columns line.now) (HaveColumnsFault columns line.now) }
 {
     let asn = field_at(line, columns.asn);
     let prefix = field_at(line, columns.prefix);
     let max_len = field_at(line, columns.max_len);
-    read_row_fields(asn, prefix, max_len)
-}
-
-/// Returns the VRP that the texts of three fields give, or their first fault.
-fn read_row_fields(asn: &str, prefix: &str, max_len: &str) -> Result<Vrp, VrpFault>
-    ensures { MatchResult result (AreFieldTexts asn.now prefix.now max_len.now)
-        (HaveFieldsFault asn.now prefix.now max_len.now) }
-{
     if max_len.is_empty() {
         read_pair(asn, prefix)
     } else {

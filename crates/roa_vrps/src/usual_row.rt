@@ -71,19 +71,13 @@ fn take_prefix(text: &[u8]) -> Option<(IpAddr, u8, &[u8])>
     ensures { IfSome result
         (λ found. IsFirstField (λ field. HasParts field found.0 found.1) text.now found.2.now) }
 {
-    let Some((addr, behind)) = take_addr(text) else {
+    let Some((addr, after)) = take_addr(text) else {
         return None;
     };
-    let Some(digits) = strip_byte(b'/', behind) else {
-        return None;
-    };
-    let Some((len, left)) = take_number(digits) else {
-        return None;
-    };
-    match strip_byte(b',', left) {
-        Some(rest) => Some((addr, len, rest)),
-        None => None,
-    }
+    let digits = strip_byte(b'/', after)?;
+    let (len, left) = take_number(digits)?;
+    let rest = strip_byte(b',', left)?;
+    Some((addr, len, rest))
 }
 
 /// Returns the number of commas of a text, or None if a byte is neither a comma nor a visible ASCII character after it.
@@ -103,14 +97,6 @@ fn count_commas(text: &[u8]) -> Option<usize>
     Some(count)
 }
 
-/// Returns whether no text follows, or a comma does.
-#[inline(always)]
-fn ends_field(text: &[u8]) -> bool
-    ensures { IsTrue result → EndsField text.now }
-{
-    matches!(text, [] | [b',', ..])
-}
-
 /// Returns the number of fields after the maximum length. The text is what follows the maximum length in the line.
 ///
 /// The call returns None if the field of the maximum length does not end there, or if a field after it is not of the
@@ -119,10 +105,9 @@ fn ends_field(text: &[u8]) -> bool
 fn count_fields(text: &[u8]) -> Option<usize>
     ensures { IfSome result (λ count. EndsField text.now × AreFurther text.now count) }
 {
-    if ends_field(text) {
-        count_commas(text)
-    } else {
-        None
+    match text {
+        [] | [b',', ..] => count_commas(text),
+        _ => None,
     }
 }
 
@@ -131,13 +116,9 @@ fn count_fields(text: &[u8]) -> Option<usize>
 fn vrp_of(asn: u32, addr: IpAddr, len: u8, max_len: u8) -> Option<Vrp>
     ensures { IfSome result (IsVrpOf asn addr len max_len) }
 {
-    let Ok(prefix) = Prefix::new(addr, len) else {
-        return None;
-    };
-    match MaxLenPrefix::new(prefix, Some(max_len)) {
-        Ok(prefix) => Some((prefix, Asn::from_u32(asn))),
-        Err(_) => None,
-    }
+    let prefix = Prefix::new(addr, len).ok()?;
+    let prefix = MaxLenPrefix::new(prefix, Some(max_len)).ok()?;
+    Some((prefix, Asn::from_u32(asn)))
 }
 
 /// Returns whether the first three columns are those of a VRP, and the columns allow a line with `count` more fields.
@@ -157,18 +138,12 @@ fn allow(columns: Columns, count: usize) -> bool
 pub(crate) fn usual_vrp(columns: Columns, line: &[u8]) -> Option<Vrp>
     ensures { IfSome result (λ vrp. IsRow columns line.now (the_vrp vrp)) }
 {
-    let Some((asn, after_asn)) = take_asn(line) else {
-        return None;
-    };
+    let (asn, after_asn) = take_asn(line)?;
     let Some((addr, len, after_prefix)) = take_prefix(after_asn) else {
         return None;
     };
-    let Some((max_len, rest)) = take_number(after_prefix) else {
-        return None;
-    };
-    let Some(count) = count_fields(rest) else {
-        return None;
-    };
+    let (max_len, rest) = take_number(after_prefix)?;
+    let count = count_fields(rest)?;
     if allow(columns, count) {
         vrp_of(asn, addr, len, max_len)
     } else {

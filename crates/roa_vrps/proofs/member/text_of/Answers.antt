@@ -1,7 +1,6 @@
-use Rattle.json.proofs.Trees.{view-Object}
 use Rattle.roa_vrps.proofs.Common.{arith, value_view}
 use Rattle.roa_vrps.proofs.member.text_of.Goals as goal
 
--- the item's members are those of its object, whose one value is of another kind
+-- the only value is of another kind
 pub returns-in-None : goal.returns-in-None
-returns-in-None g c = (value_view c.in_ok-value.value.now, grind (arith, view-Object), λ h. c.in-None.ensures h.0 h.1)
+returns-in-None g c = (value_view c.in_ok-value.value.now, grind arith, λ h. c.in-None.ensures h.0 h.1)

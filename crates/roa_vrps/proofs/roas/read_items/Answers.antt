@@ -29,16 +29,17 @@ returns-in-Err-clause-outcome g c =
     c.in-Err.fault c.skip_items.new.reader c.in-Err.ensures c.in_ok-skip_items-in-Err.ensures.read)
 
 -- a VRP more
-pub loop-alloc-preserved-in-Ok-add_item-2 : goal.loop-alloc-preserved-in-Ok-add_item-2
-loop-alloc-preserved-in-Ok-add_item-2 g c =
+pub loop-alloc-preserved-in_ok-expiries-in-Ok-2 : goal.loop-alloc-preserved-in_ok-expiries-in-Ok-2
+loop-alloc-preserved-in_ok-expiries-in-Ok-2 g c =
     let more =
     read_more _ _ _ _ _ _ _ _ _ c.loop-alloc.invariant.read c.in_ok-item.ensures.ok c.loop-alloc-test.ensures in
     let pushed : c.push.new.self.items ≡ c.loop-alloc.vrps.items ++ c.in-Ok.vrp ∷ [] = grind arith in
     let len : c.len-number.result ≡ length c.loop-alloc.vrps.items = grind arith in
     record {
       read = rw pushed
-          (more c.in-Ok.vrp c.in-Ok-add_item.more c.in-Ok.ensures
-          (rw len at c.in-Ok-add_item.ensures c.loop-alloc.invariant.read.entries c.loop-alloc.invariant.read.read));
+          (more c.in-Ok.vrp c.in_ok-expiries-in-Ok.expiries c.in-Ok.ensures
+          (rw len at c.in_ok-expiries-in-Ok.ensures c.loop-alloc.invariant.read.entries
+          c.loop-alloc.invariant.read.read));
       within = grind arith;
     }
 

@@ -28,16 +28,11 @@ use Rattle.respath_lines.specs.Shown.{error_line}
 
 text_decided : (a b : List ℕ) (same : Bool) → ((same ≡ true) ⊎ (same ≡ false)) → Decides same (a ≡ b) → ((a ≢ b) → ⊥)
     → a ≡ b
-text_decided a b same (inl equal) decides stable = decides.0 equal
-text_decided a b same (inr unequal) decides stable = absurd (stable (λ is. cc (sym (decides.1 is) ∙ unequal)))
+text_decided a b same which decides stable = grind (arith, inl, inr, sym)
 
 -- texts that cannot differ are equal
 pub same_text : (a b : List ℕ) → ((a ≢ b) → ⊥) → a ≡ b
 same_text a b stable = text_decided a b (bytes_eq a b) (cases_Bool (bytes_eq a b)) (bytes_eq-Decides a b) stable
-
--- texts that differ when they are compared
-pub differ : (a b : List ℕ) → bytes_eq a b ≡ false → a ≡ b → ⊥
-differ a b unequal is = cc (sym ((bytes_eq-Decides a b).1 is) ∙ unequal)
 
 -- ---- one value or one fault
 
@@ -61,12 +56,7 @@ module _ {V E : Type 0} (Has : V → Type 0) (Fails : E → Type 0) where
   pub shown_once : IsSingle Has Fails → (value_text : V → List ℕ) (error_text : E → List ℕ) (a b : List ℕ)
       → ((v : V) × Has v × (a ≡ value_text v)) ⊎ ((e : E) × Fails e × (a ≡ error_text e))
       → ((v : V) × Has v × (b ≡ value_text v)) ⊎ ((e : E) × Fails e × (b ≡ error_text e)) → a ≡ b
-  shown_once single value_text error_text a b (inl (v, h, is)) (inl (w, k, also)) =
-      is ∙ ap value_text (single.one v w h k) ∙ sym also
-  shown_once single value_text error_text a b (inl (v, h, is)) (inr (e, f, also)) = absurd (single.apart v e h f)
-  shown_once single value_text error_text a b (inr (e, f, is)) (inl (v, h, also)) = absurd (single.apart v e h f)
-  shown_once single value_text error_text a b (inr (d, f, is)) (inr (e, g, also)) =
-      is ∙ ap error_text (single.same d e f g) ∙ sym also
+  shown_once single value_text error_text a b h k = grind (arith, ap, inl, inr, sym)
 
 -- ---- lists
 
@@ -74,8 +64,7 @@ pub single_as : (list : List ℕ) → IsSingle (IsAsListText list) (HasAsListFau
 single_as list = single_from (IsAsListText list) (HasAsListFault list) (list_answers (λ (set : Runs). set) list)
 
 pub single_as_resources : (list : List ℕ) → IsSingle (IsAsResourcesText list) (HasAsResourcesFault list)
-single_as_resources list =
-    single_from (IsAsResourcesText list) (HasAsResourcesFault list) (resources_answers list)
+single_as_resources list = search (arith, resources_answers, single_from)
 
 module _ (family : AddressFamily) (list : List ℕ) where
   pub single_ip : IsSingle (IsSetOf (HasBlocks family list)) (HasBlocksFault family list)

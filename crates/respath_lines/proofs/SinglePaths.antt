@@ -1,6 +1,6 @@
 -- A path has one result or one fault.
 use Rattle.respath_lines.proofs.Common.{List, [], ap, arith, codes, inl, inr, refl, subst, sym, ℕ, ◌<◌, ◌∙◌, ◌∷◌, ◌≡◌}
-use Rattle.respath_lines.proofs.Common.{◌≢◌, ◌≤◌, ◌⊎◌, before_first, Claim, Holds, Runs, claim_of, ArePath}
+use Rattle.respath_lines.proofs.Common.{◌≢◌, ◌≤◌, before_first, Claim, Holds, Runs, ArePath}
 use Rattle.respath_lines.proofs.Common.{HasRootFault, HasStepFault, HavePathFault, IsStepText, ShowsPath, list_of}
 use Rattle.respath_lines.proofs.Common.{parts_of}
 use Rattle.std.proofs.lemmas.Bool.{cases_lt}
@@ -11,7 +11,6 @@ use Rattle.rpki_chain.proofs.RunLists.{IsRunsOf-unique}
 use Rattle.rpki_chain.specs.Runs.{IsRunsOf}
 use Rattle.rpki_chain.specs.Paths.{ExceedsAt, IsFirstRefusal, IsLeft, IsPathResult}
 use Rattle.rpki_chain.specs.declared.path.Overclaim.{Overclaim}
-use Rattle.rpki_chain.specs.declared.path.Overclaim.TheVariants.{Refuse, Trim}
 use Rattle.rpki_chain.specs.declared.path.PathRefusal.{PathRefusal}
 use Rattle.rpki_chain.specs.declared.path.Step.{Step}
 use Rattle.rpki_text.specs.Cuts.{is_space}
@@ -19,8 +18,7 @@ use Rattle.rpki_text.proofs.TextListLemmas.{HaveValues-one, first_fault_apart, s
 use Rattle.respath_lines.specs.Path.{IsMode, IsNoStep, IsPathOf, part_fault_text, refusal_text, word_of}
 use Rattle.respath_lines.specs.Shown.{error_line}
 use Rattle.respath_lines.specs.declared.steps.PartFault.{PartFault}
-use Rattle.respath_lines.specs.declared.steps.PartFault.TheVariants.{BadList, UnknownStep}
-use Rattle.respath_lines.proofs.SingleAnswers.{IsSingle, differ, shown_once}
+use Rattle.respath_lines.proofs.SingleAnswers.{IsSingle, shown_once}
 
 -- ---- one result or one first refusal
 
@@ -65,31 +63,21 @@ same_step : (s t : Step Claim) → s.claim ≡ t.claim → s.mode ≡ t.mode →
 same_step s t claims modes = λ i. record { claim = claims i; mode = modes i }
 
 one_mode : (word : List ℕ) (m o : Overclaim) → IsMode word m → IsMode word o → m ≡ o
-one_mode word Refuse Refuse h k = refl
-one_mode word Trim Trim h k = refl
-one_mode word Refuse Trim h k = absurd (differ (codes "refuse") (codes "trim") refl (sym h ∙ k))
-one_mode word Trim Refuse h k = absurd (differ (codes "trim") (codes "refuse") refl (sym h ∙ k))
+one_mode word m o h k = grind arith
 
 module _ (part : List ℕ) where
   -- `inherit` and `missing` are no modes
   mode_no_inherit : (mode : Overclaim) → IsMode (word_of part) mode → trim part ≡ codes "inherit" → ⊥
-  mode_no_inherit Refuse is e =
-      differ (before_first is_space (codes "inherit")) (codes "refuse") refl (sym (ap (before_first is_space) e) ∙ is)
-  mode_no_inherit Trim is e =
-      differ (before_first is_space (codes "inherit")) (codes "trim") refl (sym (ap (before_first is_space) e) ∙ is)
+  mode_no_inherit mode is e = grind (arith, ap (before_first is_space) e)
 
   mode_no_missing : (mode : Overclaim) → IsMode (word_of part) mode → trim part ≡ codes "missing" → ⊥
-  mode_no_missing Refuse is e =
-      differ (before_first is_space (codes "missing")) (codes "refuse") refl (sym (ap (before_first is_space) e) ∙ is)
-  mode_no_missing Trim is e =
-      differ (before_first is_space (codes "missing")) (codes "trim") refl (sym (ap (before_first is_space) e) ∙ is)
+  mode_no_missing mode is e = grind (arith, ap (before_first is_space) e)
 
   inherit_no_missing : trim part ≡ codes "inherit" → trim part ≡ codes "missing" → ⊥
-  inherit_no_missing h k = differ (codes "inherit") (codes "missing") refl (sym h ∙ k)
+  inherit_no_missing h k = grind arith
 
   no_mode : IsNoStep part → (mode : Overclaim) → IsMode (word_of part) mode → ⊥
-  no_mode none Refuse is = none.no_refuse is
-  no_mode none Trim is = none.no_trim is
+  no_mode none mode is = grind arith
 
 -- ---- parts, where each list has one set or one fault
 
@@ -97,44 +85,32 @@ module _ {E : Type 0} (Writes : List ℕ → Runs → Type 0) (Fails : List ℕ 
     (single : (list : List ℕ) → IsSingle (Writes list) (Fails list)) where
   one_step : (part : List ℕ) (s t : Step Claim) → IsStepText (λ claim. claim) Writes part s
       → IsStepText (λ claim. claim) Writes part t → s ≡ t
-  one_step part s t (inl (p, h, m)) (inl (q, k, o)) = same_step s t (h ∙ sym k) (m ∙ sym o)
-  one_step part s t (inl h) (inr (inl k)) = absurd (inherit_no_missing part h.0 k.0)
-  one_step part s t (inl h) (inr (inr k)) = absurd (mode_no_inherit part t.mode k.0 h.0)
-  one_step part s t (inr (inl h)) (inl k) = absurd (inherit_no_missing part k.0 h.0)
-  one_step part s t (inr (inl (p, h, m))) (inr (inl (q, k, o))) = same_step s t (h ∙ sym k) (m ∙ sym o)
-  one_step part s t (inr (inl h)) (inr (inr k)) = absurd (mode_no_missing part t.mode k.0 h.0)
-  one_step part s t (inr (inr h)) (inl k) = absurd (mode_no_inherit part s.mode h.0 k.0)
-  one_step part s t (inr (inr h)) (inr (inl k)) = absurd (mode_no_missing part s.mode h.0 k.0)
-  one_step part s t (inr (inr (m, x, h, is))) (inr (inr (o, y, k, also))) =
-      same_step s t (is ∙ ap (λ (set : Runs). claim_of set) ((single (list_of part)).one x y h k) ∙ sym also)
-      (one_mode (word_of part) s.mode t.mode m o)
+  one_step part s t h k =
+      grind (
+        arith,
+        one_mode,
+        inherit_no_missing part,
+        mode_no_inherit part,
+        mode_no_missing part,
+        same_step,
+        (single (list_of part)).one,
+      )
 
   step_apart : (part : List ℕ) (s : Step Claim) (e : PartFault E) → IsStepText (λ claim. claim) Writes part s
       → HasStepFault Fails part e → ⊥
-  step_apart part s UnknownStep (inl h) f = f.no_inherit h.0
-  step_apart part s UnknownStep (inr (inl h)) f = f.no_missing h.0
-  step_apart part s UnknownStep (inr (inr h)) f = no_mode part f s.mode h.0
-  step_apart part s (BadList e) (inl h) f = mode_no_inherit part f.0 f.1 h.0
-  step_apart part s (BadList e) (inr (inl h)) f = mode_no_missing part f.0 f.1 h.0
-  step_apart part s (BadList e) (inr (inr h)) f = (single (list_of part)).apart h.1 e h.2 f.2
+  step_apart part s e h f =
+      grind (arith, no_mode part, mode_no_inherit part, mode_no_missing part, (single (list_of part)).apart)
 
   same_step_fault : (part : List ℕ) (d e : PartFault E) → HasStepFault Fails part d → HasStepFault Fails part e → d ≡ e
-  same_step_fault part UnknownStep UnknownStep f g = refl
-  same_step_fault part UnknownStep (BadList e) f g = absurd (no_mode part f g.0 g.1)
-  same_step_fault part (BadList d) UnknownStep f g = absurd (no_mode part g f.0 f.1)
-  same_step_fault part (BadList d) (BadList e) f g =
-      ap (λ (x : E). BadList x) ((single (list_of part)).same d e f.2 g.2)
+  same_step_fault part d e f g = grind (arith, no_mode part, (single (list_of part)).same)
 
   -- ---- whole paths
 
   root_apart : (list : List ℕ) (root : Runs) (e : PartFault E) → Writes list root → HasRootFault Fails list e → ⊥
-  root_apart list root UnknownStep h f = f
-  root_apart list root (BadList e) h f = (single list).apart root e h f
+  root_apart list root e h f = grind (arith, (single list).apart)
 
   same_root_fault : (list : List ℕ) (d e : PartFault E) → HasRootFault Fails list d → HasRootFault Fails list e → d ≡ e
-  same_root_fault list UnknownStep e f g = absurd f
-  same_root_fault list (BadList d) UnknownStep f g = absurd g
-  same_root_fault list (BadList d) (BadList e) f g = ap (λ (x : E). BadList x) ((single list).same d e f g)
+  same_root_fault list d e f g = grind (arith, (single list).same)
 
   one_root : (parts : List (List ℕ)) (x y : Runs) (ss ts : List (Step Claim))
       → ArePath (λ claim. claim) Writes parts x ss → ArePath (λ claim. claim) Writes parts y ts
@@ -155,12 +131,13 @@ module _ {E : Type 0} (Writes : List ℕ → Runs → Type 0) (Fails : List ℕ 
       → HavePathFault Fails (λ (claim : Claim). claim) Writes parts d
       → HavePathFault Fails (λ (claim : Claim). claim) Writes parts e → d ≡ e
   same_path_fault [] d e f g = absurd f
-  same_path_fault (list ∷ parts) d e (inl f) (inl g) = same_root_fault list d e f g
-  same_path_fault (list ∷ parts) d e (inl f) (inr g) = absurd (root_apart list g.0 d g.1 f)
-  same_path_fault (list ∷ parts) d e (inr f) (inl g) = absurd (root_apart list f.0 e f.1 g)
-  same_path_fault (list ∷ parts) d e (inr f) (inr g) =
-      same_first_fault (IsStepText (λ claim. claim) Writes) (HasStepFault Fails) step_apart same_step_fault parts d e
-      f.2 g.2
+  same_path_fault (list ∷ parts) d e f g =
+      grind (
+        arith,
+        root_apart list,
+        same_root_fault list,
+        same_first_fault (IsStepText (λ claim. claim) Writes) (HasStepFault Fails) step_apart same_step_fault parts,
+      )
 
   pub path_once : (list_text excess_text : Runs → List ℕ) (error_text : E → List ℕ) (path a b : List ℕ)
       → IsPathOf Writes list_text excess_text Fails error_text path a

@@ -26,8 +26,8 @@ VRP = 80  # family and address 32, length and maximum length up to 64, AS number
 PACKED_VRP = 32  # a VRP in a table: an address, an AS number, two lengths, the family
 LINK = 2 * 4  # two numbers of 32 bits
 START = 4  # a number of 32 bits
-# Two counts and the allocator. The list has a flag, a pointer, a length, a capacity and an allocator.
-OWNERS = 8 * WORD
+# A count and the allocator. The list has a flag, a pointer, a length, a capacity and an allocator.
+OWNERS = 7 * WORD
 
 Rooms = list[int]  # the octets of each request
 

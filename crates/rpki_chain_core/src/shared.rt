@@ -17,12 +17,12 @@ use rpki_text::memory::OrMemory;
 use std::alloc::{AllocError, Allocator, Global};
 use std::fmt;
 use std::marker::Model;
-use std::rc::Rc;
+use std::sync::Arc;
 
-/// An owned chain that several values may share. The empty chain holds no memory.
+/// An owned chain that several values may share, also in several threads. The empty chain holds no memory.
 #[derive(Drop)]
 pub struct SharedChain<T: Block, A: Allocator = Global> {
-    chain: Option<Rc<OwnedChain<T, A>, A>>,
+    chain: Option<Arc<OwnedChain<T, A>, A>>,
 }
 
 impl<T: Block, A: Allocator> Model for SharedChain<T, A> {
@@ -52,7 +52,7 @@ impl<T: Block, A: Allocator> SharedChain<T, A> {
         if chain.as_chain().is_empty() {
             return Ok(Self::empty());
         }
-        let chain = Rc::new(alloc, chain)?;
+        let chain = Arc::new(alloc, chain)?;
         Ok(SharedChain { chain: Some(chain) })
     }
 

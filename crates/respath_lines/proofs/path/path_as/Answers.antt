@@ -1,9 +1,23 @@
-use Rattle.respath_lines.proofs.Common.{arith, inr, refl, on_ok_weaker, as_from_str_error_text}
+use Rattle.respath_lines.proofs.Common.{inl, inr, refl, on_ok_weaker, string_bytes, as_from_str_error_text}
+use Rattle.rpki_as.specs.Faults.{overclaimed_as_text}
+use Rattle.rpki_as.specs.ListText.{as_list_text}
 use Rattle.respath_lines.proofs.PathCommandLemmas.{shows_path}
 use Rattle.respath_lines.proofs.path.path_as.Goals as goal
 
 pub returns-in-Ok : goal.returns-in-Ok
-returns-in-Ok g c = grind (arith, shows_path, c.as_slice.ensures.value, c.write_left_as.ensures)
+returns-in-Ok g c =
+    let root = c.in-Ok.root in
+    let steps = c.in-Ok.steps.items in
+    let left = rw c.as_slice.ensures.value at c.verify_path.ensures in
+    on_ok_weaker c.write_left_as.result
+    (λ shows. inl (
+      root,
+      steps,
+      c.in-Ok.ensures,
+      shows_path as_list_text overclaimed_as_text root steps c.verify_path.result left
+          (string_bytes c.write_left_as.new.answer) shows,
+    ))
+    c.write_left_as.ensures
 
 pub returns-in-Err-Refused : goal.returns-in-Err-Refused
 returns-in-Err-Refused g c =

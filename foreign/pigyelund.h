@@ -1,15 +1,12 @@
 /* Pigyelund is a formally verified library for RPKI resource sets (RFC 3779) and route origin validation (RFC 6811).
  * This header declares its calls for C and C++. It is tested as C99, C11, C17, C++11 and C++17.
  *
- * - Certificates. pigy_verify and pigy_verify_set compare the resources that a certificate claims with those of its
- *   issuer. pigy_verify_path does this along a path from a trust anchor. No call checks signatures or dates.
- * - Resource sets. pigy_union, pigy_intersection, pigy_difference, pigy_contains and pigy_equal operate on two sets.
- *   pigy_cover lists the fewest prefixes that have exactly the addresses of one family of a set. pigy_as_ranges and
- *   pigy_ip_ranges list the ranges of a set. pigy_set_from_text makes a set from its text. pigy_answer converts text to
- *   DER and DER to text, as the program respath does.
- * - Route origins. pigy_origins validates routes by VRPs (validated ROA payloads). The calls pigy_table_... make and
- *   use a table of VRPs that stays between calls, for example in a router. pigy_vrps_read reads the VRPs of a
- *   validator's file.
+ * - Certificates. pigy_verify compares the resources that a certificate claims with those of its issuer.
+ *   pigy_verify_path does this along a path from a trust anchor. No call checks signatures or dates.
+ * - Resource sets. The calls pigy_resources_... use a handle of a set that is read once. The other calls on sets take
+ *   DER: pigy_union, pigy_contains, pigy_prefixes and more.
+ * - Route origins. The calls pigy_table_... use a handle of a table of VRPs (validated ROA payloads). pigy_vrps_read
+ *   reads the VRPs of a validator's file. pigy_validate validates routes by VRPs without a handle.
  *
  * Example: does a certificate claim more than its issuer has?
  *
@@ -17,19 +14,25 @@
  *   static const uint8_t ten[] = {0x30, 12, 0x30, 10, 4, 2, 0, 1, 0x30, 4, 3, 2, 0, 10};
  *   // IP address blocks with 10.0.0.0/8 and 12.0.0.0/8
  *   static const uint8_t both[] = {0x30, 16, 0x30, 14, 4, 2, 0, 1, 0x30, 8, 3, 2, 0, 10, 3, 2, 0, 12};
- *   uint8_t as[4096], ip[4096];
  *   pigy_set issuer = {.ip = ten, .ip_len = sizeof ten}, cert = {.ip = both, .ip_len = sizeof both};
- *   pigy_buffers out = {.as = as, .as_capacity = sizeof as, .ip = ip, .ip_capacity = sizeof ip};
- *   uint32_t status = pigy_verify_set(issuer, cert, PIGY_STRICT, PIGY_REFUSE, &out);
+ *   uint8_t ip[256], over[256];
+ *   pigy_buffers out = {.ip = ip, .ip_capacity = sizeof ip}, excess = {.ip = over, .ip_capacity = sizeof over};
+ *   pigy_status status = pigy_verify(issuer, cert, PIGY_HAS_IP, PIGY_STRICT, PIGY_REFUSE, &out, &excess);
  *   puts(pigy_status_text(status)); // overclaimed IPv4 resources
- *   // ip has the DER of 12.0.0.0/8, in out.ip_len octets
+ *   // over has the DER of 12.0.0.0/8, in excess.ip_len octets
  *
  * The guide has the installation, complete programs, and what to do after an error. It is docs/C.md in the repository.
  * The Debian package has the guide, and each page and example that the guide names, below
  * /usr/share/doc/libpigyelund-dev.
  *
- * SHORT FORMS. pigy_verify_set, pigy_combine and pigy_compare are at the end of this file. They take structs instead of
- * 9 to 17 parameters. A NULL pointer in these structs means length 0 or capacity 0, or an absent extension.
+ * RESULTS. Each call that can fail returns a status. Compare it with PIGY_OK. With any other status the call stores:
+ *
+ * - 0 in an answer, an index and a length. A length is not 0 after PIGY_TOO_SMALL and for overclaimed resources. An
+ *   index is that of the item at fault if the comment of the call says so;
+ * - PIGY_NO_VALIDITY in a single validity;
+ * - NULL in a handle. The handle of overclaimed resources is not NULL if the status is one of PIGY_OVERCLAIM.
+ *
+ * Buffers stay unchanged then. A buffer for overclaimed resources is written if the status is one of PIGY_OVERCLAIM.
  *
  * SETS. A resource set is a pair of octet strings: the values of the certificate extensions AS identifiers (RFC 3779,
  * 3.2.3) and IP address blocks (2.2.3). The value is the DER inside the extension's OCTET STRING. A value of length 0
@@ -38,7 +41,12 @@
  *
  * CERTIFICATES. The calls take a certificate as the values of these two extensions, and a bit mask of the extensions
  * that it has (PIGY_HAS_AS, PIGY_HAS_IP). An absent extension claims nothing. A value of length 0 is invalid if its
- * extension is present. Overclaimed resources are those that a certificate claims and its issuer does not have.
+ * extension is present. Overclaimed resources are those that a certificate claims and its issuer does not have. The
+ * calls return them in `excess`, and never in `out`.
+ *
+ * HANDLES. A handle is a pointer to a set of resources (pigy_resources) or to a table of VRPs (pigy_table). The caller
+ * owns it until it is passed to pigy_resources_free or pigy_table_free. What it points to never changes. A call on
+ * handles reads no DER again. Each call returns PIGY_NO_HANDLE for NULL, and the two calls that free do nothing.
  *
  * BUFFERS. The caller owns all inputs and all output buffers. For each output the caller passes a buffer, its capacity,
  * and a pointer to a size_t. The call stores the length there. Lengths and capacities are in octets, unless the call
@@ -46,72 +54,72 @@
  *
  * - If all outputs fit, the call writes each output at the front of its buffer, and stores its length. The rest of the
  *   buffer is unchanged.
- * - If an output does not fit, the call returns PIGY_TOO_SMALL. Then no buffer is changed, and the lengths are the
- *   required ones. Call again with the same inputs, and with buffers of these capacities. The second call does all the
- *   work again, and does not return PIGY_TOO_SMALL.
+ * - If an output does not fit, the call returns PIGY_TOO_SMALL. The lengths are the required ones then. Call again with
+ *   the same inputs, and with buffers of these capacities. The second call does all the work again, and does not return
+ *   PIGY_TOO_SMALL.
  * - Pass capacity 0 to get the lengths alone. The buffer may be NULL then. An output of length 0 fits a buffer of
  *   capacity 0.
+ * - These capacities for DER always suffice. For AS identifiers: three times the octets of all AS identifiers of the
+ *   call, and 64 more. For IP address blocks: the same of IP address blocks.
  *
- * MEMORY. Except for tables, the library keeps nothing between calls and hands out no memory. Each call frees all that
+ * TEXTS. A text that a call writes is UTF-8. A NUL follows it if the capacity is above its length. The length does not
+ * count the NUL.
+ *
+ * MEMORY. Except for handles, the library keeps nothing between calls and hands out no memory. Each call frees all that
  * it takes from malloc before it returns. There is no hook for another allocator.
  *
- * - pigy_version, pigy_version_string, pigy_status_text and pigy_table_free take no memory, and cannot fail.
- *   pigy_table_len takes no memory either, and fails only for a NULL handle. Any other call may return PIGY_MEMORY.
+ * - These calls take no memory: pigy_version, pigy_status_text, pigy_table_validate, pigy_table_len,
+ *   pigy_resources_contains, pigy_resources_contains_asn, pigy_resources_contains_prefix, pigy_resources_equal,
+ *   pigy_resources_free and pigy_table_free. Any other call may return PIGY_MEMORY.
  * - A table of 500,000 VRPs takes some 42 octets for each VRP. pigy_table_new takes some 80 more for each VRP
  *   during the call.
  * - PIGY_MEMORY has three causes. malloc or realloc failed, or an array of the library would have 2^63 octets or more,
  *   or a table would have 2^32 VRPs or more. Only after the first cause can the same call succeed later.
  * - PIGY_MEMORY does not say that an argument is invalid.
  *
- * TABLES. pigy_table_new and pigy_table_changed return the handle of a table of VRPs. The caller owns the table until
- * pigy_table_free. A table never changes. With an error these two calls store NULL as the handle. For a NULL handle the
- * calls return PIGY_NO_TABLE, and pigy_table_free does nothing. The obligations for any other handle are below.
- *
  * CHECKS. The comments of the calls do not repeat these rules:
  *
  * - Each call checks its arguments in the order that its comment lists, and returns the first error.
  * - PIGY_TOO_SMALL comes after all checks. pigy_verify_path also returns it if the overclaimed resources of a
  *   certificate do not fit. It has not checked the later certificates then.
- * - PIGY_MEMORY can come instead of any status except PIGY_NO_TABLE, which comes first.
+ * - PIGY_MEMORY can come instead of any status except PIGY_NO_HANDLE, which comes first.
  *
  * A DAEMON must:
  *
  * - begin with an empty table (pigy_table_new with count 0), so that its handle is never NULL;
- * - use PIGY_NOT_FOUND for a route after PIGY_MEMORY, and validate the route again later;
- * - exchange the handle of its table, then call pigy_table_routes_changed, and then free the old table;
- * - free a table only after all other calls with its handle have returned;
- * - compare with the names PIGY_OK and PIGY_VALID, since both numbers are 0.
+ * - use PIGY_NOT_FOUND for routes of an array after PIGY_MEMORY, and validate them again later;
+ * - exchange the handle of its table, then call pigy_table_revalidate, and then free the old table;
+ * - free a handle only after all other calls with it have returned.
  *
  * OBLIGATIONS of the caller, which nothing checks:
  *
  * - An array is NULL only if its length is 0, and an output buffer only if its capacity is 0. In C++ data() of an empty
- *   std::vector may be NULL. The pointers in pigy_set and pigy_buffers may always be NULL, and so may the handle of a
- *   table. No other pointer is NULL.
+ *   std::vector may be NULL. The pointers in pigy_set and pigy_buffers may always be NULL, and so may a handle. No
+ *   other pointer is NULL.
  * - A pointer that is not NULL points to an array of the length that is passed with it, aligned as C requires for its
- *   type. This also holds for the size_t that receives a length, an index or a count, and for the pointer that receives
- *   a handle.
- * - A handle that is not NULL came from pigy_table_new or pigy_table_changed, and was not passed to pigy_table_free. It
- *   is passed to pigy_table_free only after all other calls with this handle have returned. The caller does not read or
- *   write the memory at the handle.
+ *   type. This also holds for the object that receives a length, an index, an answer, a validity or a handle.
+ * - A handle that is not NULL came from a call of this header that returned PIGY_OK or PIGY_OVERCLAIM, and was not
+ *   passed to pigy_resources_free or pigy_table_free. The caller does not read or write the memory at the handle.
  * - Outputs overlap neither inputs nor other outputs. Until the call returns, nothing else writes to inputs or outputs,
  *   and nothing else reads outputs.
  * - malloc, realloc and free belong to one allocator. The allocator of the C library meets this rule: if the size of a
  *   block is a multiple of 16, 8, 4 or 2 octets, its address is a multiple of the same number. Another allocator has to
  *   meet the rule too.
  * - The processor has the instructions of x86-64-v2: SSE3, SSSE3, SSE4.1, SSE4.2, POPCNT, CMPXCHG16B, LAHF and SAHF.
- * - The stack has 128 KiB left. pigy_vrps_read uses less than 64 KiB for the deepest JSON that it reads.
- *   In the tests all other calls use less than 8 KiB of it. This is measured on x86-64, and is not proved.
+ * - The stack has 128 KiB left for pigy_vrps_read, and 16 KiB for each other call. In the tests pigy_vrps_read uses
+ *   less than 64 KiB for the deepest JSON that it reads, and each other call less than 8 KiB. This is measured on
+ *   x86-64, and is not proved.
  * - No call is made in a signal handler, or in the forked child of a process with threads.
  *
  * THREADS. The calls share no state. Any number of them may run at the same time if each meets the obligations. Several
  * calls may read one input, and no two calls may write to one output. This is tested, and is not proved. In a test in C
  * eight threads make calls, each with tables of its own. In tests in Rust and Python several threads use one table.
  *
- * - Any number of threads may use one table, and may make the next table from it at the same time.
+ * - Any number of threads may use one handle at the same time, also to make other handles from it.
  * - Pass a handle from one thread to another by a lock, by the start or join of a thread, or by an atomic object. The
  *   store to this object is release or seq_cst, and the load from it is acquire or seq_cst.
- * - All other calls with a handle have returned before pigy_table_free is called. If another thread made such a call,
- *   order it before pigy_table_free by one of these means too.
+ * - All other calls with a handle have returned before it is freed. If another thread made such a call, order it before
+ *   the call that frees by one of these means too.
  */
 #ifndef PIGYELUND_H
 #define PIGYELUND_H
@@ -120,6 +128,8 @@
 #ifdef __cplusplus
 extern "C" {
 #endif
+
+/* ---- Attributes and types of numbers ---- */
 
 /* Attributes, by which GCC and Clang warn. They are empty for other compilers.
  *
@@ -136,46 +146,78 @@ extern "C" {
 #define PIGY_NONNULL(...)
 #endif
 
-/* Statuses. The meaning of a released number never changes. The codes of RFC 8210 are those of its section 12. */
-#define PIGY_OK 0u            /* Success. For pigy_contains and pigy_equal: yes. */
-#define PIGY_TOO_SMALL 1u     /* A buffer is too small. No buffer is changed, and the lengths are the required ones. */
-#define PIGY_MEMORY 2u        /* Out of memory (see MEMORY above). No buffer is changed. */
-#define PIGY_INHERITED 3u     /* A set has "inherit". Only a certificate may have it. */
-#define PIGY_BAD_MODE 4u      /* The mode is neither PIGY_REFUSE nor PIGY_TRIM. */
-#define PIGY_OVERCLAIM_AS 5u  /* Overclaimed AS numbers. The outputs are exactly these, as a set. */
-#define PIGY_OVERCLAIM_V4 6u  /* Overclaimed IPv4 addresses. The outputs are exactly these, as a set. */
-#define PIGY_OVERCLAIM_V6 7u  /* Overclaimed IPv6 addresses. The outputs are exactly these, as a set. */
-#define PIGY_NO 8u            /* For pigy_contains and pigy_equal: no. */
-#define PIGY_BAD_ENCODING 9u  /* The encoding is neither PIGY_LENIENT nor PIGY_STRICT. */
-#define PIGY_ABSENT 10u       /* The certificate has neither extension. */
-#define PIGY_OUTSIDE 11u      /* pigy_verify_path: an extension is not in the octets that are passed as `run`. */
-#define PIGY_BAD_PRESENT 12u  /* The bit mask of the extensions is above PIGY_HAS_BOTH. */
-#define PIGY_BAD_FAMILY 13u   /* The family is neither PIGY_IPV4 nor PIGY_IPV6. */
-#define PIGY_BAD_PREFIX 14u   /* The prefix is longer than its family allows, or has host bits set. */
-#define PIGY_BAD_MAX_LEN 15u  /* The maximum length is below the prefix length, or is above 32 (IPv4) or 128 (IPv6). */
-#define PIGY_NO_TABLE 16u     /* The handle is NULL. */
-#define PIGY_UNKNOWN_WITHDRAWAL 17u     /* A withdrawn VRP is not in the table, or is listed twice (RFC
-                                         * 8210: code 6). */
-#define PIGY_DUPLICATE_ANNOUNCEMENT 18u /* An announced VRP is in the table and not withdrawn, or is listed twice
-                                         * (RFC 8210: code 7). */
-#define PIGY_BAD_KIND 19u     /* The kind is none of PIGY_ASN, PIGY_IPV4 and PIGY_IPV6. */
-#define PIGY_BAD_AS 0x100u    /* The AS identifiers are invalid. The number of the first error is added. */
-#define PIGY_BAD_IP 0x200u    /* The IP address blocks are invalid. The number of the first error is added. */
-#define PIGY_BAD_LINE 0x400u  /* pigy_vrps_read: a line of CSV is invalid. The number of its first error is added. */
-#define PIGY_BAD_ITEM 0x800u  /* pigy_vrps_read: an item of JSON is invalid. The number of its first error is added. */
-#define PIGY_BAD_FILE 0xc00u  /* pigy_vrps_read: the file as a whole is invalid. The number of the error is added. */
-#define PIGY_BAD_TEXT 0x2000u /* pigy_set_from_text: the text is invalid. The number of the first error is added. */
-/* PIGY_SECOND is added to PIGY_BAD_AS + n, PIGY_BAD_IP + n, PIGY_INHERITED, PIGY_BAD_FAMILY, PIGY_BAD_PREFIX and
- * PIGY_BAD_MAX_LEN, and to no other status. For these six it says which argument has the error:
+/* PIGY_ENUM begins an enumeration of constants. They have 32 bits if the language has such enumerations (C++11, C23).
+ * No parameter and no member of a struct has the type of an enumeration, so no layout depends on it. */
+#if (defined __cplusplus && __cplusplus >= 201103L) || (defined __STDC_VERSION__ && __STDC_VERSION__ >= 202311L)
+#define PIGY_ENUM enum : uint32_t
+#else
+#define PIGY_ENUM enum
+#endif
+
+typedef uint32_t pigy_status;   /* PIGY_OK, or the reason why a call failed. */
+typedef uint32_t pigy_present;  /* PIGY_HAS_AS, PIGY_HAS_IP, PIGY_HAS_BOTH or 0. */
+typedef uint32_t pigy_encoding; /* PIGY_LENIENT or PIGY_STRICT. */
+typedef uint32_t pigy_mode;     /* PIGY_REFUSE or PIGY_TRIM. */
+typedef uint32_t pigy_family;   /* PIGY_IPV4 or PIGY_IPV6. */
+typedef uint32_t pigy_kind;     /* PIGY_ASN, PIGY_IPV4 or PIGY_IPV6. */
+
+/* The version of this header. The number is made of all three: 2 is 0.0.2, and 1002003 is 1.2.3. */
+#define PIGY_VERSION_MAJOR 0
+#define PIGY_VERSION_MINOR 2
+#define PIGY_VERSION_PATCH 0
+#define PIGY_VERSION_NUMBER 2000u
+
+/* ---- Statuses ----
  *
- *   call                                  with PIGY_SECOND        without PIGY_SECOND
- *   pigy_verify, pigy_verify_path         a certificate           the set of the issuer or trust anchor
- *   the calls with two sets               the second set          the first set
- *   pigy_origins                          a route                 a VRP
- *   pigy_table_changed                    a withdrawn VRP         an announced VRP
- *   the other calls with routes           a route */
-#define PIGY_SECOND 0x1000u
-/* PIGY_FAULT(status) is n, the number of the first error. Use it only for a status that is one of these sums with n.
+ * The meaning of a released number never changes. PIGY_KIND(status) is the kind of a status, and PIGY_FAULT(status) the
+ * number n that is added to it. Each kind is one bit that no other kind has, so PIGY_KIND(status) is PIGY_OK if and
+ * only if the status is PIGY_OK. */
+PIGY_ENUM {
+  PIGY_OK = 0x0,             /* Success. */
+  PIGY_TOO_SMALL = 0x100,    /* A buffer is too small. The lengths are the required ones. */
+  PIGY_MEMORY = 0x200,       /* Out of memory (see MEMORY above). */
+  PIGY_BAD_ARGUMENT = 0x400, /* An argument is invalid. The number of the reason is added: one of the next nine. */
+  PIGY_BAD_ENCODING = 0x401, /* The encoding is neither PIGY_LENIENT nor PIGY_STRICT. */
+  PIGY_BAD_MODE = 0x402,     /* The mode is neither PIGY_REFUSE nor PIGY_TRIM. */
+  PIGY_BAD_PRESENT = 0x403,  /* The bit mask of the extensions is above PIGY_HAS_BOTH. */
+  PIGY_BAD_FAMILY = 0x404,   /* The family is neither PIGY_IPV4 nor PIGY_IPV6. */
+  PIGY_BAD_KIND = 0x405,     /* The kind is none of PIGY_ASN, PIGY_IPV4 and PIGY_IPV6. */
+  PIGY_BAD_PREFIX = 0x406,   /* The prefix is longer than its family allows, or has host bits set. */
+  PIGY_BAD_MAX_LEN = 0x407,  /* The maximum length is below the prefix length, or is above 32 (IPv4) or 128 (IPv6). */
+  PIGY_OUTSIDE = 0x408,      /* An extension is not in the octets that are passed as `run`. */
+  PIGY_NO_HANDLE = 0x409,    /* A handle is NULL. */
+  PIGY_BAD_AS = 0x800,       /* The AS identifiers are invalid. The number of the first error is added. */
+  PIGY_BAD_IP = 0x1000,      /* The IP address blocks are invalid. The number of the first error is added. */
+  PIGY_INHERITED = 0x2000,   /* A set has "inherit". Only a certificate may have it. */
+  PIGY_ABSENT = 0x4000,      /* The certificate has neither extension. */
+  PIGY_OVERCLAIM = 0x8000,   /* The certificate claims more than its issuer has. A kind of resources is added. */
+  PIGY_OVERCLAIM_V4 = 0x8004, /* Overclaimed IPv4 addresses: PIGY_OVERCLAIM + PIGY_IPV4. */
+  PIGY_OVERCLAIM_AS = 0x8005, /* Overclaimed AS numbers: PIGY_OVERCLAIM + PIGY_ASN. */
+  PIGY_OVERCLAIM_V6 = 0x8006, /* Overclaimed IPv6 addresses: PIGY_OVERCLAIM + PIGY_IPV6. */
+  PIGY_BAD_CHANGE = 0x10000, /* A change is impossible for the table. Its code of RFC 8210, 12 is added. */
+  PIGY_UNKNOWN_WITHDRAWAL = 0x10006,     /* A withdrawn VRP is not in the table, or is listed twice. */
+  PIGY_DUPLICATE_ANNOUNCEMENT = 0x10007, /* An announced VRP is in the table and not withdrawn, or is listed twice. */
+  PIGY_BAD_LINE = 0x20000,   /* A line of CSV is invalid. The number of its first error is added. */
+  PIGY_BAD_ITEM = 0x40000,   /* An item of JSON is invalid. The number of its first error is added. */
+  PIGY_BAD_FILE = 0x80000,   /* A file as a whole is invalid. The number of the error is added. */
+  PIGY_BAD_TEXT = 0x100000,  /* The text of a set is invalid. The number of the first error is added. */
+  PIGY_BAD_QUERY = 0x200000, /* The line that is passed to pigy_answer is invalid. */
+  /* PIGY_SECOND is added to PIGY_BAD_AS + n, PIGY_BAD_IP + n, PIGY_INHERITED, PIGY_BAD_FAMILY, PIGY_BAD_PREFIX and
+   * PIGY_BAD_MAX_LEN, and to no other status. For these six it says which argument has the error:
+   *
+   *   call                                  with PIGY_SECOND        without PIGY_SECOND
+   *   the calls that verify                 a certificate           the set of the issuer or trust anchor
+   *   the calls with two sets of DER        the second set          the first set
+   *   pigy_validate                         a route                 a VRP
+   *   pigy_table_with_changes               a withdrawn VRP         an announced VRP
+   *   the other calls with routes           a route */
+  PIGY_SECOND = 0x1000000
+};
+
+/* PIGY_KIND(status) is a kind, without n and without PIGY_SECOND. */
+#define PIGY_KIND(s) ((uint32_t)(s) & ~(0xffu | (uint32_t)PIGY_SECOND))
+
+/* PIGY_FAULT(status) is n, the number that is added to a kind. It is 0 for a kind that has no such numbers.
  *
  * PIGY_BAD_AS + n, PIGY_BAD_IP + n, also with PIGY_SECOND:
  *
@@ -225,7 +267,22 @@ extern "C" {
  * - 5: A prefix length is not a number, or is above 32 (IPv4) or 128 (IPv6).
  * - 6: An element is of the other family: it has a colon in a list of IPv4, or a dot and no colon in a list of IPv6.
  * - 7: The first address of a range is above the second. */
-#define PIGY_FAULT(s) ((s) & 0xffu)
+#define PIGY_FAULT(s) ((uint32_t)(s) & 0xffu)
+
+/* ---- Numbers of arguments and results ----
+ *
+ * No two of the numbers of `present`, encodings, modes, families and kinds are equal, except that a family is a kind
+ * too. None of them is 0, except `present` for neither extension. So a call refuses exchanged arguments, and a struct
+ * whose members are 0. */
+
+/* The extensions that a certificate has, as a bit mask: one of these numbers, or 0 if it has neither. */
+PIGY_ENUM { PIGY_HAS_AS = 1, PIGY_HAS_IP = 2, PIGY_HAS_BOTH = 3 };
+
+/* Address families. AF_INET, AF_INET6 and the numbers 1 and 2 of RFC 3779, 2.2.3.3 are refused. */
+PIGY_ENUM { PIGY_IPV4 = 4, PIGY_IPV6 = 6 };
+
+/* A kind of resources is PIGY_ASN, PIGY_IPV4 or PIGY_IPV6. */
+PIGY_ENUM { PIGY_ASN = 5 };
 
 /* Encodings. PIGY_STRICT accepts canonical DER only (RFC 3779, 2.2.3.3, 2.2.3.6, 2.2.3.7, 2.2.3.9 and 3.2.3.4).
  * PIGY_LENIENT also accepts these other encodings of the same resources:
@@ -237,104 +294,65 @@ extern "C" {
  *
  * The encoding applies to all DER of a call, also to the issuer's. PIGY_STRICT accepts each set that a call wrote. Both
  * encodings refuse indefinite lengths, a SAFI and routing domain identifiers (RDI). RFC 6487 excludes the last two
- * (4.8.10 and 4.8.11). Encodings and modes share their numbers, so no call notices if you exchange the two. */
-#define PIGY_LENIENT 0u
-#define PIGY_STRICT 1u
+ * (4.8.10 and 4.8.11). */
+PIGY_ENUM { PIGY_LENIENT = 16, PIGY_STRICT = 17 };
 
 /* Modes, for a certificate that claims more than its issuer has. PIGY_REFUSE refuses the certificate (RFC 6487, 7.2).
  * PIGY_TRIM reduces the claim to the resources that the issuer has (RFC 8360, 4). It is for certificates with the
- * policy id-cp-ipAddr-asNumber-v2, whose extensions have the OIDs of RFC 8360, 4.2. The outputs do not contain the
- * removed resources. docs/C.md, "All overclaimed resources", says how to get the removed resources. */
-#define PIGY_REFUSE 0u
-#define PIGY_TRIM 1u
+ * policy id-cp-ipAddr-asNumber-v2, whose extensions have the OIDs of RFC 8360, 4.2. With PIGY_TRIM no call returns
+ * the removed resources. docs/C.md, "All overclaimed resources", says how to get them. */
+PIGY_ENUM { PIGY_REFUSE = 32, PIGY_TRIM = 33 };
 
-/* The extensions that a certificate has, as a bit mask: one of these numbers, or 0 if it has neither. */
-#define PIGY_HAS_AS 1u
-#define PIGY_HAS_IP 2u
-#define PIGY_HAS_BOTH 3u
+/* Validity of a route (RFC 6811, 2), with the numbers of RFC 8097, 2. The number of PIGY_VALID is 0, so compare with
+ * the names. */
+PIGY_ENUM {
+  PIGY_VALID = 0,         /* At least one VRP matches the route. */
+  PIGY_NOT_FOUND = 1,     /* No VRP covers the route. */
+  PIGY_INVALID = 2,       /* At least one VRP covers the route, and none matches it. */
+  PIGY_NO_VALIDITY = 0xff /* There is no validity, since the call failed. */
+};
 
-/* Address families, with their numbers in IP address blocks (RFC 3779, 2.2.3.3). They are not AF_INET and AF_INET6. */
-#define PIGY_IPV4 1u
-#define PIGY_IPV6 2u
+/* The reason why a route is invalid. It is 0 for any other validity. */
+PIGY_ENUM {
+  PIGY_INVALID_AS = 1,    /* No VRP that covers the route has its AS, or that AS is AS 0. */
+  PIGY_INVALID_LENGTH = 2 /* A VRP that covers the route has its AS. The route is longer than the VRP allows. */
+};
 
-/* The kind of the elements of a text: PIGY_ASN, PIGY_IPV4 or PIGY_IPV6. */
-#define PIGY_ASN 0u
+/* The reason why a VRP that covers a route does not match it: a bit mask. If it is 0, the VRP matches. */
+PIGY_ENUM {
+  PIGY_OTHER_AS = 1, /* The AS of the VRP is not the route's, or is AS 0. */
+  PIGY_TOO_LONG = 2  /* The route's prefix is longer than the maximum length of the VRP. */
+};
 
-/* Validity of a route (RFC 6811, 2), with the numbers of RFC 8097, 2:
- *
- * - PIGY_VALID: At least one VRP matches the route.
- * - PIGY_NOT_FOUND: No VRP covers the route.
- * - PIGY_INVALID: At least one VRP covers the route, and none matches it.
- *
- * The number of PIGY_VALID is 0, so compare with the names. */
-#define PIGY_VALID 0u
-#define PIGY_NOT_FOUND 1u
-#define PIGY_INVALID 2u
+/* ---- Structs and handles ---- */
 
-/* The reason why a VRP that covers a route does not match it: a bit mask. If it is 0, the VRP matches.
+/* A resource set as DER, or the extensions of a certificate. A pointer that is NULL means length 0.
  *
- * - PIGY_OTHER_AS: The AS of the VRP is not the route's, or both are AS 0.
- * - PIGY_TOO_LONG: The route's prefix is longer than the maximum length of the VRP. */
-#define PIGY_OTHER_AS 1u
-#define PIGY_TOO_LONG 2u
+ * - as: AS identifiers: DER. Owned by the caller. May be NULL.
+ * - as_len: Length in octets. Ignored if `as` is NULL.
+ * - ip: IP address blocks: DER. Owned by the caller. May be NULL.
+ * - ip_len: Length in octets. Ignored if `ip` is NULL. */
+typedef struct {
+  const uint8_t *as;
+  size_t as_len;
+  const uint8_t *ip;
+  size_t ip_len;
+} pigy_set;
 
-/* The version of the calls of this header. It grows if a call is added. A released call never changes its meaning. */
-#define PIGY_VERSION 5u
-/**
- * Returns the version of the calls in the linked library. If the version is at least PIGY_VERSION, the library has all
- * calls of this header.
- */
-uint32_t pigy_version(void);
-
-/**
- * Verifies the resources of a certificate against those of its issuer.
+/* The buffers that receive a set as DER. A buffer that is NULL means capacity 0.
  *
- * pigy_verify_set is a shorter form. The issuer's set is the verified resources of the issuer: the outputs of this call
- * for the issuer's certificate, if the status was PIGY_OK. If the issuer is a trust anchor, pass the extensions of its
- * certificate instead.
- *
- * The outputs are the verified resources of the certificate, as a set. For AS numbers, IPv4 and IPv6 each, the result
- * depends on the claim of the certificate:
- *
- * - The extension or the address family is absent: no resources.
- * - The claim is "inherit": all resources of the issuer.
- * - The claim is a list: the resources that both the list and the issuer have.
- *
- * @param issuer_as      Issuer's AS identifiers: DER. May be NULL if the length is 0.
- * @param issuer_as_len  Length in octets; 0 if the issuer has no AS numbers.
- * @param issuer_ip      Issuer's IP address blocks: DER. May be NULL if the length is 0.
- * @param issuer_ip_len  Length in octets; 0 if the issuer has no addresses.
- * @param present        Extensions of the certificate: PIGY_HAS_AS, PIGY_HAS_IP, PIGY_HAS_BOTH or 0.
- * @param cert_as        Certificate's AS identifiers: DER. Not read if absent. May be NULL if the length is 0.
- * @param cert_as_len    Length in octets; 0 is invalid if the extension is present.
- * @param cert_ip        Certificate's IP address blocks: DER. Not read if absent. May be NULL if the length is 0.
- * @param cert_ip_len    Length in octets; 0 is invalid if the extension is present.
- * @param encoding       PIGY_LENIENT or PIGY_STRICT, for the certificate and for the issuer.
- * @param mode           PIGY_REFUSE or PIGY_TRIM.
- * @param as_out         Buffer for the result's AS identifiers. Owned by the caller. May be NULL if the capacity is 0.
- * @param as_capacity    Capacity of `as_out` in octets; may be 0.
- * @param ip_out         Buffer for the result's IP address blocks. Owned by the caller. May be NULL if the capacity is
- *                       0.
- * @param ip_capacity    Capacity of `ip_out` in octets; may be 0.
- * @param as_len         Receives the length of the AS identifiers in octets, written or required. Not NULL.
- * @param ip_len         Receives the length of the IP address blocks in octets, written or required. Not NULL.
- *
- * @return the first of these that applies:
- *   1. PIGY_BAD_ENCODING, PIGY_BAD_PRESENT, PIGY_BAD_MODE.
- *   2. PIGY_BAD_AS + n, PIGY_BAD_IP + n, PIGY_INHERITED: the issuer's set.
- *   3. PIGY_ABSENT.
- *   4. PIGY_SECOND + PIGY_BAD_AS + n, PIGY_SECOND + PIGY_BAD_IP + n: the certificate's extensions.
- *   5. PIGY_OVERCLAIM_AS, PIGY_OVERCLAIM_V4, PIGY_OVERCLAIM_V6, with PIGY_REFUSE only. The outputs are exactly the
- *      overclaimed resources of that kind, as a set. If these do not fit, the status is PIGY_TOO_SMALL.
- *   6. PIGY_TOO_SMALL, then PIGY_OK.
- *
- * With 1 to 4 and with PIGY_MEMORY both lengths are 0 and the buffers are unchanged.
- */
-uint32_t pigy_verify(const uint8_t *issuer_as, size_t issuer_as_len, const uint8_t *issuer_ip, size_t issuer_ip_len,
-                     uint32_t present, const uint8_t *cert_as, size_t cert_as_len, const uint8_t *cert_ip,
-                     size_t cert_ip_len, uint32_t encoding, uint32_t mode,
-                     uint8_t *as_out, size_t as_capacity, uint8_t *ip_out, size_t ip_capacity, size_t *as_len,
-                     size_t *ip_len) PIGY_NODISCARD PIGY_NONNULL(16, 17);
+ * - as: Buffer for AS identifiers. Owned by the caller. May be NULL.
+ * - as_capacity: Capacity of this buffer, in octets. Ignored if `as` is NULL.
+ * - as_len: The call stores the length here, written or required.
+ * - ip, ip_capacity, ip_len: The same for IP address blocks. */
+typedef struct {
+  uint8_t *as;
+  size_t as_capacity;
+  size_t as_len;
+  uint8_t *ip;
+  size_t ip_capacity;
+  size_t ip_len;
+} pigy_buffers;
 
 /* A certificate of a path, as pigy_verify_path takes it. Its extensions are ranges of `run`, a parameter of that call.
  *
@@ -346,34 +364,483 @@ uint32_t pigy_verify(const uint8_t *issuer_as, size_t issuer_as_len, const uint8
  * Both ranges lie in `run`, also the range of an absent extension. An absent extension may have start 0 and
  * length 0. */
 typedef struct {
-  size_t as_start, as_len, ip_start, ip_len;
-  uint32_t present, mode;
+  size_t as_start;
+  size_t as_len;
+  size_t ip_start;
+  size_t ip_len;
+  pigy_present present;
+  pigy_mode mode;
 } pigy_certificate;
+
+/* A range of AS numbers, in host byte order: its least and its greatest number. They may be equal. */
+typedef struct {
+  uint32_t min;
+  uint32_t max;
+} pigy_as_range;
+
+/* A range of addresses of one family, in network byte order: its lowest and its highest address. They may be equal. An
+ * IPv4 address is in the first 4 octets, and the other 12 are 0. */
+typedef struct {
+  uint8_t min[16];
+  uint8_t max[16];
+} pigy_ip_range;
+
+/* A prefix.
+ *
+ * - address: Address, in network byte order. An IPv4 address is in the first 4 octets. The other 12 are not read, and
+ *   are 0 in a prefix that a call writes.
+ * - family: PIGY_IPV4 or PIGY_IPV6.
+ * - len: Length in bits. The bits of the address after it are 0. */
+typedef struct {
+  uint8_t address[16];
+  uint8_t family;
+  uint8_t len;
+} pigy_prefix;
+
+/* A VRP (validated ROA payload): a prefix, its maximum length, and the AS that may originate it.
+ *
+ * - address: Address of the prefix, in network byte order. An IPv4 address is in the first 4 octets. The other 12 are
+ *   not read, and are 0 in a VRP that a call writes.
+ * - asn: AS number, in host byte order.
+ * - family: PIGY_IPV4 or PIGY_IPV6.
+ * - len: Length of the prefix in bits. The bits of the address after it are 0.
+ * - max_len: Maximum length (maxLength) in bits: from len to 32 for IPv4, and to 128 for IPv6.
+ *
+ * Compare two VRPs by their members, and not by memcmp. The struct has padding, and 12 octets of an IPv4 address are
+ * not read. */
+typedef struct {
+  uint8_t address[16];
+  uint32_t asn;
+  uint8_t family;
+  uint8_t len;
+  uint8_t max_len;
+} pigy_vrp;
+
+/* A route: a prefix, and the AS that originates it.
+ *
+ * - address, family, len: The prefix, as in a VRP.
+ * - asn: AS number, in host byte order. Use AS 0 if the path of the route ends in an AS_SET. RFC 6811, 2 calls the
+ *   origin of such a route "NONE". No VRP matches AS 0. If the path is empty, or ends in a confederation segment, use
+ *   the router's own AS. */
+typedef struct {
+  uint8_t address[16];
+  uint32_t asn;
+  uint8_t family;
+  uint8_t len;
+} pigy_route;
+
+/* A VRP of a table that covers a route.
+ *
+ * - vrp: The VRP.
+ * - mismatch: A bit mask of PIGY_OTHER_AS and PIGY_TOO_LONG, which say why the VRP does not match the route. If it is
+ *   0, the VRP matches. */
+typedef struct {
+  pigy_vrp vrp;
+  uint32_t mismatch;
+} pigy_covering;
+
+/* A set of resources. The caller owns it until pigy_resources_free. */
+typedef struct pigy_resources pigy_resources;
+
+/* A table of VRPs. The caller owns it until pigy_table_free. */
+typedef struct pigy_table pigy_table;
+
+/* The compiler checks the layouts. */
+#define PIGY_LAYOUT(name, is) typedef char pigy_layout_##name[(is) ? 1 : -1]
+PIGY_LAYOUT(set, sizeof(pigy_set) == 4 * sizeof(size_t));
+PIGY_LAYOUT(set_ip, offsetof(pigy_set, ip) == 2 * sizeof(size_t));
+PIGY_LAYOUT(buffers, sizeof(pigy_buffers) == 6 * sizeof(size_t));
+PIGY_LAYOUT(buffers_ip, offsetof(pigy_buffers, ip) == 3 * sizeof(size_t));
+PIGY_LAYOUT(certificate, sizeof(pigy_certificate) == 4 * sizeof(size_t) + 8);
+PIGY_LAYOUT(certificate_present, offsetof(pigy_certificate, present) == 4 * sizeof(size_t));
+PIGY_LAYOUT(certificate_mode, offsetof(pigy_certificate, mode) == 4 * sizeof(size_t) + 4);
+PIGY_LAYOUT(as_range, sizeof(pigy_as_range) == 8 && offsetof(pigy_as_range, max) == 4);
+PIGY_LAYOUT(ip_range, sizeof(pigy_ip_range) == 32 && offsetof(pigy_ip_range, max) == 16);
+PIGY_LAYOUT(prefix, sizeof(pigy_prefix) == 18 && offsetof(pigy_prefix, family) == 16);
+PIGY_LAYOUT(prefix_len, offsetof(pigy_prefix, len) == 17);
+PIGY_LAYOUT(vrp, sizeof(pigy_vrp) == 24 && offsetof(pigy_vrp, asn) == 16);
+PIGY_LAYOUT(vrp_family, offsetof(pigy_vrp, family) == 20);
+PIGY_LAYOUT(vrp_len, offsetof(pigy_vrp, len) == 21);
+PIGY_LAYOUT(vrp_max_len, offsetof(pigy_vrp, max_len) == 22);
+PIGY_LAYOUT(route, sizeof(pigy_route) == 24 && offsetof(pigy_route, asn) == 16);
+PIGY_LAYOUT(route_family, offsetof(pigy_route, family) == 20);
+PIGY_LAYOUT(route_len, offsetof(pigy_route, len) == 21);
+PIGY_LAYOUT(covering, sizeof(pigy_covering) == 28 && offsetof(pigy_covering, mismatch) == 24);
+
+/* ---- Version and texts of statuses ---- */
+
+/**
+ * Returns the version of the linked library: the PIGY_VERSION_NUMBER of its own header. If it is at least
+ * PIGY_VERSION_NUMBER, the library has all calls of this header.
+ */
+uint32_t pigy_version(void);
+
+/**
+ * Returns the English text of a status. This call is not proved.
+ *
+ * @param status  Any number. For a number that is not a status the text is "unknown status".
+ *
+ * @return a text that is never NULL, and is valid as long as the library is loaded.
+ */
+const char *pigy_status_text(pigy_status status);
+
+/* ---- Handles of sets ---- */
+
+/**
+ * Reads a set from DER. The handle keeps the set, so that no later call reads the DER again.
+ *
+ * pigy_resources_verify reads the extensions of a certificate. This call reads those of a trust anchor, or the verified
+ * resources of an issuer.
+ *
+ * @param set       The set as DER. Members may be NULL.
+ * @param encoding  PIGY_LENIENT or PIGY_STRICT.
+ * @param out       Receives the handle; NULL with an error. Its old value is not read. Not NULL.
+ *
+ * @return the first of these that applies:
+ *   1. PIGY_BAD_ENCODING.
+ *   2. PIGY_BAD_AS + n, PIGY_BAD_IP + n, PIGY_INHERITED.
+ *   3. PIGY_OK.
+ */
+pigy_status pigy_resources_read(pigy_set set, pigy_encoding encoding, pigy_resources **out)
+    PIGY_NODISCARD PIGY_NONNULL(3);
+
+/**
+ * Makes a set from its text: a list of AS numbers, of IPv4 addresses or of IPv6 addresses. pigy_set_from_text describes
+ * the text.
+ *
+ * @param text      The list, in UTF-8. May be NULL if the length is 0.
+ * @param text_len  Length in octets; may be 0.
+ * @param kind      PIGY_ASN, PIGY_IPV4 or PIGY_IPV6.
+ * @param out       Receives the handle; NULL with an error. Its old value is not read. Not NULL.
+ *
+ * @return the first of these that applies:
+ *   1. PIGY_BAD_KIND.
+ *   2. PIGY_BAD_TEXT + 1: the text is not UTF-8.
+ *   3. PIGY_BAD_TEXT + n: the first invalid element.
+ *   4. PIGY_OK.
+ */
+pigy_status pigy_resources_from_text(const char *text, size_t text_len, pigy_kind kind, pigy_resources **out)
+    PIGY_NODISCARD PIGY_NONNULL(4);
+
+/**
+ * Frees a set. The handle is invalid afterwards.
+ *
+ * @param resources  The set. All other calls with this handle have returned. If it is NULL, the call does nothing.
+ */
+void pigy_resources_free(pigy_resources *resources);
+
+/**
+ * Verifies the resources of a certificate against those of its issuer, as pigy_verify does. The issuer's set is a
+ * handle, so only the certificate is read.
+ *
+ * @param issuer    Issuer's set, which is only read. The status is PIGY_NO_HANDLE if it is NULL.
+ * @param cert      The certificate's extensions: DER. A member of an absent extension is not read.
+ * @param present   Extensions of the certificate: PIGY_HAS_AS, PIGY_HAS_IP, PIGY_HAS_BOTH or 0.
+ * @param encoding  PIGY_LENIENT or PIGY_STRICT, for the certificate.
+ * @param mode      PIGY_REFUSE or PIGY_TRIM.
+ * @param out       Receives the handle of the verified resources; NULL with any status except PIGY_OK. Not NULL.
+ * @param excess    Receives the handle of overclaimed resources; NULL with any status except the three of
+ *                  PIGY_OVERCLAIM. Not NULL.
+ *
+ * @return the first of these that applies:
+ *   1. PIGY_NO_HANDLE.
+ *   2. PIGY_BAD_ENCODING, PIGY_BAD_PRESENT, PIGY_BAD_MODE.
+ *   3. PIGY_ABSENT.
+ *   4. PIGY_SECOND + PIGY_BAD_AS + n, PIGY_SECOND + PIGY_BAD_IP + n: the certificate's extensions.
+ *   5. PIGY_OVERCLAIM_AS, PIGY_OVERCLAIM_V4, PIGY_OVERCLAIM_V6, with PIGY_REFUSE only. `excess` is exactly the
+ *      overclaimed resources of that kind, as a set.
+ *   6. PIGY_OK.
+ */
+pigy_status pigy_resources_verify(const pigy_resources *issuer, pigy_set cert, pigy_present present,
+                                  pigy_encoding encoding, pigy_mode mode, pigy_resources **out, pigy_resources **excess)
+    PIGY_NODISCARD PIGY_NONNULL(6, 7);
+
+/**
+ * Verifies the resources of certificates on a path, from a trust anchor down, as pigy_verify_path does. The anchor's
+ * set is a handle.
+ *
+ * @param anchor        Trust anchor's set, which is only read. The status is PIGY_NO_HANDLE if it is NULL.
+ * @param run           Octets of the extensions of all certificates: DER. May be NULL if the length is 0.
+ * @param run_len       Length in octets.
+ * @param certificates  The certificates, the anchor's child first; there may be none. May be NULL if the count is 0.
+ * @param count         Number of certificates.
+ * @param encoding      PIGY_LENIENT or PIGY_STRICT, for all certificates.
+ * @param out           Receives the handle of the verified resources of the last certificate; NULL with any status
+ *                      except PIGY_OK. Not NULL.
+ * @param excess        Receives the handle of overclaimed resources; NULL with any status except the three of
+ *                      PIGY_OVERCLAIM. Not NULL.
+ * @param verified      Receives the number of verified certificates. Not NULL.
+ *
+ * @return the first of these that applies:
+ *   1. PIGY_NO_HANDLE, PIGY_BAD_ENCODING. *verified is 0.
+ *   2. For each certificate in turn, the first of these. *verified is the index of this certificate, from 0.
+ *      - PIGY_OUTSIDE, PIGY_BAD_PRESENT, PIGY_BAD_MODE.
+ *      - PIGY_ABSENT.
+ *      - PIGY_SECOND + PIGY_BAD_AS + n, PIGY_SECOND + PIGY_BAD_IP + n: the certificate's extensions.
+ *      - PIGY_OVERCLAIM_AS, PIGY_OVERCLAIM_V4, PIGY_OVERCLAIM_V6, with PIGY_REFUSE only. `excess` is exactly the
+ *        overclaimed resources of that kind, as a set.
+ *   3. PIGY_OK. *verified is `count`.
+ *
+ * With PIGY_MEMORY *verified is 0.
+ */
+pigy_status pigy_resources_verify_path(const pigy_resources *anchor, const uint8_t *run, size_t run_len,
+                                       const pigy_certificate *certificates, size_t count, pigy_encoding encoding,
+                                       pigy_resources **out, pigy_resources **excess, size_t *verified)
+    PIGY_NODISCARD PIGY_NONNULL(7, 8, 9);
+
+/**
+ * Computes the union of two sets: the resources that the first or the second set has.
+ *
+ * @param a    First set, which is only read. The status is PIGY_NO_HANDLE if it is NULL.
+ * @param b    Second set, which is only read. The status is PIGY_NO_HANDLE if it is NULL. May be `a`.
+ * @param out  Receives the handle of the result; NULL with an error. Not NULL.
+ *
+ * @return the first of these that applies:
+ *   1. PIGY_NO_HANDLE.
+ *   2. PIGY_OK.
+ */
+pigy_status pigy_resources_union(const pigy_resources *a, const pigy_resources *b, pigy_resources **out)
+    PIGY_NODISCARD PIGY_NONNULL(3);
+
+/**
+ * Computes the intersection of two sets: the resources that both sets have.
+ *
+ * @param a    First set, which is only read. The status is PIGY_NO_HANDLE if it is NULL.
+ * @param b    Second set, which is only read. The status is PIGY_NO_HANDLE if it is NULL. May be `a`.
+ * @param out  Receives the handle of the result; NULL with an error. Not NULL.
+ *
+ * @return the first of these that applies:
+ *   1. PIGY_NO_HANDLE.
+ *   2. PIGY_OK.
+ */
+pigy_status pigy_resources_intersection(const pigy_resources *a, const pigy_resources *b, pigy_resources **out)
+    PIGY_NODISCARD PIGY_NONNULL(3);
+
+/**
+ * Computes the difference of two sets: the resources that the first set has and the second does not.
+ *
+ * @param a    First set, which is only read. The status is PIGY_NO_HANDLE if it is NULL.
+ * @param b    Second set, which is only read. The status is PIGY_NO_HANDLE if it is NULL. May be `a`.
+ * @param out  Receives the handle of the result; NULL with an error. Not NULL.
+ *
+ * @return the first of these that applies:
+ *   1. PIGY_NO_HANDLE.
+ *   2. PIGY_OK.
+ */
+pigy_status pigy_resources_difference(const pigy_resources *a, const pigy_resources *b, pigy_resources **out)
+    PIGY_NODISCARD PIGY_NONNULL(3);
+
+/**
+ * Computes the symmetric difference of two sets: the resources that exactly one of them has.
+ *
+ * @param a    First set, which is only read. The status is PIGY_NO_HANDLE if it is NULL.
+ * @param b    Second set, which is only read. The status is PIGY_NO_HANDLE if it is NULL. May be `a`.
+ * @param out  Receives the handle of the result; NULL with an error. Not NULL.
+ *
+ * @return the first of these that applies:
+ *   1. PIGY_NO_HANDLE.
+ *   2. PIGY_OK.
+ */
+pigy_status pigy_resources_symmetric_difference(const pigy_resources *a, const pigy_resources *b, pigy_resources **out)
+    PIGY_NODISCARD PIGY_NONNULL(3);
+
+/**
+ * Tests whether the first set has each AS number and each address of the second.
+ *
+ * @param a       First set, which is only read. The status is PIGY_NO_HANDLE if it is NULL.
+ * @param b       Second set, which is only read. The status is PIGY_NO_HANDLE if it is NULL. May be `a`.
+ * @param answer  Receives 1 for yes and 0 for no; 0 with an error. Not NULL.
+ *
+ * @return the first of these that applies:
+ *   1. PIGY_NO_HANDLE.
+ *   2. PIGY_OK.
+ */
+pigy_status pigy_resources_contains(const pigy_resources *a, const pigy_resources *b, uint8_t *answer)
+    PIGY_NODISCARD PIGY_NONNULL(3);
+
+/**
+ * Tests whether a set has an AS number.
+ *
+ * @param resources  The set, which is only read. The status is PIGY_NO_HANDLE if it is NULL.
+ * @param asn        AS number, in host byte order.
+ * @param answer     Receives 1 for yes and 0 for no; 0 with an error. Not NULL.
+ *
+ * @return the first of these that applies:
+ *   1. PIGY_NO_HANDLE.
+ *   2. PIGY_OK.
+ */
+pigy_status pigy_resources_contains_asn(const pigy_resources *resources, uint32_t asn, uint8_t *answer)
+    PIGY_NODISCARD PIGY_NONNULL(3);
+
+/**
+ * Tests whether a set has each address of a prefix.
+ *
+ * For a ROA make the call for each of its prefixes (RFC 9582, 5).
+ *
+ * @param resources  The set, which is only read. The status is PIGY_NO_HANDLE if it is NULL.
+ * @param prefix     One prefix. Not NULL.
+ * @param answer     Receives 1 for yes and 0 for no; 0 with an error. Not NULL.
+ *
+ * @return the first of these that applies:
+ *   1. PIGY_NO_HANDLE.
+ *   2. PIGY_BAD_FAMILY, PIGY_BAD_PREFIX.
+ *   3. PIGY_OK.
+ */
+pigy_status pigy_resources_contains_prefix(const pigy_resources *resources, const pigy_prefix *prefix, uint8_t *answer)
+    PIGY_NODISCARD PIGY_NONNULL(2, 3);
+
+/**
+ * Tests whether both sets have the same AS numbers and the same addresses.
+ *
+ * @param a       First set, which is only read. The status is PIGY_NO_HANDLE if it is NULL.
+ * @param b       Second set, which is only read. The status is PIGY_NO_HANDLE if it is NULL. May be `a`.
+ * @param answer  Receives 1 for yes and 0 for no; 0 with an error. Not NULL.
+ *
+ * @return the first of these that applies:
+ *   1. PIGY_NO_HANDLE.
+ *   2. PIGY_OK.
+ */
+pigy_status pigy_resources_equal(const pigy_resources *a, const pigy_resources *b, uint8_t *answer)
+    PIGY_NODISCARD PIGY_NONNULL(3);
+
+/**
+ * Lists the fewest prefixes that have exactly the addresses of one family of a set, in ascending order.
+ *
+ * @param resources  The set, which is only read. The status is PIGY_NO_HANDLE if it is NULL.
+ * @param family     PIGY_IPV4 or PIGY_IPV6.
+ * @param out        Buffer for the prefixes. Owned by the caller. May be NULL if the capacity is 0.
+ * @param capacity   Capacity of `out` in prefixes, not in octets; may be 0.
+ * @param len        Receives the number of prefixes, written or required. Not NULL.
+ *
+ * @return the first of these that applies:
+ *   1. PIGY_NO_HANDLE.
+ *   2. PIGY_BAD_FAMILY.
+ *   3. PIGY_TOO_SMALL, then PIGY_OK.
+ */
+pigy_status pigy_resources_prefixes(const pigy_resources *resources, pigy_family family, pigy_prefix *out,
+                                    size_t capacity, size_t *len) PIGY_NODISCARD PIGY_NONNULL(5);
+
+/**
+ * Lists the ranges of the AS numbers of a set, in ascending order. Ranges neither overlap nor touch.
+ *
+ * @param resources  The set, which is only read. The status is PIGY_NO_HANDLE if it is NULL.
+ * @param out        Buffer for the ranges. Owned by the caller. May be NULL if the capacity is 0.
+ * @param capacity   Capacity of `out` in ranges, not in octets; may be 0.
+ * @param len        Receives the number of ranges, written or required. Not NULL.
+ *
+ * @return the first of these that applies:
+ *   1. PIGY_NO_HANDLE.
+ *   2. PIGY_TOO_SMALL, then PIGY_OK.
+ */
+pigy_status pigy_resources_as_ranges(const pigy_resources *resources, pigy_as_range *out, size_t capacity, size_t *len)
+    PIGY_NODISCARD PIGY_NONNULL(4);
+
+/**
+ * Lists the ranges of the addresses of one family of a set, in ascending order. Ranges neither overlap nor touch.
+ *
+ * @param resources  The set, which is only read. The status is PIGY_NO_HANDLE if it is NULL.
+ * @param family     PIGY_IPV4 or PIGY_IPV6.
+ * @param out        Buffer for the ranges. Owned by the caller. May be NULL if the capacity is 0.
+ * @param capacity   Capacity of `out` in ranges, not in octets; may be 0.
+ * @param len        Receives the number of ranges, written or required. Not NULL.
+ *
+ * @return the first of these that applies:
+ *   1. PIGY_NO_HANDLE.
+ *   2. PIGY_BAD_FAMILY.
+ *   3. PIGY_TOO_SMALL, then PIGY_OK.
+ */
+pigy_status pigy_resources_ip_ranges(const pigy_resources *resources, pigy_family family, pigy_ip_range *out,
+                                     size_t capacity, size_t *len) PIGY_NODISCARD PIGY_NONNULL(5);
+
+/**
+ * Writes a set as canonical DER.
+ *
+ * @param resources  The set, which is only read. The status is PIGY_NO_HANDLE if it is NULL.
+ * @param out        Buffers for the result, and the lengths that the call stores. Buffers in it may be NULL. Not NULL.
+ *
+ * @return the first of these that applies:
+ *   1. PIGY_NO_HANDLE.
+ *   2. PIGY_TOO_SMALL, then PIGY_OK.
+ */
+pigy_status pigy_resources_der(const pigy_resources *resources, pigy_buffers *out) PIGY_NODISCARD PIGY_NONNULL(2);
+
+/**
+ * Writes the text of one kind of resources of a set. pigy_resources_from_text reads this text as the same resources.
+ *
+ * Commas and spaces separate the elements: AS64496, AS64500-AS64511. An element of addresses is a prefix if possible,
+ * and otherwise a range: 10.0.0.0/8, 10.0.0.1-10.0.0.9. The text of no resources is empty.
+ *
+ * @param resources  The set, which is only read. The status is PIGY_NO_HANDLE if it is NULL.
+ * @param kind       PIGY_ASN, PIGY_IPV4 or PIGY_IPV6.
+ * @param out        Buffer for the text. Owned by the caller. May be NULL if the capacity is 0.
+ * @param capacity   Capacity of `out` in octets; may be 0.
+ * @param len        Receives the length in octets, written or required. Not NULL.
+ *
+ * @return the first of these that applies:
+ *   1. PIGY_NO_HANDLE.
+ *   2. PIGY_BAD_KIND.
+ *   3. PIGY_TOO_SMALL, then PIGY_OK.
+ */
+pigy_status pigy_resources_text(const pigy_resources *resources, pigy_kind kind, char *out, size_t capacity,
+                                size_t *len) PIGY_NODISCARD PIGY_NONNULL(5);
+
+/* ---- Sets and certificates as DER ---- */
+
+/**
+ * Verifies the resources of a certificate against those of its issuer. For many certificates of one issuer use
+ * pigy_resources_verify.
+ *
+ * The issuer's set is the verified resources of the issuer: `out` of this call for the issuer's certificate, if the
+ * status was PIGY_OK. If the issuer is a trust anchor, pass the extensions of its certificate instead.
+ *
+ * `out` receives the verified resources of the certificate, as a set. For AS numbers, IPv4 and IPv6 each, the result
+ * depends on the claim of the certificate:
+ *
+ * - The extension or the address family is absent: no resources.
+ * - The claim is "inherit": all resources of the issuer.
+ * - The claim is a list: the resources that both the list and the issuer have.
+ *
+ * @param issuer    Issuer's set. Members may be NULL.
+ * @param cert      The certificate's extensions: DER. A member of an absent extension is not read.
+ * @param present   Extensions of the certificate: PIGY_HAS_AS, PIGY_HAS_IP, PIGY_HAS_BOTH or 0.
+ * @param encoding  PIGY_LENIENT or PIGY_STRICT, for the certificate and for the issuer.
+ * @param mode      PIGY_REFUSE or PIGY_TRIM.
+ * @param out       Buffers for the result, and the lengths that the call stores. Buffers in it may be NULL. Not NULL.
+ * @param excess    Buffers for overclaimed resources, and the lengths that the call stores. Buffers in it may be NULL.
+ *                  Not NULL.
+ *
+ * @return the first of these that applies:
+ *   1. PIGY_BAD_ENCODING, PIGY_BAD_PRESENT, PIGY_BAD_MODE.
+ *   2. PIGY_BAD_AS + n, PIGY_BAD_IP + n, PIGY_INHERITED: the issuer's set.
+ *   3. PIGY_ABSENT.
+ *   4. PIGY_SECOND + PIGY_BAD_AS + n, PIGY_SECOND + PIGY_BAD_IP + n: the certificate's extensions.
+ *   5. PIGY_OVERCLAIM_AS, PIGY_OVERCLAIM_V4, PIGY_OVERCLAIM_V6, with PIGY_REFUSE only. `excess` receives exactly the
+ *      overclaimed resources of that kind, as a set. If these do not fit, the status is PIGY_TOO_SMALL.
+ *   6. PIGY_TOO_SMALL, then PIGY_OK.
+ *
+ * With PIGY_TOO_SMALL the lengths of one of `out` and `excess` are the required ones, and those of the other are 0.
+ */
+pigy_status pigy_verify(pigy_set issuer, pigy_set cert, pigy_present present, pigy_encoding encoding, pigy_mode mode,
+                        pigy_buffers *out, pigy_buffers *excess) PIGY_NODISCARD PIGY_NONNULL(6, 7);
 
 /**
  * Verifies the resources of certificates on a path, from a trust anchor down.
  *
  * The claim of the first certificate is compared with the anchor's set. The claim of each later certificate is compared
- * with the verified resources of the certificate before it. The outputs are the verified resources of the last
- * certificate, as a set. If there are no certificates, the outputs are the anchor's set.
+ * with the verified resources of the certificate before it. `out` receives the verified resources of the last
+ * certificate, as a set. If there are no certificates, `out` receives the anchor's set.
  *
- * @param anchor_as      Trust anchor's AS identifiers: DER. May be NULL if the length is 0.
- * @param anchor_as_len  Length in octets; 0 if the anchor has no AS numbers.
- * @param anchor_ip      Trust anchor's IP address blocks: DER. May be NULL if the length is 0.
- * @param anchor_ip_len  Length in octets; 0 if the anchor has no addresses.
- * @param run            Octets of the extensions of all certificates: DER. May be NULL if the length is 0.
- * @param run_len        Length in octets.
- * @param certificates   The certificates, the anchor's child first; there may be none. May be NULL if the count is 0.
- * @param count          Number of certificates.
- * @param encoding       PIGY_LENIENT or PIGY_STRICT, for all certificates and for the anchor.
- * @param as_out         Buffer for the result's AS identifiers. Owned by the caller. May be NULL if the capacity is 0.
- * @param as_capacity    Capacity of `as_out` in octets; may be 0.
- * @param ip_out         Buffer for the result's IP address blocks. Owned by the caller. May be NULL if the capacity is
- *                       0.
- * @param ip_capacity    Capacity of `ip_out` in octets; may be 0.
- * @param as_len         Receives the length of the AS identifiers in octets, written or required. Not NULL.
- * @param ip_len         Receives the length of the IP address blocks in octets, written or required. Not NULL.
- * @param verified       Receives the number of verified certificates. Not NULL.
+ * @param anchor        Trust anchor's set. Members may be NULL.
+ * @param run           Octets of the extensions of all certificates: DER. May be NULL if the length is 0.
+ * @param run_len       Length in octets.
+ * @param certificates  The certificates, the anchor's child first; there may be none. May be NULL if the count is 0.
+ * @param count         Number of certificates.
+ * @param encoding      PIGY_LENIENT or PIGY_STRICT, for all certificates and for the anchor.
+ * @param out           Buffers for the result, and the lengths that the call stores. Buffers in it may be NULL. Not
+ *                      NULL.
+ * @param excess        Buffers for overclaimed resources, and the lengths that the call stores. Buffers in it may be
+ *                      NULL. Not NULL.
+ * @param verified      Receives the number of verified certificates. Not NULL.
  *
  * @return the first of these that applies:
  *   1. PIGY_BAD_ENCODING. *verified is 0.
@@ -382,33 +849,111 @@ typedef struct {
  *      - PIGY_OUTSIDE, PIGY_BAD_PRESENT, PIGY_BAD_MODE.
  *      - PIGY_ABSENT.
  *      - PIGY_SECOND + PIGY_BAD_AS + n, PIGY_SECOND + PIGY_BAD_IP + n: the certificate's extensions.
- *      - PIGY_OVERCLAIM_AS, PIGY_OVERCLAIM_V4, PIGY_OVERCLAIM_V6, with PIGY_REFUSE only. The outputs are exactly the
+ *      - PIGY_OVERCLAIM_AS, PIGY_OVERCLAIM_V4, PIGY_OVERCLAIM_V6, with PIGY_REFUSE only. `excess` receives exactly the
  *        overclaimed resources of that kind, as a set. If these do not fit, the status is PIGY_TOO_SMALL.
  *   4. PIGY_TOO_SMALL, then PIGY_OK. *verified is `count`.
  *
- * With any status except PIGY_OK, PIGY_TOO_SMALL and the three of overclaimed resources, both lengths are 0 and the
- * buffers are unchanged. With PIGY_MEMORY *verified is unspecified. With PIGY_TOO_SMALL and *verified below `count` the
- * overclaimed resources do not fit. With *verified equal to `count` the result does not fit.
+ * With PIGY_TOO_SMALL the lengths of one of `out` and `excess` are the required ones, and those of the other are 0.
+ * With PIGY_MEMORY *verified is 0.
  */
-uint32_t pigy_verify_path(const uint8_t *anchor_as, size_t anchor_as_len, const uint8_t *anchor_ip,
-                          size_t anchor_ip_len, const uint8_t *run, size_t run_len,
-                          const pigy_certificate *certificates, size_t count, uint32_t encoding, uint8_t *as_out,
-                          size_t as_capacity, uint8_t *ip_out, size_t ip_capacity, size_t *as_len, size_t *ip_len,
-                          size_t *verified) PIGY_NODISCARD PIGY_NONNULL(14, 15, 16);
+pigy_status pigy_verify_path(pigy_set anchor, const uint8_t *run, size_t run_len, const pigy_certificate *certificates,
+                             size_t count, pigy_encoding encoding, pigy_buffers *out, pigy_buffers *excess,
+                             size_t *verified) PIGY_NODISCARD PIGY_NONNULL(7, 8, 9);
+
+/**
+ * Computes the union of two sets: the resources that the first or the second set has.
+ *
+ * @param a         First set: DER. Members may be NULL.
+ * @param b         Second set: DER. Members may be NULL.
+ * @param encoding  PIGY_LENIENT or PIGY_STRICT, for both sets.
+ * @param out       Buffers for the result, and the lengths that the call stores. Buffers in it may be NULL. Not NULL.
+ *
+ * @return the first of these that applies:
+ *   1. PIGY_BAD_ENCODING.
+ *   2. PIGY_BAD_AS + n, PIGY_BAD_IP + n, PIGY_INHERITED: the first set.
+ *   3. PIGY_SECOND + one of these: the second set.
+ *   4. PIGY_TOO_SMALL, then PIGY_OK.
+ */
+pigy_status pigy_union(pigy_set a, pigy_set b, pigy_encoding encoding, pigy_buffers *out)
+    PIGY_NODISCARD PIGY_NONNULL(4);
+
+/**
+ * Computes the intersection of two sets: the resources that both sets have.
+ *
+ * @param a         First set: DER. Members may be NULL.
+ * @param b         Second set: DER. Members may be NULL.
+ * @param encoding  PIGY_LENIENT or PIGY_STRICT, for both sets.
+ * @param out       Buffers for the result, and the lengths that the call stores. Buffers in it may be NULL. Not NULL.
+ *
+ * @return the first of these that applies:
+ *   1. PIGY_BAD_ENCODING.
+ *   2. PIGY_BAD_AS + n, PIGY_BAD_IP + n, PIGY_INHERITED: the first set.
+ *   3. PIGY_SECOND + one of these: the second set.
+ *   4. PIGY_TOO_SMALL, then PIGY_OK.
+ */
+pigy_status pigy_intersection(pigy_set a, pigy_set b, pigy_encoding encoding, pigy_buffers *out)
+    PIGY_NODISCARD PIGY_NONNULL(4);
+
+/**
+ * Computes the difference of two sets: the resources that the first set has and the second does not.
+ *
+ * @param a         First set: DER. Members may be NULL.
+ * @param b         Second set: DER. Members may be NULL.
+ * @param encoding  PIGY_LENIENT or PIGY_STRICT, for both sets.
+ * @param out       Buffers for the result, and the lengths that the call stores. Buffers in it may be NULL. Not NULL.
+ *
+ * @return the first of these that applies:
+ *   1. PIGY_BAD_ENCODING.
+ *   2. PIGY_BAD_AS + n, PIGY_BAD_IP + n, PIGY_INHERITED: the first set.
+ *   3. PIGY_SECOND + one of these: the second set.
+ *   4. PIGY_TOO_SMALL, then PIGY_OK.
+ */
+pigy_status pigy_difference(pigy_set a, pigy_set b, pigy_encoding encoding, pigy_buffers *out)
+    PIGY_NODISCARD PIGY_NONNULL(4);
+
+/**
+ * Tests whether the first set has each AS number and each address of the second.
+ *
+ * @param a         First set: DER. Members may be NULL.
+ * @param b         Second set: DER. Members may be NULL.
+ * @param encoding  PIGY_LENIENT or PIGY_STRICT, for both sets.
+ * @param answer    Receives 1 for yes and 0 for no; 0 with an error. Not NULL.
+ *
+ * @return the first of these that applies:
+ *   1. PIGY_BAD_ENCODING.
+ *   2. PIGY_BAD_AS + n, PIGY_BAD_IP + n, PIGY_INHERITED: the first set.
+ *   3. PIGY_SECOND + one of these: the second set.
+ *   4. PIGY_OK.
+ */
+pigy_status pigy_contains(pigy_set a, pigy_set b, pigy_encoding encoding, uint8_t *answer)
+    PIGY_NODISCARD PIGY_NONNULL(4);
+
+/**
+ * Tests whether both sets have the same AS numbers and the same addresses.
+ *
+ * @param a         First set: DER. Members may be NULL.
+ * @param b         Second set: DER. Members may be NULL.
+ * @param encoding  PIGY_LENIENT or PIGY_STRICT, for both sets.
+ * @param answer    Receives 1 for yes and 0 for no; 0 with an error. Not NULL.
+ *
+ * @return the first of these that applies:
+ *   1. PIGY_BAD_ENCODING.
+ *   2. PIGY_BAD_AS + n, PIGY_BAD_IP + n, PIGY_INHERITED: the first set.
+ *   3. PIGY_SECOND + one of these: the second set.
+ *   4. PIGY_OK.
+ */
+pigy_status pigy_equal(pigy_set a, pigy_set b, pigy_encoding encoding, uint8_t *answer) PIGY_NODISCARD PIGY_NONNULL(4);
 
 /**
  * Lists the fewest prefixes that have exactly the addresses of one family in IP address blocks, in ascending order.
- *
- * A prefix in the output is its address in network byte order, and then one octet with its length in bits. It has 5
- * octets for PIGY_IPV4, and 17 for PIGY_IPV6.
  *
  * @param ip        IP address blocks: DER. May be NULL if the length is 0.
  * @param ip_len    Length in octets; may be 0.
  * @param encoding  PIGY_LENIENT or PIGY_STRICT.
  * @param family    PIGY_IPV4 or PIGY_IPV6.
  * @param out       Buffer for the prefixes. Owned by the caller. May be NULL if the capacity is 0.
- * @param capacity  Capacity of `out` in octets; may be 0.
- * @param len       Receives the length in octets, written or required. Not NULL.
+ * @param capacity  Capacity of `out` in prefixes, not in octets; may be 0.
+ * @param len       Receives the number of prefixes, written or required. Not NULL.
  *
  * @return the first of these that applies:
  *   1. PIGY_BAD_ENCODING.
@@ -416,56 +961,9 @@ uint32_t pigy_verify_path(const uint8_t *anchor_as, size_t anchor_as_len, const 
  *   3. PIGY_BAD_IP + n.
  *   4. PIGY_INHERITED: one of the two families has "inherit", also if it is not the requested one.
  *   5. PIGY_TOO_SMALL, then PIGY_OK.
- *
- * With 1 to 4 and with PIGY_MEMORY *len is 0 and the buffer is unchanged.
  */
-uint32_t pigy_cover(const uint8_t *ip, size_t ip_len, uint32_t encoding, uint32_t family, uint8_t *out, size_t capacity,
-                    size_t *len) PIGY_NODISCARD PIGY_NONNULL(7);
-
-/**
- * Makes a set from its text: a list of AS numbers, of IPv4 addresses or of IPv6 addresses.
- *
- * Commas separate the elements. White space at the ends of an element is ignored, and so are elements that are empty.
- * Elements may be in any order, overlap or touch. An element of PIGY_ASN is an AS number or a range of these: AS64496,
- * 64496, AS64496-AS64511. The letters AS may be capital or small letters. Any other element is an address, a prefix or
- * a range: 10.0.0.1, 10.0.0.0/8, 10.0.0.1-10.0.0.9. The bits of an address after the length of its prefix are ignored.
- * The program respath reads the same lists.
- *
- * The outputs are the set. AS numbers are written to `as_out`, and addresses to `ip_out`. The length of the other
- * output is 0. pigy_union joins the sets of several texts.
- *
- * @param kind         PIGY_ASN, PIGY_IPV4 or PIGY_IPV6.
- * @param text         The list, in UTF-8. May be NULL if the length is 0.
- * @param text_len     Length in octets; may be 0.
- * @param as_out       Buffer for the set's AS identifiers. Owned by the caller. May be NULL if the capacity is 0.
- * @param as_capacity  Capacity of `as_out` in octets; may be 0.
- * @param ip_out       Buffer for the set's IP address blocks. Owned by the caller. May be NULL if the capacity is 0.
- * @param ip_capacity  Capacity of `ip_out` in octets; may be 0.
- * @param as_len       Receives the length of the AS identifiers in octets, written or required. Not NULL.
- * @param ip_len       Receives the length of the IP address blocks in octets, written or required. Not NULL.
- *
- * @return the first of these that applies:
- *   1. PIGY_BAD_KIND.
- *   2. PIGY_BAD_TEXT + 1: the text is not UTF-8.
- *   3. PIGY_BAD_TEXT + n: the first invalid element.
- *   4. PIGY_TOO_SMALL, then PIGY_OK.
- *
- * With 1 to 3 and with PIGY_MEMORY both lengths are 0 and the buffers are unchanged.
- */
-uint32_t pigy_set_from_text(uint32_t kind, const uint8_t *text, size_t text_len, uint8_t *as_out, size_t as_capacity,
-                            uint8_t *ip_out, size_t ip_capacity, size_t *as_len, size_t *ip_len)
-    PIGY_NODISCARD PIGY_NONNULL(8, 9);
-
-/* A range of AS numbers, in host byte order: its least and its greatest number. They may be equal. */
-typedef struct {
-  uint32_t min, max;
-} pigy_as_range;
-
-/* A range of addresses of one family, in network byte order: its lowest and its highest address. They may be equal. An
- * IPv4 address is in the first 4 octets, and the other 12 are 0. */
-typedef struct {
-  uint8_t min[16], max[16];
-} pigy_ip_range;
+pigy_status pigy_prefixes(const uint8_t *ip, size_t ip_len, pigy_encoding encoding, pigy_family family,
+                          pigy_prefix *out, size_t capacity, size_t *len) PIGY_NODISCARD PIGY_NONNULL(7);
 
 /**
  * Lists the ranges of the AS numbers in AS identifiers, in ascending order. Ranges neither overlap nor touch, so the
@@ -483,15 +981,13 @@ typedef struct {
  *   2. PIGY_BAD_AS + n.
  *   3. PIGY_INHERITED.
  *   4. PIGY_TOO_SMALL, then PIGY_OK.
- *
- * With 1 to 3 and with PIGY_MEMORY *len is 0 and the buffer is unchanged.
  */
-uint32_t pigy_as_ranges(const uint8_t *as, size_t as_len, uint32_t encoding, pigy_as_range *out, size_t capacity,
-                        size_t *len) PIGY_NODISCARD PIGY_NONNULL(6);
+pigy_status pigy_as_ranges(const uint8_t *as, size_t as_len, pigy_encoding encoding, pigy_as_range *out,
+                           size_t capacity, size_t *len) PIGY_NODISCARD PIGY_NONNULL(6);
 
 /**
  * Lists the ranges of the addresses of one family in IP address blocks, in ascending order. Ranges neither overlap nor
- * touch, so the list has as few ranges as possible. pigy_cover lists the prefixes.
+ * touch, so the list has as few ranges as possible. pigy_prefixes lists the prefixes.
  *
  * @param ip        IP address blocks: DER. May be NULL if the length is 0.
  * @param ip_len    Length in octets; may be 0.
@@ -507,65 +1003,60 @@ uint32_t pigy_as_ranges(const uint8_t *as, size_t as_len, uint32_t encoding, pig
  *   3. PIGY_BAD_IP + n.
  *   4. PIGY_INHERITED: one of the two families has "inherit", also if it is not the requested one.
  *   5. PIGY_TOO_SMALL, then PIGY_OK.
- *
- * With 1 to 4 and with PIGY_MEMORY *len is 0 and the buffer is unchanged.
  */
-uint32_t pigy_ip_ranges(const uint8_t *ip, size_t ip_len, uint32_t encoding, uint32_t family, pigy_ip_range *out,
-                        size_t capacity, size_t *len) PIGY_NODISCARD PIGY_NONNULL(7);
+pigy_status pigy_ip_ranges(const uint8_t *ip, size_t ip_len, pigy_encoding encoding, pigy_family family,
+                           pigy_ip_range *out, size_t capacity, size_t *len) PIGY_NODISCARD PIGY_NONNULL(7);
 
-/* A VRP (validated ROA payload): a prefix, its maximum length, and the AS that may originate it.
+/**
+ * Makes a set from its text: a list of AS numbers, of IPv4 addresses or of IPv6 addresses.
  *
- * - address: Address of the prefix, in network byte order. An IPv4 address is in the first 4 octets, and the other 12
- *   are not read.
- * - asn: AS number, in host byte order.
- * - family: PIGY_IPV4 or PIGY_IPV6.
- * - len: Length of the prefix in bits. The bits of the address after it are 0.
- * - max_len: Maximum length (maxLength) in bits: from len to 32 for IPv4, and to 128 for IPv6.
+ * Commas separate the elements. White space at the ends of an element is ignored, and so are elements that are empty.
+ * Elements may be in any order, overlap or touch. An element of PIGY_ASN is an AS number or a range of these: AS64496,
+ * 64496, AS64496-AS64511. The letters AS may be capital or small letters. Any other element is an address, a prefix or
+ * a range: 10.0.0.1, 10.0.0.0/8, 10.0.0.1-10.0.0.9. The bits of an address after the length of its prefix are ignored.
+ * The program respath reads the same lists.
  *
- * Compare two VRPs by their members, and not by memcmp. The struct has padding, and 12 octets of an IPv4 address are
- * not read. */
-typedef struct {
-  uint8_t address[16];
-  uint32_t asn;
-  uint8_t family, len, max_len;
-} pigy_vrp;
+ * The length of the output of the other kind is 0. pigy_union joins the sets of several texts. Buffers of 8 * text_len
+ * + 64 octets always suffice.
+ *
+ * @param text      The list, in UTF-8. May be NULL if the length is 0.
+ * @param text_len  Length in octets; may be 0.
+ * @param kind      PIGY_ASN, PIGY_IPV4 or PIGY_IPV6.
+ * @param out       Buffers for the result, and the lengths that the call stores. Buffers in it may be NULL. Not NULL.
+ *
+ * @return the first of these that applies:
+ *   1. PIGY_BAD_KIND.
+ *   2. PIGY_BAD_TEXT + 1: the text is not UTF-8.
+ *   3. PIGY_BAD_TEXT + n: the first invalid element.
+ *   4. PIGY_TOO_SMALL, then PIGY_OK.
+ */
+pigy_status pigy_set_from_text(const char *text, size_t text_len, pigy_kind kind, pigy_buffers *out)
+    PIGY_NODISCARD PIGY_NONNULL(4);
 
-/* A route: a prefix, and the AS that originates it.
- *
- * - address, family, len: The prefix, as in a VRP.
- * - asn: AS number, in host byte order. Use AS 0 if the path of the route ends in an AS_SET. RFC 6811, 2 calls the
- *   origin of such a route "NONE". No VRP matches AS 0. If the path is empty, or ends in a confederation segment, use
- *   the router's own AS. */
-typedef struct {
-  uint8_t address[16];
-  uint32_t asn;
-  uint8_t family, len;
-} pigy_route;
+/* ---- Route origins ---- */
 
 /**
  * Validates routes by VRPs: one octet for each route, PIGY_VALID, PIGY_NOT_FOUND or PIGY_INVALID (RFC 6811, 2).
  *
  * Each call makes a table of the VRPs once. Pass many routes to one call, or use pigy_table_new.
  *
- * @param vrps         VRPs, in any order. May be NULL if the count is 0.
- * @param vrp_count    Number of VRPs.
- * @param routes       Routes. May be NULL if the count is 0.
- * @param route_count  Number of routes.
- * @param out          Buffer for one octet a route, in the order of the routes. Owned by the caller. May be NULL if the
- *                     capacity is 0.
- * @param capacity     Capacity of `out` in octets; may be 0.
- * @param len          Receives the length in octets, written or required. Not NULL.
- * @param index        Receives the index of the first invalid VRP or route, from 0; else 0. Not NULL.
+ * @param vrps       VRPs, in any order. May be NULL if the count is 0.
+ * @param vrp_count  Number of VRPs.
+ * @param routes     Routes. May be NULL if the count is 0.
+ * @param count      Number of routes.
+ * @param out        Buffer for one octet a route, in the order of the routes. Owned by the caller. May be NULL if the
+ *                   capacity is 0.
+ * @param capacity   Capacity of `out` in octets; may be 0. The count of the routes always suffices.
+ * @param len        Receives the length in octets, written or required. Not NULL.
+ * @param index      Receives the index of the first invalid VRP or route, from 0; else 0. Not NULL.
  *
  * @return the first of these that applies:
  *   1. PIGY_BAD_FAMILY, PIGY_BAD_PREFIX, PIGY_BAD_MAX_LEN: the first invalid VRP.
  *   2. PIGY_SECOND + PIGY_BAD_FAMILY, PIGY_SECOND + PIGY_BAD_PREFIX: the first invalid route.
  *   3. PIGY_TOO_SMALL, then PIGY_OK.
- *
- * With 1, 2 and PIGY_MEMORY *len is 0 and the buffer is unchanged.
  */
-uint32_t pigy_origins(const pigy_vrp *vrps, size_t vrp_count, const pigy_route *routes, size_t route_count,
-                      uint8_t *out, size_t capacity, size_t *len, size_t *index) PIGY_NODISCARD PIGY_NONNULL(7, 8);
+pigy_status pigy_validate(const pigy_vrp *vrps, size_t vrp_count, const pigy_route *routes, size_t count, uint8_t *out,
+                          size_t capacity, size_t *len, size_t *index) PIGY_NODISCARD PIGY_NONNULL(7, 8);
 
 /**
  * Reads the VRPs of a validator's file, as rpki-client, FORT and Routinator write it. They are in the order of the
@@ -585,13 +1076,13 @@ uint32_t pigy_origins(const pigy_vrp *vrps, size_t vrp_count, const pigy_route *
  * - An empty maximum length is the length of the prefix (RFC 9582, 4.3.2.2).
  *
  * A byte order mark at the beginning is ignored. No line and no item is skipped: one that is invalid makes the whole
- * file invalid. The last 12 octets of an IPv4 address are 0. A VRP that the file repeats is listed again.
+ * file invalid. A VRP that the file repeats is listed again.
  *
  * @param file      The octets of the whole file. May be NULL if the length is 0.
  * @param file_len  Length in octets; may be 0.
- * @param vrps      Buffer for the VRPs. Owned by the caller. May be NULL if the capacity is 0.
- * @param capacity  Capacity of `vrps` in VRPs, not in octets; may be 0. file_len / 8 + 1 always suffices.
- * @param count     Receives the number of VRPs, written or required. Not NULL.
+ * @param out       Buffer for the VRPs. Owned by the caller. May be NULL if the capacity is 0.
+ * @param capacity  Capacity of `out` in VRPs, not in octets; may be 0. file_len / 8 + 1 always suffices.
+ * @param len       Receives the number of VRPs, written or required. Not NULL.
  * @param line      Receives the number of the first invalid line of CSV or item of JSON, from 1; else 0. Not NULL.
  *
  * @return the first of these that applies:
@@ -599,25 +1090,9 @@ uint32_t pigy_origins(const pigy_vrp *vrps, size_t vrp_count, const pigy_route *
  *   2. PIGY_BAD_LINE + n: the first invalid line. PIGY_BAD_ITEM + n: the first invalid item.
  *   3. PIGY_BAD_FILE + 6: the file has no VRP. *line is 0.
  *   4. PIGY_TOO_SMALL, then PIGY_OK.
- *
- * With 1 to 3 and with PIGY_MEMORY *count is 0 and the buffer is unchanged.
  */
-uint32_t pigy_vrps_read(const uint8_t *file, size_t file_len, pigy_vrp *vrps, size_t capacity, size_t *count,
-                        size_t *line) PIGY_NODISCARD PIGY_NONNULL(5, 6);
-
-/* A table of VRPs. The caller owns it until pigy_table_free. */
-typedef struct pigy_table pigy_table;
-
-/* A VRP of a table that covers a route.
- *
- * - address, asn, family, len, max_len: The VRP. The last 12 octets of an IPv4 address are 0.
- * - mismatch: A bit mask of PIGY_OTHER_AS and PIGY_TOO_LONG, which say why the VRP does not match the route. If it is
- *   0, the VRP matches. */
-typedef struct {
-  uint8_t address[16];
-  uint32_t asn;
-  uint8_t family, len, max_len, mismatch;
-} pigy_covering;
+pigy_status pigy_vrps_read(const uint8_t *file, size_t file_len, pigy_vrp *out, size_t capacity, size_t *len,
+                           size_t *line) PIGY_NODISCARD PIGY_NONNULL(5, 6);
 
 /**
  * Makes a table of VRPs.
@@ -626,25 +1101,24 @@ typedef struct {
  *
  * @param vrps   VRPs, in any order. The table copies them. May be NULL if the count is 0.
  * @param count  Number of VRPs.
- * @param table  Receives the handle. Its old value is not read. Not NULL.
+ * @param out    Receives the handle; NULL with an error. Its old value is not read. Not NULL.
  * @param index  Receives the index of the first invalid VRP, from 0; else 0. Not NULL.
  *
  * @return the first of these that applies:
  *   1. PIGY_BAD_FAMILY, PIGY_BAD_PREFIX, PIGY_BAD_MAX_LEN: the first invalid VRP.
  *   2. PIGY_OK.
- *
- * With 1 and with PIGY_MEMORY *table is NULL.
  */
-uint32_t pigy_table_new(const pigy_vrp *vrps, size_t count, pigy_table **table, size_t *index)
+pigy_status pigy_table_new(const pigy_vrp *vrps, size_t count, pigy_table **out, size_t *index)
     PIGY_NODISCARD PIGY_NONNULL(3, 4);
 
 /**
  * Makes the next table: `table` without the withdrawn VRPs, and then with the announced ones.
  *
  * - The next table has a handle of its own, and `table` does not change. Free the two tables in any order.
- * - A change makes a pass over the whole table, even for one VRP. Make one call for all VRPs of a response.
- * - The call applies all withdrawals before all announcements. In general, a response to a Serial Query has at most
- *   one withdrawal and then at most one announcement of each VRP (RFC 8210, 5.3). Pass such a response as one change.
+ * - A change makes a pass over the whole table, even for one VRP: some 15 ms for 500,000 VRPs. Make one call for all
+ *   VRPs of a response, in a thread that does not route.
+ * - The call applies all withdrawals before all announcements. In general, a response to a Serial Query has at most one
+ *   withdrawal and then at most one announcement of each VRP (RFC 8210, 5.3). Pass such a response as one change.
  * - For the response to a Reset Query, pass an empty table as `table`. pigy_table_new with count 0 makes an empty
  *   table. Then this call returns an error if the response announces a VRP twice. pigy_table_new finds no such error.
  * - A withdrawal removes all copies of a VRP.
@@ -652,16 +1126,17 @@ uint32_t pigy_table_new(const pigy_vrp *vrps, size_t count, pigy_table **table, 
  * - A VRP in both arrays has to be in the table. The next table lists it once.
  * - If an array has no VRPs, pass count 0. The array may be NULL then.
  *
- * @param table            The table, which is only read. The status is PIGY_NO_TABLE if it is NULL.
+ * @param table            The table, which is only read. The status is PIGY_NO_HANDLE if it is NULL.
  * @param announced        Announced VRPs. The next table copies them. May be NULL if the count is 0.
  * @param announced_count  Number of announced VRPs.
  * @param withdrawn        Withdrawn VRPs. May be NULL if the count is 0.
  * @param withdrawn_count  Number of withdrawn VRPs.
- * @param next             Receives the handle of the next table. Its old value is not read. Not NULL.
+ * @param out              Receives the handle of the next table; NULL with an error. Its old value is not read. Not
+ *                         NULL.
  * @param index            Receives the index of the VRP at fault, from 0; else 0. Not NULL.
  *
  * @return the first of these that applies:
- *   1. PIGY_NO_TABLE.
+ *   1. PIGY_NO_HANDLE.
  *   2. PIGY_BAD_FAMILY, PIGY_BAD_PREFIX, PIGY_BAD_MAX_LEN: the first invalid VRP in `announced`.
  *   3. PIGY_SECOND + one of these: the first invalid VRP in `withdrawn`.
  *   4. PIGY_UNKNOWN_WITHDRAWAL: the first VRP in `withdrawn` that is not in the table, or is a repetition in
@@ -670,70 +1145,82 @@ uint32_t pigy_table_new(const pigy_vrp *vrps, size_t count, pigy_table **table, 
  *      repetition in `announced`.
  *   6. PIGY_OK.
  *
- * *index is an index of `withdrawn` with 3 and 4, and of `announced` with 2 and 5. With 1 to 5 and with PIGY_MEMORY
- * *next is NULL.
+ * *index is an index of `withdrawn` with 3 and 4, and of `announced` with 2 and 5.
  */
-uint32_t pigy_table_changed(const pigy_table *table, const pigy_vrp *announced, size_t announced_count,
-                            const pigy_vrp *withdrawn, size_t withdrawn_count, pigy_table **next, size_t *index)
+pigy_status pigy_table_with_changes(const pigy_table *table, const pigy_vrp *announced, size_t announced_count,
+                                    const pigy_vrp *withdrawn, size_t withdrawn_count, pigy_table **out, size_t *index)
     PIGY_NODISCARD PIGY_NONNULL(6, 7);
 
 /**
- * Validates routes by a table, as pigy_origins does. It makes no table. Many routes in one call take less time each.
+ * Validates one route by a table (RFC 6811, 2). The call takes no memory, so it cannot fail for a valid route.
  *
- * The call takes one octet for each route and less than 2 KiB from malloc, and frees them.
+ * @param table     The table, which is only read. The status is PIGY_NO_HANDLE if it is NULL.
+ * @param route     One route. Not NULL.
+ * @param validity  Receives PIGY_VALID, PIGY_NOT_FOUND or PIGY_INVALID; PIGY_NO_VALIDITY with an error. Not NULL.
+ * @param reason    Receives PIGY_INVALID_AS or PIGY_INVALID_LENGTH if the validity is PIGY_INVALID, and otherwise 0.
+ *                  Not NULL.
  *
- * @param table     The table, which is only read. The status is PIGY_NO_TABLE if it is NULL.
+ * @return the first of these that applies:
+ *   1. PIGY_NO_HANDLE.
+ *   2. PIGY_SECOND + PIGY_BAD_FAMILY, PIGY_SECOND + PIGY_BAD_PREFIX: the route is invalid.
+ *   3. PIGY_OK.
+ */
+pigy_status pigy_table_validate(const pigy_table *table, const pigy_route *route, uint8_t *validity, uint8_t *reason)
+    PIGY_NODISCARD PIGY_NONNULL(2, 3, 4);
+
+/**
+ * Validates routes by a table: one octet for each route, PIGY_VALID, PIGY_NOT_FOUND or PIGY_INVALID (RFC 6811, 2).
+ *
+ * Many routes in one call take less time each. The call takes one octet for each route and less than 2 KiB from malloc,
+ * and frees them.
+ *
+ * @param table     The table, which is only read. The status is PIGY_NO_HANDLE if it is NULL.
  * @param routes    Routes. May be NULL if the count is 0.
  * @param count     Number of routes.
  * @param out       Buffer for one octet a route, in the order of the routes. Owned by the caller. May be NULL if the
  *                  capacity is 0.
- * @param capacity  Capacity of `out` in octets; may be 0.
+ * @param capacity  Capacity of `out` in octets; may be 0. The count of the routes always suffices.
  * @param len       Receives the length in octets, written or required. Not NULL.
  * @param index     Receives the index of the first invalid route, from 0; else 0. Not NULL.
  *
  * @return the first of these that applies:
- *   1. PIGY_NO_TABLE.
+ *   1. PIGY_NO_HANDLE.
  *   2. PIGY_SECOND + PIGY_BAD_FAMILY, PIGY_SECOND + PIGY_BAD_PREFIX: the first invalid route.
  *   3. PIGY_TOO_SMALL, then PIGY_OK.
- *
- * With 1, 2 and PIGY_MEMORY *len is 0 and the buffer is unchanged.
  */
-uint32_t pigy_table_origins(const pigy_table *table, const pigy_route *routes, size_t count, uint8_t *out,
-                            size_t capacity, size_t *len, size_t *index) PIGY_NODISCARD PIGY_NONNULL(6, 7);
+pigy_status pigy_table_validate_routes(const pigy_table *table, const pigy_route *routes, size_t count, uint8_t *out,
+                                       size_t capacity, size_t *len, size_t *index) PIGY_NODISCARD PIGY_NONNULL(6, 7);
 
 /**
  * Compares the validity of each route by two tables (RFC 6811, 4). The octet of a route is 1 if its validity differs
  * between the tables, and otherwise 0.
  *
- * 1. Exchange the handle, so that each later lookup uses the next table.
- * 2. Make this call with all routes that you use. Validate each route again whose octet is 1.
- * 3. Free the old table.
+ * Exchange the handle first, so that each later lookup uses the next table. Then make this call with all routes that
+ * you use, and validate each route again whose octet is 1. Free the old table last. If you compare first, a route that
+ * the old table validates between comparison and exchange has a wrong validity.
  *
- * If you compare first, a route that the old table validates between comparison and exchange has a wrong validity. For
- * the first table pass an empty table as `old`, or validate all routes instead of this call. After PIGY_MEMORY validate
- * all routes. docs/C.md, "Several caches", says what to do with several tables.
+ * For the first table pass an empty table as `old`, or validate all routes instead of this call. After PIGY_MEMORY
+ * validate all routes. docs/C.md, "Several caches", says what to do with several tables.
  *
  * The call takes three octets for each route and less than 2 KiB from malloc, and frees them.
  *
- * @param old       The one table, which is only read. The status is PIGY_NO_TABLE if it is NULL.
- * @param next      The other table, which is only read. The status is PIGY_NO_TABLE if it is NULL. May be `old`.
+ * @param old       The one table, which is only read. The status is PIGY_NO_HANDLE if it is NULL.
+ * @param next      The other table, which is only read. The status is PIGY_NO_HANDLE if it is NULL. May be `old`.
  * @param routes    Routes. May be NULL if the count is 0.
  * @param count     Number of routes.
  * @param out       Buffer for one octet a route, in the order of the routes. Owned by the caller. May be NULL if the
  *                  capacity is 0.
- * @param capacity  Capacity of `out` in octets; may be 0.
+ * @param capacity  Capacity of `out` in octets; may be 0. The count of the routes always suffices.
  * @param len       Receives the length in octets, written or required. Not NULL.
  * @param index     Receives the index of the first invalid route, from 0; else 0. Not NULL.
  *
  * @return the first of these that applies:
- *   1. PIGY_NO_TABLE.
+ *   1. PIGY_NO_HANDLE.
  *   2. PIGY_SECOND + PIGY_BAD_FAMILY, PIGY_SECOND + PIGY_BAD_PREFIX: the first invalid route.
  *   3. PIGY_TOO_SMALL, then PIGY_OK.
- *
- * With 1, 2 and PIGY_MEMORY *len is 0 and the buffer is unchanged.
  */
-uint32_t pigy_table_routes_changed(const pigy_table *old, const pigy_table *next, const pigy_route *routes,
-                                   size_t count, uint8_t *out, size_t capacity, size_t *len, size_t *index)
+pigy_status pigy_table_revalidate(const pigy_table *old, const pigy_table *next, const pigy_route *routes, size_t count,
+                                  uint8_t *out, size_t capacity, size_t *len, size_t *index)
     PIGY_NODISCARD PIGY_NONNULL(7, 8);
 
 /**
@@ -742,53 +1229,47 @@ uint32_t pigy_table_routes_changed(const pigy_table *old, const pigy_table *next
  * The longest prefix comes first. If two VRPs have the same prefix, the lesser AS number comes first. If they also have
  * the same AS, the longer maximum length comes first.
  *
- * @param table     The table, which is only read. The status is PIGY_NO_TABLE if it is NULL.
+ * @param table     The table, which is only read. The status is PIGY_NO_HANDLE if it is NULL.
  * @param route     One route. Not NULL.
  * @param out       Buffer for the VRPs. Owned by the caller. May be NULL if the capacity is 0.
  * @param capacity  Capacity of `out` in VRPs, not in octets; may be 0.
  * @param len       Receives the number of VRPs, written or required. Not NULL.
  *
  * @return the first of these that applies:
- *   1. PIGY_NO_TABLE.
+ *   1. PIGY_NO_HANDLE.
  *   2. PIGY_SECOND + PIGY_BAD_FAMILY, PIGY_SECOND + PIGY_BAD_PREFIX: the route is invalid.
  *   3. PIGY_TOO_SMALL, then PIGY_OK.
- *
- * With 1, 2 and PIGY_MEMORY *len is 0 and the buffer is unchanged.
  */
-uint32_t pigy_table_covering(const pigy_table *table, const pigy_route *route, pigy_covering *out, size_t capacity,
-                             size_t *len) PIGY_NODISCARD PIGY_NONNULL(2, 5);
+pigy_status pigy_table_covering(const pigy_table *table, const pigy_route *route, pigy_covering *out, size_t capacity,
+                                size_t *len) PIGY_NODISCARD PIGY_NONNULL(2, 5);
 
 /**
  * Counts the VRPs of a table.
  *
- * @param table  The table, which is only read. The status is PIGY_NO_TABLE if it is NULL.
+ * @param table  The table, which is only read. The status is PIGY_NO_HANDLE if it is NULL.
  * @param len    Receives the number of VRPs; 0 with an error. Not NULL.
  *
- * @return PIGY_NO_TABLE if the handle is NULL, otherwise PIGY_OK.
+ * @return PIGY_NO_HANDLE if the handle is NULL, otherwise PIGY_OK.
  */
-uint32_t pigy_table_len(const pigy_table *table, size_t *len) PIGY_NONNULL(2);
+pigy_status pigy_table_len(const pigy_table *table, size_t *len) PIGY_NONNULL(2);
 
 /**
- * Lists all VRPs of a table. The last 12 octets of an IPv4 address are 0.
+ * Lists all VRPs of a table.
  *
  * IPv4 comes before IPv6. Then the order is by address, and then by prefix length, the shorter first. If two VRPs have
  * the same prefix, the greater AS number comes first. If they also have the same AS, the shorter maximum length comes
  * first. pigy_table_covering has another order.
  *
- * No call returns the changes between two tables. To compute them, go through the lists of both tables side by side.
- *
- * @param table     The table, which is only read. The status is PIGY_NO_TABLE if it is NULL.
+ * @param table     The table, which is only read. The status is PIGY_NO_HANDLE if it is NULL.
  * @param out       Buffer for the VRPs. Owned by the caller. May be NULL if the capacity is 0.
- * @param capacity  Capacity of `out` in VRPs, not in octets; may be 0.
+ * @param capacity  Capacity of `out` in VRPs, not in octets; may be 0. pigy_table_len returns the number of VRPs.
  * @param len       Receives the number of VRPs, written or required. Not NULL.
  *
  * @return the first of these that applies:
- *   1. PIGY_NO_TABLE.
+ *   1. PIGY_NO_HANDLE.
  *   2. PIGY_TOO_SMALL, then PIGY_OK.
- *
- * With 1 and with PIGY_MEMORY *len is 0 and the buffer is unchanged.
  */
-uint32_t pigy_table_vrps(const pigy_table *table, pigy_vrp *out, size_t capacity, size_t *len)
+pigy_status pigy_table_vrps(const pigy_table *table, pigy_vrp *out, size_t capacity, size_t *len)
     PIGY_NODISCARD PIGY_NONNULL(4);
 
 /**
@@ -798,294 +1279,26 @@ uint32_t pigy_table_vrps(const pigy_table *table, pigy_vrp *out, size_t capacity
  */
 void pigy_table_free(pigy_table *table);
 
+/* ---- Lines of the program respath ---- */
+
 /**
  * Returns the answer of the program respath to one line. Its manual page, respath(1), lists the commands.
  *
- * The line and the answer are UTF-8, without the end of a line. If the line is wrong, the status is still PIGY_OK, and
- * the answer begins with "error: ". A line that is not UTF-8 is wrong too.
+ * The line and the answer are UTF-8, without the end of a line. The program answers an invalid line by a text that
+ * begins with "error: ". This call returns PIGY_BAD_QUERY then, and no text.
  *
  * @param line      The line, for example "der v4 10.0.0.0/8". May be NULL if the length is 0.
  * @param line_len  Length in octets.
- * @param out       Buffer for the answer, without a final NUL. Owned by the caller. May be NULL if the capacity is 0.
+ * @param out       Buffer for the answer. Owned by the caller. May be NULL if the capacity is 0.
  * @param capacity  Capacity of `out` in octets; may be 0.
  * @param len       Receives the length in octets, written or required. Not NULL.
  *
- * @return PIGY_TOO_SMALL, PIGY_MEMORY or PIGY_OK. With PIGY_MEMORY *len is 0 and the buffer is unchanged.
+ * @return the first of these that applies:
+ *   1. PIGY_BAD_QUERY.
+ *   2. PIGY_TOO_SMALL, then PIGY_OK.
  */
-uint32_t pigy_answer(const uint8_t *line, size_t line_len, uint8_t *out, size_t capacity, size_t *len)
+pigy_status pigy_answer(const char *line, size_t line_len, char *out, size_t capacity, size_t *len)
     PIGY_NODISCARD PIGY_NONNULL(5);
-
-/**
- * Computes the union of two sets: the resources that the first or the second set has.
- *
- * pigy_combine is a shorter form.
- *
- * @param a_as         First set's AS identifiers: DER. May be NULL if the length is 0.
- * @param a_as_len     Length in octets; 0 if the set has no AS numbers.
- * @param a_ip         First set's IP address blocks: DER. May be NULL if the length is 0.
- * @param a_ip_len     Length in octets; 0 if the set has no addresses.
- * @param b_as         Second set's AS identifiers: DER. May be NULL if the length is 0.
- * @param b_as_len     Length in octets; 0 if the set has no AS numbers.
- * @param b_ip         Second set's IP address blocks: DER. May be NULL if the length is 0.
- * @param b_ip_len     Length in octets; 0 if the set has no addresses.
- * @param encoding     PIGY_LENIENT or PIGY_STRICT, for both sets.
- * @param as_out       Buffer for the result's AS identifiers. Owned by the caller. May be NULL if the capacity is 0.
- * @param as_capacity  Capacity of `as_out` in octets; may be 0.
- * @param ip_out       Buffer for the result's IP address blocks. Owned by the caller. May be NULL if the capacity is 0.
- * @param ip_capacity  Capacity of `ip_out` in octets; may be 0.
- * @param as_len       Receives the length of the AS identifiers in octets, written or required. Not NULL.
- * @param ip_len       Receives the length of the IP address blocks in octets, written or required. Not NULL.
- *
- * @return the first of these that applies:
- *   1. PIGY_BAD_ENCODING.
- *   2. PIGY_BAD_AS + n, PIGY_BAD_IP + n, PIGY_INHERITED: the first set.
- *   3. PIGY_SECOND + one of these: the second set.
- *   4. PIGY_TOO_SMALL, then PIGY_OK.
- *
- * With 1 to 3 and with PIGY_MEMORY both lengths are 0 and the buffers are unchanged.
- */
-uint32_t pigy_union(const uint8_t *a_as, size_t a_as_len, const uint8_t *a_ip, size_t a_ip_len, const uint8_t *b_as,
-                    size_t b_as_len, const uint8_t *b_ip, size_t b_ip_len, uint32_t encoding,
-                    uint8_t *as_out, size_t as_capacity, uint8_t *ip_out, size_t ip_capacity, size_t *as_len,
-                    size_t *ip_len) PIGY_NODISCARD PIGY_NONNULL(14, 15);
-
-/**
- * Computes the intersection of two sets: the resources that both sets have.
- *
- * pigy_combine is a shorter form.
- *
- * @param a_as         First set's AS identifiers: DER. May be NULL if the length is 0.
- * @param a_as_len     Length in octets; 0 if the set has no AS numbers.
- * @param a_ip         First set's IP address blocks: DER. May be NULL if the length is 0.
- * @param a_ip_len     Length in octets; 0 if the set has no addresses.
- * @param b_as         Second set's AS identifiers: DER. May be NULL if the length is 0.
- * @param b_as_len     Length in octets; 0 if the set has no AS numbers.
- * @param b_ip         Second set's IP address blocks: DER. May be NULL if the length is 0.
- * @param b_ip_len     Length in octets; 0 if the set has no addresses.
- * @param encoding     PIGY_LENIENT or PIGY_STRICT, for both sets.
- * @param as_out       Buffer for the result's AS identifiers. Owned by the caller. May be NULL if the capacity is 0.
- * @param as_capacity  Capacity of `as_out` in octets; may be 0.
- * @param ip_out       Buffer for the result's IP address blocks. Owned by the caller. May be NULL if the capacity is 0.
- * @param ip_capacity  Capacity of `ip_out` in octets; may be 0.
- * @param as_len       Receives the length of the AS identifiers in octets, written or required. Not NULL.
- * @param ip_len       Receives the length of the IP address blocks in octets, written or required. Not NULL.
- *
- * @return the first of these that applies:
- *   1. PIGY_BAD_ENCODING.
- *   2. PIGY_BAD_AS + n, PIGY_BAD_IP + n, PIGY_INHERITED: the first set.
- *   3. PIGY_SECOND + one of these: the second set.
- *   4. PIGY_TOO_SMALL, then PIGY_OK.
- *
- * With 1 to 3 and with PIGY_MEMORY both lengths are 0 and the buffers are unchanged.
- */
-uint32_t pigy_intersection(const uint8_t *a_as, size_t a_as_len, const uint8_t *a_ip, size_t a_ip_len,
-                           const uint8_t *b_as, size_t b_as_len, const uint8_t *b_ip, size_t b_ip_len,
-                           uint32_t encoding, uint8_t *as_out, size_t as_capacity, uint8_t *ip_out, size_t ip_capacity,
-                           size_t *as_len, size_t *ip_len) PIGY_NODISCARD PIGY_NONNULL(14, 15);
-
-/**
- * Computes the difference of two sets: the resources that the first set has and the second does not.
- *
- * pigy_combine is a shorter form.
- *
- * @param a_as         First set's AS identifiers: DER. May be NULL if the length is 0.
- * @param a_as_len     Length in octets; 0 if the set has no AS numbers.
- * @param a_ip         First set's IP address blocks: DER. May be NULL if the length is 0.
- * @param a_ip_len     Length in octets; 0 if the set has no addresses.
- * @param b_as         Second set's AS identifiers: DER. May be NULL if the length is 0.
- * @param b_as_len     Length in octets; 0 if the set has no AS numbers.
- * @param b_ip         Second set's IP address blocks: DER. May be NULL if the length is 0.
- * @param b_ip_len     Length in octets; 0 if the set has no addresses.
- * @param encoding     PIGY_LENIENT or PIGY_STRICT, for both sets.
- * @param as_out       Buffer for the result's AS identifiers. Owned by the caller. May be NULL if the capacity is 0.
- * @param as_capacity  Capacity of `as_out` in octets; may be 0.
- * @param ip_out       Buffer for the result's IP address blocks. Owned by the caller. May be NULL if the capacity is 0.
- * @param ip_capacity  Capacity of `ip_out` in octets; may be 0.
- * @param as_len       Receives the length of the AS identifiers in octets, written or required. Not NULL.
- * @param ip_len       Receives the length of the IP address blocks in octets, written or required. Not NULL.
- *
- * @return the first of these that applies:
- *   1. PIGY_BAD_ENCODING.
- *   2. PIGY_BAD_AS + n, PIGY_BAD_IP + n, PIGY_INHERITED: the first set.
- *   3. PIGY_SECOND + one of these: the second set.
- *   4. PIGY_TOO_SMALL, then PIGY_OK.
- *
- * With 1 to 3 and with PIGY_MEMORY both lengths are 0 and the buffers are unchanged.
- */
-uint32_t pigy_difference(const uint8_t *a_as, size_t a_as_len, const uint8_t *a_ip, size_t a_ip_len,
-                         const uint8_t *b_as, size_t b_as_len, const uint8_t *b_ip, size_t b_ip_len, uint32_t encoding,
-                         uint8_t *as_out, size_t as_capacity, uint8_t *ip_out, size_t ip_capacity, size_t *as_len,
-                         size_t *ip_len) PIGY_NODISCARD PIGY_NONNULL(14, 15);
-
-/**
- * Returns whether the first set has each AS number and each address of the second. PIGY_OK is 0. Compare the status
- * with PIGY_OK and PIGY_NO, since `if (status)` is true for no and for each error.
- *
- * pigy_compare is a shorter form.
- *
- * @param a_as      First set's AS identifiers: DER. May be NULL if the length is 0.
- * @param a_as_len  Length in octets; 0 if the set has no AS numbers.
- * @param a_ip      First set's IP address blocks: DER. May be NULL if the length is 0.
- * @param a_ip_len  Length in octets; 0 if the set has no addresses.
- * @param b_as      Second set's AS identifiers: DER. May be NULL if the length is 0.
- * @param b_as_len  Length in octets; 0 if the set has no AS numbers.
- * @param b_ip      Second set's IP address blocks: DER. May be NULL if the length is 0.
- * @param b_ip_len  Length in octets; 0 if the set has no addresses.
- * @param encoding  PIGY_LENIENT or PIGY_STRICT, for both sets.
- *
- * @return the first of these that applies:
- *   1. PIGY_BAD_ENCODING.
- *   2. PIGY_BAD_AS + n, PIGY_BAD_IP + n, PIGY_INHERITED: the first set.
- *   3. PIGY_SECOND + one of these: the second set.
- *   4. PIGY_OK for yes, PIGY_NO for no.
- */
-uint32_t pigy_contains(const uint8_t *a_as, size_t a_as_len, const uint8_t *a_ip, size_t a_ip_len, const uint8_t *b_as,
-                       size_t b_as_len, const uint8_t *b_ip, size_t b_ip_len, uint32_t encoding)
-    PIGY_NODISCARD;
-
-/**
- * Returns whether both sets have the same AS numbers and the same addresses. Compare the status with PIGY_OK and
- * PIGY_NO.
- *
- * pigy_compare is a shorter form.
- *
- * @param a_as      First set's AS identifiers: DER. May be NULL if the length is 0.
- * @param a_as_len  Length in octets; 0 if the set has no AS numbers.
- * @param a_ip      First set's IP address blocks: DER. May be NULL if the length is 0.
- * @param a_ip_len  Length in octets; 0 if the set has no addresses.
- * @param b_as      Second set's AS identifiers: DER. May be NULL if the length is 0.
- * @param b_as_len  Length in octets; 0 if the set has no AS numbers.
- * @param b_ip      Second set's IP address blocks: DER. May be NULL if the length is 0.
- * @param b_ip_len  Length in octets; 0 if the set has no addresses.
- * @param encoding  PIGY_LENIENT or PIGY_STRICT, for both sets.
- *
- * @return the first of these that applies:
- *   1. PIGY_BAD_ENCODING.
- *   2. PIGY_BAD_AS + n, PIGY_BAD_IP + n, PIGY_INHERITED: the first set.
- *   3. PIGY_SECOND + one of these: the second set.
- *   4. PIGY_OK for yes, PIGY_NO for no.
- */
-uint32_t pigy_equal(const uint8_t *a_as, size_t a_as_len, const uint8_t *a_ip, size_t a_ip_len, const uint8_t *b_as,
-                    size_t b_as_len, const uint8_t *b_ip, size_t b_ip_len, uint32_t encoding)
-    PIGY_NODISCARD;
-
-/* ---- The rest of this file is C code that is not proved. ---- */
-
-/**
- * Returns the version of the linked library: the text of the file VERSION of its release. It is not PIGY_VERSION.
- *
- * @return a text that is never NULL, and is valid as long as the library is loaded.
- */
-const char *pigy_version_string(void);
-
-/**
- * Returns the English text of a status.
- *
- * @param status  Any number. For a number that is not a status the text is "unknown status".
- *
- * @return a text that is never NULL, and is valid as long as the library is loaded.
- */
-const char *pigy_status_text(uint32_t status);
-
-/* The short forms are inline functions. */
-
-/* A resource set, or the extensions of a certificate, as an input of the short forms below.
- *
- * - as: AS identifiers: DER. Owned by the caller. May be NULL: then a set has no AS numbers, and in a certificate the
- *   extension is absent.
- * - as_len: Length in octets. Ignored if `as` is NULL.
- * - ip: IP address blocks: DER. Owned by the caller. May be NULL: then a set has no addresses, and in a certificate the
- *   extension is absent.
- * - ip_len: Length in octets. Ignored if `ip` is NULL. */
-typedef struct {
-  const uint8_t *as;
-  size_t as_len;
-  const uint8_t *ip;
-  size_t ip_len;
-} pigy_set;
-
-/* The output buffers of the short forms below.
- *
- * - as: Buffer for AS identifiers. Owned by the caller. May be NULL: its capacity is 0 then.
- * - as_capacity: Capacity of this buffer, in octets. Ignored if `as` is NULL.
- * - as_len: The call stores the length here, written or required.
- * - ip, ip_capacity, ip_len: The same for IP address blocks. */
-typedef struct {
-  uint8_t *as;
-  size_t as_capacity, as_len;
-  uint8_t *ip;
-  size_t ip_capacity, ip_len;
-} pigy_buffers;
-
-/* Returns the length, or 0 if the pointer is NULL. */
-static inline size_t pigy_len_or_zero(const uint8_t *octets, size_t len) { return octets ? len : 0; }
-
-/**
- * Verifies the resources of a certificate against those of its issuer: a short form of pigy_verify.
- *
- * @param issuer    The issuer's set, as for pigy_verify. Members may be NULL.
- * @param cert      The certificate's extensions. A NULL member is an absent extension. Any other pointer with length 0
- *                  is an extension that is present and invalid. Pass NULL for an output of length 0.
- * @param encoding  PIGY_LENIENT or PIGY_STRICT, for the certificate and for the issuer.
- * @param mode      PIGY_REFUSE or PIGY_TRIM.
- * @param out       Buffers, and the lengths that the call stores. Not NULL. Buffers in it may be NULL.
- *
- * @return a status of pigy_verify.
- */
-PIGY_NODISCARD PIGY_NONNULL(5)
-static inline uint32_t pigy_verify_set(pigy_set issuer, pigy_set cert, uint32_t encoding, uint32_t mode,
-                                       pigy_buffers *out) {
-  return pigy_verify(issuer.as, pigy_len_or_zero(issuer.as, issuer.as_len), issuer.ip,
-                     pigy_len_or_zero(issuer.ip, issuer.ip_len),
-                     (cert.as ? PIGY_HAS_AS : 0u) | (cert.ip ? PIGY_HAS_IP : 0u), cert.as,
-                     pigy_len_or_zero(cert.as, cert.as_len), cert.ip, pigy_len_or_zero(cert.ip, cert.ip_len), encoding,
-                     mode, out->as, pigy_len_or_zero(out->as, out->as_capacity), out->ip,
-                     pigy_len_or_zero(out->ip, out->ip_capacity), &out->as_len, &out->ip_len);
-}
-
-/* The type of pigy_union, pigy_intersection and pigy_difference, for pigy_combine. */
-typedef uint32_t pigy_operation(const uint8_t *, size_t, const uint8_t *, size_t, const uint8_t *, size_t,
-                                const uint8_t *, size_t, uint32_t,
-                                uint8_t *, size_t, uint8_t *, size_t, size_t *, size_t *);
-/* The type of pigy_contains and pigy_equal, for pigy_compare. */
-typedef uint32_t pigy_comparison(const uint8_t *, size_t, const uint8_t *, size_t, const uint8_t *, size_t,
-                                 const uint8_t *, size_t, uint32_t);
-
-/**
- * Computes the union, the intersection or the difference of two sets: a short form of these calls.
- *
- * @param call      pigy_union, pigy_intersection or pigy_difference. Not NULL.
- * @param a         First set. Members may be NULL.
- * @param b         Second set. Members may be NULL.
- * @param encoding  PIGY_LENIENT or PIGY_STRICT, for both sets.
- * @param out       Buffers, and the lengths that the call stores. Not NULL. Buffers in it may be NULL.
- *
- * @return a status of pigy_union.
- */
-PIGY_NODISCARD PIGY_NONNULL(1, 5)
-static inline uint32_t pigy_combine(pigy_operation *call, pigy_set a, pigy_set b, uint32_t encoding,
-                                    pigy_buffers *out) {
-  return call(a.as, pigy_len_or_zero(a.as, a.as_len), a.ip, pigy_len_or_zero(a.ip, a.ip_len), b.as,
-              pigy_len_or_zero(b.as, b.as_len), b.ip, pigy_len_or_zero(b.ip, b.ip_len), encoding, out->as,
-              pigy_len_or_zero(out->as, out->as_capacity), out->ip, pigy_len_or_zero(out->ip, out->ip_capacity),
-              &out->as_len, &out->ip_len);
-}
-
-/**
- * Compares two sets: a short form of pigy_contains and pigy_equal.
- *
- * @param call      pigy_contains or pigy_equal. Not NULL.
- * @param a         First set. Members may be NULL.
- * @param b         Second set. Members may be NULL.
- * @param encoding  PIGY_LENIENT or PIGY_STRICT, for both sets.
- *
- * @return a status of pigy_contains.
- */
-PIGY_NODISCARD PIGY_NONNULL(1)
-static inline uint32_t pigy_compare(pigy_comparison *call, pigy_set a, pigy_set b, uint32_t encoding) {
-  return call(a.as, pigy_len_or_zero(a.as, a.as_len), a.ip, pigy_len_or_zero(a.ip, a.ip_len), b.as,
-              pigy_len_or_zero(b.as, b.as_len), b.ip, pigy_len_or_zero(b.ip, b.ip_len), encoding);
-}
 
 #ifdef __cplusplus
 }

@@ -31,9 +31,11 @@ impl Set for IpBlocks {
         from_min(min, 2, if is_single { Some(length) } else { None })
     }
 
-    /// Returns a prefix of `56 - length` bits, or a range of `length + 1` addresses.
+    /// Returns a prefix of `56 - length` bits, or a range of `length + 1` addresses. No range is that of a prefix,
+    /// because its first address is odd.
     fn block_on_path(at: u32, length: u32, is_single: bool) -> Option<IpBlock> {
-        let min = u128::checked_mul(u128::from(at), 1 << 88)?.checked_add(1 << 125)?;
+        let base = if is_single { 1 << 125 } else { (1 << 125) | 1 };
+        let min = u128::checked_mul(u128::from(at), 1 << 88)?.checked_add(base)?;
         let bits = u8::try_from(u32::checked_sub(56, length)?).ok()?;
         from_min(min, length, if is_single { Some(bits) } else { None })
     }

@@ -1,6 +1,7 @@
 pub mod CertificatePathLemmas
 mod ClaimedLemmas
-pub mod CoverOctetLemmas
+pub mod HandleWords
 pub mod OutcomeLemmas
 pub mod RangeLemmas
 pub mod RequestLemmas
+pub mod TestLemmas

@@ -1,11 +1,15 @@
 pub mod Certificates
 pub mod Covers
+pub mod Handles
+pub mod Lines
 pub mod Numbers
 pub mod PairStatuses
 pub mod Pairs
 pub mod Paths
 pub mod Ranges
 pub mod Requests
+pub mod Returned
+pub mod SetHandles
 pub mod Sets
 pub mod Statuses
 pub mod Texts

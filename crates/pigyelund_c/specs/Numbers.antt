@@ -9,13 +9,13 @@ use Rattle.pigyelund_c.specs.declared.encodings.Present.TheVariants.{Neither, Nu
 
 -- The number of an encoding.
 abbrev pub encoding_number : Encoding → ℕ
-encoding_number Any = 0
-encoding_number Canonical = 1
+encoding_number Any = 16
+encoding_number Canonical = 17
 
 -- The number of a mode for an overclaim.
 abbrev pub mode_number : Overclaim → ℕ
-mode_number Refuse = 0
-mode_number Trim = 1
+mode_number Refuse = 32
+mode_number Trim = 33
 
 -- The number of the extensions that are present: 1 for AS identifiers, 2 for IP address blocks, and the sum for both.
 abbrev pub present_number : Present → ℕ

@@ -6,6 +6,7 @@ use Rattle.pigyelund_c.specs.Numbers.{encoding_number}
 use Rattle.pigyelund_c.specs.Sets.{IsNoSet, IsSet}
 use Rattle.pigyelund_c.specs.declared.operations.Operation.{Operation}
 use Rattle.pigyelund_c.specs.declared.operations.Operation.TheVariants.{Union, Intersection, Difference}
+use Rattle.pigyelund_c.specs.declared.operations.Operation.TheVariants.{SymmetricDifference}
 use Rattle.pigyelund_c.specs.declared.pair.Pair.{Pair}
 use Rattle.pigyelund_c.specs.declared.pair.ReadPairError.{ReadPairError}
 use Rattle.pigyelund_c.specs.declared.pair.ReadPairError.TheVariants.{NoEncoding, First, Second}
@@ -36,11 +37,18 @@ AreNotRead a_as a_ip b_as b_ip encoding reason =
 
 -- ---- computed
 
+-- The set has the resources that exactly one of the two has: the union of both differences.
+abbrev pub IsSymmetricDifferenceOf : Triple → Triple → Triple → Type 0
+IsSymmetricDifferenceOf a b set =
+    (first : Triple) × (second : Triple) × IsDifferenceOf a b first × IsDifferenceOf b a second
+    × IsUnionOf first second set
+
 -- The set is the one that the operation makes of the two.
 abbrev pub IsBy : Operation → Triple → Triple → Triple → Type 0
 IsBy Union = IsUnionOf
 IsBy Intersection = IsIntersectionOf
 IsBy Difference = IsDifferenceOf
+IsBy SymmetricDifference = IsSymmetricDifferenceOf
 
 -- R holds for the two sets that were read and this set.
 abbrev pub IsMade : (Triple → Triple → Triple → Type 0) → List ℕ → List ℕ → List ℕ → List ℕ → ℕ → Triple → Type 0

@@ -56,12 +56,17 @@ abbrev pub ip_value : Triple → List ℕ
 ip_value t = octets_or_none (written_addresses t.ipv4 t.ipv6)
 
 -- A status and a set are returned. The set is written whole, or the buffers are unchanged. If they are unchanged, the
--- status is 1 and the lengths are the required ones, or the status is 2 and the lengths are 0.
+-- status is 256 and the lengths are the required ones, or the status is 512 and the lengths are 0.
 abbrev pub IsSetReturned : ℕ → Triple → List ℕ → List ℕ → List ℕ → List ℕ → ℕ → ℕ → ℕ → Type 0
 IsSetReturned status set as_before ip_before as_after ip_after as_len ip_len result =
-    ((result ≡ 2) × (as_after ≡ as_before) × (ip_after ≡ ip_before) × (as_len ≡ 0) × (ip_len ≡ 0))
-    ⊎ (((result ≡ 1) × (as_after ≡ as_before) × (ip_after ≡ ip_before)
+    ((result ≡ 512) × (as_after ≡ as_before) × (ip_after ≡ ip_before) × (as_len ≡ 0) × (ip_len ≡ 0))
+    ⊎ (((result ≡ 256) × (as_after ≡ as_before) × (ip_after ≡ ip_before)
     × (as_len ≡ length (as_value set)) × (ip_len ≡ length (ip_value set))
     × ((length as_before < as_len) ⊎ (length ip_before < ip_len)))
     ⊎ ((result ≡ status) × IsPut (as_value set) as_before as_after × IsPut (ip_value set) ip_before ip_after
     × (as_len ≡ length (as_value set)) × (ip_len ≡ length (ip_value set))))
+
+-- Nothing is returned: the buffers are unchanged, and the lengths are 0.
+abbrev pub IsNothingReturned : List ℕ → List ℕ → List ℕ → List ℕ → ℕ → ℕ → Type 0
+IsNothingReturned as_before ip_before as_after ip_after as_len ip_len =
+    (as_after ≡ as_before) × (ip_after ≡ ip_before) × (as_len ≡ 0) × (ip_len ≡ 0)

@@ -1,10 +1,8 @@
--- The statuses of outcomes (numbered in `pigyelund_routes::status`), and the set that is returned with each.
-use Rattle.std.specs.Prelude.{ℕ, ◌+◌, Result, Ok, Err}
+-- The statuses of reasons (numbered in `pigyelund_routes::status`), and the overclaimed resources of each.
+use Rattle.std.specs.Prelude.{ℕ, ◌+◌, Option, None}
 use Rattle.rpki_der.specs.Faults.{fault_number}
-use Rattle.rpki_text.specs.declared.memory.OrMemory.{OrMemory}
-use Rattle.rpki_text.specs.declared.memory.OrMemory.TheVariants.{Refused, Memory}
 use Rattle.rpki_resources.specs.Triples.{Triple, no_resources}
-use Rattle.pigyelund_c.specs.VerifyErrors.{verify_error_excess, verify_error_status}
+use Rattle.pigyelund_c.specs.VerifyErrors.{verify_error_excess, verify_error_overclaimed, verify_error_status}
 use Rattle.pigyelund_c.specs.declared.refusal.ArgumentError.{ArgumentError}
 use Rattle.pigyelund_c.specs.declared.refusal.ArgumentError.TheVariants.{NoEncoding, NoMode, NoPresence, NoFamily}
 use Rattle.pigyelund_c.specs.declared.refusal.ArgumentError.TheVariants.{Outside}
@@ -15,17 +13,17 @@ use Rattle.pigyelund_c.specs.declared.refusal.ReadSetError.TheVariants.{Numbers,
 
 -- The status of an invalid argument.
 abbrev pub argument_error_status : ArgumentError → ℕ
-argument_error_status NoEncoding = 9
-argument_error_status NoMode = 4
-argument_error_status NoPresence = 12
-argument_error_status NoFamily = 13
-argument_error_status Outside = 11
+argument_error_status NoEncoding = 1025
+argument_error_status NoMode = 1026
+argument_error_status NoPresence = 1027
+argument_error_status NoFamily = 1028
+argument_error_status Outside = 1032
 
 -- The status of the reason why octets list no set. For invalid octets it has the number of the fault.
 abbrev pub read_set_error_status : ReadSetError → ℕ
-read_set_error_status (Numbers fault) = 256 + fault_number fault
-read_set_error_status (Addresses fault) = 512 + fault_number fault
-read_set_error_status Inherited = 3
+read_set_error_status (Numbers fault) = 2048 + fault_number fault
+read_set_error_status (Addresses fault) = 4096 + fault_number fault
+read_set_error_status Inherited = 8192
 
 -- The status of the reason why an issuer does not verify a certificate.
 abbrev pub refusal_status : Refusal → ℕ
@@ -39,14 +37,8 @@ excess_of (Asked why) = no_resources
 excess_of (Issuer reason) = no_resources
 excess_of (Unverified reason) = verify_error_excess reason
 
--- The status of an outcome: 0 for a set, 2 for out of memory, and otherwise that of the reason.
-abbrev pub status_of : Result Triple (OrMemory Refusal) → ℕ
-status_of (Ok set) = 0
-status_of (Err (Refused reason)) = refusal_status reason
-status_of (Err (Memory error)) = 2
-
--- The set that is returned with the status: the outcome, or the overclaimed resources.
-abbrev pub returned_set : Result Triple (OrMemory Refusal) → Triple
-returned_set (Ok set) = set
-returned_set (Err (Refused reason)) = excess_of reason
-returned_set (Err (Memory error)) = no_resources
+-- The overclaimed resources as a set, or None for any other reason.
+abbrev pub overclaimed : Refusal → Option Triple
+overclaimed (Asked why) = None
+overclaimed (Issuer reason) = None
+overclaimed (Unverified reason) = verify_error_overclaimed reason

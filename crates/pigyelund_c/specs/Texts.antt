@@ -21,11 +21,11 @@ use Rattle.pigyelund_c.specs.declared.text.TextError.TheVariants.{NoKind, NotUtf
 
 -- ---- read
 
--- The number of a kind: 0 for AS numbers, and that of the family for addresses.
+-- The number of a kind: 5 for AS numbers, and that of the family for addresses.
 abbrev pub kind_number : Kind → ℕ
-kind_number Numbers = 0
-kind_number Ipv4 = 1
-kind_number Ipv6 = 2
+kind_number Numbers = 5
+kind_number Ipv4 = 4
+kind_number Ipv6 = 6
 
 -- The text is a list of a kind, and denotes this set. The set has no resources of the other kinds.
 abbrev pub IsTextOf : Kind → List ℕ → Triple → Type 0
@@ -72,17 +72,17 @@ text_number (OfAsn fault) = as_text_number fault
 text_number (OfIpv4 fault) = ip_text_number fault
 text_number (OfIpv6 fault) = ip_text_number fault
 
--- The status of the reason why octets are not the text of a set: 8192 is added for an invalid text.
+-- The status of the reason why octets are not the text of a set: 1048576 is added for an invalid text.
 abbrev pub text_error_status : TextError → ℕ
-text_error_status NoKind = 19
-text_error_status NotUtf8 = 8192 + 1
-text_error_status (Invalid fault) = 8192 + text_number fault
+text_error_status NoKind = 1029
+text_error_status NotUtf8 = 1048576 + 1
+text_error_status (Invalid fault) = 1048576 + text_number fault
 
 -- The status of a set that was read from text.
 abbrev pub text_status : Result Triple (OrMemory TextError) → ℕ
 text_status (Ok set) = 0
 text_status (Err (Refused reason)) = text_error_status reason
-text_status (Err (Memory error)) = 2
+text_status (Err (Memory error)) = 512
 
 -- The set that is returned with it. It has no resources unless the status is 0.
 abbrev pub text_set : Result Triple (OrMemory TextError) → Triple

@@ -1,19 +1,22 @@
-//! The shortest cover of a set's addresses of one family, as octets.
-ghost use Rattle.std.specs.Prelude.{◌≡◌, [], ◌++◌, IfOk, OnOk, MatchResult};
+//! The shortest cover of a set's addresses of one family: the fewest prefixes that have exactly these addresses.
+ghost use Rattle.std.specs.Prelude.{◌≡◌, [], IfOk, MatchResult};
 ghost use Rattle.rpki_text.specs.Memory.{IfRefused};
-ghost use Rattle.rpki_der.specs.declared.family.AddressFamily.TheVariants.{Ipv4, Ipv6};
-ghost use Rattle.pigyelund_c.specs.Covers.{IsCoverIn, IsCover, IsNoCover, AreCoverOctets, prefix_octets, cover_error_status};
+ghost use Rattle.rpki_resources.specs.Triples.{set_of_family};
+ghost use Rattle.pigyelund_routes.specs.Families.{family_number};
+ghost use Rattle.pigyelund_c.specs.Covers.{ArePrefixesOf, IsCover, IsCoverIn, IsNoCover, cover_error_status, raw_prefix};
 ghost use Rattle.pigyelund_c.specs.Sets.{IsNoSet};
 
 use crate::encodings::encoding_of;
+use crate::ranges::bound_octets;
 use crate::read::set_of;
 use crate::refusal::{ArgumentError, ReadSetError};
 use pigyelund_routes::family::family_of;
+use pigyelund_routes::route::RawPrefix;
 use rpki_extensions::encoding::Encoding;
 use rpki_family::blocks::FamilyBlocks;
 use rpki_family::family::Family;
 use rpki_resources::OrMemory;
-use rpki_resources::repository::resources::{AddressFamily, Prefix};
+use rpki_resources::repository::resources::{AddressFamily, Prefix, ResourceSet};
 use std::alloc::{AllocError, Global};
 
 /// The reason why there is no cover.
@@ -37,51 +40,61 @@ impl CoverError {
     }
 }
 
-/// Appends an IPv4 prefix: the four octets of its address, and its length in one octet.
-fn put_v4(prefix: Prefix, octets: &mut Vec<u8, Global>) -> Result<(), AllocError>
-    ensures { OnOk result (octets.new.items ≡ octets.old.items ++ prefix_octets Ipv4 prefix) }
-{
-    octets.extend_from_slice(&prefix.to_v4().octets())?;
-    octets.push(prefix.addr_len())?;
-    Ok(())
-}
-
-/// Appends an IPv6 prefix: the sixteen octets of its address, and its length in one octet.
-fn put_v6(prefix: Prefix, octets: &mut Vec<u8, Global>) -> Result<(), AllocError>
-    ensures { OnOk result (octets.new.items ≡ octets.old.items ++ prefix_octets Ipv6 prefix) }
-{
-    octets.extend_from_slice(&prefix.addr().to_bytes())?;
-    octets.push(prefix.addr_len())?;
-    Ok(())
-}
-
-/// Appends a prefix as a prefix of `family`.
-fn put(
-    family: AddressFamily,
-    prefix: Prefix,
-    octets: &mut Vec<u8, Global>,
-) -> Result<(), AllocError>
-    ensures { OnOk result (octets.new.items ≡ octets.old.items ++ prefix_octets family prefix) }
+/// Returns the number of a family as an octet: 4 for IPv4, 6 for IPv6.
+fn family_octet(family: AddressFamily) -> u8
+    ensures { result ≡ family_number family }
 {
     match family {
-        AddressFamily::Ipv4 => put_v4(prefix, octets),
-        AddressFamily::Ipv6 => put_v6(prefix, octets),
+        AddressFamily::Ipv4 => 4,
+        AddressFamily::Ipv6 => 6,
     }
 }
 
-/// Returns the prefixes of the shortest cover of a set of addresses of one family, one after the other.
+/// Returns a prefix of a family in the form for C.
+fn raw_prefix(family: AddressFamily, prefix: Prefix) -> RawPrefix
+    ensures { result ≡ raw_prefix family prefix }
+{
+    RawPrefix {
+        address: bound_octets(family, prefix.addr()),
+        family: family_octet(family),
+        len: prefix.addr_len(),
+    }
+}
+
+/// Returns the prefixes of the shortest cover of a set of addresses of one family.
 ///
 /// # Errors
 ///
 /// [`AllocError`] if an allocation fails.
-fn ip_cover<F: Family>(alloc: Global, set: &FamilyBlocks<F>) -> Result<Vec<u8, Global>, AllocError>
-    ensures { IfOk result (λ octets. AreCoverOctets F.FAMILY set.now octets.items) }
+fn family_prefixes<F: Family>(
+    alloc: Global,
+    set: &FamilyBlocks<F>,
+) -> Result<Vec<RawPrefix, Global>, AllocError>
+    ensures { IfOk result (λ list. ArePrefixesOf F.FAMILY set.now list.items) }
 {
-    let mut octets = Vec::new(alloc);
+    let mut list = Vec::new(alloc);
     for prefix in set.prefixes() {
-        put(F::FAMILY, prefix, &mut octets)?;
+        list.push(raw_prefix(F::FAMILY, prefix))?;
     }
-    Ok(octets)
+    Ok(list)
+}
+
+/// Returns the prefixes of the shortest cover of a set's addresses of a family.
+///
+/// # Errors
+///
+/// [`AllocError`] if an allocation fails.
+pub(crate) fn set_prefixes(
+    alloc: Global,
+    family: AddressFamily,
+    set: &ResourceSet,
+) -> Result<Vec<RawPrefix, Global>, AllocError>
+    ensures { IfOk result (λ list. ArePrefixesOf family (set_of_family family set.now) list.items) }
+{
+    match family {
+        AddressFamily::Ipv4 => family_prefixes(alloc, set.ipv4()),
+        AddressFamily::Ipv6 => family_prefixes(alloc, set.ipv6()),
+    }
 }
 
 /// Returns the cover of one family of the set that IP address blocks list.
@@ -90,22 +103,19 @@ fn ip_cover<F: Family>(alloc: Global, set: &FamilyBlocks<F>) -> Result<Vec<u8, G
 ///
 /// - `Refused` with the first reason why the octets list no set.
 /// - `Memory` if an allocation fails.
-fn cover_in(
+fn prefixes_in(
     alloc: Global,
     addresses: &[u8],
     encoding: Encoding,
     family: AddressFamily,
-) -> Result<Vec<u8, Global>, OrMemory<ReadSetError>>
+) -> Result<Vec<RawPrefix, Global>, OrMemory<ReadSetError>>
     ensures { MatchResult result
-        (λ octets. IsCoverIn encoding family addresses.now octets.items)
+        (λ list. IsCoverIn encoding family addresses.now list.items)
         (IfRefused (IsNoSet encoding [] addresses.now)) }
 {
     let set = set_of(alloc, &[], addresses, encoding)?;
-    let octets = match family {
-        AddressFamily::Ipv4 => ip_cover(alloc, set.ipv4())?,
-        AddressFamily::Ipv6 => ip_cover(alloc, set.ipv6())?,
-    };
-    Ok(octets)
+    let list = set_prefixes(alloc, family, &set)?;
+    Ok(list)
 }
 
 /// Returns the cover of one family of the set that IP address blocks list. `encoding` and `family` are numbers.
@@ -114,13 +124,13 @@ fn cover_in(
 ///
 /// - `Refused` with the first of these: an unknown encoding, an unknown family, the reason why the octets list no set.
 /// - `Memory` if an allocation fails.
-pub(crate) fn cover(
+pub(crate) fn prefixes(
     alloc: Global,
     addresses: &[u8],
     encoding: u32,
     family: u32,
-) -> Result<Vec<u8, Global>, OrMemory<CoverError>>
-    ensures { MatchResult result (λ octets. IsCover addresses.now encoding family octets.items)
+) -> Result<Vec<RawPrefix, Global>, OrMemory<CoverError>>
+    ensures { MatchResult result (λ list. IsCover addresses.now encoding family list.items)
         (IfRefused (IsNoCover addresses.now encoding family)) }
 {
     let Some(encoding) = encoding_of(encoding) else {
@@ -129,8 +139,8 @@ pub(crate) fn cover(
     let Some(family) = family_of(family) else {
         return Err(OrMemory::Refused(CoverError::Asked(ArgumentError::NoFamily)));
     };
-    match cover_in(alloc, addresses, encoding, family) {
-        Ok(octets) => Ok(octets),
+    match prefixes_in(alloc, addresses, encoding, family) {
+        Ok(list) => Ok(list),
         Err(OrMemory::Refused(reason)) => Err(OrMemory::Refused(CoverError::Unread(reason))),
         Err(OrMemory::Memory(error)) => Err(OrMemory::Memory(error)),
     }

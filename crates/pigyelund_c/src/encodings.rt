@@ -49,8 +49,8 @@ pub(crate) fn encoding_of(number: u32) -> Option<Encoding>
         (λ encoding. number ≡ encoding_number encoding) }
 {
     match number {
-        0 => Some(Encoding::Any),
-        1 => Some(Encoding::Canonical),
+        16 => Some(Encoding::Any),
+        17 => Some(Encoding::Canonical),
         _ => None,
     }
 }
@@ -61,8 +61,8 @@ pub(crate) fn mode_of(number: u32) -> Option<Overclaim>
         (λ mode. number ≡ mode_number mode) }
 {
     match number {
-        0 => Some(Overclaim::Refuse),
-        1 => Some(Overclaim::Trim),
+        32 => Some(Overclaim::Refuse),
+        33 => Some(Overclaim::Trim),
         _ => None,
     }
 }

@@ -6,13 +6,11 @@
 //! means that the set has no resources of that kind. No call has a precondition in its contract: invalid arguments are
 //! rejected.
 //!
-//! This is the body of `pigy_verify_path`:
+//! An export hands its work to a proved function, and then writes the outcome. `pigy_verify_path` begins with:
 //!
 //! ```rust
 //! let outcome = path_answered(alloc, anchor_as, anchor_ip, run, encoding, certificates);
 //! let (count, outcome) = counted(certificates, outcome);
-//! *verified = count;
-//! write_outcome(alloc, outcome, as_out, ip_out, as_len, ip_len)
 //! ```
 #![tactic(auto)]
 
@@ -21,6 +19,7 @@ mod cover;
 mod encodings;
 mod exports;
 pub mod laws;
+mod lines;
 mod operations;
 mod outcome;
 mod pair;
@@ -29,5 +28,8 @@ mod ranges;
 mod read;
 mod refusal;
 mod request;
+mod set_calls;
+mod set_handle;
+mod set_lists;
 mod text;
 mod write;

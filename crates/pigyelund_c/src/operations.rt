@@ -2,7 +2,7 @@
 ghost use Rattle.std.specs.Prelude.{IfOk, MatchResult};
 ghost use Rattle.rpki_text.specs.Memory.{IfRefused};
 ghost use Rattle.rpki_resources.specs.Triples.{HasEachOf};
-ghost use Rattle.pigyelund_c.specs.Pairs.{AreNotRead, AreSame, IsBy, IsMade, IsTested};
+ghost use Rattle.pigyelund_c.specs.Pairs.{AreNotRead, AreSame, IsBy, IsMade, IsSymmetricDifferenceOf, IsTested};
 
 use crate::pair::{ReadPairError, pair_of};
 use rpki_resources::OrMemory;
@@ -18,6 +18,26 @@ pub(crate) enum Operation {
     Intersection,
     /// Resources that the first has and the second does not.
     Difference,
+    /// Resources that exactly one of them has.
+    SymmetricDifference,
+}
+
+/// Returns the resources that exactly one of two sets has.
+///
+/// # Errors
+///
+/// [`AllocError`] if an allocation fails.
+fn symmetric_difference(
+    alloc: Global,
+    a: &ResourceSet,
+    b: &ResourceSet,
+) -> Result<ResourceSet, AllocError>
+    ensures { IfOk result (IsSymmetricDifferenceOf a.now b.now) }
+{
+    let first = a.minus(alloc, b)?;
+    let second = b.minus(alloc, a)?;
+    let set = first.union(alloc, &second)?;
+    Ok(set)
 }
 
 impl Operation {
@@ -26,13 +46,19 @@ impl Operation {
     /// # Errors
     ///
     /// [`AllocError`] if an allocation fails.
-    fn on(self, alloc: Global, a: &ResourceSet, b: &ResourceSet) -> Result<ResourceSet, AllocError>
+    pub(crate) fn on(
+        self,
+        alloc: Global,
+        a: &ResourceSet,
+        b: &ResourceSet,
+    ) -> Result<ResourceSet, AllocError>
         ensures { IfOk result (IsBy self a.now b.now) }
     {
         match self {
             Operation::Union => a.union(alloc, b),
             Operation::Intersection => a.intersection(alloc, b),
             Operation::Difference => a.minus(alloc, b),
+            Operation::SymmetricDifference => symmetric_difference(alloc, a, b),
         }
     }
 }

@@ -1,38 +1,17 @@
 //! The report of an outcome to the caller.
-ghost use Rattle.std.specs.Prelude.{◌≡◌, IfOk};
-ghost use Rattle.pigyelund_c.specs.Sets.{IsSetReturned};
-ghost use Rattle.pigyelund_c.specs.Statuses.{status_of, returned_set};
+ghost use Rattle.pigyelund_c.specs.Returned.{IsCountReturned, IsOutcomeReturned};
 
 use crate::refusal::Refusal;
 use crate::write::write_set;
 use pigyelund_routes::status;
 use rpki_resources::OrMemory;
 use rpki_resources::repository::resources::ResourceSet;
-use std::alloc::{AllocError, Global};
+use std::alloc::Global;
 
-/// Returns the status of an outcome, and the set that is returned with it.
+/// Writes the set of an outcome to `as_out` and `ip_out`, or its overclaimed resources to `over_as` and `over_ip`, and
+/// returns the status.
 ///
-/// # Errors
-///
-/// [`AllocError`] if std refuses an additional reference to the overclaimed resources.
-fn status_and_set(
-    outcome: Result<ResourceSet, OrMemory<Refusal>>,
-) -> Result<(u32, ResourceSet), AllocError>
-    ensures { IfOk result (λ pair. pair ≡ (status_of outcome, returned_set outcome)) }
-{
-    match outcome {
-        Ok(set) => Ok((status::OK, set)),
-        Err(OrMemory::Refused(reason)) => {
-            let excess = reason.excess()?;
-            Ok((reason.status(), excess))
-        }
-        Err(OrMemory::Memory(_)) => Ok((status::MEMORY, ResourceSet::empty())),
-    }
-}
-
-/// Writes the set of an outcome or its overclaimed resources to the caller's buffers, and returns the status.
-///
-/// Both lengths are 0 if the status is `MEMORY`.
+/// The lengths of what is not written are 0. All four are 0 if the status is `MEMORY`.
 pub(crate) fn write_outcome(
     alloc: Global,
     outcome: Result<ResourceSet, OrMemory<Refusal>>,
@@ -40,16 +19,42 @@ pub(crate) fn write_outcome(
     ip_out: &mut [u8],
     as_len: &mut usize,
     ip_len: &mut usize,
+    over_as: &mut [u8],
+    over_ip: &mut [u8],
+    over_as_len: &mut usize,
+    over_ip_len: &mut usize,
 ) -> u32
-    ensures { IsSetReturned (status_of outcome) (returned_set outcome) as_out.old ip_out.old as_out.new
-        ip_out.new as_len.new ip_len.new result }
+    ensures { IsOutcomeReturned outcome as_out.old ip_out.old as_out.new ip_out.new as_len.new ip_len.new
+        over_as.old over_ip.old over_as.new over_ip.new over_as_len.new over_ip_len.new result }
 {
-    match status_and_set(outcome) {
-        Ok((status, set)) => write_set(alloc, status, &set, as_out, ip_out, as_len, ip_len),
-        Err(_) => {
-            *as_len = 0;
-            *ip_len = 0;
-            status::MEMORY
+    *as_len = 0;
+    *ip_len = 0;
+    *over_as_len = 0;
+    *over_ip_len = 0;
+    match outcome {
+        Ok(set) => write_set(alloc, status::OK, &set, as_out, ip_out, as_len, ip_len),
+        Err(OrMemory::Refused(reason)) => {
+            let Ok(excess) = reason.excess() else {
+                return status::MEMORY;
+            };
+            let status = reason.status();
+            write_set(
+                alloc,
+                status,
+                &excess,
+                over_as,
+                over_ip,
+                over_as_len,
+                over_ip_len,
+            )
         }
+        Err(OrMemory::Memory(_)) => status::MEMORY,
     }
+}
+
+/// Returns the number of verified certificates, or 0 if the status is `MEMORY`.
+pub(crate) fn count_or_none(status: u32, count: usize) -> usize
+    ensures { IsCountReturned count result status }
+{
+    if status == status::MEMORY { 0 } else { count }
 }

@@ -2,7 +2,7 @@
 ghost use Rattle.std.specs.Prelude.{◌≡◌, MatchResult};
 ghost use Rattle.rpki_text.specs.Memory.{IfRefused};
 ghost use Rattle.pigyelund_c.specs.Pairs.{AreNotRead, AreNotTwo, AreRead, AreTwo};
-ghost use Rattle.pigyelund_c.specs.PairStatuses.{made_set, made_status, test_status, read_pair_error_status};
+ghost use Rattle.pigyelund_c.specs.PairStatuses.{answer_number, made_set, made_status, read_pair_error_status, test_answer, test_status};
 
 use crate::encodings::encoding_of;
 use crate::read::set_of;
@@ -108,12 +108,23 @@ pub(crate) fn status_and_made_set(
     }
 }
 
-/// Returns the status of a test of two sets: `OK` for yes, `NO` for no, or that of the error.
-pub(crate) fn status_of_test(outcome: Result<bool, OrMemory<ReadPairError>>) -> u32
-    ensures { result ≡ test_status outcome }
+/// Returns the number of an answer: 1 for yes, 0 for no.
+pub(crate) fn answer_number(answer: bool) -> u8
+    ensures { result ≡ answer_number answer }
 {
+    if answer { 1 } else { 0 }
+}
+
+/// Returns the status of a test of two sets. `answer` receives 1 for yes and 0 for no, and 0 with an error.
+pub(crate) fn write_test(outcome: Result<bool, OrMemory<ReadPairError>>, answer: &mut u8) -> u32
+    ensures { (result ≡ test_status outcome) × (answer.new ≡ test_answer outcome) }
+{
+    *answer = 0;
     match outcome {
-        Ok(answer) => { if answer { status::OK } else { status::NO } }
+        Ok(yes) => {
+            *answer = answer_number(yes);
+            status::OK
+        }
         Err(OrMemory::Refused(reason)) => reason.status(),
         Err(OrMemory::Memory(_)) => status::MEMORY,
     }

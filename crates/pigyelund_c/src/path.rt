@@ -27,7 +27,7 @@ pub(crate) struct PathError {
 
 impl PathError {
     /// Returns the error for a reason that comes before the first certificate.
-    fn at_first(reason: Refusal) -> PathError
+    pub(crate) fn at_first(reason: Refusal) -> PathError
         ensures { result ≡ record { verified = 0; reason = reason } }
     {
         PathError {
@@ -43,7 +43,7 @@ impl PathError {
 ///
 /// - `Refused` if the extensions are no claims, or with the first overclaimed resources.
 /// - `Memory` if an allocation fails.
-fn verified(
+pub(crate) fn verified(
     alloc: Global,
     issuer: &ResourceSet,
     certificate: &Extensions<'_>,
@@ -88,7 +88,7 @@ fn step(
 ///
 /// - `Refused` with the index of the first certificate that is not verified, and the reason.
 /// - `Memory` if an allocation fails.
-fn left_on_path(
+pub(crate) fn left_on_path(
     alloc: Global,
     anchor: ResourceSet,
     run: &[u8],

@@ -41,7 +41,7 @@ pub struct RawIpRange {
 /// # Errors
 ///
 /// [`AllocError`] if an allocation fails.
-fn as_runs(alloc: Global, set: &AsBlocks) -> Result<Vec<RawAsRange, Global>, AllocError>
+pub(crate) fn as_runs(alloc: Global, set: &AsBlocks) -> Result<Vec<RawAsRange, Global>, AllocError>
     ensures { IfOk result (λ list. list.items ≡ map as_range set.now) }
 {
     let mut list = Vec::new(alloc);
@@ -54,7 +54,7 @@ fn as_runs(alloc: Global, set: &AsBlocks) -> Result<Vec<RawAsRange, Global>, All
 }
 
 /// Returns the octets of an address of a family.
-fn bound_octets(family: AddressFamily, addr: Addr) -> [u8; 16]
+pub(crate) fn bound_octets(family: AddressFamily, addr: Addr) -> [u8; 16]
     ensures { result ≡ bound_octets family addr }
 {
     match family {
@@ -92,7 +92,7 @@ fn ip_runs(
 /// # Errors
 ///
 /// [`AllocError`] if an allocation fails.
-fn runs_of_family(
+pub(crate) fn runs_of_family(
     alloc: Global,
     family: AddressFamily,
     set: &ResourceSet,

@@ -1,7 +1,7 @@
 //! The reasons why a call does not return the requested set, the status of each, and the set that it returns instead.
 ghost use Rattle.std.specs.Prelude.{◌≡◌, ◌<◌, IfOk};
-ghost use Rattle.pigyelund_c.specs.Statuses.{excess_of, argument_error_status, refusal_status, read_set_error_status};
-ghost use Rattle.pigyelund_c.specs.VerifyErrors.{verify_error_excess, verify_error_status};
+ghost use Rattle.pigyelund_c.specs.Statuses.{argument_error_status, excess_of, overclaimed, read_set_error_status, refusal_status};
+ghost use Rattle.pigyelund_c.specs.VerifyErrors.{verify_error_excess, verify_error_overclaimed, verify_error_status};
 
 use pigyelund_routes::status;
 use rpki_der::DerError;
@@ -51,10 +51,10 @@ pub(crate) enum ReadSetError {
 }
 
 impl ReadSetError {
-    /// Returns the status of this reason, below 4096.
+    /// Returns the status of this reason, below 16777216.
     pub(crate) fn status(&self) -> u32
         ensures value { result ≡ read_set_error_status self.now }
-        ensures small { result < 4096 }
+        ensures small { result < 16777216 }
     {
         match self {
             ReadSetError::Numbers(fault) => status::BAD_AS + u32::from(fault.number()),
@@ -106,6 +106,26 @@ fn verify_error_excess(reason: &VerifyError) -> Result<ResourceSet, AllocError>
     }
 }
 
+/// Returns the overclaimed resources as a set, or `None` for any other reason.
+///
+/// # Errors
+///
+/// [`AllocError`] as in `verify_error_excess`.
+fn verify_error_overclaimed(reason: &VerifyError) -> Result<Option<ResourceSet>, AllocError>
+    ensures { IfOk result (λ set. set ≡ verify_error_overclaimed reason.now) }
+{
+    match reason {
+        VerifyError::Absent
+        | VerifyError::AsOctets(_)
+        | VerifyError::AddressOctets(_)
+        | VerifyError::Inherited => Ok(None),
+        VerifyError::Asn(_) | VerifyError::Ipv4(_) | VerifyError::Ipv6(_) => {
+            let excess = verify_error_excess(reason)?;
+            Ok(Some(excess))
+        }
+    }
+}
+
 /// The reason why an issuer does not verify a certificate.
 #[derive(Drop)]
 pub(crate) enum Refusal {
@@ -140,6 +160,20 @@ impl Refusal {
         match self {
             Refusal::Unverified(reason) => verify_error_excess(reason),
             _ => Ok(ResourceSet::empty()),
+        }
+    }
+
+    /// Returns the overclaimed resources as a set, or `None` for any other reason.
+    ///
+    /// # Errors
+    ///
+    /// [`AllocError`] as in `verify_error_excess`.
+    pub(crate) fn overclaimed(&self) -> Result<Option<ResourceSet>, AllocError>
+        ensures { IfOk result (λ set. set ≡ overclaimed self.now) }
+    {
+        match self {
+            Refusal::Unverified(reason) => verify_error_overclaimed(reason),
+            _ => Ok(None),
         }
     }
 }

@@ -32,14 +32,14 @@ pub(crate) enum TextError {
 }
 
 /// Returns the kind with this number, or `None` if no kind has it.
-fn kind_of(number: u32) -> Option<Kind>
+pub(crate) fn kind_of(number: u32) -> Option<Kind>
     ensures { MatchOption result ((kind : OfKind) → number ≢ kind_number kind)
         (λ kind. number ≡ kind_number kind) }
 {
     match number {
-        0 => Some(Kind::Numbers),
-        1 => Some(Kind::Ipv4),
-        2 => Some(Kind::Ipv6),
+        4 => Some(Kind::Ipv4),
+        5 => Some(Kind::Numbers),
+        6 => Some(Kind::Ipv6),
         _ => None,
     }
 }
@@ -82,7 +82,7 @@ fn text_number(fault: FromStrError) -> u32
 
 impl TextError {
     /// Returns the status of this reason.
-    fn status(self) -> u32
+    pub(crate) fn status(self) -> u32
         ensures { result ≡ text_error_status self }
     {
         match self {

@@ -2,6 +2,7 @@ pub mod Families
 pub mod Handles
 pub mod Lookups
 pub mod Origins
+pub mod Reasons
 pub mod ReturnedVrps
 pub mod RouteChanges
 pub mod Routes

@@ -56,10 +56,10 @@ HasValidationError handed routes (NoRoute first) =
 
 -- ---- statuses
 
--- The status of the reason why no validities are returned: 4096 is added for a route.
+-- The status of the reason why no validities are returned: 16777216 is added for a route.
 abbrev pub validation_error_status : ValidationError → ℕ
 validation_error_status (NoVrp first) = route_error_status first.reason
-validation_error_status (NoRoute first) = 4096 + route_error_status first.reason
+validation_error_status (NoRoute first) = 16777216 + route_error_status first.reason
 
 -- The index of the invalid VRP or route.
 abbrev pub validation_error_index : ValidationError → ℕ
@@ -67,13 +67,13 @@ validation_error_index (NoVrp first) = first.at
 validation_error_index (NoRoute first) = first.at
 
 -- Items for which P holds are returned. Otherwise the status and the index belong to a reason for which N holds, or the
--- status is 2, and nothing is written.
+-- status is 512, and nothing is written.
 abbrev pub IsAnsweredAt : {X : Type 0} → (R : Type 0) → (List X → Type 0) → (R → ℕ) → (R → ℕ) → (R → Type 0) → List X
     → List X → ℕ → ℕ → ℕ → Type 0
 IsAnsweredAt {X} R P status index_of N before after len index result =
     ((items : List X) × P items × AreWritten items before after len result × (index ≡ 0))
     ⊎ (((reason : R) × N reason × (result ≡ status reason) × (index ≡ index_of reason) × (after ≡ before) × (len ≡ 0))
-    ⊎ ((result ≡ 2) × (after ≡ before) × (len ≡ 0) × (index ≡ 0)))
+    ⊎ ((result ≡ 512) × (after ≡ before) × (len ≡ 0) × (index ≡ 0)))
 
 -- The validities of routes by VRPs are returned.
 abbrev pub AreOriginsReturned : List Handed → List Route → List ℕ → List ℕ → ℕ → ℕ → ℕ → Type 0

@@ -23,10 +23,10 @@ abbrev pub address_octets : IpAddr → List ℕ
 address_octets (V4 n) = octets_of n ++ 0 ∷ 0 ∷ 0 ∷ 0 ∷ 0 ∷ 0 ∷ 0 ∷ 0 ∷ 0 ∷ 0 ∷ 0 ∷ 0 ∷ []
 address_octets (V6 n) = to_be_bytes w128 n
 
--- The number of an address's family in IP address blocks (RFC 3779, 2.2.3.3).
+-- The number of an address's family.
 abbrev pub address_family : IpAddr → ℕ
-address_family (V4 n) = 1
-address_family (V6 n) = 2
+address_family (V4 n) = 4
+address_family (V6 n) = 6
 
 -- The VRP in the form for C. Its maximum length is the prefix length if the VRP has none.
 abbrev pub handed_of : Vrp → Handed
@@ -51,8 +51,7 @@ IsMismatch route asn vrp why =
 
 -- The item is the VRP in the form for C, with the reason why it does not match the route.
 pub record IsCovering (route : FamilyPrefix) (asn : ℕ) (vrp : Vrp) (item : Covering) : Type 0 where
-  pub vrp_is : handed_of vrp
-      ≡ record { address = item.address; asn = item.asn; family = item.family; len = item.len; max_len = item.max_len }
+  pub vrp_is : handed_of vrp ≡ item.vrp
   pub why : IsMismatch route asn vrp item.mismatch
 
 -- The VRPs of a table that cover a route. The longest prefix comes first, then the least AS number, and then the
@@ -69,4 +68,4 @@ AreCoveringsOf table r item = (route : FamilyPrefix) × IsRoute r route × AreCo
 
 -- The status of an invalid route.
 abbrev pub route_status : RouteError → ℕ
-route_status why = 4096 + route_error_status why
+route_status why = 16777216 + route_error_status why

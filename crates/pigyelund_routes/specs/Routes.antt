@@ -11,6 +11,7 @@ use Rattle.rpki_prefix.specs.declared.error.MaxLenError.{MaxLenError}
 use Rattle.rpki_prefix.specs.declared.error.PrefixError.{PrefixError}
 use Rattle.roa_origin.specs.Vrps.{Vrp}
 use Rattle.pigyelund_routes.specs.Families.{family_number}
+use Rattle.pigyelund_routes.specs.declared.route.RawPrefix.{RawPrefix as Passed}
 use Rattle.pigyelund_routes.specs.declared.route.RawVrp.{RawVrp as Handed}
 use Rattle.pigyelund_routes.specs.declared.route.Route.{Route}
 use Rattle.pigyelund_routes.specs.declared.route.RouteError.{RouteError}
@@ -37,7 +38,15 @@ HasNoPrefix family address len NoPrefix =
     × ((why : PrefixError) × HasPrefixError (address_in kind address) len why)
 HasNoPrefix family address len NoMaxLen = ⊥
 
--- ---- a route, and a VRP
+-- ---- a prefix, a route, and a VRP
+
+-- The numbers and octets of a prefix are this prefix.
+abbrev pub IsPrefixPassed : Passed → FamilyPrefix → Type 0
+IsPrefixPassed passed p = HasPrefix passed.family passed.address passed.len p
+
+-- The reason why the numbers and octets of a prefix are no prefix.
+abbrev pub IsNoPrefixPassed : Passed → RouteError → Type 0
+IsNoPrefixPassed passed why = HasNoPrefix passed.family passed.address passed.len why
 
 -- The numbers and octets of a route are this prefix.
 abbrev pub IsRoute : Route → FamilyPrefix → Type 0
@@ -62,8 +71,8 @@ IsNoVrp handed NoMaxLen =
     (p : FamilyPrefix) × HasPrefix handed.family handed.address handed.len p
     × ((why : MaxLenError) × HasMaxLenError p (Some handed.max_len) why)
 
--- The status of an invalid VRP, and of an invalid route before 4096 is added.
+-- The status of an invalid VRP, and of an invalid route before 16777216 is added.
 abbrev pub route_error_status : RouteError → ℕ
-route_error_status NoFamily = 13
-route_error_status NoPrefix = 14
-route_error_status NoMaxLen = 15
+route_error_status NoFamily = 1028
+route_error_status NoPrefix = 1030
+route_error_status NoMaxLen = 1031

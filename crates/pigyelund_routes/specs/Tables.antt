@@ -33,13 +33,13 @@ IsNoTable handed (NoVrp first) = IsFirstElementError IsVrp IsNoVrp handed first
 IsNoTable handed (NoRoute first) = ⊥
 
 -- The handle of a table for which P holds is returned. Otherwise the status and the index belong to a reason for which
--- N holds, or the status is 2, and the handle is null.
+-- N holds, or the status is 512, and the handle is null.
 abbrev pub IsTableReturned : (R : Type 0) → (List Vrp → Type 0) → (R → ℕ) → (R → ℕ) → (R → Type 0)
     → Option (List Vrp) → Ptr → ℕ → ℕ → Type 0
 IsTableReturned R P status index_of N given at index result =
     ((table : List Vrp) × P table × (given ≡ Some table) × InBlock at × (index ≡ 0) × (result ≡ 0))
     ⊎ (((reason : R) × N reason × (result ≡ status reason) × (index ≡ index_of reason) × (at ≡ null_ptr))
-    ⊎ ((result ≡ 2) × (index ≡ 0) × (at ≡ null_ptr)))
+    ⊎ ((result ≡ 512) × (index ≡ 0) × (at ≡ null_ptr)))
 
 -- A table of VRPs that are passed is returned.
 abbrev pub IsMadeTableReturned : List Handed → Option (List Vrp) → Ptr → ℕ → ℕ → Type 0
@@ -49,9 +49,9 @@ IsMadeTableReturned handed =
 
 -- ---- read
 
--- Either the handle is that of a table and T holds, or it is null, U holds, and the status is 16.
+-- Either the handle is that of a table and T holds, or it is null, U holds, and the status is 1033.
 abbrev pub IsAsked : Ptr → Type 0 → Type 0 → ℕ → Type 0
-IsAsked at T U result = (InBlock at × T) ⊎ ((at ≡ null_ptr) × U × (result ≡ 16))
+IsAsked at T U result = (InBlock at × T) ⊎ ((at ≡ null_ptr) × U × (result ≡ 1033))
 
 -- The first invalid route.
 abbrev pub HasTableValidationError : List Vrp → List Route → ValidationError → Type 0
@@ -81,7 +81,7 @@ IsCountReturned at table len result = IsAsked at ((len ≡ length table) × (res
 abbrev pub AreVrpsReturned : Ptr → List Vrp → List Handed → List Handed → ℕ → ℕ → Type 0
 AreVrpsReturned at table before after len result =
     IsAsked at
-    (AreWritten (map handed_of table) before after len result ⊎ ((result ≡ 2) × (after ≡ before) × (len ≡ 0)))
+    (AreWritten (map handed_of table) before after len result ⊎ ((result ≡ 512) × (after ≡ before) × (len ≡ 0)))
     ((after ≡ before) × (len ≡ 0)) result
 
 -- ---- changed
@@ -108,18 +108,18 @@ HasChangeTableError table announced withdrawn (Fault fault) =
 
 -- The status of an impossible change.
 abbrev pub fault_status : ChangeFault → ℕ
-fault_status (UnknownWithdrawal at) = 17
-fault_status (DuplicateAnnouncement at) = 18
+fault_status (UnknownWithdrawal at) = 65542
+fault_status (DuplicateAnnouncement at) = 65543
 
 -- The index of an impossible change in its array.
 abbrev pub fault_index : ChangeFault → ℕ
 fault_index (UnknownWithdrawal at) = at
 fault_index (DuplicateAnnouncement at) = at
 
--- The status of the reason why there is no table after changes: 4096 is added for a withdrawn VRP.
+-- The status of the reason why there is no table after changes: 16777216 is added for a withdrawn VRP.
 abbrev pub change_table_error_status : ChangeTableError → ℕ
 change_table_error_status (Announced first) = route_error_status first.reason
-change_table_error_status (Withdrawn first) = 4096 + route_error_status first.reason
+change_table_error_status (Withdrawn first) = 16777216 + route_error_status first.reason
 change_table_error_status (Fault fault) = fault_status fault
 
 -- The index of the VRP at fault in its array.

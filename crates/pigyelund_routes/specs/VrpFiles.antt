@@ -53,15 +53,16 @@ abbrev pub item_fault_number : ItemFault → ℕ
 item_fault_number (OfMember member fault) = member_base member + member_fault_number fault
 item_fault_number (OfVrp fault) = vrp_fault_number fault
 
--- The status of the fault of a file: 1024 is added for a line, 2048 for an item, and 3072 for the whole file.
+-- The status of the fault of a file: 131072 is added for a line, 262144 for an item, and
+-- 524288 for the whole file.
 abbrev pub file_fault_status : FileFault → ℕ
-file_fault_status (Line number fault) = 1024 + vrp_fault_number fault
-file_fault_status JsonArray = 3072 + 1
-file_fault_status NotObject = 3072 + 2
-file_fault_status (Roas fault) = 3072 + 2 + member_fault_number fault
-file_fault_status (Item number fault) = 2048 + item_fault_number fault
-file_fault_status NoVrp = 3072 + 6
-file_fault_status UnknownHeader = 3072 + 7
+file_fault_status (Line number fault) = 131072 + vrp_fault_number fault
+file_fault_status JsonArray = 524288 + 1
+file_fault_status NotObject = 524288 + 2
+file_fault_status (Roas fault) = 524288 + 2 + member_fault_number fault
+file_fault_status (Item number fault) = 262144 + item_fault_number fault
+file_fault_status NoVrp = 524288 + 6
+file_fault_status UnknownHeader = 524288 + 7
 
 -- The number of the line or item at fault, from 1. It is 0 for a fault of the whole file.
 abbrev pub file_fault_line : FileFault → ℕ

@@ -5,18 +5,18 @@ use Rattle.std.specs.Prelude.{◌≡◌, ◌⊎◌, ◌<◌, ℕ, List, ◌++◌
 abbrev pub IsPut : {X : Type 0} → List X → List X → List X → Type 0
 IsPut items before after = after ≡ items ++ drop (length items) before
 
--- The items are written whole and the status is 0, or the buffer is unchanged and the status is 1. The length is the
+-- The items are written whole and the status is 0, or the buffer is unchanged and the status is 256. The length is the
 -- number of items.
 abbrev pub AreWritten : {X : Type 0} → List X → List X → List X → ℕ → ℕ → Type 0
 AreWritten items before after len result =
     (len ≡ length items)
-    × (((result ≡ 1) × (after ≡ before) × (length before < len)) ⊎ ((result ≡ 0) × IsPut items before after))
+    × (((result ≡ 256) × (after ≡ before) × (length before < len)) ⊎ ((result ≡ 0) × IsPut items before after))
 
--- Items for which P holds are returned. Otherwise the status is that of a reason for which N holds, or 2, and nothing
+-- Items for which P holds are returned. Otherwise the status is that of a reason for which N holds, or 512, and nothing
 -- is written.
 abbrev pub IsAnswered : {X : Type 0} → (R : Type 0) → (List X → Type 0) → (R → ℕ) → (R → Type 0) → List X → List X → ℕ
     → ℕ → Type 0
 IsAnswered {X} R P status N before after len result =
     ((items : List X) × P items × AreWritten items before after len result)
     ⊎ (((reason : R) × N reason × (result ≡ status reason) × (after ≡ before) × (len ≡ 0))
-    ⊎ ((result ≡ 2) × (after ≡ before) × (len ≡ 0)))
+    ⊎ ((result ≡ 512) × (after ≡ before) × (len ≡ 0)))

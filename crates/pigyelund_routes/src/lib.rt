@@ -23,4 +23,5 @@ pub mod route_changes;
 pub mod status;
 pub mod table;
 pub mod table_handle;
+pub mod validate;
 pub mod write;

@@ -1,7 +1,7 @@
 //! VRPs and routes as a caller passes them (RFC 6811, 2).
 ghost use Rattle.std.specs.Prelude.{◌≡◌, slice_range, MatchResult};
 ghost use Rattle.std.specs.Int.{from_be_bytes, w32};
-ghost use Rattle.pigyelund_routes.specs.Routes.{IsNoVrp, IsNoRoute, IsVrp, IsRoute, HasNoPrefix, HasPrefix, address_in, route_error_status};
+ghost use Rattle.pigyelund_routes.specs.Routes.{IsNoPrefixPassed, IsNoVrp, IsNoRoute, IsPrefixPassed, IsVrp, IsRoute, HasNoPrefix, HasPrefix, address_in, route_error_status};
 ghost use Rattle.pigyelund_routes.specs.ReturnedVrps.{IsCovering, IsMismatch, address_family, address_octets, handed_of, route_status};
 
 use crate::family::family_of;
@@ -53,12 +53,24 @@ pub struct RawVrp {
     pub address: [u8; 16],
     /// The AS number.
     pub asn: u32,
-    /// The number of the family: 1 for IPv4, 2 for IPv6.
+    /// The number of the family: 4 for IPv4, 6 for IPv6.
     pub family: u8,
     /// The length of the prefix, in bits.
     pub len: u8,
     /// The maximum length, in bits.
     pub max_len: u8,
+}
+
+/// A prefix. This is a struct for C, with numbers that are not checked yet.
+#[repr(C)]
+#[derive(Clone, Copy)]
+pub struct RawPrefix {
+    /// The octets of the address, the highest first. An IPv4 address is the first four.
+    pub address: [u8; 16],
+    /// The number of the family: 4 for IPv4, 6 for IPv6.
+    pub family: u8,
+    /// The length, in bits.
+    pub len: u8,
 }
 
 /// A route: its prefix, and the AS that originates it.
@@ -71,7 +83,7 @@ pub struct Route {
     pub address: [u8; 16],
     /// The AS number.
     pub asn: u32,
-    /// The number of the family: 1 for IPv4, 2 for IPv6.
+    /// The number of the family: 4 for IPv4, 6 for IPv6.
     pub family: u8,
     /// The length of the prefix, in bits.
     pub len: u8,
@@ -83,20 +95,12 @@ pub struct Route {
 #[repr(C)]
 #[derive(Clone, Copy)]
 pub struct Covering {
-    /// The octets of the prefix's address, the highest first. An IPv4 address is the first four, and the others are 0.
-    pub address: [u8; 16],
-    /// The AS number.
-    pub asn: u32,
-    /// The number of the family: 1 for IPv4, 2 for IPv6.
-    pub family: u8,
-    /// The length of the prefix, in bits.
-    pub len: u8,
-    /// The maximum length, in bits.
-    pub max_len: u8,
+    /// The VRP.
+    pub vrp: RawVrp,
     /// The reason why the VRP does not match the route, or 0 if it matches.
     ///
     /// The number is 1 if its AS is not the route's or is AS0, 2 if the route is too long, and 3 for both.
-    pub mismatch: u8,
+    pub mismatch: u32,
 }
 
 /// Returns the number that the first four octets write, the most significant first.
@@ -142,19 +146,19 @@ fn octets_of(addr: IpAddr) -> [u8; 16]
     }
 }
 
-/// Returns the number of an address's family: 1 for IPv4, 2 for IPv6 (RFC 3779, 2.2.3.3).
+/// Returns the number of an address's family: 4 for IPv4, 6 for IPv6.
 fn family_number(addr: IpAddr) -> u8
     ensures { result ≡ address_family addr }
 {
     match addr {
-        IpAddr::V4(_) => 1,
-        IpAddr::V6(_) => 2,
+        IpAddr::V4(_) => 4,
+        IpAddr::V6(_) => 6,
     }
 }
 
 /// Returns the reason why a VRP that covers a route does not match it, or 0 if it does. The numbers are those of
 /// [`Covering::mismatch`].
-fn mismatch(route: Prefix, asn: Asn, vrp: &Vrp) -> u8
+fn mismatch(route: Prefix, asn: Asn, vrp: &Vrp) -> u32
     ensures { IsMismatch route asn vrp.now result }
 {
     let is_allowed = route.len() <= vrp.0.resolved_max_len();
@@ -165,6 +169,19 @@ fn mismatch(route: Prefix, asn: Asn, vrp: &Vrp) -> u8
         2
     } else {
         3
+    }
+}
+
+impl RawPrefix {
+    /// Returns the checked prefix.
+    ///
+    /// # Errors
+    ///
+    /// The first reason why it is invalid: [`RouteError::NoFamily`] or [`RouteError::NoPrefix`].
+    pub fn read(&self) -> Result<Prefix, RouteError>
+        ensures { MatchResult result (IsPrefixPassed self.now) (IsNoPrefixPassed self.now) }
+    {
+        prefix_of(self.family, self.address, self.len)
     }
 }
 
@@ -217,14 +234,8 @@ impl Covering {
     pub fn of(route: Prefix, asn: Asn, vrp: &Vrp) -> Covering
         ensures { IsCovering route asn vrp.now result }
     {
-        let raw = RawVrp::of(vrp);
-        let address = raw.address;
         Covering {
-            address,
-            asn: raw.asn,
-            family: raw.family,
-            len: raw.len,
-            max_len: raw.max_len,
+            vrp: RawVrp::of(vrp),
             mismatch: mismatch(route, asn, vrp),
         }
     }

@@ -5,11 +5,11 @@ ghost use Rattle.rpki_text.specs.declared.memory.OrMemory.{OrMemory as Refusing}
 ghost use Rattle.rpki_resources.specs.Triples.{HasEachOf, IsDifferenceOf, IsIntersectionOf, IsUnionOf, Triple};
 ghost use Rattle.pigyelund_c.specs.Pairs.{AreNotRead, AreSame, IsMade, IsTested};
 ghost use Rattle.pigyelund_c.specs.Sets.{IsSetReturned};
-ghost use Rattle.pigyelund_c.specs.PairStatuses.{made_set, made_status, test_status};
+ghost use Rattle.pigyelund_c.specs.PairStatuses.{made_set, made_status, test_answer, test_status};
 ghost use Rattle.pigyelund_c.specs.declared.pair.ReadPairError.{ReadPairError};
 
 use crate::operations::{Operation, are_same, has_each, made};
-use crate::pair::{status_and_made_set, status_of_test};
+use crate::pair::{status_and_made_set, write_test};
 use crate::write::write_set;
 use std::alloc::Global;
 
@@ -124,14 +124,14 @@ pub extern "C" fn pigy_difference(
     write_set(alloc, status, &set, as_out, ip_out, as_len, ip_len)
 }
 
-/// Returns whether the first set has each AS number and each address of the second, as a status.
+/// Tests whether the first set has each AS number and each address of the second.
 ///
-/// `encoding` is that of `pigy_verify`, for both sets.
+/// `encoding` is that of `pigy_verify`, for both sets. `answer` receives 1 for yes and 0 for no, and 0 with an error.
 ///
 /// Returns the first status that applies:
 ///
 /// - The statuses of `pigy_union` for the encoding, the first set and the second set.
-/// - `PIGY_OK` for yes, `PIGY_NO` for no.
+/// - `PIGY_OK`.
 ///
 /// The call can return `PIGY_MEMORY` instead of any other status.
 #[unsafe(no_mangle)]
@@ -142,17 +142,19 @@ pub extern "C" fn pigy_contains(
     b_as: &[u8],
     b_ip: &[u8],
     encoding: u32,
+    answer: &mut u8,
 ) -> u32
     ensures { (outcome : Result Bool (Refusing ReadPairError))
         × MatchResult outcome
         (IsTested HasEachOf a_as.now a_ip.now b_as.now b_ip.now encoding)
         (IfRefused (AreNotRead a_as.now a_ip.now b_as.now b_ip.now encoding))
-        × (result ≡ test_status outcome) }
+        × (result ≡ test_status outcome) × (answer.new ≡ test_answer outcome) }
 {
-    status_of_test(has_each(alloc, a_as, a_ip, b_as, b_ip, encoding))
+    let outcome = has_each(alloc, a_as, a_ip, b_as, b_ip, encoding);
+    write_test(outcome, answer)
 }
 
-/// Returns whether both sets are the same, as a status.
+/// Tests whether both sets are the same.
 ///
 /// Parameters and statuses are those of `pigy_contains`.
 #[unsafe(no_mangle)]
@@ -163,12 +165,14 @@ pub extern "C" fn pigy_equal(
     b_as: &[u8],
     b_ip: &[u8],
     encoding: u32,
+    answer: &mut u8,
 ) -> u32
     ensures { (outcome : Result Bool (Refusing ReadPairError))
         × MatchResult outcome
         (IsTested AreSame a_as.now a_ip.now b_as.now b_ip.now encoding)
         (IfRefused (AreNotRead a_as.now a_ip.now b_as.now b_ip.now encoding))
-        × (result ≡ test_status outcome) }
+        × (result ≡ test_status outcome) × (answer.new ≡ test_answer outcome) }
 {
-    status_of_test(are_same(alloc, a_as, a_ip, b_as, b_ip, encoding))
+    let outcome = are_same(alloc, a_as, a_ip, b_as, b_ip, encoding);
+    write_test(outcome, answer)
 }

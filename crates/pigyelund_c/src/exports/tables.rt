@@ -1,4 +1,5 @@
 //! The exports on tables of VRPs.
+ghost use Rattle.pigyelund_routes.specs.Reasons.{IsValidatedReturned};
 ghost use Rattle.pigyelund_routes.specs.RouteChanges.{AreRouteChangesReturned};
 ghost use Rattle.pigyelund_routes.specs.Tables.{AreCoveringsReturned, AreVrpsReturned, AreTableOriginsReturned, IsChangedTableReturned, IsCountReturned, IsMadeTableReturned};
 
@@ -8,6 +9,7 @@ use pigyelund_routes::route_changes::route_changes;
 use pigyelund_routes::status;
 use pigyelund_routes::table::{all_vrps, coverings, made_table, table_origins};
 use pigyelund_routes::table_handle::{TableOutput, TableOwner, TableRef};
+use pigyelund_routes::validate::{NO_VALIDITY, validate_route};
 use pigyelund_routes::write::write_items;
 use rpki_resources::OrMemory;
 use std::alloc::Global;
@@ -51,21 +53,57 @@ pub extern "C" fn pigy_table_new(
     }
 }
 
-/// Validates routes by a table, one octet each, as `pigy_origins` does. The call makes no table.
+/// Validates one route by a table (RFC 6811, 2). The call allocates nothing.
+///
+/// `validity` receives 0 for valid, 1 for not found and 2 for invalid (RFC 8097, 2). `reason` receives 0 for a route
+/// that is not invalid. For an invalid one it receives 2 if a VRP that covers the route has its AS, and 1 if none has.
+///
+/// Returns the first status that applies:
+///
+/// - `PIGY_NO_HANDLE`.
+/// - `PIGY_SECOND` + `PIGY_BAD_FAMILY`, `PIGY_SECOND` + `PIGY_BAD_PREFIX`: the route is invalid.
+/// - `PIGY_OK`.
+///
+/// For any error `validity` receives 255 and `reason` receives 0.
+#[unsafe(no_mangle)]
+pub extern "C" fn pigy_table_validate(
+    table: TableRef,
+    route: &Route,
+    validity: &mut u8,
+    reason: &mut u8,
+) -> u32
+    ensures { IsValidatedReturned table.at table.vrps route.now validity.new reason.new result }
+{
+    *validity = NO_VALIDITY;
+    *reason = 0;
+    let Some(table) = table.table() else {
+        return status::NO_HANDLE;
+    };
+    match validate_route(table, route) {
+        Ok(found) => {
+            *validity = found.validity;
+            *reason = found.reason;
+            status::OK
+        }
+        Err(error) => error.route_status(),
+    }
+}
+
+/// Validates routes by a table, one octet each, as `pigy_validate` does. The call makes no table.
 ///
 /// `len` receives the length in octets, written or required. `index` receives the index of the first invalid route,
 /// counted from 0, and 0 otherwise.
 ///
 /// Returns the first status that applies:
 ///
-/// - `PIGY_NO_TABLE`.
+/// - `PIGY_NO_HANDLE`.
 /// - `PIGY_SECOND` + `PIGY_BAD_FAMILY`, `PIGY_SECOND` + `PIGY_BAD_PREFIX`: the first invalid route.
 /// - `PIGY_TOO_SMALL`, then `PIGY_OK`.
 ///
-/// The call can return `PIGY_MEMORY` instead of any status except `PIGY_NO_TABLE`. `len` is 0 for an error other than
+/// The call can return `PIGY_MEMORY` instead of any status except `PIGY_NO_HANDLE`. `len` is 0 for an error other than
 /// `PIGY_TOO_SMALL`. For any error `out` is unchanged.
 #[unsafe(no_mangle)]
-pub extern "C" fn pigy_table_origins(
+pub extern "C" fn pigy_table_validate_routes(
     alloc: Global,
     table: TableRef,
     routes: &[Route],
@@ -79,7 +117,7 @@ pub extern "C" fn pigy_table_origins(
     *len = 0;
     *index = 0;
     let Some(table) = table.table() else {
-        return status::NO_TABLE;
+        return status::NO_HANDLE;
     };
     match table_origins(alloc, table, routes) {
         Ok(octets) => write_items(octets.as_slice(), out, len),
@@ -100,7 +138,7 @@ pub extern "C" fn pigy_table_origins(
 ///
 /// Returns the first status that applies:
 ///
-/// 1. `PIGY_NO_TABLE`.
+/// 1. `PIGY_NO_HANDLE`.
 /// 2. `PIGY_BAD_FAMILY`, `PIGY_BAD_PREFIX`, `PIGY_BAD_MAX_LEN`: the first invalid VRP in `announced`.
 /// 3. `PIGY_SECOND` + one of these: the first invalid VRP in `withdrawn`.
 /// 4. `PIGY_UNKNOWN_WITHDRAWAL`: the first VRP in `withdrawn` that is not in the table, or is a repetition in
@@ -109,10 +147,10 @@ pub extern "C" fn pigy_table_origins(
 ///    repetition in `announced`.
 /// 6. `PIGY_OK`.
 ///
-/// The call can return `PIGY_MEMORY` instead of any status except `PIGY_NO_TABLE`. `index` is an index of `withdrawn`
+/// The call can return `PIGY_MEMORY` instead of any status except `PIGY_NO_HANDLE`. `index` is an index of `withdrawn`
 /// for 3 and 4, and of `announced` for 2 and 5. For any error the handle in `next` is null.
 #[unsafe(no_mangle)]
-pub extern "C" fn pigy_table_changed(
+pub extern "C" fn pigy_table_with_changes(
     alloc: Global,
     table: TableRef,
     announced: &[RawVrp],
@@ -126,7 +164,7 @@ pub extern "C" fn pigy_table_changed(
     *index = 0;
     let Some(table) = table.table() else {
         *next = TableOutput::null();
-        return status::NO_TABLE;
+        return status::NO_HANDLE;
     };
     match changed_table(alloc, table, announced, withdrawn) {
         Ok(parts) => {
@@ -153,14 +191,14 @@ pub extern "C" fn pigy_table_changed(
 ///
 /// Returns the first status that applies:
 ///
-/// - `PIGY_NO_TABLE`: one of the two handles is null.
+/// - `PIGY_NO_HANDLE`: one of the two handles is null.
 /// - `PIGY_SECOND` + `PIGY_BAD_FAMILY`, `PIGY_SECOND` + `PIGY_BAD_PREFIX`: the first invalid route.
 /// - `PIGY_TOO_SMALL`, then `PIGY_OK`.
 ///
-/// The call can return `PIGY_MEMORY` instead of any status except `PIGY_NO_TABLE`. `len` is 0 for an error other than
+/// The call can return `PIGY_MEMORY` instead of any status except `PIGY_NO_HANDLE`. `len` is 0 for an error other than
 /// `PIGY_TOO_SMALL`. For any error `out` is unchanged.
 #[unsafe(no_mangle)]
-pub extern "C" fn pigy_table_routes_changed(
+pub extern "C" fn pigy_table_revalidate(
     alloc: Global,
     old: TableRef,
     next: TableRef,
@@ -175,10 +213,10 @@ pub extern "C" fn pigy_table_routes_changed(
     *len = 0;
     *index = 0;
     let Some(old) = old.table() else {
-        return status::NO_TABLE;
+        return status::NO_HANDLE;
     };
     let Some(next) = next.table() else {
-        return status::NO_TABLE;
+        return status::NO_HANDLE;
     };
     match route_changes(alloc, old, next, routes) {
         Ok(octets) => write_items(octets.as_slice(), out, len),
@@ -197,11 +235,11 @@ pub extern "C" fn pigy_table_routes_changed(
 ///
 /// Returns the first status that applies:
 ///
-/// - `PIGY_NO_TABLE`.
+/// - `PIGY_NO_HANDLE`.
 /// - `PIGY_SECOND` + `PIGY_BAD_FAMILY`, `PIGY_SECOND` + `PIGY_BAD_PREFIX`: the route is invalid.
 /// - `PIGY_TOO_SMALL`, then `PIGY_OK`.
 ///
-/// The call can return `PIGY_MEMORY` instead of any status except `PIGY_NO_TABLE`. `len` is 0 for an error other than
+/// The call can return `PIGY_MEMORY` instead of any status except `PIGY_NO_HANDLE`. `len` is 0 for an error other than
 /// `PIGY_TOO_SMALL`. For any error `out` is unchanged.
 #[unsafe(no_mangle)]
 pub extern "C" fn pigy_table_covering(
@@ -215,7 +253,7 @@ pub extern "C" fn pigy_table_covering(
 {
     *len = 0;
     let Some(table) = table.table() else {
-        return status::NO_TABLE;
+        return status::NO_HANDLE;
     };
     match coverings(alloc, table, route) {
         Ok(list) => write_items(list.as_slice(), out, len),
@@ -226,7 +264,7 @@ pub extern "C" fn pigy_table_covering(
 
 /// Counts the VRPs of a table, duplicates included.
 ///
-/// Returns `PIGY_NO_TABLE` if the handle is null, or else `PIGY_OK`. `len` receives the number of VRPs, and 0 for an
+/// Returns `PIGY_NO_HANDLE` if the handle is null, or else `PIGY_OK`. `len` receives the number of VRPs, and 0 for an
 /// error.
 #[unsafe(no_mangle)]
 pub extern "C" fn pigy_table_len(table: TableRef, len: &mut usize) -> u32
@@ -234,7 +272,7 @@ pub extern "C" fn pigy_table_len(table: TableRef, len: &mut usize) -> u32
 {
     *len = 0;
     let Some(table) = table.table() else {
-        return status::NO_TABLE;
+        return status::NO_HANDLE;
     };
     *len = table.len();
     status::OK
@@ -246,8 +284,8 @@ pub extern "C" fn pigy_table_len(table: TableRef, len: &mut usize) -> u32
 /// prefix are in descending order of AS numbers. VRPs that also have one AS are in ascending order of maximum lengths.
 /// `len` receives the length, written or required, in VRPs.
 ///
-/// Returns `PIGY_NO_TABLE`, `PIGY_TOO_SMALL` or `PIGY_OK`: the first that applies. The call can return `PIGY_MEMORY`
-/// instead of the last two. For `PIGY_NO_TABLE` and `PIGY_MEMORY` `len` is 0. For any error `out` is unchanged.
+/// Returns `PIGY_NO_HANDLE`, `PIGY_TOO_SMALL` or `PIGY_OK`: the first that applies. The call can return `PIGY_MEMORY`
+/// instead of the last two. For `PIGY_NO_HANDLE` and `PIGY_MEMORY` `len` is 0. For any error `out` is unchanged.
 #[unsafe(no_mangle)]
 pub extern "C" fn pigy_table_vrps(
     alloc: Global,
@@ -259,7 +297,7 @@ pub extern "C" fn pigy_table_vrps(
 {
     *len = 0;
     let Some(table) = table.table() else {
-        return status::NO_TABLE;
+        return status::NO_HANDLE;
     };
     match all_vrps(alloc, table) {
         Ok(list) => write_items(list.as_slice(), out, len),

@@ -13,7 +13,7 @@ use std::alloc::Global;
 
 /// Reads a list of AS numbers or of addresses, and writes the set of these resources.
 ///
-/// `kind` is 0 for AS numbers, 1 for IPv4 and 2 for IPv6. The elements of the list are separated by commas, and may
+/// `kind` is 5 for AS numbers, 4 for IPv4 and 6 for IPv6. The elements of the list are separated by commas, and may
 /// have white space at their ends. Each is an AS number, an address, a prefix or a range. Elements may be in any order
 /// and may overlap. `as_len` and `ip_len` receive lengths in octets, written or required. A list of AS numbers has
 /// no addresses, and a list of addresses has no AS numbers: that length is 0.
@@ -29,8 +29,8 @@ use std::alloc::Global;
 #[unsafe(no_mangle)]
 pub extern "C" fn pigy_set_from_text(
     alloc: Global,
-    kind: u32,
     text: &[u8],
+    kind: u32,
     as_out: &mut [u8],
     ip_out: &mut [u8],
     as_len: &mut usize,

@@ -26,7 +26,7 @@ use std::alloc::Global;
 /// The call can return `PIGY_MEMORY` instead of any other status. `len` is 0 for an error other than `PIGY_TOO_SMALL`.
 /// For any error `out` is unchanged.
 #[unsafe(no_mangle)]
-pub extern "C" fn pigy_origins(
+pub extern "C" fn pigy_validate(
     alloc: Global,
     vrps: &[RawVrp],
     routes: &[Route],

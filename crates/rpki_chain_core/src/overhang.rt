@@ -169,7 +169,8 @@ fn overhang_within<T: Block>(own: &[T], other: &[T]) -> Option<Overhang<T::Item>
     // The blocks that were passed lie in the other chain. The other's blocks before `held` end before the current block
     // does. So the first of the other's blocks that doesn't end before the current block does must contain it. There is
     // such a block, so no iteration tests for the end of the other chain.
-    for (own_at, block) in own.iter().enumerate() {
+    let mut owns = own.iter();
+    while let Some(block) = owns.next() {
         let (min, max) = block.bounds();
         while held.1 < max {
             let Some(next) = others.next() else {
@@ -181,7 +182,7 @@ fn overhang_within<T: Block>(own: &[T], other: &[T]) -> Option<Overhang<T::Item>
             let end = other.len() - others.as_slice().len() - 1;
             let (other_at, reached) = reached_back_from(other, end, min);
             return Some(Overhang {
-                own_at,
+                own_at: own.len() - owns.as_slice().len() - 1,
                 min,
                 max,
                 other_at,

@@ -1,29 +1,18 @@
 -- Each turn passes a block of the one chain that the held block of the other has, or holds the next one.
-use Rattle.rpki_chain_core.proofs.Common.{arith, sym, ◌∙◌, nat_tests}
-use Rattle.std.proofs.lemmas.List.{nil_from_length}
-use Rattle.rpki_chain_core.proofs.OverhangWalk.{held_at, nothing_ends, passed_all, reaching_fit, reaching_leaves}
-use Rattle.rpki_chain_core.proofs.OverhangWalk.{reaching_more, reaching_skip, reaching_start}
+use Rattle.rpki_chain_core.proofs.Common.{arith, nat_tests}
+use Rattle.rpki_chain_core.proofs.OverhangWalk.{held_at, passed_all, reaching_fit, reaching_leaves, reaching_more}
+use Rattle.rpki_chain_core.proofs.OverhangWalk.{reaching_skip, rest_next}
 use Rattle.rpki_chain_core.proofs.overhang.overhang_within.Goals as goal
-
-pub returns-in_default : goal.returns-in_default
-returns-in_default g c =
-    let none = nil_from_length _ (sym c.iter-others.ensures.len ∙ c.in_default.ensures.steps.0) in
-    nothing_ends g.T.Block.bounds _ _ none c.requires.ends
-
-pub loop-own_at-init : goal.loop-own_at-init
-loop-own_at-init g c =
-    let read = c.bounds-held.ensures in
-    let is = sym c.iter-others.ensures.rest ∙ c.in-Some.ensures.steps in
-    reaching_start c.requires.own_chain c.requires.other_chain is read.min read.max read.to_last
 
 pub loop-held-init : goal.loop-held-init
 loop-held-init g c =
+    let inv = c.loop-block.invariant in
     let read = c.bounds-min.ensures in
-    let x = c.index-own-own_at in
+    let next = rest_next inv.rest c.in-Some-next.ensures.steps in
     record {
-      own = held_at g.T.Block.bounds g.T.Block.number g.T.Block.last _ _ x.result _ c.loop-own_at-test.true x.is
-          read.min read.max read.to_last;
-      reaching = c.loop-own_at.invariant;
+      own = rw (← next.3) (held_at g.T.Block.bounds g.T.Block.number g.T.Block.last _ _ _ _ next.0 next.1 read.min
+          read.max read.to_last);
+      reaching = rw (← next.3) inv.reaching;
     }
 
 pub unreachable-requires : goal.unreachable-requires
@@ -31,7 +20,7 @@ unreachable-requires g c =
     let inv = c.loop-held.invariant in
     reaching_more inv.reaching _ inv.own c.requires.ends
     (grind (arith, nat_tests, g.met.T.Block.in_order, g.met.T.Item.Ord.matches_partial_cmp))
-    c.in_default-next.ensures.steps.0
+    c.in_default-next-2.ensures.steps.0
 
 pub loop-held-preserved : goal.loop-held-preserved
 loop-held-preserved g c =
@@ -41,25 +30,30 @@ loop-held-preserved g c =
       own = inv.own;
       reaching = reaching_skip inv.reaching _ inv.own _ _ _
           (grind (arith, nat_tests, g.met.T.Block.in_order, g.met.T.Item.Ord.matches_partial_cmp))
-          c.in-Some-next.ensures.steps read.min read.max read.to_last;
+          c.in-Some-next-2.ensures.steps read.min read.max read.to_last;
     }
-
-pub reached_back_from-other_at-requires-clause-end : goal.reached_back_from-other_at-requires-clause-end
-reached_back_from-other_at-requires-clause-end g c = rw c.as_slice.ensures.value c.loop-held.invariant.reaching.held.0
 
 pub returns-then-lt : goal.returns-then-lt
 returns-then-lt g c =
     let inv = c.loop-held.invariant in
     let back = c.reached_back_from-other_at.ensures in
-    reaching_leaves inv.reaching _ inv.own _ _ _ c.bounds-min.ensures.from_first
+    rw c.as_slice-then-lt.ensures.value
+    (reaching_leaves inv.reaching _ inv.own _ _ _ c.bounds-min.ensures.from_first
     (grind (arith, nat_tests, g.met.T.Block.in_order, g.met.T.Item.Ord.matches_partial_cmp))
-    (grind (arith, nat_tests, g.met.T.Block.in_order, g.met.T.Item.Ord.matches_partial_cmp)) back.block back.passed
+    (grind (arith, nat_tests, g.met.T.Block.in_order, g.met.T.Item.Ord.matches_partial_cmp)) back.block back.passed)
 
-pub loop-own_at-preserved : goal.loop-own_at-preserved
-loop-own_at-preserved g c =
+pub loop-block-preserved : goal.loop-block-preserved
+loop-block-preserved g c =
     let inv = c.loop-held.invariant in
-    reaching_fit inv.reaching _ inv.own
-    (grind (arith, nat_tests, g.met.T.Block.in_order, g.met.T.Item.Ord.matches_partial_cmp))
+    let next = rest_next c.loop-block.invariant.rest c.in-Some-next.ensures.steps in
+    record {
+      iterates = (_, _);
+      rest = next.2;
+      reaching = rw (← next.4) (reaching_fit inv.reaching _ inv.own
+          (grind (arith, nat_tests, g.met.T.Block.in_order, g.met.T.Item.Ord.matches_partial_cmp)));
+    }
 
 pub returns : goal.returns
-returns g c = passed_all c.loop-own_at.invariant.walk c.loop-own_at-test.false
+returns g c =
+    passed_all c.loop-block.invariant.reaching.walk
+    (grind (arith, c.loop-block.invariant.rest.few, c.in_default-next.ensures.steps.0))

@@ -1,18 +1,23 @@
 -- What was passed of the one chain lies in the other; a turn within takes a block off the rest of the other.
-use Rattle.rpki_chain_core.proofs.Common.{Some, length, HoldsBlock}
-use Rattle.rpki_chain_core.proofs.OverhangWalk.{Reaching}
+use Rattle.rpki_chain_core.proofs.Common.{Some, length, HoldsBlock, ◌-◌}
+use Rattle.rpki_chain_core.proofs.OverhangWalk.{Reaching, Rest}
 use Rattle.rpki_chain_core.proofs.overhang.overhang_within.Given as goal
 
 abbrev pub invariant-loop-held : goal.invariant-loop-held
 invariant-loop-held g l = record {
-  own : HoldsBlock g.T.Block.bounds g.T.Block.number g.T.Block.last l.own l.own_at (Some (l.min, l.max));
-  reaching : Reaching g.T.Block.bounds g.T.Block.form g.T.Block.number g.T.Block.last l.own l.other l.own_at l.held
-      l.others.rest.now;
+  own : HoldsBlock g.T.Block.bounds g.T.Block.number g.T.Block.last l.own (length l.own - length l.owns.rest.now - 1)
+      (Some (l.min, l.max));
+  reaching : Reaching g.T.Block.bounds g.T.Block.form g.T.Block.number g.T.Block.last l.own l.other
+      (length l.own - length l.owns.rest.now - 1) l.held l.others.rest.now;
 }
 
 abbrev pub decreases-loop-held : goal.decreases-loop-held
 decreases-loop-held g l = length l.others.rest.now
 
-abbrev pub invariant-loop-own_at : goal.invariant-loop-own_at
-invariant-loop-own_at g l = Reaching g.T.Block.bounds g.T.Block.form g.T.Block.number g.T.Block.last l.own l.other
-    l.own_at l.held l.others.rest.now
+abbrev pub invariant-loop-block : goal.invariant-loop-block
+invariant-loop-block g l = record {
+  iterates : (goal.iterator-loop-block g).can_next l.owns × (goal.iterator-loop-block g).is_finite l.owns;
+  rest : Rest l.own l.owns.rest.now;
+  reaching : Reaching g.T.Block.bounds g.T.Block.form g.T.Block.number g.T.Block.last l.own l.other
+      (length l.own - length l.owns.rest.now) l.held l.others.rest.now;
+}

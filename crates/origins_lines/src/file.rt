@@ -16,7 +16,7 @@ use roa_origin::Vrp;
 use roa_slurm::{Slurm, read_slurm};
 use roa_vrps::expiry::{ExpiryFault, UnexpiredVrps, read_unexpired};
 use roa_vrps::read_vrps;
-use rpki_base::memory::OrMemory;
+use rpki_text::memory::OrMemory;
 use std::alloc::Allocator;
 
 /// The numbers of VRPs of a file.

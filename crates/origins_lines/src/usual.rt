@@ -2,68 +2,28 @@
 //!
 //! A line of the usual form is a prefix, one space and an AS number. It has no other white space and no plus sign. Each
 //! call returns None for a text of another form, even for one that [`crate::route::read_route`] accepts.
-ghost use Rattle.std.specs.Prelude.{◌≡◌, ◌∷◌, IfSome};
-ghost use Rattle.rpki_addr.specs.AddressFronts.{IsAtFront};
-ghost use Rattle.rpki_addr.specs.AddressText.{IsIpText};
+ghost use Rattle.std.specs.Prelude.{IfSome};
 ghost use Rattle.rpki_base.specs.AsnText.{IsAsnText};
 ghost use Rattle.rpki_prefix.specs.PrefixText.{HasParts};
-ghost use Rattle.roa_vrps.specs.UsualRows.{IsDigitText};
 ghost use Rattle.origins_lines.specs.Routes.{IsRouteLine};
 ghost use Rattle.origins_lines.specs.UsualRoutes.{IsFirstWord, IsWord};
 
 use crate::route::Route;
+use roa_vrps::front::{strip_byte, take_addr, take_number};
 use rpki_addr::addr::IpAddr;
-use rpki_addr::addr::front::{ipv4_at_front, ipv6_at_front};
 use rpki_base::Asn;
 use rpki_base::asn::at_index::asn_at;
 use rpki_prefix::Prefix;
-use rpki_text::number::digits_from;
-
-/// Returns the text after `byte` if the byte is at the front.
-#[inline(always)]
-fn strip_byte(byte: u8, text: &[u8]) -> Option<&[u8]>
-    ensures { IfSome result (λ rest. text.now ≡ byte ∷ rest.now) }
-{
-    let (first, rest) = text.split_first()?;
-    if *first == byte { Some(rest) } else { None }
-}
-
-/// Returns the address at the front, and the text after it.
-#[inline(always)]
-fn take_addr(text: &[u8]) -> Option<(IpAddr, &[u8])>
-    ensures { IfSome result (λ found. IsAtFront IsIpText text.now found.0 found.1.now) }
-{
-    if let Some((addr, rest)) = ipv4_at_front(text) {
-        return Some((IpAddr::V4(addr), rest));
-    }
-    match ipv6_at_front(text) {
-        Some((addr, rest)) => Some((IpAddr::V6(addr), rest)),
-        None => None,
-    }
-}
-
-/// Returns the number of 8 bits that digits at the front write, and the text after the digits.
-#[inline(always)]
-#[tactic(auto, using(roa_vrps::proofs::UsualFieldLemmas::number_first))]
-fn take_number(text: &[u8]) -> Option<(u8, &[u8])>
-    ensures { IfSome result (λ found. IsAtFront IsDigitText text.now found.0 found.1.now) }
-{
-    let (value, end) = digits_from(text, 0);
-    if end == 0 || value > u64::from(u8::MAX) {
-        return None;
-    }
-    Some((value as u8, &text[end..]))
-}
 
 /// Returns the address and the length of the prefix that is the first word, and the text after its space.
 #[inline(always)]
 fn take_prefix(text: &[u8]) -> Option<(IpAddr, u8, &[u8])>
     ensures { IfSome result (λ found. IsFirstWord (λ word. HasParts word found.0 found.1) text.now found.2.now) }
 {
-    let Some((addr, behind)) = take_addr(text) else {
+    let Some((addr, after)) = take_addr(text) else {
         return None;
     };
-    let Some(digits) = strip_byte(b'/', behind) else {
+    let Some(digits) = strip_byte(b'/', after) else {
         return None;
     };
     let Some((len, left)) = take_number(digits) else {

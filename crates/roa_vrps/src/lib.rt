@@ -12,6 +12,7 @@ pub mod fault;
 mod field;
 mod file;
 mod found;
+pub mod front;
 mod item;
 mod json_file;
 pub mod mark;

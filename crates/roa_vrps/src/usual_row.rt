@@ -2,32 +2,20 @@
 //!
 //! A line of the usual form begins with the AS number, the prefix and the maximum length. It has neither white space
 //! nor quotes. Each call returns None for a line of another form, even for one that [`crate::row::read_row`] accepts.
-ghost use Rattle.std.specs.Prelude.{◌≡◌, ◌∷◌, IfSome, IsTrue};
-ghost use Rattle.rpki_addr.specs.AddressFronts.{IsAtFront};
-ghost use Rattle.rpki_addr.specs.AddressText.{IsIpText};
+ghost use Rattle.std.specs.Prelude.{IfSome, IsTrue};
 ghost use Rattle.rpki_base.specs.AsnText.{IsAsnText};
 ghost use Rattle.rpki_prefix.specs.PrefixText.{HasParts};
 ghost use Rattle.roa_vrps.specs.Rows.{IsRow};
-ghost use Rattle.roa_vrps.specs.UsualRows.{AllowUsual, AreFurther, EndsField, IsDigitText, IsFirstField, IsVrpOf};
+ghost use Rattle.roa_vrps.specs.UsualRows.{AllowUsual, AreFurther, EndsField, IsFirstField, IsVrpOf};
 ghost use Rattle.roa_vrps.specs.declared.row.Row.TheVariants.{Vrp as the_vrp};
 
 use crate::columns::Columns;
+use crate::front::{strip_byte, take_addr, take_number};
 use crate::vrp::Vrp;
 use rpki_base::Asn;
 use rpki_base::addr::IpAddr;
-use rpki_base::addr::front::{ipv4_at_front, ipv6_at_front};
 use rpki_base::asn::at_index::asn_at;
-use rpki_base::number::digits_from;
 use rpki_prefix::{MaxLenPrefix, Prefix};
-
-/// Returns the text after `byte` if the byte is at the front.
-#[inline(always)]
-fn strip_byte(byte: u8, text: &[u8]) -> Option<&[u8]>
-    ensures { IfSome result (λ rest. text.now ≡ byte ∷ rest.now) }
-{
-    let (first, rest) = text.split_first()?;
-    if *first == byte { Some(rest) } else { None }
-}
 
 /// Returns the value of the AS number that is the first field, and the text after its comma.
 #[inline(always)]
@@ -37,32 +25,6 @@ fn take_asn(text: &[u8]) -> Option<(u32, &[u8])>
     let (asn, end) = asn_at(text, 0)?;
     let rest = strip_byte(b',', &text[end..])?;
     Some((asn.into_u32(), rest))
-}
-
-/// Returns the address at the front, and the text after it.
-#[inline(always)]
-fn take_addr(text: &[u8]) -> Option<(IpAddr, &[u8])>
-    ensures { IfSome result (λ found. IsAtFront IsIpText text.now found.0 found.1.now) }
-{
-    if let Some((addr, rest)) = ipv4_at_front(text) {
-        return Some((IpAddr::V4(addr), rest));
-    }
-    match ipv6_at_front(text) {
-        Some((addr, rest)) => Some((IpAddr::V6(addr), rest)),
-        None => None,
-    }
-}
-
-/// Returns the number of 8 bits that digits at the front write, and the text after the digits.
-#[inline(always)]
-fn take_number(text: &[u8]) -> Option<(u8, &[u8])>
-    ensures { IfSome result (λ found. IsAtFront IsDigitText text.now found.0 found.1.now) }
-{
-    let (value, end) = digits_from(text, 0);
-    if end == 0 || value > u64::from(u8::MAX) {
-        return None;
-    }
-    Some((value as u8, &text[end..]))
 }
 
 /// Returns the address and the length of the prefix that is the first field, and the text after its comma.

@@ -14,13 +14,13 @@ const STRIDE: usize = 7919;
 pub trait Set: Sized + Drop {
     type Block: Copy;
 
-    /// What a step of a path claims.
+    /// The claim in a step of a path.
     type Claim: Drop;
 
     /// Returns the block at an index of a set. The blocks of the other set begin at an offset.
     ///
-    /// The block is a range or, if it is single, one AS number or a prefix. It is none if it would pass the last AS
-    /// number or address.
+    /// A single block is one AS number or a prefix. Any other block is a range. Returns None if the block would pass
+    /// the last AS number or address.
     fn block(at: u32, is_other: bool, is_single: bool) -> Option<Self::Block>;
 
     /// Returns the block at an index of a set on a path. A block of greater length contains one of smaller length.

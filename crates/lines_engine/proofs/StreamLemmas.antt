@@ -1,4 +1,4 @@
--- Steps of a run that answers as it reads.
+-- Lemmas on the steps of a run that writes answers while it reads.
 use Rattle.lines_engine.proofs.Common.{Err, List, Ok, Option, [], append_assoc, arith, length, length-append, refl, suc}
 use Rattle.lines_engine.proofs.Common.{ap}
 use Rattle.lines_engine.proofs.Common.{ℕ, ◌++◌, ◌<◌, ◌∷◌, ◌≡◌, ◌≢◌, Consumes, IfErr, IfSome, OnOk, Result}
@@ -11,35 +11,35 @@ use Rattle.std.proofs.lemmas.List.{nil_from_length}
 use Rattle.std.proofs.lemmas.Option.{IfSome_then}
 use Rattle.lines_engine.proofs.RunLemmas.{answered_none, answered_then, then_are}
 
--- a byte that is no end stands in front of the first line
+-- a byte before a text belongs to the first line of the text, unless the byte is a line feed
 line_on : (b : ℕ) (text line : List ℕ) (others : List (List ℕ)) → b ≢ 10 → lines_of text ≡ line ∷ others
     → lines_of (b ∷ text) ≡ (b ∷ line) ∷ others
 line_on b text line others none are = grind (arith, eqb-true)
 
--- a text without an end, and then one
+-- a text without a line feed is a line if a line feed follows it
 pub lines-ended : (line behind : List ℕ) → HasNo 10 line → lines_of (line ++ 10 ∷ behind) ≡ line ∷ lines_of behind
 lines-ended [] behind none = refl
 lines-ended (b ∷ line) behind none =
     grind (arith, line_on, none 0, lines-ended line behind (λ k small. none (suc k) (omega arith)))
 
--- a text has a line where it has a byte
+-- a text that is not empty has a line
 pub lines-some : (text : List ℕ) → 0 < length text → lines_of text ≢ []
 lines-some [] some none = absurd (omega arith)
 lines-some (b ∷ text) some none = grind (arith)
 
--- a text with a byte and no end is one line
+-- a text that is not empty and has no line feed is one line
 pub lines-unended : (text : List ℕ) → HasNo 10 text → 0 < length text → lines_of text ≡ text ∷ []
 lines-unended [] none some = absurd (omega arith)
 lines-unended (b ∷ []) none some = grind (arith, eqb-true, none 0)
 lines-unended (b ∷ d ∷ text) none some =
     grind (arith, line_on, none 0, lines-unended (d ∷ text) (λ k small. none (suc k) (omega arith)))
 
--- texts without an end make one
+-- two texts without a line feed, joined, have no line feed
 pub none_both : (text others : List ℕ) → HasNo 10 text → HasNo 10 others → HasNo 10 (text ++ others)
 none_both text others first second k small =
     grind (arith, get_or-append, get_or-append_right, length-append)
 
--- a part of a line and a piece with an end begin with one line
+-- a part without a line feed, and the line of the piece after it, are the first line of both texts joined
 pub lines-joined : (part piece line behind more : List ℕ) → HasNo 10 part → IsCutAt 10 piece line behind
     → lines_of (part ++ (piece ++ more)) ≡ (part ++ line) ∷ lines_of (behind ++ more)
 lines-joined part piece line behind more none cut = grind (arith, append_assoc, lines-ended, none_both)

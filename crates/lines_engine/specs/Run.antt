@@ -1,5 +1,5 @@
--- What a run writes. `old` and `new` are the known bytes of the writer before and after the run. `Is` says which texts
--- are answers to a line.
+-- Definitions of the bytes that a run writes. `old` and `new` are the known bytes of the writer before and after the
+-- run. `Is line text` holds if the text is an answer to the line.
 use Rattle.std.specs.Prelude.{◌≡◌, ◌≢◌, ℕ, Bool, true, List, [], ◌∷◌, ◌++◌, Option, None, Some, IfSome, ⊤}
 use Rattle.std.specs.Prelude.{MatchResult, Result, Ok, Err, OnOk, IsErrOf}
 use Rattle.std.specs.List.{AllZip, flat_map}
@@ -60,8 +60,9 @@ MarksWriter old new (Err Memory) = new ≡ old
 MarksWriter old new (Err Write) = new ≡ true
 MarksWriter old new (Err Read) = ⊥
 
--- A call that writes a text and an end of line ended with `result`. Ok: they were written whole. Memory: the writer,
--- whose known bytes `written` gives, is unchanged. Write: a beginning of them was written.
+-- A call that writes a text and an end of line ended with a result. `written` gives the known bytes of a writer.
+-- Ok: the call wrote the whole text and the end of line. Memory: the call left the writer unchanged. Write: the call
+-- wrote the beginning of the text and the end of line. Read: this error is impossible.
 abbrev pub IsLineWritten : {W : Type 0} → (W → Option (List ℕ)) → W → W → List ℕ → Result (Unit {0}) RunError → Type 0
 IsLineWritten written writer writer' text (Ok value) =
     HasWritten (written writer) (written writer') (as_line text) []
@@ -70,8 +71,8 @@ IsLineWritten written writer writer' text (Err Write) =
     (unwritten : List ℕ) × HasWritten (written writer) (written writer') (as_line text) unwritten
 IsLineWritten written writer writer' text (Err Read) = ⊥
 
--- What was written of the answers to these lines before an error. Memory: the answers to some first lines, not to all,
--- were written whole. Write: a beginning of the answers was written. There was no read.
+-- A call that writes the answers to these lines ended with an error. Memory: the call wrote the whole answers to some
+-- first lines, but not to all lines. Write: the call wrote a beginning of the answers. Read: this error is impossible.
 abbrev pub BreaksOff : (List ℕ → List ℕ → Type 0) → Option (List ℕ) → Option (List ℕ) → List (List ℕ) → RunError
     → Type 0
 BreaksOff Is old new lines Memory = AnswersSomeOf Is old new lines

@@ -1,4 +1,4 @@
--- An answer is the only one, and the same in whatever order the VRPs stand.
+-- Lemmas on the answer to a line. A line has at most one answer. The order of the VRPs does not change the answer.
 use Rattle.origins_lines.proofs.Common.{Bool, List, None, Some, [], arith, false, inl, inr, sym, true, ℕ, ◌∙◌, ◌∷◌}
 use Rattle.origins_lines.proofs.Common.{◌≡◌, Contains-permutation, IsPermutation-map, IsPermutation-sym, IsPermutation}
 use Rattle.origins_lines.proofs.Common.{Vrp, as_sent, FamilyPrefix, IsOriginAnswer, IsExplanationIf, IsRouteAnswer}

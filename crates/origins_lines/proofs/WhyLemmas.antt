@@ -1,4 +1,4 @@
--- The VRPs that cover a route, explained one after another.
+-- Lemmas on the explanations of the VRPs that cover a route.
 use Rattle.origins_lines.proofs.Common.{Bool, List, false, true, ◌&&◌, None, Option, Some, [], append_assoc, arith}
 use Rattle.origins_lines.proofs.Common.{get_or, inl, inr, length, map, refl, reverse, sym, ℕ, ◌++◌, ◌+◌, ◌↔◌, ◌∷◌, ◌≡◌}
 use Rattle.origins_lines.proofs.Common.{◌≢◌, ◌≤◌, ◌⊎◌, append-nil, length-append, map-append, AllPairs, Contains}
@@ -19,18 +19,18 @@ use Rattle.roa_origin.proofs.ListMembers.{here, map_from, map_has, those_are, th
 use Rattle.origins_lines.specs.declared.explanation.Form.TheVariants.{Json, Words}
 use Rattle.origins_lines.proofs.Members.{from_reverse, to_reverse}
 
--- ---- the order in which they are explained
+-- ---- the order of the explanations
 
 -- a VRP that is explained before another isn't explained after it
 pub not_back : (p q : Vrp) → IsExplainedBefore p q → IsExplainedBefore q p → ⊥
 not_back p q h k = grind (arith)
 
--- of two VRPs that cover a route, the one that a table has later is explained before the other, or is the same as it is
--- sent
+-- two VRPs cover a route, and `y` has no lower place in a table than `x`: then `y` is explained before `x`, or both are
+-- the same VRP as sent
 module _ (route : FamilyPrefix) (is : IsFamilyPrefix route) (y x : Vrp) (of_y : IsLawfulVrp y)
     (of_x : IsLawfulVrp x) (covers_y : CoversRoute route y) (covers_x : CoversRoute route x)
     (places : table_place x ≤ table_place y) where
-  -- of one prefix
+  -- the case of two VRPs with the same prefix
   by_prefix : x.0.prefix ≡ y.0.prefix → IsExplainedBefore y x ⊎ (as_sent y ≡ as_sent x)
   by_prefix same = grind (arith, by_ranks, cases_lt, rank_asn, rank_longest)
 
@@ -38,8 +38,9 @@ module _ (route : FamilyPrefix) (is : IsFamilyPrefix route) (y x : Vrp) (of_y : 
   explained_or_same lens =
       grind (arith, by_prefix, cases_lt, covers_between, covers_place, no_earlier, rank_small, same_prefix, upper)
 
--- ---- two that stand together in a list whose other end is the least
+-- ---- two neighbours in a list
 
+-- `x` directly follows `y` in a list in which `f` does not increase: then `f x` is at most `f y`
 pub adjacent : (f : Vrp → ℕ) (all done front rest : List Vrp) (y x : Vrp)
     → IsNonDecreasingBy f (reverse all) → all ≡ done ++ x ∷ rest → done ≡ front ++ y ∷ [] → f x ≤ f y
 adjacent f all done front rest y x ordered cut ends =
@@ -50,9 +51,9 @@ adjacent f all done front rest y x ordered cut ends =
     let le = (rw back at ordered) (place + 0) (place + 1) y (omega arith) (omega (arith, long)) in
     rw (get_or-append-add (reverse rest) turned 0 y, get_or-append-add (reverse rest) turned 1 y) at le
 
--- ---- one more behind those of a list
+-- ---- a VRP that is appended to a list
 
--- the members are those before, and it
+-- if each member of `xs` is a member of `ys` with `x`, so is each member of `xs` with `x`
 over_pushed : (xs ys : List Vrp) (x p : Vrp) → (Contains xs p → Contains (ys ++ x ∷ []) p)
     → Contains (xs ++ x ∷ []) p → Contains (ys ++ x ∷ []) p
 over_pushed xs ys x p over h = elim (Contains-push_cases xs x p h) [
@@ -60,7 +61,7 @@ over_pushed xs ys x p over h = elim (Contains-push_cases xs x p h) [
   | inr e ↦ rw (← e) (Contains-push ys x)
 ]
 
--- behind two lists with the same members
+-- two lists with the same members have the same members after `x` is appended to both
 same_pushed : (xs ys : List Vrp) (x p : Vrp) → (Contains xs p ↔ Contains ys p)
     → (Contains (xs ++ x ∷ []) p ↔ Contains (ys ++ x ∷ []) p)
 same_pushed xs ys x p same = (
@@ -68,7 +69,7 @@ same_pushed xs ys x p same = (
   over_pushed ys xs x p (λ h. Contains-append_left xs (x ∷ []) p (same.1 h)),
 )
 
--- or behind one of them that has it already
+-- appending a member of `ys` to `ys` adds no member, so the result has the same members as `xs` if `ys` has
 again_pushed : (xs ys : List Vrp) (x p : Vrp) → ((q : Vrp) → Contains xs q ↔ Contains ys q) → Contains ys x
     → (Contains xs p ↔ Contains (ys ++ x ∷ []) p)
 again_pushed xs ys x p same there = (

@@ -22,8 +22,8 @@ IsRouteAnswer why vrps route asn text =
     (outcome : Outcome) × IsOutcomeOf route asn vrps outcome × (behind : List ℕ)
     × IsExplanationIf why vrps route asn behind × (text ≡ outcome_text outcome ++ behind)
 
--- The text is the answer to the line: by OfRoute to the route that the line gives, `skipped` to a line that announces
--- none, and by OfFault to the fault of the line.
+-- The text is the answer to the line. `OfRoute` holds for the answer to the route that the line gives. `skipped` is the
+-- answer to a line that announces no route. `OfFault` holds for the answer to the fault of the line.
 abbrev pub IsAnswerBy : (Route → List ℕ → Type 0) → List ℕ → (RouteFault → List ℕ → Type 0) → List ℕ → List ℕ → Type 0
 IsAnswerBy OfRoute skipped OfFault line text =
     ((route : Route) × IsRouteLine line route × OfRoute route text)

@@ -1,5 +1,5 @@
--- Definitions: the lines of routes, and their answers by VRPs. Also what is read of files, the bytes that runs leave in
--- a writer by the octets of their inputs, and the lines that a check looks for in these bytes.
+-- Definitions of the lines of routes and of their answers by VRPs. Other definitions describe the reading of files, the
+-- bytes that runs write for their inputs, and the lines that a check looks for in these bytes.
 pub mod Answers
 pub mod Begun
 pub mod Checks

@@ -1,4 +1,4 @@
--- What verified certificates get of the sets of their issuers.
+-- Lemmas on the resources that verified certificates get from the sets of their issuers.
 use Rattle.std.proofs.Common.{ℕ, ◌<◌, ◌≡◌, List, [], ◌∷◌, arith, get_or, length, refl, subst, suc, take, zero}
 use Rattle.rpki_resources.specs.Triples.{Triple}
 use Rattle.rpki_extensions.proofs.ClaimedLemmas.{gets_claimed}

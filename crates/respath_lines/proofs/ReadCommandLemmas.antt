@@ -1,4 +1,4 @@
--- What a take at the front of octets, and then their end, tell of all of them.
+-- Lemmas on octets that must hold one value. A call reads the value at the front, and checks that no octet is left.
 use Rattle.respath_lines.proofs.Common.{Err, List, MatchResult, Ok, Result, [], arith, length, refl, subst, ℕ, ◌∷◌, ◌≡◌}
 use Rattle.respath_lines.proofs.Common.{◌≢◌, ne_eqb, fault_text, IfRefused, OrMemory, Memory, Refused, IsHexadecimal}
 use Rattle.respath_lines.proofs.Common.{HasFault, IsEnded, ShowsHexadecimal, ShowsOctets, ShowsResult}
@@ -14,14 +14,14 @@ use Rattle.rpki_der.specs.SequenceViews.{ReadsOrMemory, TakesSaidOrMemory}
 use Rattle.respath_lines.proofs.HexadecimalLemmas.{one_octets}
 
 module _ {X Y : Type 0} (G : List ℕ → X → Type 0) (reading : List ℕ → Result (Y × List ℕ) DerError) where
-  -- what is left behind a value is a fault of all octets
+  -- octets after a value are a fault of the whole octets: trailing data
   only_more : (octets rest : List ℕ) (y : Y) → reading octets ≡ Ok (y, rest) → rest ≢ []
       → only reading octets ≡ Err TrailingData
   unfolding only
   only_more octets [] y e some = absurd (some refl)
   only_more octets (b ∷ rest) y e some = rw (e, ne_eqb (length (b ∷ rest)) 0 (λ none. omega (arith, none))) refl
 
-  -- a take and the end behind it
+  -- the value at the front and the check of the end give the value or the fault of the whole octets
   pub ended_take : (C : Y → X → Type 0) → OneFront G → (old new : Cursor) (taken : Result X (OrMemory DerError))
       → ReadsOrMemory G (λ x. x) old new taken → TakesSaidOrMemory C old new taken reading
       → (answer : Result X (OrMemory DerError)) → IsEnded taken (left new) answer

@@ -1,4 +1,4 @@
--- The items of a list of a SLURM file, and the list, say one thing, or have one fault.
+-- Lemmas on the lists of a SLURM file. An item has one value, or one fault. A list has the same.
 use Rattle.std.proofs.Common.{List, None, Option, Some, arith, inl, inr, sym, ℕ, ◌+◌, ◌∙◌, ◌≡◌}
 use Rattle.std.proofs.Common.{◌⊎◌}
 use Rattle.json.specs.Json.{Items, Json, Members, item, member, no_items, no_members}
@@ -28,12 +28,13 @@ use Rattle.roa_slurm.specs.declared.object.SlurmObject.TheVariants.{PrefixAssert
 
 -- ---- names
 
--- the first unknown name is the only one, and there is none if all names are known
+-- no name is unknown if all names are known
 pub known_apart : (whole : SlurmObject) (first : ℕ) (ms : Members) (n : ℕ) → KnowsAll whole ms
     → HasUnknown whole first ms n → ⊥
 known_apart whole first no_members n known wrong = wrong
 known_apart whole first (member key value ms) n h wrong = grind (arith, known_apart whole (first + 1) ms)
 
+-- members have at most one first unknown name
 pub unknown_one : (whole : SlurmObject) (first : ℕ) (ms : Members) (m n : ℕ) → HasUnknown whole first ms m
     → HasUnknown whole first ms n → m ≡ n
 unknown_one whole first no_members m n h k = absurd h
@@ -41,11 +42,12 @@ unknown_one whole first (member key value ms) m n h k = grind (arith, unknown_on
 
 -- ---- members of items
 
--- a prefix and an AS number make at most one filter, and none if both are missing
+-- a prefix and an AS number give at most one filter
 filter_by_one : (p : Option FamilyPrefix) (n : Option ℕ) (a b : PrefixFilter) → IsFilterBy p n a → IsFilterBy p n b
     → a ≡ b
 filter_by_one p n a b h k = grind (arith)
 
+-- no filter is given if both the prefix and the AS number are missing
 no_filter : (p : Option FamilyPrefix) (n : Option ℕ) (a : PrefixFilter) → IsFilterBy p n a → p ≡ None → n ≡ None → ⊥
 no_filter p n a h none empty = grind (arith)
 

@@ -1,4 +1,4 @@
--- The lines of a file, read one after another; a file writes one list of VRPs, or has one fault.
+-- Lemmas on the lines of a file, read one after another. A file has one list of VRPs, or one fault.
 use Rattle.roa_vrps.proofs.Common.{List, [], append-nil, append_assoc, arith, inl, inr, refl, sym, ℕ, ◌++◌, ◌+◌, ◌∙◌}
 use Rattle.roa_vrps.proofs.Common.{◌∷◌, ◌≡◌, ◌≢◌, usual, HasRowFault, IsRow, Columns, FileFault, Line, MaxLenValue}
 use Rattle.roa_vrps.proofs.Common.{NoVrp, Vrp, VrpFault, Row}
@@ -13,8 +13,9 @@ use Rattle.roa_vrps.specs.Asking.{BeginVrps, HasCsvVrp}
 use Rattle.roa_vrps.proofs.ItemLemmas.{Vrps}
 use Rattle.roa_vrps.proofs.RowLemmas.{row_apart, row_fault_one, row_one}
 
--- What the rest of a text writes behind the VRPs before it, the text writes; what is wrong there first is so in the
--- text. The same holds of the entries, whose expiries are read.
+-- A text was read up to `rest`. The VRPs read, and then the VRPs of `rest`, are the VRPs of the text. The first fault
+-- of `rest` is the first fault of the text. The entries read, and then the entries of `rest`, are the entries of the
+-- text. `expiries` are the expiries of the entries read.
 pub record IsReadSo {A : Type 0} (asked : Bool) (text rest : List ℕ) (number : ℕ) (columns : Columns) (vrps : Vrps)
     (expiries : Result (Vec (Option ℕ) A) ExpiryFault)
     : Type 0 where

@@ -1,4 +1,4 @@
--- A text in either form writes one list of VRPs, or has one fault, and so does a file.
+-- Lemmas on texts in both forms, and on files. A text has one list of VRPs, or one fault. A file has the same.
 use Rattle.roa_vrps.proofs.Common.{Err, List, MatchResult, Ok, Result, inl, inr, sym, ℕ, ◌∙◌, ◌≡◌, IsUtf8}
 use Rattle.roa_vrps.proofs.Common.{MaxLenValue, arith}
 use Rattle.roa_vrps.proofs.Common.{AnswersOrMemory, FileFault, HasJsonFault, IsJsonFile}
@@ -23,7 +23,7 @@ use Rattle.roa_vrps.proofs.JsonLemmas.{json_apart, json_fault_one, json_one}
 pub unmarked_one : (file a b : List ℕ) → IsUnmarked file a → IsUnmarked file b → a ≡ b
 unmarked_one file a b h k = grind (arith)
 
--- what is found in the text is found in the file, and so is when memory is wanting
+-- a result for the text of a file is a result for the file, also if an allocation fails
 pub file_found : {A : Type 0} (asked : Bool) (file text : List ℕ) (r : Result (Found A) (OrMemory FileFault))
     → IsUnmarked file text
     → MatchResult r (λ v. IsVrpText text v.vrps.items × AreReadOf asked (AreTextEntries text) v.expiries)

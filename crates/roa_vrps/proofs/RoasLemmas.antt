@@ -1,4 +1,4 @@
--- The results of the values of the member `roas`, one after another, and of the items of one.
+-- Lemmas on the values of the member `roas`, and on the items of such a value.
 use Rattle.roa_vrps.proofs.Common.{Err, IfOk, IsTrue, List, None, Ok, Result, Some, Vec, [], ap, append-nil}
 use Rattle.roa_vrps.proofs.Common.{append_assoc, arith, false, inr, length, not, refl, true, ℕ, ◌++◌, ◌+◌, ◌-◌, ◌<◌}
 use Rattle.roa_vrps.proofs.Common.{◌∙◌, ◌∷◌, ◌≡◌, ◌↔◌, length-append, bytes_eq, items_end, left, left_none, left_some}
@@ -14,8 +14,10 @@ use Rattle.roa_vrps.proofs.GrammarLemmas.{a_member, an_item, items_in, members_i
 use Rattle.roa_vrps.proofs.ItemLemmas.{Vrps}
 use Rattle.json.specs.Json as json
 
--- What the items from `now` on, up to the end of their array, write behind the VRPs, those from `first` on write. The
--- same holds of the entries, whose expiries are read.
+-- The items of an array were read from `first` up to `now`. The VRPs read, and then the VRPs of the items from `now`
+-- on, are the VRPs of all items. The first fault of the items from `now` on is the first fault of all items. The
+-- entries read, and then the entries of the items from `now` on, are the entries of all items. `expiries` are the
+-- expiries of the entries read.
 pub record AreReadSo {A : Type 0} (asked : Bool) (depth : ℕ) (first now : List Token) (vrps : Vrps)
     (expiries : Result (Vec (Option ℕ) A) ExpiryFault)
     : Type 0 where
@@ -40,7 +42,7 @@ module _ {A : Type 0} (asked : Bool) (depth : ℕ) (first now taken r : List Tok
   one_more : items_in depth now ≡ parse_map (item value) (items_in depth r)
   one_more = grind (arith, an_item)
 
-  -- one item more
+  -- one more item is read
   pub read_more : (vrp : MaxLenValue × ℕ) (all : Result (Vec (Option ℕ) A) ExpiryFault) → IsItem value vrp
       → AreRead asked (had.entries ++ item_entry (length vrps + 1) value ∷ []) all
       → AreReadSo asked depth first r (vrps ++ vrp ∷ []) all
@@ -59,14 +61,14 @@ module _ {A : Type 0} (asked : Bool) (depth : ℕ) (first now taken r : List Tok
         );
   }
 
-  -- the next item is wrong, and the others are passed over
+  -- the next item has a fault, and the reader skips the items after it
   pub read_wrong : (wrong : ItemFault) (rest : List Token) → HasItemFault value wrong
       → left (items_in depth r) ≡ Some rest
       → (js : Items) × IsRoasResult {A = A} asked (array js ∷ []) (Err (Item (length vrps + 1) wrong))
       × (items_in depth first ≡ Some (js, rest))
   read_wrong wrong rest has passed = grind (arith, item, items_in, left_some, one_more, parse_map)
 
-  -- or aren't
+  -- if the skipped items are not well-formed, neither are the items from `first` on
   pub read_bad : left (items_in depth r) ≡ None → items_in depth first ≡ None
   read_bad failed = grind (arith, left_none, one_more)
 
@@ -80,8 +82,8 @@ read_all asked depth first now rest found had end =
     let same : item_entries 1 all ≡ had.entries ++ [] = entries in
     (all, (all, refl, rw append-nil at (are [] refl), rw (same, append-nil) had.read), whole)
 
--- What the members from `now` on, up to the end of their object, add to the result, those from `first` on have as their
--- result.
+-- The members of an object were read from `first` up to `now`. `values` are the values of `roas` among them, and
+-- `outcome` is the result of these values. All values of `roas` are these and those of the members from `now` on.
 pub record IsRoasReadSo {A : Type 0} (asked : Bool) (depth : ℕ) (first now : List Token)
     (outcome : Result (Found A) FileFault) : Type 0 where
   pub values : List Json
@@ -91,7 +93,7 @@ pub record IsRoasReadSo {A : Type 0} (asked : Bool) (depth : ℕ) (first now : L
       → (all : Members) × (members_in depth first ≡ Some (all, rest))
       × (values_in roas all ≡ values ++ values_in roas ms)
 
--- a member more, whose value is in the result with those before it
+-- one more member is read, and `next` is the result of the values with its value
 pub member_read : {A : Type 0} (asked : Bool) (depth : ℕ) (first now s r : List Token) (key : List ℕ)
     (outcome next : Result (Found A) FileFault) (had : IsRoasReadSo asked depth first now outcome)
     → json.read_key now ≡ Some (Some key, s)
@@ -113,12 +115,12 @@ member_read asked depth first now s r key outcome next had is_key (j, read, is) 
 module _ {A : Type 0} (asked : Bool) (depth : ℕ) (s r : List Token) (key : List ℕ) (values : List Json)
     (outcome : Result (Found A) FileFault) (reads : IsRoasResult asked values outcome)
     (passed : left (json.value depth s) ≡ Some r) where
-  -- a member of another name is passed over
+  -- the reader skips a member with another name
   pub member_skipped : true ≡ not (bytes_eq key roas) → (j : Json) × (json.value depth s ≡ Some (j, r))
       × IsRoasResult asked (values ++ values_in roas (member key j no_members)) outcome
   member_skipped other = grind (arith, left_some, append-nil)
 
-  -- one more of the name
+  -- a second member with the name is a fault
   pub member_duplicate : false ≡ not (bytes_eq key roas) → (IsTrue false ↔ (outcome ≡ Err (Roas Missing)))
       → (j : Json) × (json.value depth s ≡ Some (j, r))
       × IsRoasResult {A = A} asked (values ++ values_in roas (member key j no_members)) (Err (Roas Repeated))

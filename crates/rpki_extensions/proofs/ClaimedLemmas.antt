@@ -1,4 +1,4 @@
--- What a verified certificate gets of its issuer's set.
+-- Lemmas on the resources that a verified certificate gets from the set of its issuer.
 use Rattle.std.proofs.Common.{ℕ, ◌≡◌, ◌⊎◌, arith, subst}
 use Rattle.rpki_chain.proofs.RunLists.{Holds-decided}
 use Rattle.rpki_chain.specs.Claims.{Claim}

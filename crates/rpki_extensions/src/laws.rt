@@ -70,10 +70,10 @@ pub fn outcomes_of_paths<A: Allocator>()
 
 /// States that a path of certificates is a path of claims of each kind.
 ///
-/// - `result`: a path leaves a set if and only if each certificate has claims, and the set of each kind is the result
-///   of the path of the claims of that kind.
-/// - `refusal`: a certificate is the first one that overclaims if and only if two things hold. It and those before it
-///   have claims. The overclaimed resources are the first refusal of the paths of claims.
+/// - `result`: a path leaves a set if and only if two conditions hold. Each certificate has claims. The set of each
+///   kind is the result of the path of the claims of that kind.
+/// - `refusal`: a certificate is the first one that overclaims if and only if two conditions hold. The certificate and
+///   those before it have claims. The overclaimed resources are the first refusal of the paths of claims.
 pub fn kinds_of_paths<A: Allocator>()
     ensures result { (anchor set : Triple) (certificates : List Extensions) → IsTriple anchor →
         IsVerifiedPath anchor certificates set ↔ ((steps : List (Step ClaimTriple))

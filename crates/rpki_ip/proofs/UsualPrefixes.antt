@@ -1,4 +1,4 @@
--- Prefixes and ranges whose lengths have one octet, read from octets that go on after them.
+-- Lemmas on prefixes and ranges at the front of octets. Their lengths have one octet.
 use Rattle.rpki_ip.proofs.Common.{List, Ok, [], ap, arith, drop, get_or, length, refl, suc, sym, take, zero, ℕ, ◌%◌}
 use Rattle.rpki_ip.proofs.Common.{◌*◌, ◌++◌, ◌+◌, ◌-◌, ◌/◌, ◌<◌, ◌^◌, ◌∙◌, ◌∷◌, ◌≡◌, ◌≤◌, le-ltb, lt-ltb, length-append}
 use Rattle.rpki_ip.proofs.Common.{length-drop, length-take, append_assoc, shr-shr, IsBytes, IsBytes-rest, IsSequence}
@@ -12,9 +12,9 @@ use Rattle.rpki_der.specs.Reading.{length_at, tagged_at, value_at}
 use Rattle.rpki_ip.proofs.PrefixBits.{used_bits}
 use Rattle.rpki_ip.proofs.PrefixDerReadings.{prefix_reading, range_reading}
 
--- ---- the first octets of several
+-- ---- the first of the octets
 
--- a number behind which octets stand, without their bits
+-- removing the bits of the appended octets gives the number before them
 without_octets : (xs : List ℕ) (n : ℕ) → IsBytes xs → big_endian_after n xs / 2 ^ (8 * length xs) ≡ n
 without_octets [] n fits = omega arith
 without_octets (x ∷ xs) n fits =
@@ -26,7 +26,7 @@ without_octets (x ∷ xs) n fits =
     ∙ sym (shr-shr (big_endian_after (n * 256 + x) xs) (8 * length xs) 8)
     ∙ ap (λ m. m / 2 ^ 8) rest ∙ last
 
--- the first k octets spell the first bits
+-- the first k octets give the highest bits
 first_after : (k : ℕ) (xs : List ℕ) (n : ℕ) → IsBytes xs → k ≤ length xs
     → big_endian_after n xs / 2 ^ (8 * (length xs - k)) ≡ big_endian_after n (take k xs)
 first_after zero xs n fits le =
@@ -38,7 +38,7 @@ first_after (suc k) (x ∷ xs) n fits le =
     ap (λ j. big_endian_after (n * 256 + x) xs / 2 ^ (8 * j)) count
     ∙ first_after k xs (n * 256 + x) (IsBytes-rest x xs fits) (omega arith)
 
--- so do they in an address
+-- the first k octets give the highest bits of an address
 pub first_octets_of : (xs : List ℕ) (k : ℕ) → IsBytes xs → length xs ≤ 16 → k ≤ length xs
     → big_endian xs * 2 ^ (128 - 8 * length xs) / 2 ^ (128 - 8 * k) ≡ big_endian (take k xs)
 first_octets_of xs k fits le short =

@@ -214,8 +214,10 @@ impl IpBlock {
         Ok(Some(block))
     }
 
-    /// Reads the block that follows the address `before`, which is None for the first block. In strict mode the block
-    /// begins more than one above `before`.
+    /// Reads the block that follows the address `before`.
+    ///
+    /// `before` is None for the first block. In strict mode the call returns an error unless the block begins more than
+    /// one above `before`. Returns None if no block is left.
     #[tactic(auto, unfolding(rpki_der::specs::Reading::optional, rpki_der::specs::Reading::refined, rpki_der::specs::Reading::passing))]
     fn next_opt_after(
         before: Option<Addr>,

@@ -1,4 +1,4 @@
--- What certificates leave, and what an accepted certificate lists.
+-- Lemmas on the sets that paths of certificates leave, and on the resources that an accepted certificate lists.
 use Rattle.rpki_theorem.proofs.Common.{Claim, Exceeds, Holds, IsLeft, IsPathResult, Leaves, List, Lists, Refuse, Runs}
 use Rattle.rpki_theorem.proofs.Common.{Step, arith, get_or, length, subst, sym, take, ℕ, ◌<◌, ◌≡◌, ◌⊎◌}
 use Rattle.std.proofs.Common.{[], ◌∷◌, ◌+◌, refl, suc, zero}

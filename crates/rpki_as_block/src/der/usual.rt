@@ -12,7 +12,7 @@ use rpki_der::tag;
 
 /// Returns the tag and the content of the value at the front, and the octets after it.
 ///
-/// The result is None if the length has the long form (X.690, 8.1.3.5), or if the octets do not begin with a value.
+/// Returns None if the length has the long form (X.690, 8.1.3.5), or if the octets do not begin with a value.
 #[inline(always)]
 #[tactic(auto, unfolding(rpki_der::specs::Reading::value_at, rpki_der::specs::Reading::length_at))]
 fn short_value(octets: &[u8]) -> Option<(u8, &[u8], &[u8])>
@@ -32,7 +32,7 @@ fn short_value(octets: &[u8]) -> Option<(u8, &[u8], &[u8])>
 
 /// Returns the number of the first two octets of an INTEGER of several octets.
 ///
-/// The result is None if the INTEGER is negative, or if its first nine bits are zeros (X.690, 8.3.2).
+/// Returns None if the INTEGER is negative, or if its first nine bits are zeros (X.690, 8.3.2).
 #[inline(always)]
 fn first_two(first: u8, second: u8) -> Option<u32>
     ensures { IfSome result (λ number. (number ≡ first * 256 + second)
@@ -45,7 +45,7 @@ fn first_two(first: u8, second: u8) -> Option<u32>
     Some(number)
 }
 
-/// Returns the AS number in the content of an INTEGER. The result is None for any other content.
+/// Returns the AS number in the content of an INTEGER. Returns None for any other content.
 #[inline(always)]
 #[tactic(auto, unfolding(rpki_der::specs::Reading::unsigned))]
 fn usual_number(content: &[u8]) -> Option<Asn>
@@ -68,7 +68,7 @@ fn usual_number(content: &[u8]) -> Option<Asn>
 
 /// Returns the AS number at the front, and the octets after it.
 ///
-/// The result is None if the length has the long form, or if the octets do not begin with an AS number.
+/// Returns None if the length has the long form, or if the octets do not begin with an AS number.
 #[inline(always)]
 #[tactic(auto, unfolding(rpki_der::specs::Reading::refined, rpki_der::specs::Reading::tagged_at))]
 fn number_at_front(octets: &[u8]) -> Option<(Asn, &[u8])>
@@ -101,7 +101,7 @@ fn usual_range(content: &[u8]) -> Option<AsRange>
 
 /// Returns the block at the front, and the octets after it.
 ///
-/// The result is None if a length has the long form, or if the octets do not begin with a block.
+/// Returns None if a length has the long form, or if the octets do not begin with a block.
 #[inline(always)]
 #[tactic(auto, unfolding(rpki_der::specs::Reading::refined, rpki_der::specs::SequenceReading::by_tag))]
 pub(super) fn usual_block(octets: &[u8]) -> Option<(AsBlock, &[u8])>

@@ -30,7 +30,7 @@ fn address_at_front(octets: &[u8]) -> Addr
 
 /// Returns the prefix of `family` at the front, and the octets after it.
 ///
-/// The unused bits may be set, and count as zero. The result is None if the length has the long form, or if the octets
+/// The unused bits count as zero, even if they are set. Returns None if the length has the long form, or if the octets
 /// do not begin with such a prefix.
 #[inline(always)]
 #[tactic(auto, using(crate::proofs::UsualPrefixes::usual_prefix_at))]
@@ -59,7 +59,7 @@ pub fn prefix_at_front(octets: &[u8], family: AddressFamily) -> Option<(Prefix, 
 
 /// Returns the range of `family` at the front, and the octets after it.
 ///
-/// The result is None if a length has the long form, or if the octets do not begin with the SEQUENCE of such a range.
+/// Returns None if a length has the long form, or if the octets do not begin with the SEQUENCE of such a range.
 #[inline(always)]
 #[tactic(auto, using(crate::proofs::UsualPrefixes::usual_range_at))]
 pub fn range_at_front(octets: &[u8], family: AddressFamily) -> Option<(AddressRange, &[u8])>

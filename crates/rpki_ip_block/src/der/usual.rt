@@ -10,7 +10,7 @@ use rpki_ip::family::AddressFamily;
 
 /// Returns the block of `family` at the front, and the octets after it, as a lenient cursor reads them.
 ///
-/// The result is None if a length has the long form (X.690, 8.1.3.5), or if the octets do not begin with such a block.
+/// Returns None if a length has the long form (X.690, 8.1.3.5), or if the octets do not begin with such a block.
 #[inline(always)]
 #[tactic(auto, using(crate::proofs::UsualBlocks::prefix_block_found, crate::proofs::UsualBlocks::range_block_found))]
 pub(super) fn usual_block(octets: &[u8], family: AddressFamily) -> Option<(IpBlock, &[u8])>

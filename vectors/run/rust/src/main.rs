@@ -78,15 +78,7 @@ impl Set for AsBlocks {
     fn union(&self, other: &Self) -> Self {
         AsBlocks::union(self, other)
     }
-    fn intersection(&self, other: &Self) -> Self {
-        AsBlocks::intersection(self, other)
-    }
-    fn difference(&self, other: &Self) -> Self {
-        AsBlocks::difference(self, other)
-    }
-    fn contains(&self, other: &Self) -> bool {
-        AsBlocks::contains(self, other)
-    }
+    vectors::operations!(AsBlocks);
     fn issued(&self, octets: Option<&[u8]>, mode: Overclaim) -> Result<Self, String> {
         let claim = octets.map_or_else(AsResources::missing, |it| read_as(it).expect("AS identifiers"));
         let excess = |of: String| of.trim_start_matches("overclaimed AS resources: ").into();
@@ -107,15 +99,7 @@ macro_rules! family {
             fn union(&self, other: &Self) -> Self {
                 IpBlocks::union(self, other).into()
             }
-            fn intersection(&self, other: &Self) -> Self {
-                IpBlocks::intersection(self, other).into()
-            }
-            fn difference(&self, other: &Self) -> Self {
-                IpBlocks::difference(self, other).into()
-            }
-            fn contains(&self, other: &Self) -> bool {
-                IpBlocks::contains(self, other)
-            }
+            vectors::operations!(IpBlocks);
             fn issued(&self, octets: Option<&[u8]>, mode: Overclaim) -> Result<Self, String> {
                 let claim = octets.and_then(|it| read_ip(it).expect("IP address blocks").$member);
                 let claim = claim.unwrap_or_else(IpResources::missing);

@@ -68,15 +68,7 @@ impl Set for AsBlocks {
     fn blocks(&self) -> impl Iterator<Item = AsBlock> + '_ {
         self.iter()
     }
-    fn intersection(&self, other: &Self) -> Self {
-        AsBlocks::intersection(self, other)
-    }
-    fn difference(&self, other: &Self) -> Self {
-        AsBlocks::difference(self, other)
-    }
-    fn contains(&self, other: &Self) -> bool {
-        AsBlocks::contains(self, other)
-    }
+    vectors::operations!(AsBlocks);
     fn claim(self) -> AsResources {
         AsResources::blocks(self)
     }
@@ -129,15 +121,7 @@ impl Set for IpBlocks {
     fn blocks(&self) -> impl Iterator<Item = IpBlock> + '_ {
         self.iter()
     }
-    fn intersection(&self, other: &Self) -> Self {
-        IpBlocks::intersection(self, other)
-    }
-    fn difference(&self, other: &Self) -> Self {
-        IpBlocks::difference(self, other)
-    }
-    fn contains(&self, other: &Self) -> bool {
-        IpBlocks::contains(self, other)
-    }
+    vectors::operations!(IpBlocks);
     fn claim(self) -> IpResources {
         IpResources::blocks(self)
     }

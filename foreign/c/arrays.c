@@ -1,11 +1,13 @@
-/* The calls of pigyelund.h that take arrays, for both libraries. This code is tested, and is not proved.
+/* The calls of pigyelund.h that take arrays or structs of arrays, for both libraries. This code is tested, and is not
+ * proved.
  *
  * Each call passes its arguments on to a proved function. A proved function takes an array as a reference, which is
- * never null. If an array is NULL and its length is 0, the call passes the address of `nothing` instead of NULL. All
- * other arguments stay as they are. NULL with another length stays NULL.
+ * never null. If an array is NULL and its length is 0, the call passes the address of `nothing` instead of NULL. NULL
+ * with another length stays NULL. The proved function takes the members of a struct as arguments of their own. All
+ * other arguments stay as they are. A call that writes a text adds the NUL after it.
  *
- * In this file the proved function of pigy_cover has the name proved_cover. In the library that `rt lib` built, its
- * name is pigy_cover. The Makefile renames each function for which there is a line PROVED. */
+ * In this file the proved function of pigy_union has the name proved_union. In the library that `rt lib` built, its
+ * name is pigy_union. The Makefile renames each proved function that this file calls. */
 #include "../pigyelund.h"
 
 /* An object that is aligned for the elements of each array. No call reads or writes it, since an array of length 0 has
@@ -16,6 +18,7 @@ static const union {
   pigy_vrp vrp;
   pigy_route route;
   pigy_covering covering;
+  pigy_prefix prefix;
   pigy_as_range as_range;
   pigy_ip_range ip_range;
 } nothing = {0};
@@ -23,145 +26,205 @@ static const union {
 /* An array and its length, as two arguments of a call. */
 #define ARRAY(array, length) (array) || (length) ? (array) : (__typeof__(array))(void *)&nothing, (length)
 
+/* An array of octets that is a member of a struct, and its length. The length is not read if the array is NULL. */
+#define MEMBER(array, length) (array) ? (array) : (__typeof__(array))(void *)&nothing, (array) ? (length) : 0
+
+/* The arguments for a set: two arrays. */
+#define SET(set) MEMBER((set).as, (set).as_len), MEMBER((set).ip, (set).ip_len)
+#define SET_TYPES const uint8_t *, size_t, const uint8_t *, size_t
+
+/* The arguments for the buffers of a set: two arrays, and the addresses of the lengths. */
+#define BUFFERS(out) MEMBER((out)->as, (out)->as_capacity), MEMBER((out)->ip, (out)->ip_capacity), LENGTHS(out)
+#define LENGTHS(out) &(out)->as_len, &(out)->ip_len
+#define BUFFER_TYPES uint8_t *, size_t, uint8_t *, size_t, size_t *, size_t *
+
+/* Returns the extensions of a certificate. No proved function gets a member of an absent extension. */
+static pigy_set present_of(pigy_set cert, pigy_present present) {
+  if (!(present & PIGY_HAS_AS)) cert.as = 0;
+  if (!(present & PIGY_HAS_IP)) cert.ip = 0;
+  return cert;
+}
+
+/* Writes a NUL after a text if the buffer has an octet for it. Returns the status of the call that wrote the text. */
+static pigy_status ended(pigy_status status, char *out, size_t capacity, const size_t *len) {
+  if (status == PIGY_OK && *len < capacity) out[*len] = 0;
+  return status;
+}
+
 /* Declares the proved function of a call. It has the type of the call. */
 #define PROVED(name) __typeof__(pigy_##name) proved_##name
-PROVED(answer);
+PROVED(resources_from_text);
+PROVED(resources_verify_path);
+PROVED(resources_prefixes);
+PROVED(resources_as_ranges);
+PROVED(resources_ip_ranges);
+PROVED(resources_text);
+PROVED(prefixes);
 PROVED(as_ranges);
-PROVED(contains);
-PROVED(cover);
-PROVED(difference);
-PROVED(equal);
-PROVED(intersection);
 PROVED(ip_ranges);
-PROVED(origins);
-PROVED(set_from_text);
-PROVED(table_changed);
-PROVED(table_covering);
-PROVED(table_new);
-PROVED(table_origins);
-PROVED(table_routes_changed);
-PROVED(table_vrps);
-PROVED(union);
-PROVED(verify);
-PROVED(verify_path);
+PROVED(validate);
 PROVED(vrps_read);
+PROVED(table_new);
+PROVED(table_with_changes);
+PROVED(table_validate_routes);
+PROVED(table_revalidate);
+PROVED(table_covering);
+PROVED(table_vrps);
+PROVED(answer);
 
-uint32_t pigy_verify(const uint8_t *issuer_as, size_t issuer_as_len, const uint8_t *issuer_ip, size_t issuer_ip_len,
-                     uint32_t present, const uint8_t *cert_as, size_t cert_as_len, const uint8_t *cert_ip,
-                     size_t cert_ip_len, uint32_t encoding, uint32_t mode,
-                     uint8_t *as_out, size_t as_capacity, uint8_t *ip_out, size_t ip_capacity, size_t *as_len,
-                     size_t *ip_len) {
-  return proved_verify(ARRAY(issuer_as, issuer_as_len), ARRAY(issuer_ip, issuer_ip_len), present,
-                       ARRAY(cert_as, cert_as_len), ARRAY(cert_ip, cert_ip_len), encoding, mode,
-                       ARRAY(as_out, as_capacity), ARRAY(ip_out, ip_capacity), as_len, ip_len);
+/* The proved functions of the calls that take structs. */
+pigy_status proved_resources_read(SET_TYPES, pigy_encoding, pigy_resources **);
+pigy_status proved_resources_verify(const pigy_resources *, SET_TYPES, pigy_present, pigy_encoding, pigy_mode,
+                                    pigy_resources **, pigy_resources **);
+pigy_status proved_resources_der(const pigy_resources *, BUFFER_TYPES);
+pigy_status proved_verify(SET_TYPES, pigy_present, SET_TYPES, pigy_encoding, pigy_mode, BUFFER_TYPES, BUFFER_TYPES);
+pigy_status proved_verify_path(SET_TYPES, const uint8_t *, size_t, const pigy_certificate *, size_t, pigy_encoding,
+                               BUFFER_TYPES, BUFFER_TYPES, size_t *);
+pigy_status proved_union(SET_TYPES, SET_TYPES, pigy_encoding, BUFFER_TYPES);
+pigy_status proved_intersection(SET_TYPES, SET_TYPES, pigy_encoding, BUFFER_TYPES);
+pigy_status proved_difference(SET_TYPES, SET_TYPES, pigy_encoding, BUFFER_TYPES);
+pigy_status proved_contains(SET_TYPES, SET_TYPES, pigy_encoding, uint8_t *);
+pigy_status proved_equal(SET_TYPES, SET_TYPES, pigy_encoding, uint8_t *);
+pigy_status proved_set_from_text(const char *, size_t, pigy_kind, BUFFER_TYPES);
+
+pigy_status pigy_resources_read(pigy_set set, pigy_encoding encoding, pigy_resources **out) {
+  return proved_resources_read(SET(set), encoding, out);
 }
 
-uint32_t pigy_verify_path(const uint8_t *anchor_as, size_t anchor_as_len, const uint8_t *anchor_ip,
-                          size_t anchor_ip_len, const uint8_t *run, size_t run_len,
-                          const pigy_certificate *certificates, size_t count, uint32_t encoding, uint8_t *as_out,
-                          size_t as_capacity, uint8_t *ip_out, size_t ip_capacity, size_t *as_len, size_t *ip_len,
-                          size_t *verified) {
-  return proved_verify_path(ARRAY(anchor_as, anchor_as_len), ARRAY(anchor_ip, anchor_ip_len), ARRAY(run, run_len),
-                            ARRAY(certificates, count), encoding, ARRAY(as_out, as_capacity),
-                            ARRAY(ip_out, ip_capacity), as_len, ip_len, verified);
+pigy_status pigy_resources_from_text(const char *text, size_t text_len, pigy_kind kind, pigy_resources **out) {
+  return proved_resources_from_text(ARRAY(text, text_len), kind, out);
 }
 
-uint32_t pigy_cover(const uint8_t *ip, size_t ip_len, uint32_t encoding, uint32_t family, uint8_t *out, size_t capacity,
-                    size_t *len) {
-  return proved_cover(ARRAY(ip, ip_len), encoding, family, ARRAY(out, capacity), len);
+pigy_status pigy_resources_verify(const pigy_resources *issuer, pigy_set cert, pigy_present present,
+                                  pigy_encoding encoding, pigy_mode mode, pigy_resources **out,
+                                  pigy_resources **excess) {
+  cert = present_of(cert, present);
+  return proved_resources_verify(issuer, SET(cert), present, encoding, mode, out, excess);
 }
 
-uint32_t pigy_set_from_text(uint32_t kind, const uint8_t *text, size_t text_len, uint8_t *as_out, size_t as_capacity,
-                            uint8_t *ip_out, size_t ip_capacity, size_t *as_len, size_t *ip_len) {
-  return proved_set_from_text(kind, ARRAY(text, text_len), ARRAY(as_out, as_capacity), ARRAY(ip_out, ip_capacity),
-                              as_len, ip_len);
+pigy_status pigy_resources_verify_path(const pigy_resources *anchor, const uint8_t *run, size_t run_len,
+                                       const pigy_certificate *certificates, size_t count, pigy_encoding encoding,
+                                       pigy_resources **out, pigy_resources **excess, size_t *verified) {
+  return proved_resources_verify_path(anchor, ARRAY(run, run_len), ARRAY(certificates, count), encoding, out, excess,
+                                      verified);
 }
 
-uint32_t pigy_as_ranges(const uint8_t *as, size_t as_len, uint32_t encoding, pigy_as_range *out, size_t capacity,
-                        size_t *len) {
+pigy_status pigy_resources_prefixes(const pigy_resources *resources, pigy_family family, pigy_prefix *out,
+                                    size_t capacity, size_t *len) {
+  return proved_resources_prefixes(resources, family, ARRAY(out, capacity), len);
+}
+
+pigy_status pigy_resources_as_ranges(const pigy_resources *resources, pigy_as_range *out, size_t capacity,
+                                     size_t *len) {
+  return proved_resources_as_ranges(resources, ARRAY(out, capacity), len);
+}
+
+pigy_status pigy_resources_ip_ranges(const pigy_resources *resources, pigy_family family, pigy_ip_range *out,
+                                     size_t capacity, size_t *len) {
+  return proved_resources_ip_ranges(resources, family, ARRAY(out, capacity), len);
+}
+
+pigy_status pigy_resources_der(const pigy_resources *resources, pigy_buffers *out) {
+  return proved_resources_der(resources, BUFFERS(out));
+}
+
+pigy_status pigy_resources_text(const pigy_resources *resources, pigy_kind kind, char *out, size_t capacity,
+                                size_t *len) {
+  return ended(proved_resources_text(resources, kind, ARRAY(out, capacity), len), out, capacity, len);
+}
+
+pigy_status pigy_verify(pigy_set issuer, pigy_set cert, pigy_present present, pigy_encoding encoding, pigy_mode mode,
+                        pigy_buffers *out, pigy_buffers *excess) {
+  cert = present_of(cert, present);
+  return proved_verify(SET(issuer), present, SET(cert), encoding, mode, BUFFERS(out), BUFFERS(excess));
+}
+
+pigy_status pigy_verify_path(pigy_set anchor, const uint8_t *run, size_t run_len, const pigy_certificate *certificates,
+                             size_t count, pigy_encoding encoding, pigy_buffers *out, pigy_buffers *excess,
+                             size_t *verified) {
+  return proved_verify_path(SET(anchor), ARRAY(run, run_len), ARRAY(certificates, count), encoding, BUFFERS(out),
+                            BUFFERS(excess), verified);
+}
+
+pigy_status pigy_union(pigy_set a, pigy_set b, pigy_encoding encoding, pigy_buffers *out) {
+  return proved_union(SET(a), SET(b), encoding, BUFFERS(out));
+}
+
+pigy_status pigy_intersection(pigy_set a, pigy_set b, pigy_encoding encoding, pigy_buffers *out) {
+  return proved_intersection(SET(a), SET(b), encoding, BUFFERS(out));
+}
+
+pigy_status pigy_difference(pigy_set a, pigy_set b, pigy_encoding encoding, pigy_buffers *out) {
+  return proved_difference(SET(a), SET(b), encoding, BUFFERS(out));
+}
+
+pigy_status pigy_contains(pigy_set a, pigy_set b, pigy_encoding encoding, uint8_t *answer) {
+  return proved_contains(SET(a), SET(b), encoding, answer);
+}
+
+pigy_status pigy_equal(pigy_set a, pigy_set b, pigy_encoding encoding, uint8_t *answer) {
+  return proved_equal(SET(a), SET(b), encoding, answer);
+}
+
+pigy_status pigy_prefixes(const uint8_t *ip, size_t ip_len, pigy_encoding encoding, pigy_family family,
+                          pigy_prefix *out, size_t capacity, size_t *len) {
+  return proved_prefixes(ARRAY(ip, ip_len), encoding, family, ARRAY(out, capacity), len);
+}
+
+pigy_status pigy_as_ranges(const uint8_t *as, size_t as_len, pigy_encoding encoding, pigy_as_range *out,
+                           size_t capacity, size_t *len) {
   return proved_as_ranges(ARRAY(as, as_len), encoding, ARRAY(out, capacity), len);
 }
 
-uint32_t pigy_ip_ranges(const uint8_t *ip, size_t ip_len, uint32_t encoding, uint32_t family, pigy_ip_range *out,
-                        size_t capacity, size_t *len) {
+pigy_status pigy_ip_ranges(const uint8_t *ip, size_t ip_len, pigy_encoding encoding, pigy_family family,
+                           pigy_ip_range *out, size_t capacity, size_t *len) {
   return proved_ip_ranges(ARRAY(ip, ip_len), encoding, family, ARRAY(out, capacity), len);
 }
 
-uint32_t pigy_origins(const pigy_vrp *vrps, size_t vrp_count, const pigy_route *routes, size_t route_count,
-                      uint8_t *out, size_t capacity, size_t *len, size_t *index) {
-  return proved_origins(ARRAY(vrps, vrp_count), ARRAY(routes, route_count), ARRAY(out, capacity), len, index);
+pigy_status pigy_set_from_text(const char *text, size_t text_len, pigy_kind kind, pigy_buffers *out) {
+  return proved_set_from_text(ARRAY(text, text_len), kind, BUFFERS(out));
 }
 
-uint32_t pigy_vrps_read(const uint8_t *file, size_t file_len, pigy_vrp *vrps, size_t capacity, size_t *count,
-                        size_t *line) {
-  return proved_vrps_read(ARRAY(file, file_len), ARRAY(vrps, capacity), count, line);
+pigy_status pigy_validate(const pigy_vrp *vrps, size_t vrp_count, const pigy_route *routes, size_t count, uint8_t *out,
+                          size_t capacity, size_t *len, size_t *index) {
+  return proved_validate(ARRAY(vrps, vrp_count), ARRAY(routes, count), ARRAY(out, capacity), len, index);
 }
 
-uint32_t pigy_table_new(const pigy_vrp *vrps, size_t count, pigy_table **table, size_t *index) {
-  return proved_table_new(ARRAY(vrps, count), table, index);
+pigy_status pigy_vrps_read(const uint8_t *file, size_t file_len, pigy_vrp *out, size_t capacity, size_t *len,
+                           size_t *line) {
+  return proved_vrps_read(ARRAY(file, file_len), ARRAY(out, capacity), len, line);
 }
 
-uint32_t pigy_table_changed(const pigy_table *table, const pigy_vrp *announced, size_t announced_count,
-                            const pigy_vrp *withdrawn, size_t withdrawn_count, pigy_table **next, size_t *index) {
-  return proved_table_changed(table, ARRAY(announced, announced_count), ARRAY(withdrawn, withdrawn_count), next, index);
+pigy_status pigy_table_new(const pigy_vrp *vrps, size_t count, pigy_table **out, size_t *index) {
+  return proved_table_new(ARRAY(vrps, count), out, index);
 }
 
-uint32_t pigy_table_origins(const pigy_table *table, const pigy_route *routes, size_t count, uint8_t *out,
-                            size_t capacity, size_t *len, size_t *index) {
-  return proved_table_origins(table, ARRAY(routes, count), ARRAY(out, capacity), len, index);
+pigy_status pigy_table_with_changes(const pigy_table *table, const pigy_vrp *announced, size_t announced_count,
+                                    const pigy_vrp *withdrawn, size_t withdrawn_count, pigy_table **out,
+                                    size_t *index) {
+  return proved_table_with_changes(table, ARRAY(announced, announced_count), ARRAY(withdrawn, withdrawn_count), out,
+                                   index);
 }
 
-uint32_t pigy_table_routes_changed(const pigy_table *old, const pigy_table *next, const pigy_route *routes,
-                                   size_t count, uint8_t *out, size_t capacity, size_t *len, size_t *index) {
-  return proved_table_routes_changed(old, next, ARRAY(routes, count), ARRAY(out, capacity), len, index);
+pigy_status pigy_table_validate_routes(const pigy_table *table, const pigy_route *routes, size_t count, uint8_t *out,
+                                       size_t capacity, size_t *len, size_t *index) {
+  return proved_table_validate_routes(table, ARRAY(routes, count), ARRAY(out, capacity), len, index);
 }
 
-uint32_t pigy_table_covering(const pigy_table *table, const pigy_route *route, pigy_covering *out, size_t capacity,
-                             size_t *len) {
+pigy_status pigy_table_revalidate(const pigy_table *old, const pigy_table *next, const pigy_route *routes, size_t count,
+                                  uint8_t *out, size_t capacity, size_t *len, size_t *index) {
+  return proved_table_revalidate(old, next, ARRAY(routes, count), ARRAY(out, capacity), len, index);
+}
+
+pigy_status pigy_table_covering(const pigy_table *table, const pigy_route *route, pigy_covering *out, size_t capacity,
+                                size_t *len) {
   return proved_table_covering(table, route, ARRAY(out, capacity), len);
 }
 
-uint32_t pigy_table_vrps(const pigy_table *table, pigy_vrp *out, size_t capacity, size_t *len) {
+pigy_status pigy_table_vrps(const pigy_table *table, pigy_vrp *out, size_t capacity, size_t *len) {
   return proved_table_vrps(table, ARRAY(out, capacity), len);
 }
 
-uint32_t pigy_answer(const uint8_t *line, size_t line_len, uint8_t *out, size_t capacity, size_t *len) {
-  return proved_answer(ARRAY(line, line_len), ARRAY(out, capacity), len);
-}
-
-uint32_t pigy_union(const uint8_t *a_as, size_t a_as_len, const uint8_t *a_ip, size_t a_ip_len, const uint8_t *b_as,
-                    size_t b_as_len, const uint8_t *b_ip, size_t b_ip_len, uint32_t encoding,
-                    uint8_t *as_out, size_t as_capacity, uint8_t *ip_out, size_t ip_capacity, size_t *as_len,
-                    size_t *ip_len) {
-  return proved_union(ARRAY(a_as, a_as_len), ARRAY(a_ip, a_ip_len), ARRAY(b_as, b_as_len), ARRAY(b_ip, b_ip_len),
-                      encoding, ARRAY(as_out, as_capacity), ARRAY(ip_out, ip_capacity), as_len, ip_len);
-}
-
-uint32_t pigy_intersection(const uint8_t *a_as, size_t a_as_len, const uint8_t *a_ip, size_t a_ip_len,
-                           const uint8_t *b_as, size_t b_as_len, const uint8_t *b_ip, size_t b_ip_len,
-                           uint32_t encoding, uint8_t *as_out, size_t as_capacity, uint8_t *ip_out, size_t ip_capacity,
-                           size_t *as_len, size_t *ip_len) {
-  return proved_intersection(ARRAY(a_as, a_as_len), ARRAY(a_ip, a_ip_len), ARRAY(b_as, b_as_len),
-                             ARRAY(b_ip, b_ip_len), encoding, ARRAY(as_out, as_capacity), ARRAY(ip_out, ip_capacity),
-                             as_len, ip_len);
-}
-
-uint32_t pigy_difference(const uint8_t *a_as, size_t a_as_len, const uint8_t *a_ip, size_t a_ip_len,
-                         const uint8_t *b_as, size_t b_as_len, const uint8_t *b_ip, size_t b_ip_len, uint32_t encoding,
-                         uint8_t *as_out, size_t as_capacity, uint8_t *ip_out, size_t ip_capacity, size_t *as_len,
-                         size_t *ip_len) {
-  return proved_difference(ARRAY(a_as, a_as_len), ARRAY(a_ip, a_ip_len), ARRAY(b_as, b_as_len), ARRAY(b_ip, b_ip_len),
-                           encoding, ARRAY(as_out, as_capacity), ARRAY(ip_out, ip_capacity), as_len, ip_len);
-}
-
-uint32_t pigy_contains(const uint8_t *a_as, size_t a_as_len, const uint8_t *a_ip, size_t a_ip_len, const uint8_t *b_as,
-                       size_t b_as_len, const uint8_t *b_ip, size_t b_ip_len, uint32_t encoding) {
-  return proved_contains(ARRAY(a_as, a_as_len), ARRAY(a_ip, a_ip_len), ARRAY(b_as, b_as_len), ARRAY(b_ip, b_ip_len),
-                         encoding);
-}
-
-uint32_t pigy_equal(const uint8_t *a_as, size_t a_as_len, const uint8_t *a_ip, size_t a_ip_len, const uint8_t *b_as,
-                    size_t b_as_len, const uint8_t *b_ip, size_t b_ip_len, uint32_t encoding) {
-  return proved_equal(ARRAY(a_as, a_as_len), ARRAY(a_ip, a_ip_len), ARRAY(b_as, b_as_len), ARRAY(b_ip, b_ip_len),
-                      encoding);
+pigy_status pigy_answer(const char *line, size_t line_len, char *out, size_t capacity, size_t *len) {
+  return ended(proved_answer(ARRAY(line, line_len), ARRAY(out, capacity), len), out, capacity, len);
 }

@@ -1,14 +1,16 @@
 /* Tests the C library by golden tests. Each line of rows.txt is a row: a call, its arguments and the expected outputs.
  *
- * test FOLDER: FOLDER has rows.txt and texts.txt. The program makes the call of each row:
+ * test FOLDER: FOLDER has rows.txt and texts.txt. The program makes the call of each row, by DER and by handles:
  *
  * - with buffers of each capacity from 0 to the required one, and of one more. Rows with long outputs have fewer
- *   capacities. It checks the status and the outputs, and that nothing else is written.
- * - with each allocation of the call refused in turn. The call has to return PIGY_MEMORY.
- * - with NULL in place of each array of length 0 and of each buffer of capacity 0. The outputs have to be the same.
- * - on eight threads at the same time.
+ *   capacities. It checks the status and all that the call stores, and that nothing else is written.
+ * - with each allocation of the call refused in turn. The call has to return PIGY_MEMORY, and to store no result. A
+ *   call that takes no memory has to succeed.
+ * - with NULL in place of each array of length 0 and of each buffer of capacity 0. The outputs have to be the same. In
+ *   a struct the length beside NULL is another number then. The members of an absent extension are no addresses.
+ * - on eight threads at the same time. Eight threads also share a set and a table.
  *
- * It also makes each call with NULL in place of all its arrays.
+ * It also makes each call with NULL in place of all its arrays, and with NULL handles.
  *
  * test FOLDER stack: makes the call of each row on a thread with a marked stack. It fails if the calls use more of the
  * stack than pigyelund.h states.
@@ -25,11 +27,82 @@
 /* Each name of the header has the number of numbers.txt. */
 #define NUMBER(name, value) _Static_assert(PIGY_##name == value##u, #name);
 #include "../numbers.txt"
-_Static_assert(PIGY_FAULT(PIGY_BAD_AS + 1u) == 1u && PIGY_FAULT(PIGY_SECOND + PIGY_BAD_IP + 14u) == 14u, "PIGY_FAULT");
-_Static_assert(PIGY_FAULT(PIGY_BAD_IP + 255u) == 255u, "PIGY_FAULT");
+_Static_assert(PIGY_VERSION_NUMBER == PIGY_VERSION_MAJOR * 1000000 + PIGY_VERSION_MINOR * 1000 + PIGY_VERSION_PATCH,
+               "the version");
 
-enum { MARK = 0xa5, LENGTH = 1 << 16, SMALL = 40, WORDS = 10, LONGEST_PATH = 16, THREADS = 8, ANY = 77,
-      MANY = 1 << 17 };
+/* A kind is one bit. PIGY_KIND leaves out the number of an error and PIGY_SECOND. PIGY_FAULT leaves out the rest. */
+#define IS_STATUS(status, kind, fault) \
+  _Static_assert(PIGY_KIND(status) == kind && PIGY_FAULT(status) == fault && !(kind & (kind - 1u)), #status)
+IS_STATUS(PIGY_OK, PIGY_OK, 0u);
+IS_STATUS(PIGY_TOO_SMALL, PIGY_TOO_SMALL, 0u);
+IS_STATUS(PIGY_MEMORY, PIGY_MEMORY, 0u);
+IS_STATUS(PIGY_NO_HANDLE, PIGY_BAD_ARGUMENT, 9u);
+IS_STATUS(PIGY_SECOND + PIGY_BAD_FAMILY, PIGY_BAD_ARGUMENT, 4u);
+IS_STATUS(PIGY_BAD_AS + 1u, PIGY_BAD_AS, 1u);
+IS_STATUS(PIGY_BAD_IP + 255u, PIGY_BAD_IP, 255u);
+IS_STATUS(PIGY_SECOND + PIGY_BAD_IP + 14u, PIGY_BAD_IP, 14u);
+IS_STATUS(PIGY_SECOND + PIGY_INHERITED, PIGY_INHERITED, 0u);
+IS_STATUS(PIGY_ABSENT, PIGY_ABSENT, 0u);
+IS_STATUS(PIGY_OVERCLAIM_AS, PIGY_OVERCLAIM, PIGY_ASN);
+IS_STATUS(PIGY_OVERCLAIM_V4, PIGY_OVERCLAIM, PIGY_IPV4);
+IS_STATUS(PIGY_OVERCLAIM_V6, PIGY_OVERCLAIM, PIGY_IPV6);
+IS_STATUS(PIGY_UNKNOWN_WITHDRAWAL, PIGY_BAD_CHANGE, 6u);
+IS_STATUS(PIGY_DUPLICATE_ANNOUNCEMENT, PIGY_BAD_CHANGE, 7u);
+IS_STATUS(PIGY_BAD_LINE + 7u, PIGY_BAD_LINE, 7u);
+IS_STATUS(PIGY_BAD_ITEM + 16u, PIGY_BAD_ITEM, 16u);
+IS_STATUS(PIGY_BAD_FILE + 3u, PIGY_BAD_FILE, 3u);
+IS_STATUS(PIGY_BAD_TEXT + 5u, PIGY_BAD_TEXT, 5u);
+IS_STATUS(PIGY_BAD_QUERY, PIGY_BAD_QUERY, 0u);
+
+/* The layouts on x86-64. A change of one needs another number of the ABI. */
+#define IS_SIZE(type, size) _Static_assert(sizeof(type) == size, #type)
+#define IS_AT(type, member, offset) _Static_assert(offsetof(type, member) == offset, #type "." #member)
+IS_SIZE(pigy_set, 32);
+IS_AT(pigy_set, as, 0);
+IS_AT(pigy_set, as_len, 8);
+IS_AT(pigy_set, ip, 16);
+IS_AT(pigy_set, ip_len, 24);
+IS_SIZE(pigy_buffers, 48);
+IS_AT(pigy_buffers, as, 0);
+IS_AT(pigy_buffers, as_capacity, 8);
+IS_AT(pigy_buffers, as_len, 16);
+IS_AT(pigy_buffers, ip, 24);
+IS_AT(pigy_buffers, ip_capacity, 32);
+IS_AT(pigy_buffers, ip_len, 40);
+IS_SIZE(pigy_certificate, 40);
+IS_AT(pigy_certificate, as_start, 0);
+IS_AT(pigy_certificate, as_len, 8);
+IS_AT(pigy_certificate, ip_start, 16);
+IS_AT(pigy_certificate, ip_len, 24);
+IS_AT(pigy_certificate, present, 32);
+IS_AT(pigy_certificate, mode, 36);
+IS_SIZE(pigy_as_range, 8);
+IS_AT(pigy_as_range, min, 0);
+IS_AT(pigy_as_range, max, 4);
+IS_SIZE(pigy_ip_range, 32);
+IS_AT(pigy_ip_range, min, 0);
+IS_AT(pigy_ip_range, max, 16);
+IS_SIZE(pigy_prefix, 18);
+IS_AT(pigy_prefix, address, 0);
+IS_AT(pigy_prefix, family, 16);
+IS_AT(pigy_prefix, len, 17);
+IS_SIZE(pigy_vrp, 24);
+IS_AT(pigy_vrp, address, 0);
+IS_AT(pigy_vrp, asn, 16);
+IS_AT(pigy_vrp, family, 20);
+IS_AT(pigy_vrp, len, 21);
+IS_AT(pigy_vrp, max_len, 22);
+IS_SIZE(pigy_route, 24);
+IS_AT(pigy_route, address, 0);
+IS_AT(pigy_route, asn, 16);
+IS_AT(pigy_route, family, 20);
+IS_AT(pigy_route, len, 21);
+IS_SIZE(pigy_covering, 28);
+IS_AT(pigy_covering, vrp, 0);
+IS_AT(pigy_covering, mismatch, 24);
+
+enum { MARK = 0xa5, LENGTH = 1 << 16, SMALL = 40, WORDS = 10, LONGEST_PATH = 16, THREADS = 8, ANY = 0x5a5a5a,
+       MANY = 1 << 17, ODD = 4096 };
 
 typedef struct {
   uint8_t *octets;
@@ -37,24 +110,34 @@ typedef struct {
 } run;
 
 typedef enum {
-  VERIFY, PATH, MAKE, TEST, COVER, ANSWER, TEXT, ORIGINS, COVERING, VRPS, CHANGED, DIFFER, READ, AS_RANGES, IP_RANGES
+  VERIFY, PATH, MAKE, TEST, TEXT, COVER, AS_RANGES, IP_RANGES, HAS_ASN, HAS_PREFIX, PRINT, ANSWER, READ, ORIGINS,
+  COVERING, VRPS, CHANGED, DIFFER
 } kind;
 
-/* One row: the call, its numbers (encoding, extensions or family, mode), its inputs, and the expected outputs. The
- * member verified is the expected number of verified certificates, the expected index of an error, or the expected
- * number of a line. For DIFFER `announced` has the VRPs of the second table. If has_null is 1, arrays of length 0 and
- * buffers of capacity 0 are NULL. */
+/* The calls of an operation on two sets, or of a test of two sets: by DER, if there is such a call, and by handles. */
+typedef struct {
+  pigy_status (*make)(pigy_set, pigy_set, pigy_encoding, pigy_buffers *);
+  pigy_status (*make_of_handles)(const pigy_resources *, const pigy_resources *, pigy_resources **);
+  pigy_status (*test)(pigy_set, pigy_set, pigy_encoding, uint8_t *);
+  pigy_status (*test_of_handles)(const pigy_resources *, const pigy_resources *, uint8_t *);
+} pair;
+
+/* One row: the call, its numbers (encoding, extensions or family or kind, mode), its inputs, and the expected outputs.
+ * The member last is the expected number of verified certificates, the expected index of an error, the expected number
+ * of a line, or the expected answer. For DIFFER `announced` has the VRPs of the second table. If has_null is 1, arrays
+ * of length 0 and buffers of capacity 0 are NULL. The member reason is that of a route. */
 typedef struct {
   unsigned row;
   kind call;
-  pigy_operation *operation;
-  pigy_comparison *test;
-  uint32_t numbers[3], status;
+  pair of;
+  uint32_t numbers[3];
+  pigy_status status;
   run in[4], expected[2];
   pigy_certificate *certificates;
   pigy_vrp *vrps, *announced, *withdrawn;
   pigy_route *routes;
-  size_t count, route_count, announced_count, withdrawn_count, verified;
+  size_t count, route_count, announced_count, withdrawn_count, last;
+  uint8_t reason;
   int has_null;
 } question;
 
@@ -160,19 +243,22 @@ static void name_call(question *q, const char *call) {
   static const struct {
     const char *name;
     kind call;
-    pigy_operation *operation;
-    pigy_comparison *test;
-  } names[] = {{"verify", VERIFY, 0, 0}, {"path", PATH, 0, 0}, {"cover", COVER, 0, 0}, {"answer", ANSWER, 0, 0},
-               {"origins", ORIGINS, 0, 0}, {"covering", COVERING, 0, 0}, {"vrps", VRPS, 0, 0},
-               {"changed", CHANGED, 0, 0}, {"differ", DIFFER, 0, 0}, {"read", READ, 0, 0}, {"text", TEXT, 0, 0},
-               {"as_ranges", AS_RANGES, 0, 0}, {"ip_ranges", IP_RANGES, 0, 0}, {"union", MAKE, pigy_union, 0}, {"intersection", MAKE, pigy_intersection, 0},
-               {"difference", MAKE, pigy_difference, 0}, {"contains", TEST, 0, pigy_contains},
-               {"equal", TEST, 0, pigy_equal}};
+    pair of;
+  } names[] = {{"verify", VERIFY, {0}}, {"path", PATH, {0}}, {"cover", COVER, {0}}, {"answer", ANSWER, {0}},
+               {"origins", ORIGINS, {0}}, {"covering", COVERING, {0}}, {"vrps", VRPS, {0}}, {"changed", CHANGED, {0}},
+               {"differ", DIFFER, {0}}, {"read", READ, {0}}, {"text", TEXT, {0}}, {"as_ranges", AS_RANGES, {0}},
+               {"ip_ranges", IP_RANGES, {0}}, {"contains_asn", HAS_ASN, {0}}, {"contains_prefix", HAS_PREFIX, {0}},
+               {"print", PRINT, {0}},
+               {"union", MAKE, {pigy_union, pigy_resources_union, 0, 0}},
+               {"intersection", MAKE, {pigy_intersection, pigy_resources_intersection, 0, 0}},
+               {"difference", MAKE, {pigy_difference, pigy_resources_difference, 0, 0}},
+               {"symmetric_difference", MAKE, {0, pigy_resources_symmetric_difference, 0, 0}},
+               {"contains", TEST, {0, 0, pigy_contains, pigy_resources_contains}},
+               {"equal", TEST, {0, 0, pigy_equal, pigy_resources_equal}}};
   for (size_t i = 0; i < sizeof names / sizeof *names; i++)
     if (!strcmp(call, names[i].name)) {
       q->call = names[i].call;
-      q->operation = names[i].operation;
-      q->test = names[i].test;
+      q->of = names[i].of;
       return;
     }
   exit(2);
@@ -180,465 +266,353 @@ static void name_call(question *q, const char *call) {
 
 /* ---- calls */
 
-/* Makes the call of a row, with buffers of these capacities. A call with one output uses the first buffer alone. */
-static uint32_t call_of(const question *q, uint8_t *as, size_t as_capacity, uint8_t *ip, size_t ip_capacity,
-                        size_t *as_len, size_t *ip_len, size_t *verified) {
-  const run *in = q->in;
-  const uint32_t *n = q->numbers;
-  switch (q->call) {
-    case MAKE:
-      return q->operation(in[0].octets, in[0].length, in[1].octets, in[1].length, in[2].octets, in[2].length,
-                          in[3].octets, in[3].length, n[0], as, as_capacity, ip, ip_capacity, as_len, ip_len);
-    case TEST:
-      *as_len = *ip_len = 0;
-      return q->test(in[0].octets, in[0].length, in[1].octets, in[1].length, in[2].octets, in[2].length, in[3].octets,
-                     in[3].length, n[0]);
-    case PATH:
-      return pigy_verify_path(in[0].octets, in[0].length, in[1].octets, in[1].length, in[2].octets, in[2].length,
-                              q->certificates, q->count, n[0], as, as_capacity, ip, ip_capacity, as_len, ip_len,
-                              verified);
-    case COVER:
-      *ip_len = 0;
-      return pigy_cover(in[0].octets, in[0].length, n[0], n[1], as, as_capacity, as_len);
-    case ORIGINS:
-      *ip_len = 0;
-      return pigy_origins(q->vrps, q->count, q->routes, q->route_count, as, as_capacity, as_len, verified);
-    case ANSWER:
-      *ip_len = 0;
-      return pigy_answer(in[0].octets, in[0].length, as, as_capacity, as_len);
-    case TEXT:
-      return pigy_set_from_text(n[0], in[0].octets, in[0].length, as, as_capacity, ip, ip_capacity, as_len, ip_len);
-    default:
-      return pigy_verify(in[0].octets, in[0].length, in[1].octets, in[1].length, n[1], in[2].octets, in[2].length,
-                         in[3].octets, in[3].length, n[0], n[2], as, as_capacity, ip, ip_capacity, as_len, ip_len);
-  }
-}
-
-/* Makes the call of a row with buffers of these capacities, and checks everything that it returns. */
-static void ask(const question *q, size_t as_capacity, size_t ip_capacity) {
-  uint8_t *as = buffer(q, as_capacity), *ip = buffer(q, ip_capacity);
-  size_t as_len = ANY, ip_len = ANY, verified = ANY;
-  const run *expected = q->expected;
-  int fits = expected[0].length <= as_capacity && expected[1].length <= ip_capacity;
-  uint32_t found = call_of(q, as, as_capacity, ip, ip_capacity, &as_len, &ip_len, &verified);
-  calls++;
-  expect(found == (fits ? q->status : PIGY_TOO_SMALL), q->row, "another status");
-  expect(as_len == expected[0].length && ip_len == expected[1].length, q->row, "other lengths");
-  expect(verified == (q->call == PATH || q->call == ORIGINS ? q->verified : ANY), q->row, "another index");
-  if (fits) {
-    expect(is_same(as, expected), q->row, "other octets in the first buffer");
-    expect(is_same(ip, expected + 1), q->row, "other octets in the second buffer");
-  }
-  expect(is_marked(as, fits ? expected[0].length : 0, as_capacity), q->row, "octets behind those in the first buffer");
-  expect(is_marked(ip, fits ? expected[1].length : 0, ip_capacity), q->row, "octets behind those in the second buffer");
-  free(as);
-  free(ip);
-}
-
-/* ---- tables */
-
-static int is_of_table(const question *q) {
-  return q->call == ORIGINS || q->call == COVERING || q->call == VRPS || q->call == CHANGED || q->call == DIFFER;
-}
-
-/* Writes a VRP in the form of rows.txt: address, AS, and then count octets of the rest. Returns the end. */
-static uint8_t *put_vrp(uint8_t *to, const uint8_t *address, uint32_t asn, const uint8_t *rest, size_t count) {
-  memcpy(to, address, 16);
-  for (int i = 0; i < 4; i++) to[16 + i] = (uint8_t)(asn >> (24 - 8 * i));
-  memcpy(to + 20, rest, count);
-  return to + 20 + count;
-}
-
-/* The arguments of a call, and its outputs besides the status. */
+/* A call that is being made: the row with its arguments, the handles that it reads, and all that it stores. */
 typedef struct {
-  const question *row;
+  const question *q;
+  const pigy_resources *a, *b;
   const pigy_table *table, *next;
-  size_t capacity, length, other_length, index;
-  uint8_t *out, *other;
+  void *list;
+  size_t capacity, len, index;
+  uint8_t answer, reason;
+  pigy_buffers out, excess;
+  pigy_resources *set, *over;
   pigy_table *made;
 } attempt;
 
-static uint32_t of_covering(attempt *a) {
-  return pigy_table_covering(a->table, a->row->routes, (pigy_covering *)(void *)a->out,
-                             a->capacity / sizeof(pigy_covering), &a->length);
-}
+/* What a call stores: a list and its length, a text and its length, an index, an answer, a reason, a set in buffers,
+ * overclaimed resources in buffers, and handles. Or the call takes no memory. */
+enum { LEN = 1, IS_TEXT = 2, INDEX = 4, ANSWERS = 8, REASON = 16, OUT = 32, EXCESS = 64, SET = 128, OVER = 256,
+       TABLE = 512, NO_MEMORY = 1024 };
 
-static uint32_t of_vrps(attempt *a) {
-  return pigy_table_vrps(a->table, (pigy_vrp *)(void *)a->out, a->capacity / sizeof(pigy_vrp), &a->length);
-}
+typedef struct {
+  pigy_status (*make)(attempt *);
+  unsigned stores;
+} form;
 
-static uint32_t of_read(attempt *a) {
-  return pigy_vrps_read(a->row->in[0].octets, a->row->in[0].length, (pigy_vrp *)(void *)a->out,
-                        a->capacity / sizeof(pigy_vrp), &a->length, &a->index);
-}
-
-_Static_assert(sizeof(pigy_covering) == sizeof(pigy_vrp), "a VRP that covers is one with one octet more");
-
-/* Makes a call with a buffer for count VRPs, and checks its outputs. `octets` is the size of a VRP in rows.txt. */
-static void ask_with_capacity(uint32_t (*call)(attempt *), const question *q, const pigy_table *table, size_t count,
-                              size_t octets) {
-  size_t wanted = q->expected[0].length / octets, length = count * sizeof(pigy_covering);
-  attempt a = {q, table, 0, length, ANY, 0, ANY, buffer(q, length), 0, 0};
-  const pigy_covering *out = (pigy_covering *)(void *)a.out;
-  uint8_t *found = block(count * octets), *at = found;
-  int fits = wanted <= count;
-  expect(call(&a) == (fits ? q->status : PIGY_TOO_SMALL), q->row, "another status");
-  expect(a.length == wanted, q->row, "another length");
-  expect(a.index == (q->call == READ ? q->verified : ANY), q->row, "another line");
-  for (size_t i = 0; fits && i < wanted; i++)
-    at = put_vrp(at, out[i].address, out[i].asn, &out[i].family, octets - 20);
-  expect(!fits || is_same(found, q->expected), q->row, "other VRPs");
-  expect(is_marked(a.out, fits ? wanted * sizeof *out : 0, length), q->row, "VRPs behind");
-  free(a.out);
-  free(found);
-  calls++;
-}
-
-/* Lists all VRPs with buffers of each capacity up to the required one, and of one more. For a long list the capacities
- * are 0, the required one and one more. */
-static void ask_vrps(const question *q, const pigy_table *table) {
-  size_t wanted = q->expected[0].length / 23, len = ANY;
-  expect(pigy_table_len(table, &len) == PIGY_OK && len == wanted, q->row, "another number of VRPs");
-  for (size_t n = 0; n <= wanted + 1; n += n < wanted && wanted > SMALL ? wanted - n : 1)
-    ask_with_capacity(of_vrps, q, table, n, 23);
-}
-
-/* Lists the VRPs that cover the first route, with buffers of each capacity up to the required one, and of one more. */
-static void ask_covering(const question *q, const pigy_table *table) {
-  size_t wanted = q->expected[0].length / 24;
-  for (size_t capacity = 0; capacity <= wanted + 1; capacity++) ask_with_capacity(of_covering, q, table, capacity, 24);
-}
-
-/* ---- ranges */
-
-static uint32_t of_as_ranges(attempt *a) {
-  const run *in = a->row->in;
-  return pigy_as_ranges(in[0].octets, in[0].length, a->row->numbers[0], (pigy_as_range *)(void *)a->out,
-                        a->capacity / sizeof(pigy_as_range), &a->length);
-}
-
-static uint32_t of_ip_ranges(attempt *a) {
-  const run *in = a->row->in;
-  return pigy_ip_ranges(in[0].octets, in[0].length, a->row->numbers[0], a->row->numbers[1],
-                        (pigy_ip_range *)(void *)a->out, a->capacity / sizeof(pigy_ip_range), &a->length);
-}
-
-_Static_assert(sizeof(pigy_as_range) == 8 && sizeof(pigy_ip_range) == 32, "ranges have the octets of rows.txt");
-
-/* Returns whether the ranges are those of a row, which has each number of an AS with its highest octet first. */
-static int are_ranges(const question *q, const uint8_t *out) {
-  const run *expected = q->expected;
-  if (q->call == IP_RANGES) return is_same(out, expected);
-  for (size_t i = 0; i < expected->length / 4; i++)
-    if (((const uint32_t *)(const void *)out)[i] != read_asn(expected->octets + 4 * i)) return 0;
-  return 1;
-}
-
-/* Lists ranges with buffers of each capacity up to the required one, and of one more. */
-static void ask_ranges(const question *q) {
-  size_t size = q->call == AS_RANGES ? sizeof(pigy_as_range) : sizeof(pigy_ip_range);
-  size_t wanted = q->expected[0].length / size;
-  for (size_t n = 0; n <= wanted + 1; n++) {
-    attempt a = {q, 0, 0, n * size, ANY, 0, ANY, buffer(q, n * size), 0, 0};
-    int fits = wanted <= n;
-    uint32_t found = q->call == AS_RANGES ? of_as_ranges(&a) : of_ip_ranges(&a);
-    expect(found == (fits ? q->status : PIGY_TOO_SMALL) && a.length == wanted, q->row, "another status of ranges");
-    expect(!fits || are_ranges(q, a.out), q->row, "other ranges");
-    expect(is_marked(a.out, fits ? wanted * size : 0, n * size), q->row, "ranges behind");
-    free(a.out);
-    calls++;
-  }
-}
-
-/* Reads a file with buffers of each capacity up to the required one, and of one more. */
-static void ask_read(const question *q) {
-  size_t wanted = q->expected[0].length / 23;
-  for (size_t n = 0; n <= wanted + 1; n += n < wanted && wanted > SMALL ? wanted - n : 1)
-    ask_with_capacity(of_read, q, 0, n, 23);
-}
-
-/* Validates all routes in one call, and then each route in a call of its own. */
-static void ask_origins(const question *q, const pigy_table *table) {
-  size_t len = ANY, index = ANY, wanted = q->expected[0].length;
-  uint8_t *out = block(wanted + 1);
-  uint32_t found = pigy_table_origins(table, q->routes, q->route_count, q->has_null && !wanted ? 0 : out, wanted, &len,
-                                      &index);
-  expect(found == q->status && len == wanted && index == q->verified, q->row, "another status of a full buffer");
-  expect(is_same(out, q->expected), q->row, "other validities in a full buffer");
-  memset(out, MARK, wanted);
-  found = pigy_table_origins(table, q->routes, q->route_count, out, wanted + 1, &len, &index);
-  expect(found == q->status && len == wanted && index == q->verified, q->row, "another status by a table");
-  expect(is_same(out, q->expected), q->row, "other validities by a table");
-  expect(is_marked(out, wanted, wanted + 1), q->row, "octets behind validities by a table");
-  if (wanted) {
-    memset(out, MARK, wanted);
-    found = pigy_table_origins(table, q->routes, q->route_count, q->has_null && wanted == 1 ? 0 : out, wanted - 1, &len,
-                               &index);
-    expect(found == PIGY_TOO_SMALL && len == wanted && index == 0, q->row, "another status of a small buffer");
-    expect(is_marked(out, 0, wanted), q->row, "octets in a small buffer");
-  }
-  for (size_t i = 0; i < wanted; i++) {
-    found = pigy_table_origins(table, q->routes + i, 1, out, 1, &len, &index);
-    expect(found == PIGY_OK && len == 1 && out[0] == q->expected[0].octets[i], q->row, "another validity alone");
-    calls++;
-  }
-  free(out);
-}
-
-/* Asks which routes have another validity by the second table: all in one call, and each in a call of its own. Between
- * a table and itself no route has another validity. */
-static void ask_differ(const question *q, const pigy_table *table, const pigy_table *next) {
-  size_t len = ANY, index = ANY, wanted = q->expected[0].length;
-  uint8_t *out = block(wanted + 1);
-  uint32_t found = pigy_table_routes_changed(table, next, q->routes, q->route_count, q->has_null && !wanted ? 0 : out,
-                                             wanted, &len, &index);
-  expect(found == q->status && len == wanted && index == q->verified, q->row, "another status of a full buffer");
-  expect(is_same(out, q->expected), q->row, "other changes in a full buffer");
-  memset(out, MARK, wanted);
-  found = pigy_table_routes_changed(table, next, q->routes, q->route_count, out, wanted + 1, &len, &index);
-  expect(found == q->status && len == wanted && index == q->verified, q->row, "another status by two tables");
-  expect(is_same(out, q->expected), q->row, "other changes by two tables");
-  expect(is_marked(out, wanted, wanted + 1), q->row, "octets behind changes");
-  if (wanted) {
-    memset(out, MARK, wanted);
-    found = pigy_table_routes_changed(table, next, q->routes, q->route_count, q->has_null && wanted == 1 ? 0 : out,
-                                      wanted - 1, &len, &index);
-    expect(found == PIGY_TOO_SMALL && len == wanted && index == 0, q->row, "another status of a small buffer");
-    expect(is_marked(out, 0, wanted), q->row, "octets in a small buffer");
-  }
-  for (size_t i = 0; i < wanted; i++) {
-    found = pigy_table_routes_changed(table, next, q->routes + i, 1, out, 1, &len, &index);
-    expect(found == PIGY_OK && len == 1 && out[0] == q->expected[0].octets[i], q->row, "another change alone");
-    found = pigy_table_routes_changed(next, table, q->routes + i, 1, out, 1, &len, &index);
-    expect(found == PIGY_OK && len == 1 && out[0] == q->expected[0].octets[i], q->row, "another change back");
-    found = pigy_table_routes_changed(table, table, q->routes + i, 1, out, 1, &len, &index);
-    expect(found == PIGY_OK && len == 1 && out[0] == 0, q->row, "a change by one table");
-    calls += 3;
-  }
-  free(out);
-}
-
-/* Makes a table of the VRPs of a row, and tests it. If a VRP is invalid, there has to be no table. */
-static void ask_table(const question *q) {
-  pigy_table *table = 0, *next = 0;
-  size_t index = ANY;
-  int is_none = q->status != PIGY_OK && q->status < PIGY_SECOND && q->call != CHANGED;
-  uint32_t found = pigy_table_new(q->vrps, q->count, &table, &index);
-  calls++;
-  expect(found == (is_none ? q->status : PIGY_OK), q->row, "another status of a table");
-  expect(index == (is_none ? q->verified : 0), q->row, "another index of a table");
-  expect((table == 0) == is_none, q->row, "another handle");
-  if (table) {
-    if (q->call == ORIGINS) ask_origins(q, table);
-    if (q->call == COVERING) ask_covering(q, table);
-    if (q->call == VRPS) ask_vrps(q, table);
-    if (q->call == DIFFER) {
-      found = pigy_table_new(q->announced, q->announced_count, &next, &index);
-      expect(found == PIGY_OK, q->row, "another status of the second table");
-      if (next) ask_differ(q, table, next);
-    }
-    if (q->call == CHANGED) {
-      size_t before = ANY, after = ANY;
-      pigy_table_len(table, &before);
-      found = pigy_table_changed(table, q->announced, q->announced_count, q->withdrawn, q->withdrawn_count, &next,
-                                 &index);
-      expect(found == q->status && index == q->verified, q->row, "another status of changes");
-      expect((next == 0) == (q->status != PIGY_OK), q->row, "another handle after changes");
-      if (next) ask_vrps(q, next);
-      pigy_table_len(table, &after);
-      expect(before == after && before == q->count, q->row, "the table has changed");
-    }
-  }
-  pigy_table_free(next);
-  pigy_table_free(table);
-}
-
-/* Passes a NULL handle as one of two tables, and as both. */
-static void ask_differ_of_null(const pigy_route *route) {
-  uint8_t octet = MARK;
-  pigy_vrp vrp = {{10}, 1, PIGY_IPV4, 8, 8};
-  pigy_table *table = 0;
-  size_t len, index = ANY;
-  expect(pigy_table_new(&vrp, 1, &table, &index) == PIGY_OK, 0, "a table beside null");
-  for (int i = 0; i < 3; i++) {
-    len = index = ANY;
-    expect(pigy_table_routes_changed(i == 1 ? table : 0, i == 2 ? table : 0, route, 1, &octet, 1, &len, &index) ==
-               PIGY_NO_TABLE && !len && !index && octet == MARK, 0, "changes of null");
-  }
-  pigy_table_free(table);
-}
-
-/* Passes a NULL handle. pigy_table_free does nothing. Each other call returns PIGY_NO_TABLE and no output. */
-static void ask_null(void) {
-  uint8_t octet = MARK;
-  pigy_vrp vrp = {0};
-  pigy_covering covering = {0};
-  pigy_route route = {0};
-  pigy_table *next = (pigy_table *)(void *)&octet;
-  size_t len = ANY, index = ANY;
-  pigy_table_free(0);
-  expect(pigy_table_origins(0, &route, 1, &octet, 1, &len, &index) == PIGY_NO_TABLE, 0, "origins of null");
-  expect(!len && !index, 0, "a length of null");
-  expect(octet == MARK, 0, "an octet of null");
-  ask_differ_of_null(&route);
-  len = ANY;
-  expect(pigy_table_covering(0, &route, &covering, 1, &len) == PIGY_NO_TABLE && !len, 0, "what covers by null");
-  len = ANY;
-  expect(pigy_table_len(0, &len) == PIGY_NO_TABLE && !len, 0, "the length of null");
-  len = ANY;
-  expect(pigy_table_vrps(0, &vrp, 1, &len) == PIGY_NO_TABLE && !len, 0, "VRPs of null");
-  index = ANY;
-  expect(pigy_table_changed(0, &vrp, 1, &vrp, 1, &next, &index) == PIGY_NO_TABLE, 0, "null is changed");
-  expect(!index && !next, 0, "a table after null");
-}
-
-/* Makes the call of a row with buffers of each capacity. If the outputs are long, only every eighth row has each
- * capacity. The other rows have two capacities: 0, and one more than required. */
-static void ask_capacities(const question *q) {
-  const run *expected = q->expected;
-  ask(q, expected[0].length + 1, expected[1].length + 1);
-  ask(q, 0, 0);
-  if (expected[0].length + expected[1].length <= SMALL || q->row % 8 == 0) {
-    for (size_t capacity = 0; capacity < expected[0].length; capacity++) ask(q, capacity, expected[1].length);
-    for (size_t capacity = 0; capacity <= expected[1].length; capacity++) ask(q, expected[0].length, capacity);
-  }
-}
-
-/* ---- NULL in place of arrays of length 0 and of buffers of capacity 0 */
-
-/* Makes the call of a row with NULL in place of each array of length 0, and with NULL buffers of capacity 0. */
-static void ask_with_null(const question *q) {
-  question bare = *q;
-  const run *expected = q->expected;
-  bare.has_null = 1;
-  for (int i = 0; i < 4; i++)
-    if (!bare.in[i].length) bare.in[i].octets = 0;
-  if (!bare.count) bare.certificates = 0, bare.vrps = 0;
-  if (!bare.route_count) bare.routes = 0;
-  if (!bare.announced_count) bare.announced = 0;
-  if (!bare.withdrawn_count) bare.withdrawn = 0;
-  if (is_of_table(q)) ask_table(&bare);
-  if (q->call == READ) ask_read(&bare);
-  if (q->call == AS_RANGES || q->call == IP_RANGES) ask_ranges(&bare);
-  if (q->call > ORIGINS) return;
-  ask(&bare, expected[0].length, expected[1].length);
-  ask(&bare, expected[0].length, 0);
-  ask(&bare, 0, expected[1].length);
-  ask(&bare, 0, 0);
-}
-
-/* Makes each call on a table with NULL in place of all its arrays. The table has no VRPs. */
-static void ask_empty_table(void) {
-  static const pigy_route route = {{10}, 1, PIGY_IPV4, 8};
-  pigy_table *table = 0, *next = 0;
-  size_t len = ANY, index = ANY;
-  expect(pigy_table_new(0, 0, &table, &index) == PIGY_OK && table && !index, 0, "an empty table");
-  index = ANY;
-  expect(pigy_table_changed(table, 0, 0, 0, 0, &next, &index) == PIGY_OK && next && !index, 0, "no changes");
-  index = ANY;
-  expect(pigy_table_origins(table, 0, 0, 0, 0, &len, &index) == PIGY_OK && !len && !index, 0, "no routes");
-  len = index = ANY;
-  expect(pigy_table_routes_changed(table, next, 0, 0, 0, 0, &len, &index) == PIGY_OK && !len && !index, 0,
-         "no changed routes");
-  len = ANY;
-  expect(pigy_table_covering(table, &route, 0, 0, &len) == PIGY_OK && !len, 0, "no VRPs that cover a route");
-  len = ANY;
-  expect(pigy_table_vrps(table, 0, 0, &len) == PIGY_OK && !len, 0, "no VRPs of a table");
-  pigy_table_free(next);
-  pigy_table_free(table);
-  calls += 6;
-}
-
-/* Makes each other call with NULL in place of all its arrays. The expected status of each call is that of a row whose
- * arrays have length 0. */
-static void ask_empty(void) {
-  static pigy_operation *const operations[] = {pigy_union, pigy_intersection, pigy_difference};
-  static pigy_comparison *const comparisons[] = {pigy_contains, pigy_equal};
-  static const char answer[] = "error: unknown command";
-  size_t len = ANY, other = ANY, index = ANY;
-  for (uint32_t present = 0; present <= PIGY_HAS_BOTH; present++) {
-    uint32_t status = !present ? PIGY_ABSENT : PIGY_SECOND + (present == PIGY_HAS_IP ? PIGY_BAD_IP : PIGY_BAD_AS) + 1u;
-    len = other = ANY;
-    expect(pigy_verify(0, 0, 0, 0, present, 0, 0, 0, 0, PIGY_STRICT, PIGY_REFUSE, 0, 0, 0, 0, &len, &other) == status &&
-               !len && !other, 0, "an empty certificate");
-  }
-  len = other = ANY;
-  expect(pigy_verify_path(0, 0, 0, 0, 0, 0, 0, 0, PIGY_STRICT, 0, 0, 0, 0, &len, &other, &index) == PIGY_OK && !len &&
-             !other && !index, 0, "an empty path");
-  for (int i = 0; i < 3; i++) {
-    len = other = ANY;
-    expect(operations[i](0, 0, 0, 0, 0, 0, 0, 0, PIGY_STRICT, 0, 0, 0, 0, &len, &other) == PIGY_OK && !len && !other, 0,
-           "a set of empty sets");
-  }
-  for (int i = 0; i < 2; i++)
-    expect(comparisons[i](0, 0, 0, 0, 0, 0, 0, 0, PIGY_STRICT) == PIGY_OK, 0, "empty sets are compared");
-  len = other = ANY;
-  expect(pigy_set_from_text(PIGY_ASN, 0, 0, 0, 0, 0, 0, &len, &other) == PIGY_OK && !len && !other, 0, "an empty list");
-  len = ANY;
-  expect(pigy_cover(0, 0, PIGY_STRICT, PIGY_IPV4, 0, 0, &len) == PIGY_OK && !len, 0, "prefixes of no addresses");
-  len = ANY;
-  expect(pigy_as_ranges(0, 0, PIGY_STRICT, 0, 0, &len) == PIGY_OK && !len, 0, "ranges of no AS numbers");
-  len = ANY;
-  expect(pigy_ip_ranges(0, 0, PIGY_STRICT, PIGY_IPV4, 0, 0, &len) == PIGY_OK && !len, 0, "ranges of no addresses");
-  len = index = ANY;
-  expect(pigy_origins(0, 0, 0, 0, 0, 0, &len, &index) == PIGY_OK && !len && !index, 0, "no VRPs and no routes");
-  len = index = ANY;
-  expect(pigy_vrps_read(0, 0, 0, 0, &len, &index) == PIGY_BAD_FILE + 6u && !len && !index, 0, "an empty file");
-  len = ANY;
-  expect(pigy_answer(0, 0, 0, 0, &len) == PIGY_TOO_SMALL && len == sizeof answer - 1, 0, "the answer to an empty line");
-  calls += 17;
-  ask_empty_table();
-}
-
-/* ---- the inline functions of the header. If there are no octets, the pointer is NULL, and the length is ANY. */
-
-static pigy_set set_of(const run *in) {
-  pigy_set set = {0, ANY, 0, ANY};
-  if (in[0].length) set.as = in[0].octets, set.as_len = in[0].length;
-  if (in[1].length) set.ip = in[1].octets, set.ip_len = in[1].length;
+/* Returns the set of two runs. If has_null is 1, a run of length 0 is NULL with another length. */
+static pigy_set set_of(const question *q, const run *as, const run *ip) {
+  pigy_set set = {as->octets, as->length, ip->octets, ip->length};
+  if (q->has_null && !as->length) set.as = 0, set.as_len = ANY;
+  if (q->has_null && !ip->length) set.ip = 0, set.ip_len = ANY;
   return set;
 }
 
-/* Returns the extensions of the certificate of a row. The pointer of an absent extension is NULL. */
+static pigy_set first_of(const question *q) {
+  static const run none = {0, 0};
+  if (q->call == COVER || q->call == IP_RANGES) return set_of(q, &none, q->in);
+  if (q->call == AS_RANGES) return set_of(q, q->in, &none);
+  return set_of(q, q->in, q->in + 1);
+}
+
+static pigy_set second_of(const question *q) { return set_of(q, q->in + 2, q->in + 3); }
+
+/* Returns the extensions of the certificate of a row. If has_null is 1, the members of an absent extension are
+ * numbers that are no addresses. */
 static pigy_set certificate_of(const question *q) {
-  pigy_set set = {0, ANY, 0, ANY};
-  if (q->numbers[1] & PIGY_HAS_AS) set.as = q->in[2].octets, set.as_len = q->in[2].length;
-  if (q->numbers[1] & PIGY_HAS_IP) set.ip = q->in[3].octets, set.ip_len = q->in[3].length;
+  pigy_set set = second_of(q);
+  if (q->has_null && !(q->numbers[1] & PIGY_HAS_AS)) set.as = (const uint8_t *)(uintptr_t)1, set.as_len = SIZE_MAX;
+  if (q->has_null && !(q->numbers[1] & PIGY_HAS_IP)) set.ip = (const uint8_t *)(uintptr_t)1, set.ip_len = SIZE_MAX;
   return set;
 }
 
-static uint32_t call_in_short(const question *q, pigy_buffers *out) {
-  pigy_set a = set_of(q->in), b = set_of(q->in + 2);
-  calls++;
-  if (q->call == TEST) return pigy_compare(q->test, a, b, q->numbers[0]);
-  if (q->call == MAKE) return pigy_combine(q->operation, a, b, q->numbers[0], out);
-  return pigy_verify_set(a, certificate_of(q), q->numbers[0], q->numbers[2], out);
+static pigy_prefix prefix_of(const run *in) {
+  pigy_prefix prefix;
+  memcpy(prefix.address, in->octets, 16);
+  prefix.family = in->octets[16];
+  prefix.len = in->octets[17];
+  return prefix;
 }
 
-/* Calls the short form with buffers of the expected lengths, NULL for length 0. Then calls it without buffers. */
-static void ask_in_short(const question *q) {
-  const run *expected = q->expected;
-  pigy_buffers out = {0, ANY, 0, 0, ANY, 0}, none = {0, ANY, 0, 0, ANY, 0};
-  if (q->call != VERIFY && q->call != MAKE && q->call != TEST) return;
-  if (q->call == VERIFY && q->numbers[1] > PIGY_HAS_BOTH) return;
-  if (expected[0].length) out.as = block(out.as_capacity = expected[0].length);
-  if (expected[1].length) out.ip = block(out.ip_capacity = expected[1].length);
-  expect(call_in_short(q, &out) == q->status, q->row, "another status in short");
-  if (out.as) expect(!memcmp(out.as, expected[0].octets, expected[0].length), q->row, "other octets in short");
-  if (out.ip) expect(!memcmp(out.ip, expected[1].octets, expected[1].length), q->row, "other octets in short");
-  expect(call_in_short(q, &none) == (out.as || out.ip ? PIGY_TOO_SMALL : q->status), q->row, "another status of null");
-  if (q->call != TEST) {
-    expect(out.as_len == expected[0].length && out.ip_len == expected[1].length, q->row, "other lengths in short");
-    expect(none.as_len == expected[0].length && none.ip_len == expected[1].length, q->row, "other lengths of null");
+static const char *text_in(const run *in) { return (const char *)in->octets; }
+
+static pigy_status make_verify(attempt *a) {
+  const uint32_t *n = a->q->numbers;
+  return pigy_verify(first_of(a->q), certificate_of(a->q), n[1], n[0], n[2], &a->out, &a->excess);
+}
+
+static pigy_status make_path(attempt *a) {
+  const question *q = a->q;
+  return pigy_verify_path(first_of(q), q->in[2].octets, q->in[2].length, q->certificates, q->count, q->numbers[0],
+                          &a->out, &a->excess, &a->index);
+}
+
+static pigy_status make_pair(attempt *a) {
+  return a->q->of.make(first_of(a->q), second_of(a->q), a->q->numbers[0], &a->out);
+}
+
+static pigy_status make_test(attempt *a) {
+  return a->q->of.test(first_of(a->q), second_of(a->q), a->q->numbers[0], &a->answer);
+}
+
+static pigy_status make_text(attempt *a) {
+  return pigy_set_from_text(text_in(a->q->in), a->q->in[0].length, a->q->numbers[0], &a->out);
+}
+
+static pigy_status make_list(attempt *a) {
+  const run *in = a->q->in;
+  const uint32_t *n = a->q->numbers;
+  if (a->q->call == COVER)
+    return pigy_prefixes(in->octets, in->length, n[0], n[1], (pigy_prefix *)a->list, a->capacity, &a->len);
+  if (a->q->call == AS_RANGES)
+    return pigy_as_ranges(in->octets, in->length, n[0], (pigy_as_range *)a->list, a->capacity, &a->len);
+  return pigy_ip_ranges(in->octets, in->length, n[0], n[1], (pigy_ip_range *)a->list, a->capacity, &a->len);
+}
+
+static pigy_status make_answer(attempt *a) {
+  return pigy_answer(text_in(a->q->in), a->q->in[0].length, (char *)a->list, a->capacity, &a->len);
+}
+
+static pigy_status make_vrps_of_file(attempt *a) {
+  return pigy_vrps_read(a->q->in[0].octets, a->q->in[0].length, (pigy_vrp *)a->list, a->capacity, &a->len, &a->index);
+}
+
+static pigy_status make_origins(attempt *a) {
+  const question *q = a->q;
+  return pigy_validate(q->vrps, q->count, q->routes, q->route_count, (uint8_t *)a->list, a->capacity, &a->len,
+                       &a->index);
+}
+
+/* Calls on handles of sets. */
+
+static pigy_status read_first(attempt *a) { return pigy_resources_read(first_of(a->q), a->q->numbers[0], &a->set); }
+static pigy_status read_second(attempt *a) { return pigy_resources_read(second_of(a->q), a->q->numbers[0], &a->set); }
+static pigy_status write_der(attempt *a) { return pigy_resources_der(a->a, &a->out); }
+static pigy_status combine(attempt *a) { return a->q->of.make_of_handles(a->a, a->b, &a->set); }
+static pigy_status compare(attempt *a) { return a->q->of.test_of_handles(a->a, a->b, &a->answer); }
+static pigy_status has_asn(attempt *a) { return pigy_resources_contains_asn(a->a, a->q->numbers[1], &a->answer); }
+
+static pigy_status read_text(attempt *a) {
+  return pigy_resources_from_text(text_in(a->q->in), a->q->in[0].length, a->q->numbers[0], &a->set);
+}
+
+static pigy_status verify_by(attempt *a) {
+  const uint32_t *n = a->q->numbers;
+  return pigy_resources_verify(a->a, certificate_of(a->q), n[1], n[0], n[2], &a->set, &a->over);
+}
+
+static pigy_status path_by(attempt *a) {
+  const question *q = a->q;
+  return pigy_resources_verify_path(a->a, q->in[2].octets, q->in[2].length, q->certificates, q->count, q->numbers[0],
+                                    &a->set, &a->over, &a->index);
+}
+
+static pigy_status has_prefix(attempt *a) {
+  pigy_prefix prefix = prefix_of(a->q->in + 2);
+  return pigy_resources_contains_prefix(a->a, &prefix, &a->answer);
+}
+
+static pigy_status list_of_set(attempt *a) {
+  uint32_t family = a->q->numbers[1];
+  if (a->q->call == COVER)
+    return pigy_resources_prefixes(a->a, family, (pigy_prefix *)a->list, a->capacity, &a->len);
+  if (a->q->call == AS_RANGES)
+    return pigy_resources_as_ranges(a->a, (pigy_as_range *)a->list, a->capacity, &a->len);
+  return pigy_resources_ip_ranges(a->a, family, (pigy_ip_range *)a->list, a->capacity, &a->len);
+}
+
+static pigy_status print_set(attempt *a) {
+  return pigy_resources_text(a->a, a->q->numbers[1], (char *)a->list, a->capacity, &a->len);
+}
+
+/* Calls on tables. */
+
+static pigy_status make_table(attempt *a) { return pigy_table_new(a->q->vrps, a->q->count, &a->made, &a->index); }
+
+static pigy_status change_table(attempt *a) {
+  const question *q = a->q;
+  return pigy_table_with_changes(a->table, q->announced, q->announced_count, q->withdrawn, q->withdrawn_count,
+                                 &a->made, &a->index);
+}
+
+static pigy_status validate_one(attempt *a) {
+  return pigy_table_validate(a->table, a->q->routes, &a->answer, &a->reason);
+}
+
+static pigy_status validate_all(attempt *a) {
+  return pigy_table_validate_routes(a->table, a->q->routes, a->q->route_count, (uint8_t *)a->list, a->capacity,
+                                    &a->len, &a->index);
+}
+
+static pigy_status revalidate(attempt *a) {
+  return pigy_table_revalidate(a->table, a->next, a->q->routes, a->q->route_count, (uint8_t *)a->list, a->capacity,
+                               &a->len, &a->index);
+}
+
+static pigy_status list_covering(attempt *a) {
+  return pigy_table_covering(a->table, a->q->routes, (pigy_covering *)a->list, a->capacity, &a->len);
+}
+
+static pigy_status list_vrps(attempt *a) {
+  return pigy_table_vrps(a->table, (pigy_vrp *)a->list, a->capacity, &a->len);
+}
+
+static const form of_verify = {make_verify, OUT | EXCESS}, of_path = {make_path, OUT | EXCESS | INDEX},
+                  of_pair = {make_pair, OUT}, of_test = {make_test, ANSWERS}, of_text = {make_text, OUT},
+                  of_list = {make_list, LEN}, of_answer = {make_answer, LEN | IS_TEXT},
+                  of_file = {make_vrps_of_file, LEN | INDEX}, of_origins = {make_origins, LEN | INDEX},
+                  of_first = {read_first, SET}, of_second = {read_second, SET}, of_der = {write_der, OUT},
+                  of_combine = {combine, SET}, of_compare = {compare, ANSWERS | NO_MEMORY},
+                  of_asn = {has_asn, ANSWERS | NO_MEMORY}, of_prefix = {has_prefix, ANSWERS | NO_MEMORY},
+                  of_read_text = {read_text, SET}, of_verify_by = {verify_by, SET | OVER},
+                  of_path_by = {path_by, SET | OVER | INDEX}, of_list_by = {list_of_set, LEN},
+                  of_print = {print_set, LEN | IS_TEXT}, of_table = {make_table, TABLE | INDEX},
+                  of_change = {change_table, TABLE | INDEX}, of_one = {validate_one, ANSWERS | REASON | NO_MEMORY},
+                  of_all = {validate_all, LEN | INDEX}, of_revalidate = {revalidate, LEN | INDEX},
+                  of_covering = {list_covering, LEN}, of_vrps = {list_vrps, LEN};
+
+/* ---- what a call stores */
+
+/* The octets of an element of the list that the call of a row stores. */
+static size_t size_of(const question *q) {
+  switch (q->call) {
+    case COVER: return sizeof(pigy_prefix);
+    case AS_RANGES: return sizeof(pigy_as_range);
+    case IP_RANGES: return sizeof(pigy_ip_range);
+    case READ: case VRPS: return sizeof(pigy_vrp);
+    case COVERING: return sizeof(pigy_covering);
+    default: return 1;
   }
-  free(out.as);
-  free(out.ip);
+}
+
+/* The octets of the same element in a row. */
+static size_t size_in_row(const question *q) {
+  switch (q->call) {
+    case COVER: return q->numbers[1] == PIGY_IPV4 ? 5 : 17;
+    case READ: case VRPS: return 23;
+    case COVERING: return 24;
+    default: return size_of(q);
+  }
+}
+
+static void put_asn(uint8_t *to, uint32_t asn) {
+  for (int i = 0; i < 4; i++) to[i] = (uint8_t)(asn >> (24 - 8 * i));
+}
+
+static void put_vrp(uint8_t *to, const pigy_vrp *vrp) {
+  memcpy(to, vrp->address, 16);
+  put_asn(to + 16, vrp->asn);
+  to[20] = vrp->family;
+  to[21] = vrp->len;
+  to[22] = vrp->max_len;
+}
+
+/* Writes an element of a list in the form of a row. */
+static void put(const question *q, const void *list, size_t at, uint8_t *to) {
+  static const uint8_t zeros[16];
+  const pigy_prefix *prefix = (const pigy_prefix *)list + at;
+  const pigy_as_range *range = (const pigy_as_range *)list + at;
+  size_t octets = size_in_row(q);
+  switch (q->call) {
+    case COVER:
+      memcpy(to, prefix->address, octets - 1);
+      to[octets - 1] = prefix->len;
+      expect(prefix->family == q->numbers[1], q->row, "another family of a prefix");
+      expect(!memcmp(prefix->address + octets - 1, zeros, 17 - octets), q->row, "octets behind an address");
+      return;
+    case AS_RANGES:
+      put_asn(to, range->min);
+      put_asn(to + 4, range->max);
+      return;
+    case READ: case VRPS: put_vrp(to, (const pigy_vrp *)list + at); return;
+    case COVERING:
+      put_vrp(to, &((const pigy_covering *)list)[at].vrp);
+      to[23] = (uint8_t)((const pigy_covering *)list)[at].mismatch;
+      return;
+    default: memcpy(to, (const uint8_t *)list + octets * at, octets);
+  }
+}
+
+/* Checks the list that a call stored, or that it stored none. */
+static void expect_list(const form *f, const attempt *a, int fits) {
+  const question *q = a->q;
+  size_t size = size_of(q), octets = size_in_row(q), wanted = q->expected[0].length / octets;
+  size_t nul = (f->stores & IS_TEXT) && q->status == PIGY_OK && a->capacity > wanted;
+  uint8_t *found = block(wanted * octets);
+  const uint8_t *list = (const uint8_t *)a->list;
+  expect(a->len == wanted, q->row, "another length");
+  for (size_t i = 0; fits && i < wanted; i++) put(q, list, i, found + i * octets);
+  expect(!fits || is_same(found, q->expected), q->row, "another list");
+  expect(!nul || !list[wanted], q->row, "no NUL behind a text");
+  expect(is_marked(list, fits ? wanted * size + nul : 0, a->capacity * size), q->row, "octets behind a list");
+  free(found);
+}
+
+/* Checks buffers of a set. If `stores` is 0, the call stored no set in them. Frees them. */
+static void end_buffers(const question *q, pigy_buffers *of, int stores, int fits) {
+  const run *expected = q->expected;
+  size_t as_len = stores ? expected[0].length : 0, ip_len = stores ? expected[1].length : 0;
+  expect(of->as_len == as_len && of->ip_len == ip_len, q->row, "other lengths of a set");
+  if (stores && fits)
+    expect(is_same(of->as, expected) && is_same(of->ip, expected + 1), q->row, "other octets of a set");
+  if (of->as) expect(is_marked(of->as, fits ? as_len : 0, of->as_capacity), q->row, "octets behind AS identifiers");
+  if (of->ip) expect(is_marked(of->ip, fits ? ip_len : 0, of->ip_capacity), q->row, "octets behind address blocks");
+  free(of->as);
+  free(of->ip);
+}
+
+/* Returns buffers for a set. If has_null is 1, a buffer of capacity 0 is NULL with another capacity. */
+static pigy_buffers buffers_of(const question *q, size_t as_capacity, size_t ip_capacity) {
+  pigy_buffers made = {buffer(q, as_capacity), as_capacity, ANY, buffer(q, ip_capacity), ip_capacity, ANY};
+  if (!made.as) made.as_capacity = ANY;
+  if (!made.ip) made.ip_capacity = ANY;
+  return made;
+}
+
+/* Prepares all that a call stores. The handles are addresses that the library did not make. */
+static void prepare(const form *f, attempt *a, size_t first, size_t second) {
+  a->list = f->stores & LEN ? buffer(a->q, first * size_of(a->q)) : 0;
+  a->capacity = first;
+  a->len = a->index = ANY;
+  a->answer = a->reason = MARK;
+  if (f->stores & OUT) a->out = buffers_of(a->q, first, second);
+  if (f->stores & EXCESS) a->excess = buffers_of(a->q, first, second);
+  a->set = a->over = (pigy_resources *)(void *)&calls;
+  a->made = (pigy_table *)(void *)&calls;
+}
+
+/* Checks an answer, a reason, an index and handles that a call stored. It stores no other. */
+static void expect_stored(const form *f, const attempt *a, size_t last, uint8_t reason, int has_result, int is_over) {
+  const question *q = a->q;
+  const void *other = &calls;
+  unsigned stores = f->stores;
+  expect(a->index == (stores & INDEX ? last : ANY), q->row, "another index");
+  expect(a->answer == (stores & ANSWERS ? last : MARK), q->row, "another answer");
+  expect(a->reason == (stores & REASON ? reason : MARK), q->row, "another reason");
+  expect(stores & SET ? a->set != other && (a->set != 0) == has_result : a->set == other, q->row, "another set");
+  expect(stores & OVER ? a->over != other && (a->over != 0) == is_over : a->over == other, q->row, "another excess");
+  expect(stores & TABLE ? a->made != other && (a->made != 0) == has_result : a->made == other, q->row,
+         "another table");
+}
+
+/* Makes a call with buffers of these capacities, and checks all that it stores. A list has the first capacity, in
+ * elements. The caller frees the handles of the result. */
+static attempt ask(const form *f, const attempt *base, size_t first, size_t second) {
+  attempt a = *base;
+  const question *q = a.q;
+  int is_over = PIGY_KIND(q->status) == PIGY_OVERCLAIM, fits = 1;
+  pigy_status found;
+  prepare(f, &a, first, second);
+  if (f->stores & LEN) fits = q->expected[0].length / size_in_row(q) <= first;
+  if (f->stores & OUT) fits = q->expected[0].length <= first && q->expected[1].length <= second;
+  found = f->make(&a);
+  calls++;
+  expect(found == (fits ? q->status : PIGY_TOO_SMALL), q->row, "another status");
+  expect_stored(f, &a, q->last, q->reason, found == PIGY_OK, is_over);
+  if (f->stores & LEN) expect_list(f, &a, fits);
+  if (f->stores & OUT) end_buffers(q, &a.out, !is_over, fits);
+  if (f->stores & EXCESS) end_buffers(q, &a.excess, is_over, fits);
+  free(a.list);
+  a.list = 0;
+  if (!(f->stores & SET)) a.set = 0;
+  if (!(f->stores & OVER)) a.over = 0;
+  if (!(f->stores & TABLE)) a.made = 0;
+  return a;
 }
 
 /* ---- memory refused */
 
-static int counts, was_refused; /* whether allocations are counted; whether one was refused */
-static size_t granted;          /* how many allocations succeed before the next ones are refused */
+static _Thread_local int counts, was_refused; /* whether allocations are counted; whether one was refused */
+static _Thread_local size_t granted;          /* how many allocations succeed before the next ones are refused */
 
 void *__real_malloc(size_t length);
 void *__wrap_malloc(size_t length);
@@ -654,86 +628,489 @@ static int is_refused(void) {
 void *__wrap_malloc(size_t length) { return is_refused() ? 0 : __real_malloc(length); }
 void *__wrap_realloc(void *at, size_t length) { return is_refused() ? 0 : __real_realloc(at, length); }
 
-static uint32_t of_row(attempt *a) {
-  const question *q = a->row;
-  if (q->call == TEST) return call_in_short(q, 0);
-  return call_of(q, a->out, a->capacity, a->other, a->capacity, &a->length, &a->other_length, &a->index);
-}
-
-static uint32_t of_new(attempt *a) { return pigy_table_new(a->row->vrps, a->row->count, &a->made, &a->index); }
-
-static uint32_t of_changed(attempt *a) {
-  const question *q = a->row;
-  return pigy_table_changed(a->table, q->announced, q->announced_count, q->withdrawn, q->withdrawn_count, &a->made,
-                            &a->index);
-}
-
-static uint32_t of_origins(attempt *a) {
-  return pigy_table_origins(a->table, a->row->routes, a->row->route_count, a->out, a->capacity, &a->length, &a->index);
-}
-
-static uint32_t of_differ(attempt *a) {
-  return pigy_table_routes_changed(a->table, a->next, a->row->routes, a->row->route_count, a->out, a->capacity,
-                                   &a->length, &a->index);
+/* Checks that a call without memory stored no result. Frees the buffers. */
+static void expect_refused(const form *f, attempt *a, size_t first) {
+  const question *q = a->q;
+  expect_stored(f, a, 0, 0, 0, 0);
+  if (f->stores & LEN) {
+    expect(!a->len, q->row, "a length where memory is refused");
+    expect(is_marked((const uint8_t *)a->list, 0, first * size_of(q)), q->row, "octets where memory is refused");
+  }
+  if (f->stores & OUT) end_buffers(q, &a->out, 0, 1);
+  if (f->stores & EXCESS) end_buffers(q, &a->excess, 0, 1);
 }
 
 /* Repeats a call with the first n allocations granted and the others refused, for n from 0 until none is refused. If an
- * allocation is refused, the call has to return PIGY_MEMORY and no output. The number of verified certificates is
- * unspecified then, and is not checked. */
-static void ask_refused(uint32_t (*call)(attempt *), const question *q, const pigy_table *table,
-                        const pigy_table *next, size_t capacity) {
+ * allocation is refused, the call has to return PIGY_MEMORY and to store no result. */
+static void ask_refused(const form *f, const attempt *base, size_t first, size_t second) {
   int is_refused_now = 1;
   for (size_t n = 0; is_refused_now; n++) {
-    attempt a = {q, table, next, capacity, 0, 0, 0, block(capacity), block(capacity), 0};
-    uint32_t found;
+    attempt a = *base;
+    pigy_status found;
+    prepare(f, &a, first, second);
     was_refused = 0;
     granted = n;
     counts = 1;
-    found = call(&a);
+    found = f->make(&a);
     counts = 0;
     calls++;
     is_refused_now = was_refused;
-    if (was_refused) {
-      expect(found == PIGY_MEMORY, q->row, "another status where memory is refused");
-      expect(!a.length && !a.other_length && !a.made, q->row, "an output where memory is refused");
-      expect(!a.index || q->call == PATH, q->row, "an index where memory is refused");
-      expect(is_marked(a.out, 0, capacity) && is_marked(a.other, 0, capacity), q->row,
-             "octets where memory is refused");
+    expect(!is_refused_now || !(f->stores & NO_MEMORY), base->q->row, "memory by a call that takes none");
+    expect((found == PIGY_MEMORY) == is_refused_now, base->q->row, "another status where memory is refused");
+    if (is_refused_now) {
+      expect_refused(f, &a, first);
     } else {
-      expect(found != PIGY_MEMORY, q->row, "out of memory though nothing was refused");
+      if (f->stores & OUT) free(a.out.as), free(a.out.ip);
+      if (f->stores & EXCESS) free(a.excess.as), free(a.excess.ip);
+      if (f->stores & SET) pigy_resources_free(a.set);
+      if (f->stores & OVER) pigy_resources_free(a.over);
+      if (f->stores & TABLE) pigy_table_free(a.made);
     }
-    pigy_table_free(a.made);
-    free(a.out);
-    free(a.other);
+    free(a.list);
   }
 }
 
-static void ask_row_refused(const question *q) {
-  pigy_table *table = 0;
-  size_t index;
-  if (q->call == READ) ask_refused(of_read, q, 0, 0, q->expected[0].length / 23 * sizeof(pigy_vrp));
-  if (q->call == AS_RANGES) ask_refused(of_as_ranges, q, 0, 0, q->expected[0].length);
-  if (q->call == IP_RANGES) ask_refused(of_ip_ranges, q, 0, 0, q->expected[0].length);
-  if (q->call < COVERING)
-    ask_refused(of_row, q, 0, 0, q->expected[0].length + q->expected[1].length);
-  if (!is_of_table(q)) return;
-  ask_refused(of_new, q, 0, 0, 0);
-  if (pigy_table_new(q->vrps, q->count, &table, &index) != PIGY_OK) return;
-  if (q->call == CHANGED) ask_refused(of_changed, q, table, 0, 0);
-  if (q->call == ORIGINS) ask_refused(of_origins, q, table, 0, q->route_count);
-  if (q->call == COVERING) ask_refused(of_covering, q, table, 0, 64 * sizeof(pigy_covering));
-  if (q->call == DIFFER) {
-    pigy_table *next = 0;
-    if (pigy_table_new(q->announced, q->announced_count, &next, &index) == PIGY_OK)
-      ask_refused(of_differ, q, table, next, q->route_count);
-    pigy_table_free(next);
+/* ---- one row */
+
+/* How much of a row a test asks: each capacity and each refused allocation, some capacities with NULL arrays, or the
+ * required capacity alone. */
+typedef enum { ALL, WITH_NULL, ONCE } extent;
+
+/* Makes a call that stores a list, with buffers of several capacities. */
+static void ask_list(const form *f, const attempt *a, extent how) {
+  size_t wanted = a->q->expected[0].length / size_in_row(a->q);
+  ask(f, a, wanted, 0);
+  if (how == ONCE) return;
+  ask(f, a, 0, 0);
+  ask(f, a, wanted + 1, 0);
+  for (size_t n = wanted > SMALL && a->q->row % 8 ? wanted - 1 : 1; n < wanted; n++) ask(f, a, n, 0);
+  if (how == ALL) ask_refused(f, a, wanted, 0);
+}
+
+/* Makes a call that stores a set in buffers, with buffers of several capacities. If the outputs are long, only every
+ * eighth row has each capacity. */
+static void ask_set(const form *f, const attempt *a, extent how) {
+  const run *expected = a->q->expected;
+  size_t as = expected[0].length, ip = expected[1].length;
+  ask(f, a, as, ip);
+  if (how == ONCE) return;
+  ask(f, a, 0, 0);
+  ask(f, a, as + 1, ip + 1);
+  ask(f, a, as, 0);
+  ask(f, a, 0, ip);
+  if (how == WITH_NULL) return;
+  if (as + ip <= SMALL || a->q->row % 8 == 0) {
+    for (size_t capacity = 1; capacity < as; capacity++) ask(f, a, capacity, ip);
+    for (size_t capacity = 1; capacity < ip; capacity++) ask(f, a, as, capacity);
   }
-  if (q->call == VRPS) ask_refused(of_vrps, q, table, 0, q->count * sizeof(pigy_vrp));
+  ask_refused(f, a, as, ip);
+}
+
+/* Makes a call that stores handles of sets. The sets have to be those of the row. */
+static void ask_made(const form *f, const attempt *base, extent how) {
+  attempt made = ask(f, base, 0, 0), a = made;
+  question q = *base->q;
+  q.status = PIGY_OK;
+  a.q = &q;
+  a.a = made.set ? made.set : made.over;
+  if (a.a) ask_set(&of_der, &a, how);
+  pigy_resources_free(made.set);
+  pigy_resources_free(made.over);
+  if (how == ALL) ask_refused(f, base, 0, 0);
+}
+
+static void ask_answer(const form *f, const attempt *a, extent how) {
+  ask(f, a, 0, 0);
+  if (how == ALL) ask_refused(f, a, 0, 0);
+}
+
+/* Makes the call of a row, which does not read handles. */
+static void ask_by_der(const question *q, extent how) {
+  attempt a = {.q = q};
+  switch (q->call) {
+    case VERIFY: ask_set(&of_verify, &a, how); return;
+    case PATH: ask_set(&of_path, &a, how); return;
+    case MAKE:
+      if (q->of.make) ask_set(&of_pair, &a, how);
+      return;
+    case TEST: ask_answer(&of_test, &a, how); return;
+    case TEXT: ask_set(&of_text, &a, how); return;
+    case COVER: case AS_RANGES: case IP_RANGES: ask_list(&of_list, &a, how); return;
+    case ANSWER: ask_list(&of_answer, &a, how); return;
+    case READ: ask_list(&of_file, &a, how); return;
+    case ORIGINS: ask_list(&of_origins, &a, how); return;
+    default: return;
+  }
+}
+
+/* Returns whether a status is an error of a set that is read. */
+static int is_of_set(pigy_status status) {
+  uint32_t of = PIGY_KIND(status);
+  return of == PIGY_BAD_AS || of == PIGY_BAD_IP || of == PIGY_INHERITED || status == PIGY_BAD_ENCODING;
+}
+
+/* Reads a set of a row, and returns its handle. It is NULL with an error. The status has to be the expected one. */
+static pigy_resources *read_set(const form *f, const question *q, pigy_status status, extent how) {
+  question of = *q;
+  attempt a = {.q = &of};
+  of.status = status;
+  if (how == ALL) ask_refused(f, &a, 0, 0);
+  return ask(f, &a, 0, 0).set;
+}
+
+/* Makes the call on handles for a row whose sets were read. */
+static void ask_with(const attempt *a, extent how) {
+  switch (a->q->call) {
+    case VERIFY: ask_made(&of_verify_by, a, how); return;
+    case PATH: ask_made(&of_path_by, a, how); return;
+    case MAKE: ask_made(&of_combine, a, how); return;
+    case TEST: ask_answer(&of_compare, a, how); return;
+    case HAS_ASN: ask_answer(&of_asn, a, how); return;
+    case HAS_PREFIX: ask_answer(&of_prefix, a, how); return;
+    case PRINT: ask_list(&of_print, a, how); return;
+    default: ask_list(&of_list_by, a, how);
+  }
+}
+
+/* Reads the sets of a row into handles, and makes the call on them. A call by DER checks an encoding, and `present` and
+ * a mode, before it reads a set. So the row says nothing of the set then, and the call gets a set without resources. */
+static void ask_by_handles(const question *q, extent how) {
+  attempt a = {.q = q};
+  pigy_status of_set = is_of_set(q->status) ? q->status & ~(uint32_t)PIGY_SECOND : PIGY_OK;
+  int is_verified = q->call == VERIFY || q->call == PATH, is_second = q->status >= PIGY_SECOND;
+  int is_early = is_verified && PIGY_KIND(q->status) == PIGY_BAD_ARGUMENT && (q->call == VERIFY || !q->last);
+  pigy_resources *first = 0, *second = 0;
+  if (q->call == TEXT) ask_made(&of_read_text, &a, how);
+  if (q->call == TEXT || q->call > PRINT) return;
+  if (is_early) {
+    if (pigy_resources_from_text(0, 0, PIGY_ASN, &first) != PIGY_OK) exit(2);
+  } else if (q->status == PIGY_BAD_FAMILY && pigy_resources_read(first_of(q), q->numbers[0], &first) != PIGY_OK) {
+    return;
+  } else if (!first) {
+    first = read_set(&of_first, q, is_second ? PIGY_OK : of_set, how);
+  }
+  a.a = first;
+  if (first && (q->call == MAKE || q->call == TEST)) {
+    second = read_set(&of_second, q, is_second ? of_set : PIGY_OK, how);
+    a.b = second;
+  }
+  if (first && (second || (q->call != MAKE && q->call != TEST))) ask_with(&a, how);
+  pigy_resources_free(first);
+  pigy_resources_free(second);
+}
+
+/* ---- tables */
+
+/* Validates each route of a row in a call of its own. The second output of the row has the reasons. */
+static void ask_each(const question *q, const attempt *table, extent how) {
+  size_t count = q->status == PIGY_OK ? q->route_count : q->last + 1;
+  for (size_t i = 0; i < count; i++) {
+    question one = *q;
+    attempt a = *table;
+    uint8_t validity, reason;
+    one.routes = q->routes + i;
+    a.q = &one;
+    if (q->status == PIGY_OK) {
+      one.last = q->expected[0].octets[i];
+      one.reason = q->expected[1].octets[i];
+      ask_answer(&of_one, &a, how);
+    } else if (i == q->last) {
+      one.last = PIGY_NO_VALIDITY;
+      one.reason = 0;
+      ask_answer(&of_one, &a, how == ALL ? WITH_NULL : how);
+    } else {
+      expect(pigy_table_validate(table->table, one.routes, &validity, &reason) == PIGY_OK, q->row, "a route before");
+    }
+  }
+}
+
+/* Compares each route of a row by two tables in a call of its own, also with the tables exchanged. Between a table and
+ * itself no route has another validity. */
+static void ask_each_twice(const question *q, const attempt *tables) {
+  for (size_t i = 0; i < q->expected[0].length; i++) {
+    question one = *q;
+    run differs = {q->expected[0].octets + i, 1};
+    uint8_t none = 0;
+    attempt a = *tables, back = *tables, same = *tables;
+    one.routes = q->routes + i;
+    one.route_count = 1;
+    one.expected[0] = differs;
+    a.q = back.q = same.q = &one;
+    back.table = tables->next;
+    back.next = tables->table;
+    same.next = tables->table;
+    ask(&of_revalidate, &a, 1, 0);
+    ask(&of_revalidate, &back, 1, 0);
+    one.expected[0].octets = &none;
+    ask(&of_revalidate, &same, 1, 0);
+  }
+}
+
+/* Lists the VRPs of a table, which are those of the row. */
+static void ask_vrps(const question *q, const pigy_table *table, extent how) {
+  question of = *q;
+  attempt a = {.q = &of, .table = table};
+  size_t len = ANY;
+  of.call = VRPS;
+  expect(pigy_table_len(table, &len) == PIGY_OK && len == q->expected[0].length / 23, q->row, "another number of VRPs");
+  ask_list(&of_vrps, &a, how);
+}
+
+/* Makes the next table of a row, and lists its VRPs. The first table has the same VRPs as before. */
+static void ask_changed(const question *q, const pigy_table *table, extent how) {
+  attempt a = {.q = q, .table = table}, made;
+  size_t before = ANY, after = ANY;
+  pigy_table_len(table, &before);
+  made = ask(&of_change, &a, 0, 0);
+  if (made.made) ask_vrps(q, made.made, how);
+  if (how == ALL) ask_refused(&of_change, &a, 0, 0);
+  pigy_table_len(table, &after);
+  expect(before == after && before == q->count, q->row, "the table has changed");
+  pigy_table_free(made.made);
+}
+
+/* Makes both tables of a row, and compares the validities of its routes. */
+static void ask_differ(const question *q, attempt tables, extent how) {
+  pigy_table *next = 0;
+  size_t index;
+  expect(pigy_table_new(q->announced, q->announced_count, &next, &index) == PIGY_OK, q->row, "no second table");
+  tables.next = next;
+  if (next) ask_list(&of_revalidate, &tables, how);
+  if (next) ask_each_twice(q, &tables);
+  pigy_table_free(next);
+}
+
+/* Makes a table of the VRPs of a row, and the calls on it. If a VRP is invalid, there has to be no table. */
+static void ask_table(const question *q, extent how) {
+  int is_of_vrps = q->status < PIGY_SECOND && q->call != CHANGED;
+  question of = *q;
+  attempt new = {.q = &of}, a = {.q = q}, made;
+  if (q->call < ORIGINS) return;
+  of.status = is_of_vrps ? q->status : PIGY_OK;
+  of.last = is_of_vrps ? q->last : 0;
+  made = ask(&of_table, &new, 0, 0);
+  if (how == ALL) ask_refused(&of_table, &new, 0, 0);
+  a.table = made.made;
+  if (a.table && q->call == ORIGINS) {
+    ask_list(&of_all, &a, how);
+    ask_each(q, &a, how);
+  }
+  if (a.table && q->call == COVERING) ask_list(&of_covering, &a, how);
+  if (a.table && q->call == VRPS) ask_vrps(q, a.table, how);
+  if (a.table && q->call == CHANGED) ask_changed(q, a.table, how);
+  if (a.table && q->call == DIFFER) ask_differ(q, a, how);
+  pigy_table_free(made.made);
+}
+
+static void ask_row(const question *q, extent how) {
+  ask_by_der(q, how);
+  ask_by_handles(q, how);
+  ask_table(q, how);
+}
+
+/* Makes the calls of a row with NULL in place of each array of length 0, and with NULL buffers of capacity 0. */
+static void ask_with_null(const question *q) {
+  question bare = *q;
+  bare.has_null = 1;
+  for (int i = 0; i < 4; i++)
+    if (!bare.in[i].length) bare.in[i].octets = 0;
+  if (!bare.count) bare.certificates = 0, bare.vrps = 0;
+  if (!bare.route_count) bare.routes = 0;
+  if (!bare.announced_count) bare.announced = 0;
+  if (!bare.withdrawn_count) bare.withdrawn = 0;
+  ask_row(&bare, WITH_NULL);
+}
+
+/* ---- NULL handles, and no arrays */
+
+/* Checks a status and nothing but zeros in what a call stored. */
+static void expect_none(pigy_status found, pigy_status status, size_t first, size_t second, const char *what) {
+  expect(found == status && !first && !second, 0, what);
+  calls++;
+}
+
+/* Passes NULL as each handle of a call on sets. The other handle is that of an empty set. */
+static void ask_null_sets(void) {
+  static pigy_status (*const made[])(const pigy_resources *, const pigy_resources *, pigy_resources **) = {
+      pigy_resources_union, pigy_resources_intersection, pigy_resources_difference,
+      pigy_resources_symmetric_difference};
+  static pigy_status (*const tested[])(const pigy_resources *, const pigy_resources *, uint8_t *) = {
+      pigy_resources_contains, pigy_resources_equal};
+  const pigy_status none = PIGY_NO_HANDLE;
+  uint8_t octets[2] = {MARK, MARK}, answer;
+  pigy_set empty = {0, 0, 0, 0};
+  pigy_buffers out = {octets, 1, ANY, octets + 1, 1, ANY};
+  pigy_resources *there = 0, *set, *over;
+  pigy_prefix prefix = {{10}, PIGY_IPV4, 8};
+  pigy_as_range as_range;
+  pigy_ip_range ip_range;
+  size_t len, index;
+  pigy_resources_free(0);
+  expect(pigy_resources_read(empty, PIGY_STRICT, &there) == PIGY_OK && there, 0, "an empty set");
+  for (int i = 0; i < 3; i++) {
+    const pigy_resources *a = i == 1 ? there : 0, *b = i == 2 ? there : 0;
+    for (int j = 0; j < 4; j++) {
+      set = (pigy_resources *)(void *)octets;
+      expect_none(made[j](a, b, &set), none, set != 0, 0, "an operation on null");
+    }
+    for (int j = 0; j < 2; j++) {
+      answer = MARK;
+      expect_none(tested[j](a, b, &answer), none, answer, 0, "a test of null");
+    }
+  }
+  set = over = (pigy_resources *)(void *)octets;
+  expect_none(pigy_resources_verify(0, empty, 4, 0, 0, &set, &over), none, set != 0, over != 0, "an issuer of null");
+  set = over = (pigy_resources *)(void *)octets;
+  index = ANY;
+  expect(pigy_resources_verify_path(0, 0, 0, 0, 0, 0, &set, &over, &index) == none, 0, "an anchor of null");
+  expect_none(none, none, set != 0 || over != 0, index, "an anchor of null");
+  answer = MARK;
+  expect_none(pigy_resources_contains_asn(0, 1, &answer), none, answer, 0, "an AS number of null");
+  answer = MARK;
+  expect_none(pigy_resources_contains_prefix(0, &prefix, &answer), none, answer, 0, "a prefix of null");
+  len = ANY;
+  expect_none(pigy_resources_prefixes(0, 0, &prefix, 1, &len), none, len, 0, "prefixes of null");
+  len = ANY;
+  expect_none(pigy_resources_as_ranges(0, &as_range, 1, &len), none, len, 0, "AS ranges of null");
+  len = ANY;
+  expect_none(pigy_resources_ip_ranges(0, 0, &ip_range, 1, &len), none, len, 0, "IP ranges of null");
+  expect_none(pigy_resources_der(0, &out), none, out.as_len, out.ip_len, "DER of null");
+  len = ANY;
+  expect_none(pigy_resources_text(0, 0, (char *)octets, 1, &len), none, len, 0, "a text of null");
+  expect(octets[0] == MARK && octets[1] == MARK, 0, "an octet of null");
+  pigy_resources_free(there);
+}
+
+/* Passes NULL as each handle of a call on tables. */
+static void ask_null_tables(void) {
+  const pigy_status none = PIGY_NO_HANDLE;
+  uint8_t octet = MARK, validity = MARK, reason = MARK;
+  pigy_vrp vrp = {{10}, 1, PIGY_IPV4, 8, 8};
+  pigy_covering covering;
+  pigy_route route = {{0}, 0, 0, 0};
+  pigy_table *table = 0, *next = (pigy_table *)(void *)&octet;
+  size_t len = ANY, index = ANY;
+  pigy_table_free(0);
+  expect_none(pigy_table_validate_routes(0, &route, 1, &octet, 1, &len, &index), none, len, index, "routes of null");
+  expect(pigy_table_validate(0, &route, &validity, &reason) == none, 0, "a route of null");
+  expect(validity == PIGY_NO_VALIDITY && !reason, 0, "a validity of null");
+  len = ANY;
+  expect_none(pigy_table_covering(0, &route, &covering, 1, &len), none, len, 0, "what covers by null");
+  len = ANY;
+  expect_none(pigy_table_len(0, &len), none, len, 0, "the length of null");
+  len = ANY;
+  expect_none(pigy_table_vrps(0, &vrp, 1, &len), none, len, 0, "VRPs of null");
+  index = ANY;
+  expect_none(pigy_table_with_changes(0, &vrp, 1, &vrp, 1, &next, &index), none, index, next != 0, "null is changed");
+  expect(pigy_table_new(&vrp, 1, &table, &index) == PIGY_OK, 0, "a table beside null");
+  for (int i = 0; i < 3; i++) {
+    const pigy_table *old = i == 1 ? table : 0, *other = i == 2 ? table : 0;
+    len = index = ANY;
+    expect_none(pigy_table_revalidate(old, other, &route, 1, &octet, 1, &len, &index), none, len, index,
+                "changes of null");
+  }
+  expect(octet == MARK, 0, "an octet of null");
   pigy_table_free(table);
 }
 
-/* ---- many routes: each has the prefix of a VRP, and half of the routes have its AS */
+static void ask_null(void) {
+  ask_null_sets();
+  ask_null_tables();
+}
 
+/* Makes each call on a table with NULL in place of all its arrays. The table has no VRPs. */
+static void ask_empty_table(void) {
+  static const pigy_route route = {{10}, 1, PIGY_IPV4, 8};
+  pigy_table *table = 0, *next = 0;
+  uint8_t validity = MARK, reason = MARK;
+  size_t len = ANY, index = ANY;
+  expect_none(pigy_table_new(0, 0, &table, &index), PIGY_OK, index, !table, "an empty table");
+  index = ANY;
+  expect_none(pigy_table_with_changes(table, 0, 0, 0, 0, &next, &index), PIGY_OK, index, !next, "no changes");
+  index = ANY;
+  expect_none(pigy_table_validate_routes(table, 0, 0, 0, 0, &len, &index), PIGY_OK, len, index, "no routes");
+  expect(pigy_table_validate(table, &route, &validity, &reason) == PIGY_OK, 0, "a route by no VRPs");
+  expect(validity == PIGY_NOT_FOUND && !reason, 0, "a validity by no VRPs");
+  len = index = ANY;
+  expect_none(pigy_table_revalidate(table, next, 0, 0, 0, 0, &len, &index), PIGY_OK, len, index, "no changed routes");
+  len = ANY;
+  expect_none(pigy_table_covering(table, &route, 0, 0, &len), PIGY_OK, len, 0, "no VRPs that cover a route");
+  len = ANY;
+  expect_none(pigy_table_vrps(table, 0, 0, &len), PIGY_OK, len, 0, "no VRPs of a table");
+  pigy_table_free(next);
+  pigy_table_free(table);
+}
+
+/* Makes each call on a handle with NULL in place of all its arrays. The set has no resources. */
+static void ask_empty_set(pigy_set empty, pigy_buffers *out) {
+  pigy_resources *set = 0, *over = 0, *other = 0;
+  size_t len = ANY, index = ANY;
+  expect_none(pigy_resources_from_text(0, 0, PIGY_IPV6, &set), PIGY_OK, !set, 0, "an empty text");
+  expect_none(pigy_resources_verify_path(set, 0, 0, 0, 0, PIGY_STRICT, &other, &over, &index), PIGY_OK, index,
+              !other || over, "an empty path by a handle");
+  pigy_resources_free(other);
+  expect_none(pigy_resources_verify(set, empty, 0, PIGY_STRICT, PIGY_TRIM, &other, &over), PIGY_ABSENT, other != 0,
+              over != 0, "no extension by a handle");
+  expect_none(pigy_resources_prefixes(set, PIGY_IPV6, 0, 0, &len), PIGY_OK, len, 0, "no prefixes of a handle");
+  len = ANY;
+  expect_none(pigy_resources_as_ranges(set, 0, 0, &len), PIGY_OK, len, 0, "no AS ranges of a handle");
+  len = ANY;
+  expect_none(pigy_resources_ip_ranges(set, PIGY_IPV4, 0, 0, &len), PIGY_OK, len, 0, "no IP ranges of a handle");
+  len = ANY;
+  expect_none(pigy_resources_text(set, PIGY_ASN, 0, 0, &len), PIGY_OK, len, 0, "no text of a handle");
+  out->as_len = out->ip_len = ANY;
+  expect_none(pigy_resources_der(set, out), PIGY_OK, out->as_len, out->ip_len, "no DER of a handle");
+  pigy_resources_free(set);
+}
+
+/* Makes each other call with NULL in place of all its arrays. The expected status of each call is that of a row whose
+ * arrays have length 0. */
+static void ask_empty(void) {
+  static pigy_status (*const made[])(pigy_set, pigy_set, pigy_encoding, pigy_buffers *) = {
+      pigy_union, pigy_intersection, pigy_difference};
+  static pigy_status (*const tested[])(pigy_set, pigy_set, pigy_encoding, uint8_t *) = {pigy_contains, pigy_equal};
+  const pigy_set empty = {0, ANY, 0, ANY};
+  const pigy_buffers none = {0, ANY, ANY, 0, ANY, ANY};
+  pigy_buffers out = none, excess = none;
+  size_t len = ANY, index = ANY;
+  for (pigy_present present = 0; present <= PIGY_HAS_BOTH; present++) {
+    uint32_t status = !present ? PIGY_ABSENT : PIGY_SECOND + (present == PIGY_HAS_IP ? PIGY_BAD_IP : PIGY_BAD_AS) + 1u;
+    out = excess = none;
+    expect_none(pigy_verify(empty, empty, present, PIGY_STRICT, PIGY_REFUSE, &out, &excess), status,
+                out.as_len + out.ip_len, excess.as_len + excess.ip_len, "an empty certificate");
+  }
+  out = excess = none;
+  expect(pigy_verify_path(empty, 0, 0, 0, 0, PIGY_STRICT, &out, &excess, &index) == PIGY_OK && !index, 0,
+         "an empty path");
+  expect_none(PIGY_OK, PIGY_OK, out.as_len + out.ip_len, excess.as_len + excess.ip_len, "lengths of an empty path");
+  for (int i = 0; i < 3; i++) {
+    out = none;
+    expect_none(made[i](empty, empty, PIGY_STRICT, &out), PIGY_OK, out.as_len, out.ip_len, "a set of empty sets");
+  }
+  for (int i = 0; i < 2; i++) {
+    uint8_t answer = MARK;
+    expect_none(tested[i](empty, empty, PIGY_STRICT, &answer), PIGY_OK, answer != 1, 0, "empty sets are compared");
+  }
+  out = none;
+  expect_none(pigy_set_from_text(0, 0, PIGY_ASN, &out), PIGY_OK, out.as_len, out.ip_len, "an empty list");
+  expect_none(pigy_prefixes(0, 0, PIGY_STRICT, PIGY_IPV4, 0, 0, &len), PIGY_OK, len, 0, "prefixes of no addresses");
+  len = ANY;
+  expect_none(pigy_as_ranges(0, 0, PIGY_STRICT, 0, 0, &len), PIGY_OK, len, 0, "ranges of no AS numbers");
+  len = ANY;
+  expect_none(pigy_ip_ranges(0, 0, PIGY_STRICT, PIGY_IPV4, 0, 0, &len), PIGY_OK, len, 0, "ranges of no addresses");
+  len = index = ANY;
+  expect_none(pigy_validate(0, 0, 0, 0, 0, 0, &len, &index), PIGY_OK, len, index, "no VRPs and no routes");
+  len = index = ANY;
+  expect_none(pigy_vrps_read(0, 0, 0, 0, &len, &index), PIGY_BAD_FILE + 6u, len, index, "an empty file");
+  len = ANY;
+  expect_none(pigy_answer(0, 0, 0, 0, &len), PIGY_BAD_QUERY, len, 0, "an empty line");
+  ask_empty_set(empty, &out);
+  ask_empty_table();
+}
+
+/* ---- large inputs */
+
+/* Validates many routes. Each has the prefix of a VRP, and half of the routes have its AS. */
 static void ask_many(void) {
   pigy_vrp *vrps = (pigy_vrp *)(void *)block(MANY * sizeof *vrps);
   pigy_route *routes = (pigy_route *)(void *)block(MANY * sizeof *routes);
@@ -746,13 +1123,48 @@ static void ask_many(void) {
     vrps[i] = vrp;
     routes[i] = route;
   }
-  expect(pigy_origins(vrps, MANY, routes, MANY, out, MANY, &len, &index) == PIGY_OK, 0, "many routes");
+  expect(pigy_validate(vrps, MANY, routes, MANY, out, MANY, &len, &index) == PIGY_OK, 0, "many routes");
   for (uint32_t i = 0; i < MANY; i++) is_so = is_so && out[i] == (i % 2 ? PIGY_VALID : PIGY_INVALID);
   expect(is_so && len == MANY && index == 0, 0, "validities of many routes");
   calls++;
   free(vrps);
   free(routes);
   free(out);
+}
+
+/* Returns a set of the odd AS numbers below 2 * ODD. */
+static pigy_resources *odd_numbers(void) {
+  char *text = (char *)block(ODD * 8), *end = text;
+  pigy_resources *made = 0;
+  for (unsigned i = 0; i < ODD; i++) end += sprintf(end, "%u,", 2 * i + 1);
+  expect(pigy_resources_from_text(text, (size_t)(end - text), PIGY_ASN, &made) == PIGY_OK, 0, "many AS numbers");
+  free(text);
+  return made;
+}
+
+/* Asks for each number whether a set has it. Writes the set, and reads it again. */
+static void ask_odd(const pigy_resources *odd) {
+  pigy_as_range *ranges = (pigy_as_range *)(void *)block(ODD * sizeof *ranges);
+  pigy_buffers out = {0, 0, 0, 0, 0, 0};
+  pigy_resources *again = 0;
+  uint8_t answer = MARK;
+  size_t len = ANY;
+  int is_so = 1;
+  for (uint32_t i = 0; i < 2 * ODD; i++)
+    is_so = is_so && pigy_resources_contains_asn(odd, i, &answer) == PIGY_OK && answer == i % 2;
+  expect(is_so, 0, "odd AS numbers");
+  expect(pigy_resources_as_ranges(odd, ranges, ODD, &len) == PIGY_OK && len == ODD, 0, "odd ranges");
+  for (uint32_t i = 0; i < ODD; i++) is_so = is_so && ranges[i].min == 2 * i + 1 && ranges[i].max == 2 * i + 1;
+  expect(is_so, 0, "bounds of odd ranges");
+  expect(pigy_resources_der(odd, &out) == PIGY_TOO_SMALL && out.as_len && !out.ip_len, 0, "the length of odd numbers");
+  out.as = block(out.as_capacity = out.as_len);
+  expect(pigy_resources_der(odd, &out) == PIGY_OK, 0, "DER of odd numbers");
+  expect(pigy_resources_read((pigy_set){out.as, out.as_len, 0, 0}, PIGY_STRICT, &again) == PIGY_OK, 0, "odd DER");
+  expect(pigy_resources_equal(odd, again, &answer) == PIGY_OK && answer == 1, 0, "odd numbers are equal");
+  calls += 2 * ODD + 5;
+  pigy_resources_free(again);
+  free(out.as);
+  free(ranges);
 }
 
 /* ---- all rows */
@@ -769,7 +1181,7 @@ static question question_of(unsigned row, char **words) {
   read_numbers(&q, words[1]);
   for (int i = 0; i < 4; i++) q.in[i] = read_run(q.call == PATH && i == 3 ? "-" : words[2 + i]);
   read_certificates(&q, q.call == PATH ? words[5] : "-");
-  if (is_of_table(&q)) {
+  if (q.call >= ORIGINS) {
     q.vrps = read_vrps(q.in, &q.count);
     if (q.call == CHANGED) q.announced = read_vrps(q.in + 2, &q.announced_count);
     if (q.call == DIFFER) q.announced = read_vrps(q.in + 1, &q.announced_count);
@@ -778,7 +1190,7 @@ static question question_of(unsigned row, char **words) {
   }
   q.status = (uint32_t)strtoul(words[6], 0, 10);
   for (int i = 0; i < 2; i++) q.expected[i] = read_run(words[7 + i]);
-  q.verified = strtoul(words[9], 0, 10);
+  q.last = strtoul(words[9], 0, 10);
   return q;
 }
 
@@ -818,33 +1230,65 @@ static questions read_rows(const char *folder) {
   return found;
 }
 
-/* Makes the call of a row, with buffers of the expected lengths. Calls with tables, files and ranges have buffers of
- * several lengths. */
-static void ask_once(const question *one) {
-  if (is_of_table(one)) ask_table(one);
-  else if (one->call == READ) ask_read(one);
-  else if (one->call == AS_RANGES || one->call == IP_RANGES) ask_ranges(one);
-  else if (one->call == TEST) expect(call_in_short(one, 0) == one->status, one->row, "another status on a thread");
-  else ask(one, one->expected[0].length, one->expected[1].length);
+/* ---- threads */
+
+/* The rows that a thread asks, and the handles that all threads share. */
+typedef struct {
+  questions rows;
+  const pigy_resources *odd;
+  const pigy_table *table;
+  uint32_t number;
+} shared;
+
+/* Uses a set and a table that other threads use at the same time, also to make other handles from them. */
+static void use_shared(const shared *of) {
+  pigy_resources *one = 0, *joined = 0;
+  pigy_table *next = 0;
+  pigy_vrp fresh = {{11}, of->number, PIGY_IPV4, 8, 8};
+  pigy_route ten = {{10}, 1, PIGY_IPV4, 8}, eleven = {{11}, of->number, PIGY_IPV4, 8};
+  uint8_t answer = MARK, reason = MARK;
+  size_t index;
+  ask_odd(of->odd);
+  expect(pigy_resources_from_text("AS2", 3, PIGY_ASN, &one) == PIGY_OK, 0, "a set of a thread");
+  expect(pigy_resources_union(of->odd, one, &joined) == PIGY_OK, 0, "a union of a thread");
+  expect(pigy_resources_contains(joined, of->odd, &answer) == PIGY_OK && answer == 1, 0, "a union contains");
+  expect(pigy_resources_contains(of->odd, joined, &answer) == PIGY_OK && answer == 0, 0, "a part contains no union");
+  pigy_resources_free(joined);
+  pigy_resources_free(one);
+  expect(pigy_table_validate(of->table, &ten, &answer, &reason) == PIGY_OK && answer == PIGY_VALID, 0, "one table");
+  expect(pigy_table_with_changes(of->table, &fresh, 1, 0, 0, &next, &index) == PIGY_OK, 0, "a table of a thread");
+  expect(pigy_table_validate(next, &eleven, &answer, &reason) == PIGY_OK && answer == PIGY_VALID, 0, "its own VRP");
+  expect(pigy_table_validate(of->table, &eleven, &answer, &reason) == PIGY_OK && answer == PIGY_NOT_FOUND, 0,
+         "no VRP of another thread");
+  pigy_table_free(next);
 }
 
-/* Runs ask_once for each row. Begins at the row first, and wraps around. */
+/* Makes the call of each row once. Begins at the row first, and wraps around. */
 static void *ask_round(void *of) {
-  const questions *q = (const questions *)of;
-  for (unsigned i = 0; i < q->count; i++) ask_once(q->all + (q->first + i) % q->count);
+  const shared *s = (const shared *)of;
+  use_shared(s);
+  for (unsigned i = 0; i < s->rows.count; i++) ask_row(s->rows.all + (s->rows.first + i) % s->rows.count, ONCE);
   return 0;
 }
 
-/* Runs ask_round on all threads at the same time. They share the inputs, and each begins at another row. */
+/* Runs ask_round on all threads at the same time. They share the inputs and two handles, and each begins at another
+ * row. */
 static void ask_on_threads(questions rows) {
+  static const pigy_vrp vrp = {{10}, 1, PIGY_IPV4, 8, 8};
   pthread_t threads[THREADS];
-  questions of[THREADS];
+  shared of[THREADS];
+  pigy_resources *odd = odd_numbers();
+  pigy_table *table = 0;
+  size_t index;
+  expect(pigy_table_new(&vrp, 1, &table, &index) == PIGY_OK, 0, "a table for all threads");
   for (unsigned i = 0; i < THREADS; i++) {
-    of[i] = rows;
-    of[i].first = rows.count * i / THREADS;
+    of[i] = (shared){rows, odd, table, i + 1};
+    of[i].rows.first = rows.count * i / THREADS;
     if (pthread_create(threads + i, 0, ask_round, of + i)) exit(2);
   }
   for (unsigned i = 0; i < THREADS; i++) pthread_join(threads[i], 0);
+  pigy_resources_free(odd);
+  pigy_table_free(table);
 }
 
 /* ---- the stack */
@@ -871,7 +1315,7 @@ static void *ask_on_stack(void *of) {
     ask_many();
   }
   for (unsigned i = 0; i < one->rows.count; i++)
-    if ((one->rows.all[i].call == READ) == one->reads) ask_once(one->rows.all + i);
+    if ((one->rows.all[i].call == READ) == one->reads) ask_row(one->rows.all + i, ONCE);
   return 0;
 }
 
@@ -899,35 +1343,49 @@ static void ask_stack(questions rows) {
   size_t to_read = used_stack(rows, 1), used = used_stack(rows, 0);
   expect(used < USED && to_read < USED_TO_READ && USED_TO_READ < STACK, 0, "more of the stack than the header says");
   expect(calls > rows.count && used > 0 && to_read > 0, 0, "no calls on the stack");
-  printf("C: %u calls use %zu octets of the stack, and %zu to read files, of %u that are stated\n", calls, used, to_read,
-         (unsigned)STACK);
+  printf("C: %u calls use %zu octets of the stack, and %zu to read files, of %u that are stated\n", calls, used,
+         to_read, (unsigned)STACK);
 }
 
-/* Checks the texts of statuses. Each line of texts.txt is a status and its text. */
+/* ---- texts of statuses */
+
+/* Returns whether a status has a text. */
+static int has_text(pigy_status status) { return strcmp(pigy_status_text(status), "unknown status") != 0; }
+
+/* Checks the texts of statuses. Each line of texts.txt is a status and its text. No other number has a text, and each
+ * status has one kind. */
 static void ask_texts(const char *folder) {
   static char line[LENGTH];
   FILE *file = open_file(folder, "texts.txt");
-  unsigned count = 0;
+  unsigned count = 0, found = 0;
   while (fgets(line, LENGTH, file)) {
     char *text;
-    uint32_t status = (uint32_t)strtoul(line, &text, 10);
+    pigy_status status = (pigy_status)strtoul(line, &text, 10);
+    uint32_t of = PIGY_KIND(status);
     text[strcspn(text, "\n")] = 0;
     expect(*text == ' ' && !strcmp(pigy_status_text(status), text + 1), 0, "another text of a status");
+    expect(!(of & (of - 1)) && (of == PIGY_OK) == (status == PIGY_OK), 0, "a status of two kinds");
+    expect((of | PIGY_FAULT(status) | (status & PIGY_SECOND)) == status, 0, "a status of other parts");
     count++;
   }
-  expect(count > 0, 0, "no texts");
+  for (uint32_t fault = 0; fault < 256; fault++)
+    for (int second = 0; second < 2; second++)
+      for (int bit = 7; bit < 32; bit++) {
+        pigy_status status = (bit < 8 ? 0u : 1u << bit) + fault + (second ? (uint32_t)PIGY_SECOND : 0u);
+        if (bit != 24) found += has_text(status);
+      }
+  expect(count > 0 && found == count, 0, "a text of a number that is no status");
+  expect(!has_text(UINT32_MAX) && !has_text(PIGY_BAD_LINE + PIGY_BAD_ITEM + 4u), 0, "a text of several kinds");
   fclose(file);
 }
 
 static void ask_all(questions rows) {
+  pigy_resources *odd = odd_numbers();
+  ask_odd(odd);
+  pigy_resources_free(odd);
   for (unsigned i = 0; i < rows.count; i++) {
-    if (is_of_table(rows.all + i)) ask_table(rows.all + i);
-    if (rows.all[i].call == READ) ask_read(rows.all + i);
-    if (rows.all[i].call == AS_RANGES || rows.all[i].call == IP_RANGES) ask_ranges(rows.all + i);
-    if (rows.all[i].call != TEST && rows.all[i].call <= ORIGINS) ask_capacities(rows.all + i);
+    ask_row(rows.all + i, ALL);
     ask_with_null(rows.all + i);
-    ask_in_short(rows.all + i);
-    ask_row_refused(rows.all + i);
   }
   if (rows.count) ask_on_threads(rows);
 }
@@ -940,7 +1398,7 @@ int main(int count, char **words) {
   if (is_of_stack) {
     ask_stack(rows);
   } else {
-    expect(pigy_version() == PIGY_VERSION, 0, "another version");
+    expect(pigy_version() == PIGY_VERSION_NUMBER, 0, "another version");
     ask_texts(words[1]);
     ask_null();
     ask_empty();

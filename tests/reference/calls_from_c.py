@@ -17,18 +17,24 @@ from .sets import Set, difference, has_all, intersection, union
 Octets = tuple[bytes, bytes]
 Triple = tuple[Set, Set, Set]
 
-OK, INHERITED, BAD_MODE, OVERCLAIM_AS, NO, BAD_ENCODING = 0, 3, 4, 5, 8, 9
-ABSENT, OUTSIDE, BAD_PRESENT, BAD_FAMILY, BAD_PREFIX, BAD_MAX_LEN = 10, 11, 12, 13, 14, 15
-UNKNOWN_WITHDRAWAL, DUPLICATE_ANNOUNCEMENT, BAD_KIND = 17, 18, 19
+OK = 0
+BAD_ENCODING, BAD_MODE, BAD_PRESENT, BAD_FAMILY, BAD_KIND, BAD_PREFIX, BAD_MAX_LEN, OUTSIDE = range(0x401, 0x409)
+BAD_AS, BAD_IP, INHERITED, ABSENT, OVERCLAIM = 0x800, 0x1000, 0x2000, 0x4000, 0x8000
+UNKNOWN_WITHDRAWAL, DUPLICATE_ANNOUNCEMENT = 0x10006, 0x10007
+BAD_LINE, BAD_ITEM, BAD_FILE, BAD_TEXT, BAD_QUERY = 0x20000, 0x40000, 0x80000, 0x100000, 0x200000
+SECOND = 0x1000000
+INVALID_AS, INVALID_LENGTH = 1, 2
 OTHER_AS, TOO_LONG = 1, 2
-BAD_AS, BAD_IP, SECOND = 0x100, 0x200, 0x1000
-BAD_LINE, BAD_ITEM, BAD_FILE, BAD_TEXT = 0x400, 0x800, 0xC00, 0x2000
-LENIENT, STRICT = 0, 1
-REFUSE, TRIM = 0, 1
 NUMBERS, ADDRESSES, BOTH = 1, 2, 3
-FAMILIES = {1: Family.V4, 2: Family.V6}
+V4, ASN, V6 = 4, 5, 6
+LENIENT, STRICT = 16, 17
+REFUSE, TRIM = 32, 33
+FAMILIES = {V4: Family.V4, V6: Family.V6}
+# The numbers of the kinds of resources, in the order of a set.
+KINDS = ASN, V4, V6
 VALIDITIES = {"Valid": 0, "NotFound": 1, "Invalid": 2}
 OPERATIONS = {"union": union, "intersection": intersection, "difference": difference}
+OPERATIONS["symmetric_difference"] = lambda left, right: union(difference(left, right), difference(right, left))
 TESTS = {"contains": has_all, "equal": eq}
 ON_SETS = [*OPERATIONS, *TESTS]
 
@@ -109,7 +115,7 @@ def left(kind: int, root: Set, claim: Claim, mode: int) -> Set:
     except Refused as refused:
         excess: list[Set] = [[], [], []]
         excess[kind] = refused.excess
-        raise Status(OVERCLAIM_AS + kind, (excess[0], excess[1], excess[2])) from None
+        raise Status(OVERCLAIM + KINDS[kind], (excess[0], excess[1], excess[2])) from None
 
 
 def is_strict(encoding: int) -> bool:
@@ -176,7 +182,7 @@ def cover_octets(question: Question) -> bytes:
     strict = is_strict(encoding)
     if number not in FAMILIES:
         raise Status(BAD_FAMILY)
-    family, found = FAMILIES[number], read_set((b"", question.first[0]), strict)[number]
+    family, found = FAMILIES[number], read_set((b"", question.first[0]), strict)[KINDS.index(number)]
     behind = 128 - family.bits
     bounds = [(low >> behind, high >> behind) for low, high in found]
     cover = prefixes.cover(bounds, family.bits)
@@ -190,12 +196,12 @@ TEXT_FAULTS = {BAD_AS_NUMBER: 2, BAD_AS_RANGE: 3, FAMILY_MISMATCH: 6, BAD_RANGE:
 def text_set(question: Question) -> Triple:
     """Returns the set of one kind that a list as text describes."""
     (kind,), octets = question.numbers, question.first[0]
-    if kind not in (0, *FAMILIES):
+    if kind not in KINDS:
         raise Status(BAD_KIND)
     found: list[Set] = [[], [], []]
     try:
         text = octets.decode("utf-8")
-        found[kind] = ip.read_set(text, FAMILIES[kind]) if kind else asn.read_set(text)
+        found[KINDS.index(kind)] = asn.read_set(text) if kind == ASN else ip.read_set(text, FAMILIES[kind])
     except UnicodeDecodeError:
         raise Status(BAD_TEXT + 1) from None
     except Fault as fault:
@@ -214,14 +220,14 @@ def range_octets(question: Question) -> bytes:
     if family[0] not in FAMILIES:
         raise Status(BAD_FAMILY)
     bits = FAMILIES[family[0]].bits
-    pairs = read_set((b"", question.first[0]), strict)[family[0]]
+    pairs = read_set((b"", question.first[0]), strict)[KINDS.index(family[0])]
     ends = [end >> 128 - bits for pair in pairs for end in pair]
     return b"".join(end.to_bytes(bits // 8, "big").ljust(16, b"\0") for end in ends)
 
 
-def prefix_of(octets: bytes, base: int, place: int) -> prefixes.Prefix:
-    """Reads the prefix of a VRP or of a route, which is at an index."""
-    number, length = octets[20:22]
+def prefix_of(octets: bytes, base: int, place: int | None) -> prefixes.Prefix:
+    """Reads a prefix: its address, its family and its length. It may be that of a VRP or a route at an index."""
+    number, length = octets[-2:]
     if number not in FAMILIES:
         raise Status(base + BAD_FAMILY, place=place)
     family = FAMILIES[number]
@@ -233,7 +239,7 @@ def prefix_of(octets: bytes, base: int, place: int) -> prefixes.Prefix:
 
 def vrp_of(octets: bytes, base: int = 0, place: int = 0) -> prefixes.Vrp:
     """Reads a VRP, which is at an index."""
-    prefix = prefix_of(octets, base, place)
+    prefix = prefix_of(octets[:22], base, place)
     if not prefix.length <= octets[22] <= prefix.family.bits:
         raise Status(base + BAD_MAX_LEN, place=place)
     return prefixes.Vrp(prefixes.MaxLenPrefix(prefix, octets[22]), int.from_bytes(octets[16:20], "big"))
@@ -250,18 +256,26 @@ def routes_in(octets: bytes) -> list[tuple[prefixes.Prefix, int]]:
     return [(prefix_of(each, SECOND, place), int.from_bytes(each[16:20], "big")) for place, each in found]
 
 
+def reason(route: prefixes.Prefix, number: int, vrps: list[prefixes.Vrp]) -> int:
+    """Returns why a route is invalid: 0 if it is not, and otherwise whether a VRP that covers it has its AS."""
+    if prefixes.validity(route, number, vrps) != "Invalid":
+        return 0
+    owners = {one.asn for one in vrps if one.prefix.prefix.covers(route)}
+    return INVALID_LENGTH if number in owners and number != 0 else INVALID_AS
+
+
 def origins_answer(question: Question) -> Answer:
-    """Returns the validity of each route under the VRPs."""
-    vrps = vrps_in(question.first[0])
-    found = [VALIDITIES[prefixes.validity(*route, vrps)] for route in routes_in(question.second[0])]
-    return Answer(OK, (bytes(found), b""), 0)
+    """Returns the validity of each route under the VRPs, and the reason why it is invalid."""
+    vrps, routes = vrps_in(question.first[0]), routes_in(question.second[0])
+    found = [VALIDITIES[prefixes.validity(*route, vrps)] for route in routes]
+    return Answer(OK, (bytes(found), bytes(reason(*route, vrps) for route in routes)), 0)
 
 
 def vrp_octets(vrp: prefixes.Vrp) -> bytes:
     """Returns the octets of a VRP."""
     family, address, length = vrp.prefix.prefix
     octets = address.to_bytes(family.bits // 8, "big").ljust(16, b"\0") + vrp.asn.to_bytes(4, "big")
-    return octets + bytes([1 if family is Family.V4 else 2, length, vrp.prefix.resolved()])
+    return octets + bytes([V4 if family is Family.V4 else V6, length, vrp.prefix.resolved()])
 
 
 def table_place(vrp: prefixes.Vrp) -> tuple[int, ...]:
@@ -356,19 +370,50 @@ def cut(octets: bytes, length: int) -> list[bytes]:
     return [octets[at : at + length] for at in range(0, len(octets), length)]
 
 
-def asked_of_sets(question: Question) -> Triple:
-    """Returns the result of an operation on two sets.
-
-    A test of two sets that holds returns no resources. A test that does not hold raises the status NO.
-    """
+def two_sets(question: Question) -> tuple[Triple, Triple]:
+    """Returns the two sets of a question."""
     strict = is_strict(question.numbers[0])
-    first, second = read_set(question.first, strict), read_set(question.second, strict, SECOND)
-    if operation := OPERATIONS.get(question.call):
-        asn, v4, v6 = map(operation, first, second)
-        return asn, v4, v6
-    if not all(map(TESTS[question.call], first, second)):
-        raise Status(NO)
-    return [], [], []
+    return read_set(question.first, strict), read_set(question.second, strict, SECOND)
+
+
+def combined(question: Question) -> Triple:
+    """Returns the result of an operation on two sets."""
+    asn, v4, v6 = map(OPERATIONS[question.call], *two_sets(question))
+    return asn, v4, v6
+
+
+def answer_of_test(question: Question) -> Answer:
+    """Returns 1 if a test of two sets, of a number or of a prefix holds, and otherwise 0."""
+    if question.call in TESTS:
+        found = all(map(TESTS[question.call], *two_sets(question)))
+        return Answer(OK, (b"", b""), int(found))
+    of = read_set(question.first, is_strict(question.numbers[0]))
+    if question.call == "contains_asn":
+        number = question.numbers[1]
+        return Answer(OK, (b"", b""), int(has_all(of[0], [(number, number)])))
+    prefix = prefix_of(question.second[0], 0, None)
+    behind = 128 - prefix.family.bits
+    low = prefix.address << behind
+    addresses = of[1 if prefix.family is Family.V4 else 2]
+    return Answer(OK, (b"", b""), int(has_all(addresses, [(low, low + (1 << 128 - prefix.length) - 1)])))
+
+
+def text_octets(question: Question) -> bytes:
+    """Returns the text of one kind of resources of a set."""
+    encoding, kind = question.numbers
+    found = read_set(question.first, is_strict(encoding))
+    if kind not in KINDS:
+        raise Status(BAD_KIND)
+    of = found[KINDS.index(kind)]
+    return (asn.print_set(of) if kind == ASN else ip.print_set(of, FAMILIES[kind])).encode()
+
+
+def line_octets(question: Question) -> bytes:
+    """Returns what `respath` prints for a line."""
+    text = lines.answer(question.first[0])
+    if text.startswith("error: "):
+        raise Status(BAD_QUERY)
+    return text.encode("utf-8")
 
 
 def written(found: Triple) -> Octets:
@@ -389,13 +434,16 @@ def written_by(question: Question) -> Octets:
         case "as_ranges" | "ip_ranges":
             return range_octets(question), b""
         case "answer":
-            return lines.answer(question.first[0]).encode("utf-8"), b""
-    return written(asked_of_sets(question))
+            return line_octets(question), b""
+        case "print":
+            return text_octets(question), b""
+    return written(combined(question))
 
 
 # The calls whose answer has a last word.
 ANSWERS = {"path": path_answer, "origins": origins_answer, "differ": differ_answer, "read": file_answer}
 ANSWERS |= dict.fromkeys(("covering", "vrps", "changed"), table_answer)
+ANSWERS |= dict.fromkeys((*TESTS, "contains_asn", "contains_prefix"), answer_of_test)
 
 
 def answer(question: Question) -> Answer:

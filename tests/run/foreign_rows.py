@@ -9,19 +9,24 @@ A row has nine words with spaces between them. Octets are in hexadecimal. A word
 2. The second to the fifth word are the input.
 3. The sixth word is the status.
 4. The seventh and the eighth word are the output.
-5. The last word is a count, an index, the number of a line or item, or `-`. It depends on the call.
+5. The last word is a count, an index, the number of a line or item, an answer, or `-`. It depends on the call.
 
 The input and the output depend on the call:
 
 * `verify` and the calls on two sets: a set or a certificate is two words, its AS extension and its IP extension. The
-  output is a set. The tests `contains` and `equal` have no output.
+  output is a set. With a status of overclaimed resources the output is these resources.
+* `contains` and `equal`: two sets. The last word is 1 for yes and 0 for no.
+* `contains_asn`: a set. The AS number is the second number. The last word is 1 or 0.
+* `contains_prefix`: a set, and a prefix of 18 octets: an address, a family and a length. The last word is 1 or 0.
+* `print`: a set. The output is the text of one kind of its resources.
 * `path`: the anchor's set, the octets of all extensions, and the certificates. A certificate is six numbers. The last
   word is the number of certificates that are verified.
 * `cover`: the octets of an IP extension. The output has each prefix's address and length.
 * `as_ranges` and `ip_ranges`: the octets of an extension. The output has two numbers for each range. A number has 4
   octets for AS numbers and 16 for addresses.
 * `origins`: VRPs of 23 octets each, and routes of 22 octets each. Both have an address, an AS number, a family and a
-  length. A VRP also has a maximum length. The last word is the index of the first VRP or route that is invalid.
+  length. A VRP also has a maximum length. The output is the validity of each route, and the reason why it is invalid.
+  The last word is the index of the first VRP or route that is invalid.
 * `covering`: the VRPs of a table, and a route. The output has 24 octets for each VRP that covers the route. The last
   octet says why the VRP does not match.
 * `vrps`: the VRPs of a table. The output is the same VRPs in the order of a table.
@@ -30,7 +35,7 @@ The input and the output depend on the call:
   other route.
 * `read`: a file of VRPs. The output is its VRPs. The last word is the number of the first line or item that is invalid.
 * `text`: a list of resources as text. The output is a set.
-* `answer`: a line for `respath`. The output is the line that it prints.
+* `answer`: a line for `respath`. The output is the line that it prints, unless this is an error.
 """
 
 import shutil
@@ -44,7 +49,8 @@ from top import TOP
 from reference import asn, ip, prefixes
 from reference.addresses import Family
 from reference.calls_from_c import (
-    ADDRESSES, BOTH, LENIENT, NUMBERS, ON_SETS, REFUSE, STRICT, TRIM, Octets, Place, Question, answer, vrp_of, written
+    ADDRESSES, ASN, BOTH, KINDS, LENIENT, NUMBERS, ON_SETS, REFUSE, STRICT, TRIM, V4, V6, Octets, Place, Question,
+    answer, vrp_of, written,
 )
 from reference.lines import COMMANDS
 from reference.random_lines import Maker
@@ -56,6 +62,7 @@ def listed(numbers: str, v4: str, v6: str) -> Octets:
     return written((asn.read_set(numbers), ip.read_set(v4, Family.V4), ip.read_set(v6, Family.V6)))
 
 
+ENCODINGS, MODES, BOTH_FAMILIES = (LENIENT, STRICT), (REFUSE, TRIM), (V4, V6)
 ISSUER = listed("AS1-AS10, AS64496", "10.0.0.0/8, 192.0.2.0-192.0.2.9", "2001:db8::/32")
 ALL = listed("AS0-AS4294967295", "0.0.0.0/0", "::/0")
 NOTHING: Octets = (b"", b"")
@@ -120,19 +127,20 @@ def of_certificates() -> Iterator[Question]:
 
     for certificate in CERTIFICATES:
         for issuer in (ISSUER, ALL, NOTHING):
-            for encoding in (LENIENT, STRICT):
-                for mode in (REFUSE, TRIM):
+            for encoding in ENCODINGS:
+                for mode in MODES:
                     yield asked(encoding, mode, issuer, certificate)
         yield asked(LENIENT, REFUSE, certificate, ISSUER)
         yield asked(STRICT, TRIM, certificate, INHERITS)
-    for encoding, mode in ((2, REFUSE), (STRICT, 2), (2**32 - 1, 2**32 - 1), (LENIENT, 256), (256, LENIENT)):
+    wrong = (18, REFUSE), (STRICT, 34), (2**32 - 1, 2**32 - 1), (LENIENT, 256), (256, REFUSE), (0, 0), (1, 1)
+    for encoding, mode in (*wrong, (REFUSE, STRICT), (TRIM, LENIENT), (STRICT, STRICT), (TRIM, TRIM), (STRICT, 0)):
         yield asked(encoding, mode, ISSUER, ISSUER)
         yield asked(encoding, mode, (b"\0", b"\0"), NOTHING)
     for other in altered(CERTIFICATES[6], source):
-        yield asked(source.randrange(2), source.randrange(2), ISSUER, other)
-        yield asked(source.randrange(2), source.randrange(2), other, NOTHING)
+        yield asked(source.choice(ENCODINGS), source.choice(MODES), ISSUER, other)
+        yield asked(source.choice(ENCODINGS), source.choice(MODES), other, NOTHING)
     for _ in range(300):
-        yield asked(source.randrange(2), source.randrange(2), random_set(source), random_set(source))
+        yield asked(source.choice(ENCODINGS), source.choice(MODES), random_set(source), random_set(source))
 
 
 def of_absence() -> Iterator[Question]:
@@ -142,7 +150,7 @@ def of_absence() -> Iterator[Question]:
         for numbers in (ISSUER[0], b"", bad):
             for addresses in (ISSUER[1], b"", bad):
                 yield Question("verify", (LENIENT, present, REFUSE), ISSUER, (numbers, addresses))
-        yield Question("verify", (STRICT, present, 2), ISSUER, INHERITS)
+        yield Question("verify", (STRICT, present, 1), ISSUER, INHERITS)
         yield Question("verify", (STRICT, present, TRIM), (bad, bad), NOTHING)
 
 
@@ -170,9 +178,9 @@ def of_paths() -> Iterator[Question]:
         yield asked(LENIENT, anchor, b"", ())
     for length in (1, 2, 3, 4, 6) * 60:
         chosen = [source.choice(CERTIFICATES[source.choice((1, 2, 4, 6)) :]) for _ in range(length)]
-        steps = [(octets, present_in(octets), source.randrange(2)) for octets in chosen]
+        steps = [(octets, present_in(octets), source.choice(MODES)) for octets in chosen]
         anchor = source.choice((ALL, ALL, ISSUER, CERTIFICATES[6]))
-        yield asked(source.randrange(2), anchor, *packed(steps, source))
+        yield asked(source.choice(ENCODINGS), anchor, *packed(steps, source))
     run, places = packed([(ALL, BOTH, TRIM), (CERTIFICATES[6], BOTH, REFUSE)], source)
     first, second = places
     for place in (
@@ -187,17 +195,22 @@ def of_paths() -> Iterator[Question]:
         second._replace(present=0),
         second._replace(present=4),
         second._replace(present=2**32 - 1, mode=2),
-        second._replace(mode=2),
+        second._replace(mode=STRICT),
         second._replace(as_start=first.as_start, as_len=first.as_len),
     ):
-        for encoding in (LENIENT, STRICT):
+        for encoding in ENCODINGS:
             yield asked(encoding, ISSUER, run, (first, place))
             yield asked(encoding, ALL, run, (place, first))
-    for encoding in (2, 2**32 - 1):
+    for encoding in (0, REFUSE, 2**32 - 1):
         yield asked(encoding, (b"\0", b""), run, places)
     for anchor in ((b"\0", b""), (b"", b"\0"), INHERITS):
         yield asked(STRICT, anchor, run, places)
     yield asked(STRICT, ISSUER, b"", places)
+
+
+# Pairs of an encoding and a family of which one or both are wrong, also AF_INET and AF_INET6 of Linux.
+WRONG_FAMILIES = (2, V4), (STRICT, 0), (STRICT, 2), (STRICT, 10), (STRICT, ASN), (2**32 - 1, 2**32 - 1)
+WRONG_FAMILIES += ((LENIENT, 256 + V4),)
 
 
 def of_covers() -> Iterator[Question]:
@@ -208,26 +221,26 @@ def of_covers() -> Iterator[Question]:
         return Question("cover", (encoding, family), (octets, b""))
 
     for octets in (*CERTIFICATES, *(random_set(source) for _ in range(40))):
-        for family in (1, 2):
-            yield asked(source.randrange(2), family, octets[1])
-    for encoding, family in ((2, 1), (STRICT, 0), (STRICT, 3), (2**32 - 1, 2**32 - 1), (LENIENT, 257)):
+        for family in BOTH_FAMILIES:
+            yield asked(source.choice(ENCODINGS), family, octets[1])
+    for encoding, family in WRONG_FAMILIES:
         yield asked(encoding, family, ISSUER[1])
         yield asked(encoding, family, b"\0")
     for other in altered((b"", CERTIFICATES[6][1]), source):
-        yield asked(source.randrange(2), source.choice((1, 2)), other[1])
+        yield asked(source.choice(ENCODINGS), source.choice(BOTH_FAMILIES), other[1])
 
 
 def routed(family: int, address: int, length: int, number: int, max_len: int | None = None) -> bytes:
     """Returns the octets of a VRP, or those of a route if there is no `max_len`."""
-    width = 4 if family == 1 else 16
+    width = 4 if family == V4 else 16
     octets = address.to_bytes(width, "big").ljust(16, b"\xff") + number.to_bytes(4, "big") + bytes([family, length])
     return octets if max_len is None else octets + bytes([max_len])
 
 
 def random_routed(source: Random, is_vrp: bool) -> bytes:
     """Returns a random VRP or route. Few addresses and AS numbers occur, so that many VRPs cover a route."""
-    family = source.choice((1, 2))
-    bits = 32 if family == 1 else 128
+    family = source.choice(BOTH_FAMILIES)
+    bits = 32 if family == V4 else 128
     length = source.choice((0, 8, 9, 16, 24, bits - 1, bits))
     address = source.choice((10, 11, 0x20)) << bits - 8 | source.randrange(4) << bits - 16 | source.randrange(2)
     max_len = source.randrange(length, bits + 1) if is_vrp else None
@@ -244,15 +257,15 @@ def of_origins() -> Iterator[Question]:
     for count in (0, 1, 2, 3, 5, 9, 40) * 10:
         vrps = [random_routed(source, True) for _ in range(count)]
         yield asked(vrps, [random_routed(source, False) for _ in range(source.randrange(12))])
-    good = routed(1, 10 << 24, 8, 64496, 24)
-    fine = routed(1, 10 << 24, 24, 64496)
-    ends = [routed(1, 0, 0, 1, 32), routed(2, 0, 0, 2**32 - 1, 128), routed(2, 2**128 - 1, 128, 7, 128)]
-    routes = (2, 2**128 - 1, 128, 7), (1, 2**32 - 1, 32, 1), (1, 0, 0, 0), (2, 0, 0, 1)
+    good = routed(V4, 10 << 24, 8, 64496, 24)
+    fine = routed(V4, 10 << 24, 24, 64496)
+    ends = [routed(V4, 0, 0, 1, 32), routed(V6, 0, 0, 2**32 - 1, 128), routed(V6, 2**128 - 1, 128, 7, 128)]
+    routes = (V6, 2**128 - 1, 128, 7), (V4, 2**32 - 1, 32, 1), (V4, 0, 0, 0), (V6, 0, 0, 1)
     yield asked(ends, [routed(*it) for it in routes])
     ten = 10 << 24
-    families = (0, 0, 0, 1, 0), (3, 0, 0, 1, 0), (255, 1, 255, 1, 0)
-    lengths = (1, ten, 33, 1, 33), (1, ten, 6, 1, 32), (1, 1, 31, 1, 0), (2, 1, 127, 1, 128), (2, 0, 129, 1, 255)
-    most_lengths = (1, ten, 8, 1, 7), (1, ten, 8, 1, 33), (2, 0, 128, 1, 127), (2, 0, 0, 1, 129)
+    families = (0, 0, 0, 1, 0), (ASN, 0, 0, 1, 0), (255, 1, 255, 1, 0), (2, ten, 8, 1, 8), (10, ten, 8, 1, 8)
+    lengths = (V4, ten, 33, 1, 33), (V4, ten, 6, 1, 32), (V4, 1, 31, 1, 0), (V6, 1, 127, 1, 128), (V6, 0, 129, 1, 255)
+    most_lengths = (V4, ten, 8, 1, 7), (V4, ten, 8, 1, 33), (V6, 0, 128, 1, 127), (V6, 0, 0, 1, 129)
     for bad in (routed(*it) for it in (*families, *lengths, *most_lengths)):
         for place in (0, 1, 2):
             vrps, routes = [good, good], [fine, fine]
@@ -294,12 +307,12 @@ def of_tables() -> Iterator[Question]:
         yield asked("changed", table, fresh + [one for one in table if one not in gone][:1], gone)
         yield asked("changed", table, fresh + fresh[:1], gone)
         yield asked("changed", table, fresh + fresh[:1], gone + fresh[:1])
-    good, fine = routed(1, 10 << 24, 8, 64496, 24), routed(1, 10 << 24, 24, 64496)
-    chain = [routed(1, 0, length, number, 24) for length in range(25) for number in (0, 1, 2)]
+    good, fine = routed(V4, 10 << 24, 8, 64496, 24), routed(V4, 10 << 24, 24, 64496)
+    chain = [routed(V4, 0, length, number, 24) for length in range(25) for number in (0, 1, 2)]
     for number in range(3):
         for length in (0, 24, 25, 32):
-            yield asked("covering", chain, [routed(1, 0, length, number)])
-    for bad in (routed(0, 0, 0, 1, 0), routed(1, 1, 31, 1, 31), routed(1, 10 << 24, 8, 1, 33)):
+            yield asked("covering", chain, [routed(V4, 0, length, number)])
+    for bad in (routed(0, 0, 0, 1, 0), routed(V4, 1, 31, 1, 31), routed(V4, 10 << 24, 8, 1, 33)):
         yield asked("vrps", [good, bad])
         yield asked("covering", [bad], [fine])
         yield asked("covering", [good], [bad[:22]])
@@ -358,31 +371,64 @@ def of_texts() -> Iterator[Question]:
     def asked(kind: int, text: bytes) -> Question:
         return Question("text", (kind,), (text, b""))
 
-    for kind in (0, 1, 2, 3, 256, 2**32 - 1):
+    for kind in (*KINDS, 0, 1, 2, 3, 256, 2**32 - 1):
         yield from (asked(kind, it) for it in (b"", b" , ,", b"\xff", b"AS1", b"10.0.0.1", b"::1", b"AS2-AS1"))
         yield from (asked(kind, it) for it in (b"10.0.0.2-10.0.0.1", b"10.0.0.0/33"))
     for command in ("norm", "der"):
         maker = Maker(command, 35)
         for _ in range(120):
             _, kind, text = maker.line().split(b" ", 2)
-            yield asked({b"as": 0, b"v4": 1, b"v6": 2}.get(kind, 3), text)
+            yield asked({b"as": ASN, b"v4": V4, b"v6": V6}.get(kind, 3), text)
 
 
 def of_ranges() -> Iterator[Question]:
     """Yields ranges of AS numbers and addresses for sets and for invalid octets, and wrong numbers."""
     source = Random(3779_2)
     for octets in (*CERTIFICATES, *(random_set(source) for _ in range(40))):
-        yield Question("as_ranges", (source.randrange(2),), (octets[0], b""))
-        for family in (1, 2):
-            yield Question("ip_ranges", (source.randrange(2), family), (octets[1], b""))
-    for encoding, family in ((2, 1), (STRICT, 0), (STRICT, 3), (2**32 - 1, 2**32 - 1), (LENIENT, 257)):
+        yield Question("as_ranges", (source.choice(ENCODINGS),), (octets[0], b""))
+        for family in BOTH_FAMILIES:
+            yield Question("ip_ranges", (source.choice(ENCODINGS), family), (octets[1], b""))
+    for encoding, family in WRONG_FAMILIES:
         for octets in (ISSUER, (b"\0", b"\0")):
             yield Question("as_ranges", (encoding,), (octets[0], b""))
             yield Question("ip_ranges", (encoding, family), (octets[1], b""))
     for other in altered((CERTIFICATES[6][0], b""), source):
-        yield Question("as_ranges", (source.randrange(2),), (other[0], b""))
+        yield Question("as_ranges", (source.choice(ENCODINGS),), (other[0], b""))
     for other in altered((b"", CERTIFICATES[6][1]), source):
-        yield Question("ip_ranges", (source.randrange(2), source.choice((1, 2))), (other[1], b""))
+        yield Question("ip_ranges", (source.choice(ENCODINGS), source.choice(BOTH_FAMILIES)), (other[1], b""))
+
+
+def of_contents() -> Iterator[Question]:
+    """Yields questions on one set: whether it has a number or a prefix, and its text. Some numbers are wrong."""
+    source = Random(9582_5)
+    for octets in (*CERTIFICATES, *(random_set(source) for _ in range(60))):
+        encoding = source.choice(ENCODINGS)
+        for kind in (*KINDS, source.choice((0, 1, 2, 3, 2**32 - 1))):
+            yield Question("print", (encoding, kind), octets)
+        for number in (0, 3, 64496, 2**32 - 1, source.randrange(2**32), source.randrange(12)):
+            yield Question("contains_asn", (encoding, number), octets)
+        ends = [*answer(Question("ip_ranges", (LENIENT, V4), (octets[1], b""))).written[0][:4]]
+        for _ in range(6):
+            yield Question("contains_prefix", (encoding,), octets, (random_prefix(source, bytes(ends)), b""))
+    for length in range(34):
+        for address in (0, 10 << 24, 10 << 24 | 2 << 16, 192 << 24 | 2 << 8, 192 << 24 | 2 << 8 | 8):
+            yield Question("contains_prefix", (STRICT,), ISSUER, (without_asn(routed(V4, address, length, 0)), b""))
+    for wrong in (0, 1, 2, 3, ASN, 10, 255):
+        yield Question("contains_prefix", (STRICT,), ISSUER, (without_asn(routed(wrong, 0, 0, 0)), b""))
+
+
+def without_asn(route: bytes) -> bytes:
+    """Returns the prefix of a route."""
+    return route[:16] + route[20:]
+
+
+def random_prefix(source: Random, address: bytes) -> bytes:
+    """Returns a random prefix. Often it has the first octets of an IPv4 address."""
+    if source.randrange(3) or not address:
+        return without_asn(random_routed(source, False))
+    length = source.randrange(33)
+    number = int.from_bytes(address, "big") >> 32 - length << 32 - length
+    return without_asn(routed(V4, number, length, 0))
 
 
 def of_files() -> Iterator[Question]:
@@ -438,8 +484,8 @@ def of_differences() -> Iterator[Question]:
         new = kept + [random_routed(source, True) for _ in range(source.randrange(4))]
         yield asked(old, new, [random_routed(source, False) for _ in range(source.choice((0, 1, 5, 11, 12, 13, 30)))])
         yield asked(old, old[::-1], [random_routed(source, False) for _ in range(3)])
-    good, fine = routed(1, 10 << 24, 8, 64496, 24), routed(1, 10 << 24, 24, 64496)
-    for bad in (routed(0, 0, 0, 1), routed(1, 1, 31, 1), routed(2, 0, 129, 1), routed(1, 10 << 24, 33, 1)):
+    good, fine = routed(V4, 10 << 24, 8, 64496, 24), routed(V4, 10 << 24, 24, 64496)
+    for bad in (routed(0, 0, 0, 1), routed(V4, 1, 31, 1), routed(V6, 0, 129, 1), routed(V4, 10 << 24, 33, 1)):
         for count in (2, 11, 12, 13, 25):
             for place in (0, 1, count):
                 routes = [fine] * count
@@ -465,20 +511,20 @@ def of_sets() -> Iterator[Question]:
 
     pairs = [(first, second) for first in CERTIFICATES for second in CERTIFICATES]
     for at, (first, second) in enumerate(pairs):
-        yield asked(ON_SETS[at % len(ON_SETS)], at // len(ON_SETS) % 2, first, second)
+        yield asked(ON_SETS[at % len(ON_SETS)], ENCODINGS[at // len(ON_SETS) % 2], first, second)
     for call in ON_SETS:
         for octets in CERTIFICATES:
             yield asked(call, LENIENT, octets, octets)
         yield asked(call, 2, ISSUER, ISSUER)
         yield asked(call, 2**32 - 1, (b"\0", b"\0"), NOTHING)
     for other in altered(CERTIFICATES[6], source):
-        yield asked(source.choice(ON_SETS), source.randrange(2), ISSUER, other)
-        yield asked(source.choice(ON_SETS), source.randrange(2), other, ISSUER)
+        yield asked(source.choice(ON_SETS), source.choice(ENCODINGS), ISSUER, other)
+        yield asked(source.choice(ON_SETS), source.choice(ENCODINGS), other, ISSUER)
     for at in range(200):
         first, second = random_set(source), random_set(source)
         if at % 2:  # the first set contains the second
             first = answer(asked("union", LENIENT, first, second)).written
-        yield asked(ON_SETS[at % len(ON_SETS)], source.randrange(2), first, second)
+        yield asked(ON_SETS[at % len(ON_SETS)], source.choice(ENCODINGS), first, second)
 
 
 def hexadecimal(octets: bytes) -> str:
@@ -494,7 +540,7 @@ def joined(parts: Iterable[object], by: str) -> str:
 def rows() -> Iterator[str]:
     """Yields the rows of the file."""
     parts = of_certificates, of_absence, of_paths, of_sets, of_covers, of_origins, of_tables, of_differences, of_lines
-    parts = *parts, of_files, of_texts, of_ranges
+    parts = *parts, of_files, of_texts, of_ranges, of_contents
     for question in (question for part in parts for question in part()):
         found = answer(question)
         words = [question.call, joined(question.numbers, ","), *map(hexadecimal, (*question.first, *question.second))]

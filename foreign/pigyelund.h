@@ -767,8 +767,8 @@ pigy_status pigy_resources_der(const pigy_resources *resources, pigy_buffers *ou
 /**
  * Writes the text of one kind of resources of a set. pigy_resources_from_text reads this text as the same resources.
  *
- * Commas and spaces separate the elements: AS64496, AS64500-AS64511. An element of addresses is a prefix if possible,
- * and otherwise a range: 10.0.0.0/8, 10.0.0.1-10.0.0.9. The text of no resources is empty.
+ * Commas and spaces separate the elements: AS64496, AS64500-AS64511. An element of addresses is an address, a prefix or
+ * a range, in this order if possible: 192.0.2.7, 10.0.0.0/8, 10.0.0.1-10.0.0.9. The text of no resources is empty.
  *
  * @param resources  The set, which is only read. The status is PIGY_NO_HANDLE if it is NULL.
  * @param kind       PIGY_ASN, PIGY_IPV4 or PIGY_IPV6.

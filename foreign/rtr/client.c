@@ -86,9 +86,9 @@ static pigy_table *next_of(pigy_table *table) {
   }
   count = 0;
   pigy_table *next;
-  uint32_t status = pigy_table_changed(table, announced, added, withdrawn, removed, &next, &index);
+  pigy_status status = pigy_table_with_changes(table, announced, added, withdrawn, removed, &next, &index);
   if (status != PIGY_OK) stop(pigy_status_text(status));
-  pigy_table_len(next, &len);
+  pigy_table_len(next, &len); /* fails only for NULL */
   printf("%zu VRPs\n", len);
   fflush(stdout);
   pigy_table_free(table);

@@ -1,27 +1,54 @@
 /* Compares the resources of a certificate with those of a trust anchor: openssl ANCHOR CERTIFICATE, two files in PEM.
- * It checks no signatures. */
+ * It checks no signatures. It prints the status, and the overclaimed resources if the certificate has some. */
 #include <openssl/pem.h>
 #include <openssl/x509v3.h>
 #include <pigyelund.h>
 #include <stdio.h>
 
-/* Returns the value of an extension, or NULL if the certificate does not have it. A second extension of the kind gives
- * an empty value, which every call refuses (RFC 5280, 4.2). */
-static const uint8_t *extension(X509 *cert, int nid, size_t *len) {
-  static const uint8_t empty = 0;
+/* Finds an extension, and returns whether the certificate has it. Its value is empty if the certificate has the
+ * extension twice. Every call refuses an empty value of an extension that is present (RFC 5280, 4.2). */
+static int find(X509 *cert, int nid, const uint8_t **octets, size_t *len) {
   int at = X509_get_ext_by_NID(cert, nid, -1);
-  if (at < 0) return *len = 0, NULL;
-  if (X509_get_ext_by_NID(cert, nid, at) >= 0) return *len = 0, &empty;
+  *octets = NULL;
+  *len = 0;
+  if (at < 0 || X509_get_ext_by_NID(cert, nid, at) >= 0) return at >= 0;
   const ASN1_OCTET_STRING *value = X509_EXTENSION_get_data(X509_get_ext(cert, at));
+  *octets = ASN1_STRING_get0_data(value);
   *len = (size_t)ASN1_STRING_length(value);
-  return *len ? ASN1_STRING_get0_data(value) : &empty; /* present and empty: an error, and not absent */
+  return 1;
 }
 
-static pigy_set resources(X509 *cert) {
+/* Returns the extensions of a certificate, and stores which of the two it has. */
+static pigy_set resources(X509 *cert, pigy_present *present) {
   pigy_set set;
-  set.as = extension(cert, NID_sbgp_autonomousSysNum, &set.as_len);
-  set.ip = extension(cert, NID_sbgp_ipAddrBlock, &set.ip_len);
+  *present = find(cert, NID_sbgp_autonomousSysNum, &set.as, &set.as_len) ? PIGY_HAS_AS : 0;
+  if (find(cert, NID_sbgp_ipAddrBlock, &set.ip, &set.ip_len)) *present |= PIGY_HAS_IP;
   return set;
+}
+
+/* Prints the IPv4 prefixes of overclaimed resources. */
+static void print_excess(const pigy_resources *excess) {
+  char text[1024];
+  size_t len;
+  if (pigy_resources_text(excess, PIGY_IPV4, text, sizeof text, &len) == PIGY_OK && len < sizeof text)
+    printf("overclaimed: %s\n", text);
+}
+
+/* Verifies a certificate against a trust anchor, whose set is read once. */
+static pigy_status verify(X509 *anchor, X509 *cert) {
+  pigy_resources *issuer = NULL, *verified = NULL, *excess = NULL;
+  pigy_present present;
+  pigy_set claim = resources(anchor, &present);
+  pigy_status status = pigy_resources_read(claim, PIGY_STRICT, &issuer);
+  claim = resources(cert, &present);
+  if (status == PIGY_OK)
+    status = pigy_resources_verify(issuer, claim, present, PIGY_STRICT, PIGY_REFUSE, &verified, &excess);
+  puts(pigy_status_text(status));
+  if (status == PIGY_OVERCLAIM_V4) print_excess(excess);
+  pigy_resources_free(excess);
+  pigy_resources_free(verified);
+  pigy_resources_free(issuer);
+  return status;
 }
 
 static X509 *read_certificate(const char *path) {
@@ -32,14 +59,11 @@ static X509 *read_certificate(const char *path) {
 }
 
 int main(int argc, char **argv) {
-  uint8_t as[4096], ip[4096];
-  pigy_buffers out = {as, sizeof as, 0, ip, sizeof ip, 0};
   X509 *anchor = argc == 3 ? read_certificate(argv[1]) : NULL;
   X509 *cert = argc == 3 ? read_certificate(argv[2]) : NULL;
-  uint32_t status = PIGY_ABSENT;
+  pigy_status status = PIGY_ABSENT;
   if (anchor && cert) {
-    status = pigy_verify_set(resources(anchor), resources(cert), PIGY_STRICT, PIGY_REFUSE, &out);
-    puts(pigy_status_text(status));
+    status = verify(anchor, cert);
   } else {
     fputs("usage: program ANCHOR CERTIFICATE, two files in PEM\n", stderr);
   }

@@ -1,39 +1,38 @@
-/* Makes two sets from lists of IPv4 blocks. Prints whether the first has all addresses of the second, and the ranges of
- * the first. */
-#include <arpa/inet.h>
+/* Makes two sets from lists of IPv4 blocks. Prints whether the first has all addresses of the second, whether it has a
+ * prefix, and its text. */
 #include <pigyelund.h>
 #include <stdio.h>
 #include <string.h>
 
-/* Makes the set of a list of IPv4 blocks. Its DER is written to `ip`. The set has no AS numbers. */
-static uint32_t make_set(const char *text, uint8_t *ip, size_t capacity, pigy_set *set) {
-  size_t as_len;
-  *set = (pigy_set){.ip = ip};
-  return pigy_set_from_text(PIGY_IPV4, (const uint8_t *)text, strlen(text), NULL, 0, ip, capacity, &as_len,
-                            &set->ip_len);
+/* Makes the set of a list of IPv4 blocks. */
+static pigy_status make_set(const char *text, pigy_resources **set) {
+  return pigy_resources_from_text(text, strlen(text), PIGY_IPV4, set);
+}
+
+/* Asks two questions, and writes the text of a set. Returns the first status that is not PIGY_OK. */
+static pigy_status ask(const pigy_resources *held, const pigy_resources *claimed) {
+  static const pigy_prefix prefix = {.address = {198, 51, 100}, .family = PIGY_IPV4, .len = 24};
+  uint8_t answer;
+  char text[256];
+  size_t len;
+  pigy_status status = pigy_resources_contains(held, claimed, &answer);
+  if (status != PIGY_OK) return status;
+  puts(answer ? "contains the set" : "does not contain the set");
+  status = pigy_resources_contains_prefix(held, &prefix, &answer);
+  if (status != PIGY_OK) return status;
+  puts(answer ? "contains the prefix" : "does not contain the prefix");
+  status = pigy_resources_text(held, PIGY_IPV4, text, sizeof text, &len);
+  if (status == PIGY_OK && len < sizeof text) puts(text); /* a NUL follows if there is an octet for it */
+  return status;
 }
 
 int main(void) {
-  uint8_t held_ip[256], claimed_ip[256];
-  pigy_set held, claimed;
-  pigy_ip_range ranges[8];
-  size_t count;
-  char min[INET_ADDRSTRLEN], max[INET_ADDRSTRLEN];
-  uint32_t status = make_set("192.0.2.0/25, 192.0.2.128-192.0.2.255, 198.51.100.7", held_ip, sizeof held_ip, &held);
-  if (status == PIGY_OK) status = make_set("192.0.2.64/26", claimed_ip, sizeof claimed_ip, &claimed);
-  if (status == PIGY_OK) {
-    status = pigy_compare(pigy_contains, held, claimed, PIGY_STRICT);
-    if (status == PIGY_OK || status == PIGY_NO) {
-      puts(status == PIGY_OK ? "contains" : "does not contain");
-      status = pigy_ip_ranges(held.ip, held.ip_len, PIGY_STRICT, PIGY_IPV4, ranges, 8, &count);
-    }
-  }
-  if (status != PIGY_OK) {
-    fprintf(stderr, "%s\n", pigy_status_text(status));
-    return 1;
-  }
-  for (size_t i = 0; i < count; i++)
-    printf("%s-%s\n", inet_ntop(AF_INET, ranges[i].min, min, sizeof min),
-           inet_ntop(AF_INET, ranges[i].max, max, sizeof max));
-  return 0;
+  pigy_resources *held = NULL, *claimed = NULL;
+  pigy_status status = make_set("192.0.2.0/25, 192.0.2.128-192.0.2.255, 198.51.100.7", &held);
+  if (status == PIGY_OK) status = make_set("192.0.2.64/26", &claimed);
+  if (status == PIGY_OK) status = ask(held, claimed);
+  if (status != PIGY_OK) fprintf(stderr, "%s\n", pigy_status_text(status));
+  pigy_resources_free(claimed);
+  pigy_resources_free(held);
+  return status != PIGY_OK;
 }

@@ -6,7 +6,7 @@
 #include <stdlib.h>
 
 /* Ends the program if a call fails. Prints the index that the call stored, if the call has one. */
-static void check(uint32_t status, const size_t *index) {
+static void check(pigy_status status, const size_t *index) {
   if (status == PIGY_OK) return;
   if (index) fprintf(stderr, "at index %zu: ", *index);
   fprintf(stderr, "%s\n", pigy_status_text(status));
@@ -35,7 +35,7 @@ static pigy_vrp *read_vrps(FILE *file, size_t *count) {
   uint8_t *octets = read_octets(file, &len);
   size_t capacity = len / 8 + 1; /* no VRP has fewer than 8 octets, so the file is read only once */
   pigy_vrp *vrps = resize(0, capacity, sizeof *vrps);
-  uint32_t status = pigy_vrps_read(octets, len, vrps, capacity, count, &line);
+  pigy_status status = pigy_vrps_read(octets, len, vrps, capacity, count, &line);
   free(octets);
   if (line) fprintf(stderr, "at line or item %zu: ", line);
   check(status, 0);
@@ -46,15 +46,15 @@ static pigy_vrp *read_vrps(FILE *file, size_t *count) {
 static void print_covering(const pigy_table *table, const pigy_route *route) {
   size_t capacity = 1, len;
   pigy_covering *why = resize(0, capacity, sizeof *why);
-  uint32_t status;
+  pigy_status status;
   char address[INET6_ADDRSTRLEN];
   while ((status = pigy_table_covering(table, route, why, capacity, &len)) == PIGY_TOO_SMALL)
     why = resize(why, capacity = len, sizeof *why);
   check(status, 0);
   for (size_t i = 0; i < len; i++)
     printf("%s/%u-%u AS%u%s%s\n",
-           inet_ntop(why[i].family == PIGY_IPV4 ? AF_INET : AF_INET6, why[i].address, address, sizeof address),
-           why[i].len, why[i].max_len, why[i].asn, why[i].mismatch & PIGY_OTHER_AS ? ", another AS" : "",
+           inet_ntop(why[i].vrp.family == PIGY_IPV4 ? AF_INET : AF_INET6, why[i].vrp.address, address, sizeof address),
+           why[i].vrp.len, why[i].vrp.max_len, why[i].vrp.asn, why[i].mismatch & PIGY_OTHER_AS ? ", another AS" : "",
            why[i].mismatch & PIGY_TOO_LONG ? ", too long" : "");
   free(why);
 }
@@ -64,7 +64,7 @@ int main(void) {
   static const pigy_route route = {.address = {10, 1, 2}, .asn = 64497, .family = PIGY_IPV4, .len = 24};
   const pigy_vrp fresh = {.address = {10, 1}, .asn = 64497, .family = PIGY_IPV4, .len = 16, .max_len = 24};
   pigy_table *table, *next;
-  uint8_t found = 0;
+  uint8_t validity, reason, differs = 0;
   size_t count, index, len;
   pigy_vrp *vrps = read_vrps(stdin, &count);
   if (ferror(stdin)) {
@@ -73,17 +73,18 @@ int main(void) {
   }
   /* the first table: the route is invalid */
   check(pigy_table_new(vrps, count, &table, &index), &index);
-  check(pigy_table_origins(table, &route, 1, &found, 1, &len, &index), &index);
-  puts(found == PIGY_INVALID ? "invalid" : "otherwise");
+  check(pigy_table_validate(table, &route, &validity, &reason), 0);
+  if (validity != PIGY_INVALID) puts("otherwise");
+  else puts(reason == PIGY_INVALID_AS ? "invalid: another AS" : "invalid: too long");
   print_covering(table, &route);
   /* the next table, with the new VRP and without the first: the route is valid */
-  check(pigy_table_changed(table, &fresh, 1, vrps, 1, &next, &index), &index);
+  check(pigy_table_with_changes(table, &fresh, 1, vrps, 1, &next, &index), &index);
   free(vrps);
-  check(pigy_table_origins(next, &route, 1, &found, 1, &len, &index), &index);
-  puts(found == PIGY_VALID ? "valid" : "otherwise");
+  check(pigy_table_validate(next, &route, &validity, &reason), 0);
+  puts(validity == PIGY_VALID ? "valid" : "otherwise");
   /* the validity of the route differs between the tables */
-  check(pigy_table_routes_changed(table, next, &route, 1, &found, 1, &len, &index), &index);
-  puts(found ? "differs" : "stays");
+  check(pigy_table_revalidate(table, next, &route, 1, &differs, 1, &len, &index), &index);
+  puts(differs ? "differs" : "stays");
   pigy_table_free(table);
   pigy_table_free(next);
   return 0;

@@ -7,7 +7,7 @@
 #include <vector>
 
 /* Throws an exception if a call fails. */
-static void check(uint32_t status) {
+static void check(pigy_status status) {
   if (status != PIGY_OK) throw std::runtime_error(pigy_status_text(status));
 }
 
@@ -36,24 +36,25 @@ static Table change(const Table &table, const std::vector<pigy_vrp> &announced,
                     const std::vector<pigy_vrp> &withdrawn) {
   pigy_table *next;
   size_t index;
-  check(pigy_table_changed(table.get(), announced.data(), announced.size(), withdrawn.data(), withdrawn.size(), &next,
-                           &index));
+  check(pigy_table_with_changes(table.get(), announced.data(), announced.size(), withdrawn.data(), withdrawn.size(),
+                                &next, &index));
   return Table(next);
 }
 
 /* Returns one octet for each route. */
-static std::vector<uint8_t> origins(const Table &table, const std::vector<pigy_route> &routes) {
+static std::vector<uint8_t> validate(const Table &table, const std::vector<pigy_route> &routes) {
   std::vector<uint8_t> found(routes.size());
   size_t len, index;
-  check(pigy_table_origins(table.get(), routes.data(), routes.size(), found.data(), found.size(), &len, &index));
+  check(pigy_table_validate_routes(table.get(), routes.data(), routes.size(), found.data(), found.size(), &len,
+                                   &index));
   return found;
 }
 
-static std::vector<uint8_t> routes_changed(const Table &old, const Table &next, const std::vector<pigy_route> &routes) {
+static std::vector<uint8_t> revalidate(const Table &old, const Table &next, const std::vector<pigy_route> &routes) {
   std::vector<uint8_t> found(routes.size());
   size_t len, index;
-  check(pigy_table_routes_changed(old.get(), next.get(), routes.data(), routes.size(), found.data(), found.size(), &len,
-                                  &index));
+  check(pigy_table_revalidate(old.get(), next.get(), routes.data(), routes.size(), found.data(), found.size(), &len,
+                              &index));
   return found;
 }
 
@@ -65,10 +66,10 @@ int main() try {
   std::vector<pigy_route> routes{{{10, 1, 2}, 64497, PIGY_IPV4, 24}};
   const pigy_vrp fresh{{10, 1}, 64497, PIGY_IPV4, 16, 24};
   Table table = make_table(vrps);
-  std::cout << (origins(table, routes)[0] == PIGY_INVALID ? "invalid" : "otherwise") << std::endl;
+  std::cout << (validate(table, routes)[0] == PIGY_INVALID ? "invalid" : "otherwise") << std::endl;
   Table next = change(change(table, {fresh}, {}), {}, {vrps[0]});
-  std::cout << (origins(next, routes)[0] == PIGY_VALID ? "valid" : "otherwise") << std::endl;
-  std::cout << (routes_changed(table, next, routes)[0] ? "differs" : "stays") << std::endl;
+  std::cout << (validate(next, routes)[0] == PIGY_VALID ? "valid" : "otherwise") << std::endl;
+  std::cout << (revalidate(table, next, routes)[0] ? "differs" : "stays") << std::endl;
 } catch (const std::exception &error) {
   std::cerr << error.what() << std::endl;
   return 1;

@@ -1,0 +1,7 @@
+/* refused at run: unknown encoding */
+#include "certificates.h"
+
+int main(void) {
+  /* The encoding and the mode are exchanged. */
+  return verify(claim, PIGY_HAS_IP, PIGY_TRIM, PIGY_LENIENT);
+}

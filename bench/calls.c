@@ -1,10 +1,11 @@
 /* calls CALL COUNT FILE LENGTH LENGTH LENGTH: makes a call on two sets COUNT times.
  *
- * CALL is `verify`, `path`, `union`, `intersection`, `difference` or `contains`. FILE has four DER values: the AS
- * identifiers and the IP address blocks of the issuer or first set, then those of the certificate or second set. The
- * path of `path` has STEPS certificates with the values of the second set, which refuse and trim in turn. Each LENGTH
- * is the number of octets of one of the first three values. The program prints the number of octets that all calls
- * together write. For `contains` it prints how often the result was true. */
+ * CALL is `verify`, `path`, `union`, `intersection`, `difference`, `contains` or `held`. FILE has four DER values: the
+ * AS identifiers and the IP address blocks of the issuer or first set, then those of the certificate or second set. The
+ * path of `path` has STEPS certificates with the values of the second set, which refuse and trim in turn. For `held`
+ * the issuer's set is a handle that is read once, and each call verifies the certificate from its DER. Each LENGTH is
+ * the number of octets of one of the first three values. The program prints the number of octets that all calls
+ * together write. For `contains` and `held` it prints how often the result was true, or the certificate verified. */
 #include "../foreign/pigyelund.h"
 #include <stdio.h>
 #include <stdlib.h>
@@ -29,34 +30,45 @@ static run read_file(const char *path) {
   return found;
 }
 
-static pigy_operation *operation_of(const char *call) {
-  if (!strcmp(call, "union")) return pigy_union;
-  if (!strcmp(call, "intersection")) return pigy_intersection;
-  if (!strcmp(call, "difference")) return pigy_difference;
+static pigy_status combine(const char *call, pigy_set one, pigy_set other, pigy_buffers *out) {
+  if (!strcmp(call, "union")) return pigy_union(one, other, PIGY_LENIENT, out);
+  if (!strcmp(call, "intersection")) return pigy_intersection(one, other, PIGY_LENIENT, out);
+  if (!strcmp(call, "difference")) return pigy_difference(one, other, PIGY_LENIENT, out);
   exit(2);
 }
 
-static uint32_t verify_path(pigy_set one, pigy_set other, pigy_buffers *out) {
+static pigy_status verify_path(pigy_set one, pigy_set other, pigy_buffers *out, pigy_buffers *excess) {
   pigy_certificate path[STEPS];
   size_t verified;
   /* The values of the second set lie side by side in the file. */
   for (int i = 0; i < STEPS; i++)
     path[i] = (pigy_certificate){0, other.as_len, other.as_len, other.ip_len, PIGY_HAS_BOTH,
                                  i % 2 ? PIGY_TRIM : PIGY_REFUSE};
-  return pigy_verify_path(one.as, one.as_len, one.ip, one.ip_len, other.as, other.as_len + other.ip_len, path, STEPS,
-                          PIGY_LENIENT, out->as, out->as_capacity, out->ip, out->ip_capacity, &out->as_len,
-                          &out->ip_len, &verified);
+  return pigy_verify_path(one, other.as, other.as_len + other.ip_len, path, STEPS, PIGY_LENIENT, out, excess,
+                          &verified);
+}
+
+/* Verifies a certificate against a held issuer, and frees the result. Returns 1. */
+static size_t verify_held(const pigy_resources *issuer, pigy_set cert) {
+  pigy_resources *verified, *excess;
+  if (pigy_resources_verify(issuer, cert, PIGY_HAS_BOTH, PIGY_LENIENT, PIGY_REFUSE, &verified, &excess) != PIGY_OK)
+    exit(3);
+  pigy_resources_free(verified);
+  return 1;
 }
 
 /* Returns the number of octets that one call writes, or 1 if the result of its test is true. */
 static size_t octets_of_call(const char *call, pigy_set one, pigy_set other, pigy_buffers *out) {
-  uint32_t status;
-  if (!strcmp(call, "contains")) return pigy_compare(pigy_contains, one, other, PIGY_LENIENT) == PIGY_OK;
-  if (!strcmp(call, "verify")) status = pigy_verify_set(one, other, PIGY_LENIENT, PIGY_TRIM, out);
-  else if (!strcmp(call, "path")) status = verify_path(one, other, out);
-  else status = pigy_combine(operation_of(call), one, other, PIGY_LENIENT, out);
+  pigy_buffers excess = {0, 0, 0, 0, 0, 0};
+  pigy_status status;
+  uint8_t answer = 0;
+  if (!strcmp(call, "contains")) status = pigy_contains(one, other, PIGY_LENIENT, &answer);
+  else if (!strcmp(call, "verify"))
+    status = pigy_verify(one, other, PIGY_HAS_BOTH, PIGY_LENIENT, PIGY_TRIM, out, &excess);
+  else if (!strcmp(call, "path")) status = verify_path(one, other, out, &excess);
+  else status = combine(call, one, other, out);
   if (status != PIGY_OK) exit(3);
-  return out->as_len + out->ip_len;
+  return !strcmp(call, "contains") ? answer : out->as_len + out->ip_len;
 }
 
 int main(int count, char **words) {
@@ -76,7 +88,12 @@ int main(int count, char **words) {
   out.as = malloc(out.as_capacity + 1);
   out.ip = malloc(out.ip_capacity + 1);
   if (!out.as || !out.ip) return 2;
-  for (long times = strtol(words[2], 0, 10); times > 0; times--) octets += octets_of_call(words[1], one, other, &out);
+  int is_held = !strcmp(words[1], "held");
+  pigy_resources *issuer = 0;
+  if (is_held && pigy_resources_read(one, PIGY_LENIENT, &issuer) != PIGY_OK) return 3;
+  for (long times = strtol(words[2], 0, 10); times > 0; times--)
+    octets += is_held ? verify_held(issuer, other) : octets_of_call(words[1], one, other, &out);
+  pigy_resources_free(issuer);
   printf("%zu\n", octets);
   return 0;
 }

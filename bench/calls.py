@@ -3,7 +3,9 @@
 
 It prints the instructions of one call, in thousands, and the share of the functions of pigyelund_c, with the code that
 is inlined there. A count is the mean of eleven calls. In `verify`, `path` and `contains` each block of the second set
-is inside one of the first. In the other calls the blocks overlap. It needs gcc and valgrind, and the library (rt lib).
+is inside one of the first. In `held` the second set has three such blocks of each kind, and the first set is read only
+once, which is not counted. In the other calls the blocks overlap. It needs gcc, make and valgrind, and the library (rt
+lib).
 """
 
 import re
@@ -33,15 +35,20 @@ def written(one, other):
     return [f"{folder}/octets", *(str(len(it)) for it in values[:3])]
 
 
-def shares(call, words):
-    """Returns the thousands of instructions of one call, and the share of them in the border's own functions."""
+def counts(call, times, words):
+    """Returns the instructions of so many calls, and those of them in the border's own functions."""
     log = f"{folder}/callgrind"
-    run = ["valgrind", "--tool=callgrind", f"--callgrind-out-file={log}", f"{folder}/calls", call, str(TIMES), *words]
+    run = ["valgrind", "--tool=callgrind", f"--callgrind-out-file={log}", f"{folder}/calls", call, str(times), *words]
     subprocess.run(run, check=True, capture_output=True)
     whole, own = (annotated(log, kind) for kind in ("yes", "no"))
     all_of_it = sum(count for name, count in whole if re.fullmatch(r"pigy_\w+", name))
-    border = sum(count for name, count in own if name.startswith(("pigy_", "pigyelund_c::")))
-    return all_of_it / TIMES / 1000, border / all_of_it
+    return all_of_it, sum(count for name, count in own if name.startswith(("pigy_", "proved_", "pigyelund_c::")))
+
+
+def shares(call, words):
+    """Returns the thousands of instructions of one call, and the share of them in the border's own functions."""
+    (all_of_it, border), (all_before, border_before) = counts(call, TIMES, words), counts(call, 0, words)
+    return (all_of_it - all_before) / TIMES / 1000, (border - border_before) / (all_of_it - all_before)
 
 
 def annotated(log, inclusive):
@@ -59,6 +66,7 @@ with tempfile.TemporaryDirectory() as folder:
         one = [(16 * at + 1, 16 * at + 9) for at in range(count)]
         inside = [(16 * at + 3, 16 * at + 7) for at in range(count)]
         across = [(16 * at + 5, 16 * at + 12) for at in range(count)]
+        others = dict.fromkeys(("verify", "path", "contains"), inside) | {"held": inside[:: max(1, count // 3)][:3]}
         for call in CALLS:
-            took, border = shares(call, written(one, inside if call in ("verify", "path", "contains") else across))
+            took, border = shares(call, written(one, others.get(call, across)))
             print(f"{call:<14}{count:>8}{took:>12.1f}{border:>9.3f}")

@@ -35,7 +35,7 @@ GROWTH = TOP / "crates" / "bench_growth" / "out" / "bench_growth"
 ORIGINS = TOP / "crates" / "origins" / "out" / "origins"
 LIBRARY = TOP / "crates" / "pigyelund_c" / "out" / "libpigyelund_c.a"
 KINDS = ("as", "v4", "v6")
-CALLS = ("verify", "path", "union", "intersection", "difference", "contains")
+CALLS = ("verify", "path", "union", "intersection", "difference", "contains", "held")
 
 
 @dataclass(frozen=True)
@@ -151,21 +151,28 @@ def of_origins(folder: Path) -> Iterator[Input]:
 
 
 def compile_calls(folder: str | Path, *names: str) -> None:
-    """Compiles programs of bench/ that call the library."""
+    """Makes the static library for C, and compiles programs of bench/ that call it."""
+    variables = [f"OUT={folder}", f"LIB={LIBRARY}", f"KIT={kit()}", "CC=gcc", "CFLAGS=-O2"]
+    subprocess.run(["make", "-s", "-C", TOP / "foreign" / "c", *variables, "static"], check=True)
     for name in names:
-        built = [Path(folder, name), TOP / "bench" / f"{name}.c", LIBRARY, kit() / "c" / "liblibc_c.a"]
+        built = [Path(folder, name), TOP / "bench" / f"{name}.c", Path(folder, "libpigyelund.a")]
         subprocess.run(["gcc", "-O2", "-o", *built], check=True)
 
 
 def of_calls(folder: Path) -> Iterator[Input]:
-    """Yields calls from C: on two sets of 1,000 blocks (bench/calls.c), and on a table (bench/routes.c)."""
+    """Yields calls from C: on two sets of 1,000 blocks (bench/calls.c), and on a table (bench/routes.c).
+
+    `held` makes 5,000 calls with one certificate of 3 blocks of each kind, and its issuer's set is read once.
+    """
     compile_calls(folder, "calls", "routes")
     whole = [bytes.fromhex(answer(f"der {kind} {', '.join(ranges(kind, 1_000))}\n")) for kind in ("as", "v4")]
     part = [bytes.fromhex(answer(f"der {kind} {', '.join(ranges(kind, 1_000, 7))}\n")) for kind in ("as", "v4")]
-    (folder / "octets").write_bytes(b"".join([*whole, *part]))
-    lengths = [str(len(it)) for it in (*whole, part[0])]
-    for call in CALLS:
-        yield Input(f"call-{call}", (folder / "calls", call, "5", folder / "octets", *lengths))
+    child = [bytes.fromhex(answer(f"der {kind} {', '.join(ranges(kind, 1_000)[::400])}\n")) for kind in ("as", "v4")]
+    for name, times, claim in (("octets", "5", part), ("held", "5000", child)):
+        (folder / name).write_bytes(b"".join([*whole, *claim]))
+        lengths = [str(len(it)) for it in (*whole, claim[0])]
+        for call in (it for it in CALLS if (it == "held") == (name == "held")):
+            yield Input(f"call-{call}", (folder / "calls", call, times, folder / name, *lengths))
     for how in ("together", "alone", "changed"):
         yield Input(f"call-routes-{how}", (folder / "routes", how, "20000", "20000"))
 

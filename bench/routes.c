@@ -1,8 +1,8 @@
 /* routes HOW VRPS ROUTES: makes a table of VRPS VRPs, and validates ROUTES routes by it.
  *
- * HOW is `together` (all routes in one call), `alone` (one route a call) or `changed` (all routes in one call, by a
- * table after changes). The program prints the number of valid routes. Most VRPs have 24 bits, and half of the
- * routes are VRPs. The status is 0 if each call succeeded. */
+ * HOW is `together` (all routes in one call), `alone` (one route a call, without memory) or `changed` (all routes in one
+ * call, by a table after changes). The program prints the number of valid routes. Most VRPs have 24 bits, and half of
+ * the routes are VRPs. The status is 0 if each call succeeded. */
 #include "../foreign/pigyelund.h"
 #include <stdio.h>
 #include <stdlib.h>
@@ -41,7 +41,7 @@ static pigy_table *changed(pigy_table *table, const pigy_vrp *vrps) {
   pigy_table *next = 0;
   size_t index;
   for (size_t i = 0; i < CHANGES; i++) fresh[i] = made_vrp(1000000 + 100000 * (uint32_t)i);
-  if (pigy_table_changed(table, fresh, CHANGES, vrps, CHANGES, &next, &index) != PIGY_OK) exit(4);
+  if (pigy_table_with_changes(table, fresh, CHANGES, vrps, CHANGES, &next, &index) != PIGY_OK) exit(4);
   pigy_table_free(table);
   return next;
 }
@@ -49,7 +49,7 @@ static pigy_table *changed(pigy_table *table, const pigy_vrp *vrps) {
 int main(int count, char **words) {
   if (count != 4) return 2;
   size_t vrp_count = strtoul(words[2], 0, 10), route_count = strtoul(words[3], 0, 10), index, len, valid = 0;
-  size_t part = strcmp(words[1], "alone") ? route_count : 1;
+  uint8_t reason;
   pigy_vrp *vrps = allocate(vrp_count, sizeof *vrps);
   pigy_route *routes = allocate(route_count, sizeof *routes);
   uint8_t *out = allocate(route_count, 1);
@@ -63,8 +63,12 @@ int main(int count, char **words) {
   }
   if (pigy_table_new(vrps, vrp_count, &table, &index) != PIGY_OK) return 3;
   if (!strcmp(words[1], "changed")) table = changed(table, vrps);
-  for (size_t i = 0; i < route_count; i += part)
-    if (pigy_table_origins(table, routes + i, part, out + i, part, &len, &index) != PIGY_OK || len != part) return 5;
+  if (!strcmp(words[1], "alone")) {
+    for (size_t i = 0; i < route_count; i++)
+      if (pigy_table_validate(table, routes + i, out + i, &reason) != PIGY_OK) return 5;
+  } else if (pigy_table_validate_routes(table, routes, route_count, out, route_count, &len, &index) != PIGY_OK) {
+    return 5;
+  }
   for (size_t i = 0; i < route_count; i++) valid += out[i] == PIGY_VALID;
   printf("%zu\n", valid);
   pigy_table_free(table);

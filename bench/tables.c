@@ -69,7 +69,7 @@ int main(int count, char **words) {
   size_t routes = count > 2 ? strtoul(words[2], 0, 10) : 1000000;
   pigy_vrp *all = allocate(vrps * sizeof *all), *fresh = allocate(CHANGES * sizeof *fresh);
   pigy_route *asked = allocate(routes * sizeof *asked);
-  uint8_t *ours = allocate(routes), *theirs = allocate(routes), *alone = allocate(routes);
+  uint8_t *ours = allocate(routes), *theirs = allocate(routes), *alone = allocate(routes), reason;
   pigy_table *table = 0, *next = 0;
   struct pfx_table peer;
   size_t len, index, differing = 0;
@@ -97,7 +97,7 @@ int main(int count, char **words) {
     }
     times[1] = now() - at;
     at = now();
-    if (pigy_table_origins(table, asked, routes, ours, routes, &len, &index) != PIGY_OK) return 2;
+    if (pigy_table_validate_routes(table, asked, routes, ours, routes, &len, &index) != PIGY_OK) return 2;
     times[2] = now() - at;
     at = now();
     for (size_t i = 0; i < routes; i++) {
@@ -109,10 +109,10 @@ int main(int count, char **words) {
     times[3] = now() - at;
     at = now();
     for (size_t i = 0; i < routes; i++)
-      if (pigy_table_origins(table, asked + i, 1, alone + i, 1, &len, &index) != PIGY_OK) return 2;
+      if (pigy_table_validate(table, asked + i, alone + i, &reason) != PIGY_OK) return 2;
     times[4] = now() - at;
     at = now();
-    if (pigy_table_changed(table, fresh, CHANGES, all, 0, &next, &index) != PIGY_OK) return 2;
+    if (pigy_table_with_changes(table, fresh, CHANGES, all, 0, &next, &index) != PIGY_OK) return 2;
     times[5] = now() - at;
     for (int i = 0; i < 6; i++) least[i] = times[i] < least[i] ? times[i] : least[i];
     for (size_t i = 0; i < routes; i++) differing += ours[i] != theirs[i] || ours[i] != alone[i];

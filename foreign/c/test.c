@@ -1293,9 +1293,10 @@ static void ask_on_threads(questions rows) {
 
 /* ---- the stack */
 
-/* STACK is the stack that the header requires. The header says that pigy_vrps_read uses less than USED_TO_READ of it,
- * and that the other calls use less than USED. The stack of the thread is much larger. */
-enum { STACK = 128 << 10, USED = 8 << 10, USED_TO_READ = 64 << 10, STACK_OF_THREAD = 8 << 20, ALIGNED = 4096 };
+/* The header requires STACK for pigy_vrps_read, and STACK_OF_OTHERS for each other call. It says that pigy_vrps_read uses
+ * less than USED_TO_READ of it, and that each other call uses less than USED. The stack of the thread is much larger. */
+enum { STACK = 128 << 10, STACK_OF_OTHERS = 16 << 10, USED = 8 << 10, USED_TO_READ = 64 << 10,
+       STACK_OF_THREAD = 8 << 20, ALIGNED = 4096 };
 
 /* The rows, whether their files are read or all other calls are made, and an address in the frame of the first function
  * on the thread. */
@@ -1341,7 +1342,8 @@ static size_t used_stack(questions rows, int reads) {
 
 static void ask_stack(questions rows) {
   size_t to_read = used_stack(rows, 1), used = used_stack(rows, 0);
-  expect(used < USED && to_read < USED_TO_READ && USED_TO_READ < STACK, 0, "more of the stack than the header says");
+  expect(used < USED && to_read < USED_TO_READ, 0, "more of the stack than the header says");
+  expect(USED < STACK_OF_OTHERS && USED_TO_READ < STACK, 0, "less of the stack is required than is used");
   expect(calls > rows.count && used > 0 && to_read > 0, 0, "no calls on the stack");
   printf("C: %u calls use %zu octets of the stack, and %zu to read files, of %u that are stated\n", calls, used,
          to_read, (unsigned)STACK);

@@ -3,8 +3,8 @@
 
 Without arguments it checks these things:
 
-* foreign/numbers.txt has each number of the library.
-* The header defines the names of foreign/numbers.txt and no others.
+* foreign/numbers.txt has each number of the library. The header adds two kinds of statuses.
+* The header defines the numbers of foreign/numbers.txt and no others.
 * The sources of the package for Python, and its wheel, are for the first Python that the package requires.
 * The header states the stack on which foreign/c/test.c makes its calls.
 * The package of the shared library lists the symbols of foreign/c/exports.map. Each has the first version with it.
@@ -37,9 +37,13 @@ CHOICES = dict(
     HAS_AS="present_number Numbers", HAS_IP="present_number Addresses", HAS_BOTH="present_number Both",
     ASN="kind_number Numbers", IPV4="family_number Ipv4", IPV6="family_number Ipv6",
     VALID="validity_number Valid", NOT_FOUND="validity_number NotFound", INVALID="validity_number Invalid",
+    INVALID_AS="reason_number Invalid false", INVALID_LENGTH="reason_number Invalid true",
 )  # fmt: skip
 # The reasons why a covering VRP does not match a route: two cases of IsMismatch. Their sum is the third case.
 MISMATCHES = {"OTHER_AS": 1, "TOO_LONG": 2}
+# The kinds of statuses that are no statuses, except those of a constant.
+KINDS = {"OVERCLAIM": 0x8000, "BAD_CHANGE": 0x10000}
+ROUTE_SPECS = "Families", "Origins", "Reasons"
 SOURCES = {"c": "program.c", "cpp": "program.cpp", "toml": "Cargo.toml", "rust": "src/main.rs", "python": "program.py"}
 
 
@@ -54,19 +58,23 @@ def of_library() -> dict[str, int]:
     statuses = (ROUTES / "src" / "status.rt").read_text()
     constants = re.findall(r"^pub const (\w+): u32 = (\d+);$", statuses, re.MULTILINE)
     found = {name: int(number) for name, number in constants}
-    named = CRATE / "specs/Numbers", CRATE / "specs/Texts", ROUTES / "specs/Families", ROUTES / "specs/Origins"
+    named = *(CRATE / f"specs/{it}" for it in ("Numbers", "Texts")), *(ROUTES / f"specs/{it}" for it in ROUTE_SPECS)
     specs = "".join(file.with_suffix(".antt").read_text() for file in named)
-    choices = dict(re.findall(r"^(\w+_number \w+) = (\d+)$", specs, re.MULTILINE))
-    found |= {name: int(choices[of]) for name, of in CHOICES.items()} | MISMATCHES
+    choices = dict(re.findall(r"^(\w+_number \w+(?: \w+)?) = (\d+)$", specs, re.MULTILINE))
+    found |= {name: int(choices[of]) for name, of in CHOICES.items()} | MISMATCHES | KINDS
+    none = re.search(r"NO_VALIDITY: u8 = (\d+);", (ROUTES / "src" / "validate.rt").read_text())
+    found |= {"NO_VALIDITY": int(none[1])} if none else {}
     calls = (CRATE / "src" / "exports" / "verify.rt").read_text()
     version = re.search(r"fn pigy_version\(\) -> u32\s+ensures \{ result ≡ (\d+) \}", calls)
-    return found | {"VERSION": int(version[1])} if version else found
+    return found | {"VERSION_NUMBER": int(version[1])} if version else found
 
 
-def of_header() -> set[str]:
-    """Returns the names that the header defines as numbers."""
-    text = HEADER.read_text()
-    return set(re.findall(r"^#define PIGY_(\w+) \w+u\b", text, re.MULTILINE))
+def of_header() -> dict[str, int]:
+    """Returns the numbers that the header defines."""
+    text = re.sub(r"/\*.*?\*/", "", HEADER.read_text(), flags=re.DOTALL)
+    listed = "".join(re.findall(r"PIGY_ENUM \{(.*?)\}", text, re.DOTALL))
+    found = re.findall(r"PIGY_(\w+) = (\w+)", listed) + re.findall(r"^#define PIGY_(\w+) (\d+)u$", text, re.MULTILINE)
+    return {name: int(number, 0) for name, number in found}
 
 
 def of_python() -> list[str]:
@@ -91,16 +99,15 @@ def of_python() -> list[str]:
 def of_stack() -> list[str]:
     """Returns the places that state another stack than the one on which foreign/c/test.c makes its calls."""
     test = (TOP / "foreign" / "c" / "test.c").read_text()
-    names = ("STACK", "USED", "USED_TO_READ")
-    stack, used, to_read = (re.search(rf"\b{name} = (\d+) << 10\b", test) for name in names)
-    if not stack or not used or not to_read:
+    names = ("STACK", "STACK_OF_OTHERS", "USED", "USED_TO_READ")
+    stack, others, used, to_read = (re.search(rf"\b{name} = (\d+) << 10\b", test) for name in names)
+    if not stack or not others or not used or not to_read:
         return [f"foreign/c/test.c lacks one of {', '.join(names)}"]
     wanted = (
-        f"The stack has {stack[1]} KiB left.",
-        f"use less than {used[1]} KiB of it",
-        f"uses less than {to_read[1]} KiB for the deepest JSON that it reads",
+        f"The stack has {stack[1]} KiB left for pigy_vrps_read, and {others[1]} KiB for each other call.",
+        f"less than {to_read[1]} KiB for the deepest JSON that it reads, and each other call less than {used[1]} KiB.",
     )
-    said = HEADER.read_text()
+    said = re.sub(r"\s+\*\s+", " ", HEADER.read_text())
     return [f"{HEADER.name} doesn't say: {text}" for text in wanted if text not in said]
 
 
@@ -127,7 +134,8 @@ def numbers_differ() -> list[str]:
         for name in sorted(numbers.keys() | own.keys())
         if own.get(name) != numbers.get(name)
     ]
-    faults += [f"pigyelund.h and numbers.txt: {name} is in one alone" for name in sorted(of_header() ^ numbers.keys())]
+    differing = sorted(name for name, _ in of_header().items() ^ numbers.items())
+    faults += [f"pigyelund.h and numbers.txt: {name} differs" for name in dict.fromkeys(differing)]
     return faults + of_python() + of_stack() + of_symbols()
 
 

@@ -56,7 +56,7 @@ END
     done
     # The calls of the library, except those of texts.c, which the Makefile adds.
     {
-        echo 'unsigned pigy_version(void) { return 5; }'
+        echo 'unsigned pigy_version(void) { return 2000; }'
         sed -n 's/^ \(pigy_[a-z_]*\)@.*/\1/p' packaging/libpigyelund1.symbols | while IFS= read -r name; do
             [ "$name" = pigy_version ] || grep -q "^[a-z][a-z0-9_ *]*\b$name(" foreign/c/texts.c ||
                 echo "void $name(void) {}"

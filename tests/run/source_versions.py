@@ -2,7 +2,7 @@
 """source_versions.py [VERSION]: compares each place that has the version with the file VERSION.
 
 It also compares each copy of the license with the file LICENSE. A package cannot have a file outside its folder, and
-`rt ci` accepts no links. The version of the calls, PIGY_VERSION, is another number: that of foreign/numbers.txt.
+`rt ci` accepts no links. PIGY_VERSION_NUMBER is made of the three numbers of the version: 2000 is 0.2.0.
 
 With an argument the file VERSION has to contain this version. ./release passes its own argument. The status is 1 if a
 place has another version or none.
@@ -15,9 +15,8 @@ from collections.abc import Iterator
 from top import TOP
 from blocks import told
 
-CALLS_OF = r"^NUMBER\(VERSION, (\d+)\)$"
 MANUAL = r'^\.TH \w+ 1 "@DATE@" "pigyelund (.*)" "User Commands"$'
-# The files with the version (`@VERSION@` in made ones) or that of the calls, and a pattern with it as its group.
+# The files with the version (`@VERSION@` in made ones) or its number, and a pattern with it as its group.
 PLACES = (
     ("version", "CHANGELOG.md", r"\A(?:(?!## ).*\n)*## ([^,\n]*)"),
     ("version", "README.md", r"(?:\bVersion |\./release (?:--deb )?|[a-z\d]_|pigyelund-)(\d+(?:\.\d+)+)"),
@@ -30,12 +29,13 @@ PLACES = (
     ("made", "foreign/pigyelund.pc", r"^Version: (.*)$"),
     ("made", "docs/origins.1", MANUAL),
     ("made", "docs/respath.1", MANUAL),
-    ("calls", "foreign/numbers.txt", CALLS_OF),
-    ("calls", "crates/pigyelund_c/src/exports/verify.rt", r"pigy_version\(\) -> u32\n    ensures \{ result ≡ (\d+) \}"),
-    ("calls", "foreign/pigyelund.h", r"^#define PIGY_VERSION (\d+)u$"),
-    ("calls", "foreign/python/pigyelund/raw.py", r"^VERSION = (\d+)\b"),
-    ("calls", "tests/run/foreign.sh", r"this package needs version (\d+);"),
-    ("calls", "tests/run/release.sh", r"pigy_version\(void\) \{ return (\d+); \}"),
+    ("number", "foreign/numbers.txt", r"^NUMBER\(VERSION_NUMBER, (\d+)\)$"),
+    ("number", "crates/pigyelund_c/src/exports/verify.rt", r"pigy_version\(\) -> u32\n    ensures \{ result ≡ (\d+) \}"),
+    ("number", "foreign/pigyelund.h", r"^#define PIGY_VERSION_NUMBER (\d+)u$"),
+    ("major", "foreign/pigyelund.h", r"^#define PIGY_VERSION_MAJOR (\d+)$"),
+    ("minor", "foreign/pigyelund.h", r"^#define PIGY_VERSION_MINOR (\d+)$"),
+    ("patch", "foreign/pigyelund.h", r"^#define PIGY_VERSION_PATCH (\d+)$"),
+    ("number", "tests/run/release.sh", r"pigy_version\(void\) \{ return (\d+); \}"),
 )
 LICENSES = "foreign/python/LICENSE", "foreign/rust/LICENSE"
 
@@ -53,8 +53,9 @@ def faults(asked: list[str]) -> Iterator[str]:
         yield f"VERSION: {text!r}, expected three numbers with dots between them, and the end of the line"
     yield from (f"VERSION: version {version}, expected {it}" for it in asked if it != version)
     yield from (f"{name}: not the text of LICENSE" for name in LICENSES if text_of(name) != text_of("LICENSE"))
-    calls = re.findall(CALLS_OF, text_of("foreign/numbers.txt"), re.MULTILINE)
-    wanted = {"version": version, "made": "@VERSION@", "calls": "".join(calls)}
+    major, minor, patch = (int(it) for it in (re.findall(r"\d+", version) + ["0"] * 3)[:3])
+    wanted = {"version": version, "made": "@VERSION@", "number": str(major * 1_000_000 + minor * 1_000 + patch)}
+    wanted |= {"major": str(major), "minor": str(minor), "patch": str(patch)}
     for what, name, pattern in PLACES:
         found = re.findall(pattern, text_of(name), re.MULTILINE)
         yield from (f"{name}: version {it}, expected {wanted[what]}" for it in found if it != wanted[what])

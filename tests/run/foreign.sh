@@ -40,32 +40,22 @@ of_symbols() {
         fail "the global symbols of the static library are its calls"
     nm -D --defined-only "$spaced/libpigyelund.so" | awk '$2 != "A" { print $3 }' | sed 's/@@PIGYELUND_1$//' | sort |
         diff "$out/exports" - || fail "the shared library exports its calls, with the version PIGYELUND_1"
-    sed -n 's/^PROVED(\([a-z_]*\));$/proved_\1/p' foreign/c/arrays.c | sort >"$out/proved"
+    sed -n 's/^  return .*\b\(proved_[a-z_]*\)(.*/\1/p' foreign/c/arrays.c | sort >"$out/proved"
     nm --defined-only "$spaced/libpigyelund.a" | awk '$2 == "t" && $3 ~ /^proved_/ { print $3 }' | sort |
         diff "$out/proved" - || fail "the static library has the proved functions under local names"
 }
 
-# warns TEXT WARNING: each compiler refuses this statement, by this warning
-warns() {
-    printf '#include <pigyelund.h>\nuint32_t f(pigy_table *table, pigy_set set, size_t *len, pigy_buffers *out);\n%s\n' \
-        "uint32_t f(pigy_table *table, pigy_set set, size_t *len, pigy_buffers *out) { (void)out; (void)set; $1 }" \
-        >"$out/warns.c"
-    for compiler in gcc clang; do
-        command -v "$compiler" >/dev/null || continue
-        "$compiler" -Iforeign -Wall -Wextra -c "$out/warns.c" -o "$out/warns.o" 2>"$out/log" || fail "$compiler: $1"
-        grep -q "\[-W$2\]" "$out/log" || fail "$compiler warns by -W$2: $1"
-    done
-}
-
 # The header compiles as each language, without warnings, and also without the attributes. Its names begin with pigy_ or
-# PIGY. The attributes make warnings.
+# PIGY. A call with a NULL handle makes no warning.
 of_header() {
     echo '#include "pigyelund.h"
-        uint32_t f(pigy_set a, pigy_set b, pigy_buffers *out);
-        uint32_t f(pigy_set a, pigy_set b, pigy_buffers *out) {
-          pigy_operation *operation = pigy_version() ? pigy_union : pigy_difference;
-          uint32_t status = pigy_combine(operation, a, b, PIGY_STRICT, out);
-          return status ? status : pigy_compare(&pigy_equal, a, b, PIGY_STRICT);
+        pigy_status f(pigy_set a, pigy_set b, uint8_t *answer, size_t *len);
+        pigy_status f(pigy_set a, pigy_set b, uint8_t *answer, size_t *len) {
+          pigy_status status = pigy_equal(a, b, PIGY_STRICT, answer);
+          pigy_table_free(0);
+          pigy_resources_free(0);
+          pigy_table_len(0, len);
+          return PIGY_KIND(status) == PIGY_BAD_AS ? PIGY_FAULT(status) : pigy_version() - PIGY_VERSION_NUMBER;
         }' >"$out/header.c"
     for language in c99 c11 c17 c++11 c++17; do
         case $language in c++*) compilers="g++ clang++" ;; *) compilers="gcc clang" ;; esac
@@ -83,16 +73,6 @@ of_header() {
         fail "the header defines a macro without PIGY"
     gcc -E -P foreign/pigyelund.h | sed -n '/pigy_/,$p' | grep -E '^(typedef .*[;(]|\} .*;)' | grep -v '[ *]pigy_' &&
         fail "the header defines a type without pigy_"
-    warns "(void)table; (void)len; return pigy_answer(0, 0, 0, 0, 0);" nonnull
-    warns "pigy_table_vrps(table, 0, 0, len); return 0;" unused-result
-    warns "(void)len; return pigy_table_vrps(table, 0, 0, 0);" nonnull
-    warns "return pigy_table_covering(table, 0, 0, 0, len);" nonnull
-    warns "(void)table; (void)len; pigy_verify_set(set, set, 0, 0, out); return 0;" unused-result
-    warns "(void)table; (void)len; return pigy_verify_set(set, set, 0, 0, 0);" nonnull
-    warns "(void)table; return pigy_table_len(0, 0) + *len;" nonnull
-    echo '#include "foreign/pigyelund.h"
-        uint32_t f(size_t *len) { pigy_table_free(0); pigy_table_len(0, len); return pigy_version(); }' |
-        gcc -x c -Wall -Wextra -Werror -I. -c - -o "$out/warns.o" || fail "a NULL handle without a warning"
 }
 
 # arrays.c compiles without warnings, by each compiler. It passes each argument on.
@@ -108,44 +88,14 @@ of_arrays() {
     has "empty vectors in C++" g++ && of_vectors
 }
 
-# A program in C++ passes data() of empty vectors. With UndefinedBehaviorSanitizer, if it is installed, the program ends
-# if it passes a null pointer to a parameter that must not be NULL.
+# A program in C++ passes data() of empty vectors, with UndefinedBehaviorSanitizer if it is installed.
 of_vectors() {
-    cat >"$out/vectors.cpp" <<'END'
-#include <pigyelund.h>
-#include <vector>
-
-int main() {
-  std::vector<uint8_t> octets, line{'n', 'o', 'r', 'm', ' ', 'a', 's', ' ', '1'};
-  std::vector<pigy_vrp> vrps;
-  std::vector<pigy_route> routes;
-  std::vector<pigy_certificate> certificates;
-  std::vector<pigy_ip_range> ranges;
-  pigy_table *table;
-  size_t len, other, index;
-  uint32_t status = pigy_table_new(vrps.data(), vrps.size(), &table, &index);
-  if (status == PIGY_OK)
-    status = pigy_table_origins(table, routes.data(), routes.size(), octets.data(), octets.size(), &len, &index);
-  if (status == PIGY_OK) status = pigy_table_vrps(table, vrps.data(), vrps.size(), &len);
-  pigy_table_free(table);
-  if (status == PIGY_OK)
-    status = pigy_verify_path(octets.data(), 0, octets.data(), 0, octets.data(), 0, certificates.data(),
-                              certificates.size(), PIGY_STRICT, octets.data(), 0, octets.data(), 0, &len, &other,
-                              &index);
-  if (status == PIGY_OK)
-    status = pigy_ip_ranges(octets.data(), 0, PIGY_STRICT, PIGY_IPV4, ranges.data(), ranges.size(), &len);
-  if (status != PIGY_OK || len) return 1;
-  if (pigy_answer(line.data(), line.size(), octets.data(), octets.size(), &len) != PIGY_TOO_SMALL) return 2;
-  octets.resize(len);
-  return pigy_answer(line.data(), line.size(), octets.data(), octets.size(), &len) == PIGY_OK && len == 3 ? 0 : 3;
-}
-END
     sanitize="-fsanitize=undefined -fno-sanitize-recover=all"
     # shellcheck disable=SC2086 # two words
     echo 'int main() {}' | g++ -x c++ $sanitize - -o "$out/vectors" 2>"$out/log" ||
         { sanitize=; echo "left out: null pointers of vectors need the library of -fsanitize=undefined"; }
     # shellcheck disable=SC2086 # two words
-    g++ -std=c++11 -Wall -Wextra -Werror $sanitize -Iforeign "$out/vectors.cpp" "$spaced/libpigyelund.a" \
+    g++ -std=c++11 -Wall -Wextra -Werror $sanitize -Iforeign foreign/c/vectors.cpp "$spaced/libpigyelund.a" \
         -o "$out/vectors" && "$out/vectors" || fail "empty vectors in C++"
 }
 
@@ -158,8 +108,8 @@ of_collisions() {
             awk 'NF == 3 && $3 ~ /^[A-Za-z_][A-Za-z_0-9]*$/ && $3 !~ /^pigy_/ { print $3 }' | sort -u >"$out/of_kit"
         [ -s "$out/of_kit" ] && cat "$out/proved" >>"$out/of_kit"
         sed 's/.*/int &_of_program(void) __asm__("&"); int &_of_program(void) { __builtin_trap(); }/' "$out/of_kit"
-        echo 'int main(void) { uint8_t text[64]; size_t len;'
-        echo 'return (int)pigy_answer((const uint8_t *)"norm as 1", 9, text, sizeof text, &len); }'
+        echo 'int main(void) { char text[64]; size_t len;'
+        echo 'return (int)pigy_answer("norm as 1", 9, text, sizeof text, &len); }'
     } >"$out/collisions.c"
     [ -s "$out/of_kit" ] || fail "the kit has global symbols"
     gcc -Wno-builtin-declaration-mismatch -Iforeign "$out/collisions.c" "$spaced/libpigyelund.a" -o "$out/collisions" &&
@@ -170,11 +120,6 @@ of_c() {
     made all || fail "C is compiled"
     made check || fail "make check: the example and the test in C"
     of_header
-    echo '#include <pigyelund.h>
-        int puts(const char *);
-        int main(void) { return puts(pigy_version_string()) < 0; }' |
-        gcc -x c -Iforeign - -x none "$spaced/libpigyelund.a" -o "$out/version" || fail "the version is compiled"
-    [ "$("$out/version")" = "$(cat VERSION)" ] || fail "pigy_version_string returns the text of VERSION"
     of_symbols
     of_arrays
     of_collisions
@@ -183,6 +128,7 @@ of_c() {
             -o "$out/as_cpp" || fail "the example is C++"
         same "the example in C++" "$out/as_cpp"
     fi
+    tests/misuse/run.py "$spaced" c || fail "wrong callers in C are refused"
     tests/run/foreign_rtr.py "$spaced/libpigyelund.a" || fail "an RTR client against a cache"
     if has "C under valgrind" valgrind; then
         valgrind -q --error-exitcode=9 --leak-check=full "$spaced/test" out/foreign >/dev/null || fail "valgrind"

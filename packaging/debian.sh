@@ -195,12 +195,13 @@ python_package() {
     mkdir "$work/python" "$work/wheel"
     git archive HEAD foreign/python LICENSE VERSION | tar -xf - -C "$work/python"
     (cd "$work/python/foreign/python" &&
-        PYTHONDONTWRITEBYTECODE=1 python3 -c "import wheel_of; wheel_of.build_wheel('$work/wheel')")
+        PYTHONDONTWRITEBYTECODE=1 python3 -c "import setuptools.build_meta as it; it.build_wheel('$work/wheel')") >&2
     install -d "$modules"
     (cd "$modules" && python3 -m zipfile -e "$work/wheel/"*.whl .)
-    rm -r "$modules"/pigyelund-*.dist-info/RECORD "$modules"/pigyelund-*.dist-info/licenses
+    rm -rf "$modules"/pigyelund-*.dist-info/RECORD "$modules"/pigyelund-*.dist-info/licen[cs]es \
+        "$modules"/pigyelund-*.dist-info/LICENSE
     echo dpkg >"$(echo "$modules"/pigyelund-*.dist-info)/INSTALLER"
-    grep -q "\"$soname\"" "$modules/pigyelund/raw.py" || stop "the Python package doesn't load $soname"
+    grep -q "\"$soname\"" "$modules/pigyelund/_library.py" || stop "the Python package doesn't load $soname"
     find "$modules" -type f -exec chmod 00644 {} +
     cat >"$tree/DEBIAN/postinst" <<'END_OF_TEXT'
 #!/bin/sh

@@ -61,7 +61,7 @@ def fault(file: Path, library: Path, folder: Path) -> str | None:
     said = re.search(r"(refused at compile|refused at run|accepted): (.+?)(?: \*/)?$", file.read_text().split("\n")[0])
     if not said:
         return "the first line does not say how the caller is refused"
-    paths = {"PIGYELUND_LIB": str(library), "PYTHONPATH": str(TOP / "foreign" / "python"), "MYPYPATH": ""}
+    paths = {"PIGYELUND_LIB": str(library), "PYTHONPATH": str(TOP / "foreign" / "python" / "src")}
     paths["MYPYPATH"] = paths["PYTHONPATH"]
     for name, compile_it, run_it in tries(file, library, folder):
         compiles, text = ran(compile_it, **paths)

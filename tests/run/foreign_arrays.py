@@ -203,16 +203,21 @@ class Trial(NamedTuple):
         return None if status == wanted_status else f"{self.call.name}: status {status} in place of {wanted_status}"
 
 
+def expected(values: dict[str, int]) -> dict[str, int | None]:
+    """Returns what a proved function has to get for these values: the same values."""
+    return {**values}
+
+
 def trials(number: int, call: Call) -> Iterator[Trial]:
     """Yields the trials of a call. The arguments differ from one another, and from those of all other calls."""
     least, listed = 1000 * number, [*arguments_of(call)]
     usual = {it.name: (least + at) * (0x1000 if "*" in it.type else 1) for at, it in enumerate(listed, 1)}
     usual |= {"present": 3} if "present" in usual else {}
     arrays = [at for at, it in enumerate(listed) if it.is_array]
-    yield Trial(number, call, usual, dict(usual))
+    yield Trial(number, call, usual, expected(usual))
     for nulls in ([[at] for at in arrays] + [arrays]) if arrays else []:
         for clears_address, clears_length in ((True, True), (True, False), (False, True)):
-            values, wanted = dict(usual), dict(usual)
+            values, wanted = dict(usual), expected(usual)
             for at in nulls:
                 array, length = listed[at], listed[at + 1]
                 values |= ({array.name: 0} if clears_address else {}) | ({length.name: 0} if clears_length else {})
@@ -222,7 +227,7 @@ def trials(number: int, call: Call) -> Iterator[Trial]:
             yield Trial(number, call, values, wanted)
     if "present" in usual:
         for present, absent in ((0, ("as", "ip")), (1, ("ip",)), (2, ("as",))):
-            wanted = usual | {"present": present}
+            wanted = expected(usual | {"present": present})
             wanted |= {f"cert_{it}": None for it in absent} | {f"cert_{it}_len": 0 for it in absent}
             yield Trial(number, call, usual | {"present": present}, wanted)
 

@@ -7,5 +7,5 @@ cd "$(dirname "$0")/../.." || exit 1
 has "the style of the scripts in sh" shellcheck && { shellcheck check respath origins release program.sh \
     $(find tests bench foreign packaging vectors -name '*.sh') || fail shellcheck; }
 has "the style of the scripts in Python" flake8 && { flake8 tests bench || fail flake8; }
-has "the types of the scripts in Python" mypy && { mypy tests/run/*.py bench/*.py || fail mypy; }
+has "the types of the scripts in Python" mypy && { mypy tests/run/*.py tests/misuse/run.py bench/*.py || fail mypy; }
 exit "$failed"

@@ -192,15 +192,16 @@ python_package() {
     tree=$(tree_of python3-pigyelund)
     modules=$tree/usr/lib/python3/dist-packages
     least=$(sed -n 's/^requires-python = ">=\(.*\)"$/\1/p' foreign/python/pyproject.toml)
-    mkdir "$work/python" "$work/wheel"
-    git archive HEAD foreign/python LICENSE VERSION | tar -xf - -C "$work/python"
-    (cd "$work/python/foreign/python" &&
-        PYTHONDONTWRITEBYTECODE=1 python3 -c "import setuptools.build_meta as it; it.build_wheel('$work/wheel')") >&2
-    install -d "$modules"
-    (cd "$modules" && python3 -m zipfile -e "$work/wheel/"*.whl .)
-    rm -rf "$modules"/pigyelund-*.dist-info/RECORD "$modules"/pigyelund-*.dist-info/licen[cs]es \
-        "$modules"/pigyelund-*.dist-info/LICENSE
-    echo dpkg >"$(echo "$modules"/pigyelund-*.dist-info)/INSTALLER"
+    summary=$(sed -n 's/^description = "\(.*\)"$/\1/p' foreign/python/pyproject.toml)
+    mkdir "$work/python"
+    git archive HEAD foreign/python/src | tar -xf - -C "$work/python" --strip-components=3
+    # What pip and importlib.metadata read. The setuptools of Debian 12 would need the package python3-wheel.
+    info=$modules/pigyelund-$version.dist-info
+    install -d "$info" "$modules/pigyelund"
+    install -m 644 "$work"/python/pigyelund/* "$modules/pigyelund"
+    printf 'Metadata-Version: 2.1\nName: pigyelund\nVersion: %s\nSummary: %s\nRequires-Python: >=%s\n' \
+        "$version" "$summary" "$least" >"$info/METADATA"
+    echo dpkg >"$info/INSTALLER"
     grep -q "\"$soname\"" "$modules/pigyelund/_library.py" || stop "the Python package doesn't load $soname"
     find "$modules" -type f -exec chmod 00644 {} +
     cat >"$tree/DEBIAN/postinst" <<'END_OF_TEXT'

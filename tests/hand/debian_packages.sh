@@ -78,7 +78,7 @@ example() {
 python() {
     local wanted="AS1 $version"
     said=$(in_root "python3 -c 'import pigyelund, importlib.metadata as m
-print(pigyelund.Pigyelund().answer(\"norm as 1\"), m.version(\"pigyelund\"))'" 2>&1)
+print(pigyelund.answer(\"norm as 1\"), m.version(\"pigyelund\"))'" 2>&1)
     [ "$said" = "$wanted" ] || fail "$1: $said"
 }
 

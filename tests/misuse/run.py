@@ -40,20 +40,20 @@ def ran(words: list[object], **variables: str) -> tuple[bool, str]:
 
 def tries(file: Path, library: Path, folder: Path) -> Iterator[tuple[str, list[object], list[object]]]:
     """Yields for each compiler its name, the command that compiles a file, and the command that runs it."""
-    match file.suffix:
-        case ".c":
-            for compiler in filter(shutil.which, ("gcc", "clang")):
-                options = ["-Wall", "-Wextra", "-Werror", f"-I{TOP / 'foreign'}", "-o", folder / "program"]
-                yield compiler, [compiler, *options, file, library / "libpigyelund.a"], [folder / "program"]
-        case ".py":
-            check = ["mypy", "--strict", f"--cache-dir={folder}", file] if shutil.which("mypy") else ["true"]
-            yield check[0], check, [sys.executable, file]
-        case _:
-            (folder / "src").mkdir(exist_ok=True)
-            (folder / "Cargo.toml").write_text(MANIFEST.format(TOP / "foreign" / "rust"))
-            (folder / "src" / "main.rs").write_text(file.read_text())
-            yield "cargo", *([["cargo", it, "-q", "--offline", "--manifest-path", folder / "Cargo.toml"] for it in
-                              ("build", "run")])
+    if file.suffix == ".c":
+        for compiler in filter(shutil.which, ("gcc", "clang")):
+            options = ["-Wall", "-Wextra", "-Werror", f"-I{TOP / 'foreign'}", "-o", folder / "program"]
+            yield compiler, [compiler, *options, file, library / "libpigyelund.a"], [folder / "program"]
+    elif file.suffix == ".py":
+        has_mypy = shutil.which("mypy") is not None
+        check: list[object] = ["mypy", "--strict", f"--cache-dir={folder}", file] if has_mypy else ["true"]
+        yield "mypy" if has_mypy else "", check, [sys.executable, file]
+    else:
+        (folder / "src").mkdir(exist_ok=True)
+        (folder / "Cargo.toml").write_text(MANIFEST.format(TOP / "foreign" / "rust"))
+        (folder / "src" / "main.rs").write_text(file.read_text())
+        words: list[object] = ["-q", "--offline", "--manifest-path", folder / "Cargo.toml"]
+        yield "cargo", ["cargo", "build", *words], ["cargo", "run", *words]
 
 
 def fault(file: Path, library: Path, folder: Path) -> str | None:
@@ -66,7 +66,7 @@ def fault(file: Path, library: Path, folder: Path) -> str | None:
     for name, compile_it, run_it in tries(file, library, folder):
         compiles, text = ran(compile_it, **paths)
         if said[1] == "refused at compile":
-            if name != "true" and (compiles or said[2] not in text):
+            if name and (compiles or said[2] not in text):
                 return f"{name} does not refuse it by {said[2]!r}: {text}"
             continue
         if not compiles:

@@ -5,7 +5,7 @@ Without arguments it checks these things:
 
 * foreign/numbers.txt has each number of the library. The header adds two kinds of statuses.
 * The header defines the numbers of foreign/numbers.txt and no others.
-* The sources of the package for Python, and its wheel, are for the first Python that the package requires.
+* The sources of the package for Python are for the first Python that the package requires.
 * The header states the stack on which foreign/c/test.c makes its calls.
 * The package of the shared library lists the symbols of foreign/c/exports.map. Each has the first version with it.
 
@@ -18,7 +18,6 @@ has to print what the page says. The status is 1 if something differs.
 
 import ast
 import re
-import subprocess
 import sys
 import tempfile
 from pathlib import Path
@@ -83,12 +82,8 @@ def of_python() -> list[str]:
     least = re.search(r'^requires-python = ">=3\.(\d+)"$', (folder / "pyproject.toml").read_text(), re.MULTILINE)
     if not least:
         return ["foreign/python/pyproject.toml requires no first Python"]
-    words = [sys.executable, "-c", "import wheel_of; print(wheel_of.metadata())"]
-    made = subprocess.run(words, cwd=folder, capture_output=True, text=True, check=False)
     faults = []
-    if f"Requires-Python: >=3.{least[1]}\n" not in made.stdout:
-        faults.append(f"the wheel doesn't require Python 3.{least[1]}: {made.stdout}{made.stderr}")
-    for file in [*sorted((folder / "pigyelund").glob("*.py")), *sorted(folder.glob("*_of.py"))]:
+    for file in sorted((folder / "src" / "pigyelund").glob("*.py")):
         try:
             ast.parse(file.read_text(), feature_version=(3, int(least[1])))
         except SyntaxError as fault:

@@ -26,7 +26,13 @@ from pathlib import Path
 TOP = Path(__file__).resolve().parents[2]
 HERE = TOP / "tests" / "misuse"
 SUFFIXES = {"c": ".c", "python": ".py", "rust": ".rs"}
-MANIFEST = '[package]\nname = "misuse"\nversion = "0.1.0"\nedition = "2021"\n[dependencies]\npigyelund = {{ path = "{}" }}\n'
+MANIFEST = """[package]
+name = "misuse"
+version = "0.1.0"
+edition = "2021"
+[dependencies]
+pigyelund = {{ path = "{}" }}
+"""
 
 
 def ran(words: list[object], **variables: str) -> tuple[bool, str]:

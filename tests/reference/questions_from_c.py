@@ -1,4 +1,7 @@
-"""Makes the questions of the golden tests of the C library. tests/run/foreign_rows.py writes them with their answers."""
+"""Makes the questions of the golden tests of the C library.
+
+tests/run/foreign_rows.py writes them with their answers.
+"""
 
 from collections.abc import Iterator
 from random import Random

@@ -30,7 +30,7 @@ PLACES = (
     ("made", "docs/origins.1", MANUAL),
     ("made", "docs/respath.1", MANUAL),
     ("number", "foreign/numbers.txt", r"^NUMBER\(VERSION_NUMBER, (\d+)\)$"),
-    ("number", "crates/pigyelund_c/src/exports/verify.rt", r"pigy_version\(\) -> u32\n +ensures \{ result ≡ (\d+) \}"),
+    ("number", "crates/pigyelund_c/src/exports/verify.rt", r"pigy_version\(\) -> u32\n +ensures . result ≡ (\d+) "),
     ("number", "foreign/pigyelund.h", r"^#define PIGY_VERSION_NUMBER (\d+)u$"),
     ("major", "foreign/pigyelund.h", r"^#define PIGY_VERSION_MAJOR (\d+)$"),
     ("minor", "foreign/pigyelund.h", r"^#define PIGY_VERSION_MINOR (\d+)$"),

@@ -724,6 +724,18 @@ static void ask_answer(const form *f, const attempt *a, extent how) {
   if (how == ALL) ask_refused(f, a, 0, 0);
 }
 
+/* Checks that the capacities suffice of which the header says so. */
+static void expect_capacities(const question *q) {
+  size_t as = 3 * (q->in[0].length + q->in[2].length) + 64, ip = 3 * (q->in[1].length + q->in[3].length) + 64;
+  const run *expected = q->expected;
+  if (q->call == VERIFY || q->call == MAKE)
+    expect(expected[0].length <= as && expected[1].length <= ip, q->row, "more than a capacity that suffices");
+  if (q->call == TEXT)
+    expect(expected[0].length + expected[1].length <= 8 * q->in[0].length + 64, q->row, "a longer set of a text");
+  if (q->call == READ)
+    expect(expected[0].length / 23 <= q->in[0].length / 8 + 1, q->row, "more VRPs of a file");
+}
+
 /* Makes the call of a row, which does not read handles. */
 static void ask_by_der(const question *q, extent how) {
   attempt a = {.q = q};
@@ -1386,6 +1398,7 @@ static void ask_all(questions rows) {
   ask_odd(odd);
   pigy_resources_free(odd);
   for (unsigned i = 0; i < rows.count; i++) {
+    expect_capacities(rows.all + i);
     ask_row(rows.all + i, ALL);
     ask_with_null(rows.all + i);
   }

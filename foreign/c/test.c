@@ -935,11 +935,13 @@ static void ask_with_null(const question *q) {
 
 /* ---- NULL handles, and no arrays */
 
-/* Checks a status and nothing but zeros in what a call stored. */
-static void expect_none(pigy_status found, pigy_status status, size_t first, size_t second, const char *what) {
-  expect(found == status && !first && !second, 0, what);
-  calls++;
-}
+/* Makes a call. Then checks its status, and that two expressions on what it stored are 0. */
+#define EXPECT_NONE(call, status, first, second, what) \
+  do { \
+    pigy_status found_status = (call); \
+    expect(found_status == (status) && !(first) && !(second), 0, what); \
+    calls++; \
+  } while (0)
 
 /* Passes NULL as each handle of a call on sets. The other handle is that of an empty set. */
 static void ask_null_sets(void) {
@@ -963,32 +965,32 @@ static void ask_null_sets(void) {
     const pigy_resources *a = i == 1 ? there : 0, *b = i == 2 ? there : 0;
     for (int j = 0; j < 4; j++) {
       set = (pigy_resources *)(void *)octets;
-      expect_none(made[j](a, b, &set), none, set != 0, 0, "an operation on null");
+      EXPECT_NONE(made[j](a, b, &set), none, set != 0, 0, "an operation on null");
     }
     for (int j = 0; j < 2; j++) {
       answer = MARK;
-      expect_none(tested[j](a, b, &answer), none, answer, 0, "a test of null");
+      EXPECT_NONE(tested[j](a, b, &answer), none, answer, 0, "a test of null");
     }
   }
   set = over = (pigy_resources *)(void *)octets;
-  expect_none(pigy_resources_verify(0, empty, 4, 0, 0, &set, &over), none, set != 0, over != 0, "an issuer of null");
+  EXPECT_NONE(pigy_resources_verify(0, empty, 4, 0, 0, &set, &over), none, set != 0, over != 0, "an issuer of null");
   set = over = (pigy_resources *)(void *)octets;
   index = ANY;
   expect(pigy_resources_verify_path(0, 0, 0, 0, 0, 0, &set, &over, &index) == none, 0, "an anchor of null");
-  expect_none(none, none, set != 0 || over != 0, index, "an anchor of null");
+  expect(!set && !over && !index, 0, "what an anchor of null stores");
   answer = MARK;
-  expect_none(pigy_resources_contains_asn(0, 1, &answer), none, answer, 0, "an AS number of null");
+  EXPECT_NONE(pigy_resources_contains_asn(0, 1, &answer), none, answer, 0, "an AS number of null");
   answer = MARK;
-  expect_none(pigy_resources_contains_prefix(0, &prefix, &answer), none, answer, 0, "a prefix of null");
+  EXPECT_NONE(pigy_resources_contains_prefix(0, &prefix, &answer), none, answer, 0, "a prefix of null");
   len = ANY;
-  expect_none(pigy_resources_prefixes(0, 0, &prefix, 1, &len), none, len, 0, "prefixes of null");
+  EXPECT_NONE(pigy_resources_prefixes(0, 0, &prefix, 1, &len), none, len, 0, "prefixes of null");
   len = ANY;
-  expect_none(pigy_resources_as_ranges(0, &as_range, 1, &len), none, len, 0, "AS ranges of null");
+  EXPECT_NONE(pigy_resources_as_ranges(0, &as_range, 1, &len), none, len, 0, "AS ranges of null");
   len = ANY;
-  expect_none(pigy_resources_ip_ranges(0, 0, &ip_range, 1, &len), none, len, 0, "IP ranges of null");
-  expect_none(pigy_resources_der(0, &out), none, out.as_len, out.ip_len, "DER of null");
+  EXPECT_NONE(pigy_resources_ip_ranges(0, 0, &ip_range, 1, &len), none, len, 0, "IP ranges of null");
+  EXPECT_NONE(pigy_resources_der(0, &out), none, out.as_len, out.ip_len, "DER of null");
   len = ANY;
-  expect_none(pigy_resources_text(0, 0, (char *)octets, 1, &len), none, len, 0, "a text of null");
+  EXPECT_NONE(pigy_resources_text(0, 0, (char *)octets, 1, &len), none, len, 0, "a text of null");
   expect(octets[0] == MARK && octets[1] == MARK, 0, "an octet of null");
   pigy_resources_free(there);
 }
@@ -1003,22 +1005,22 @@ static void ask_null_tables(void) {
   pigy_table *table = 0, *next = (pigy_table *)(void *)&octet;
   size_t len = ANY, index = ANY;
   pigy_table_free(0);
-  expect_none(pigy_table_validate_routes(0, &route, 1, &octet, 1, &len, &index), none, len, index, "routes of null");
+  EXPECT_NONE(pigy_table_validate_routes(0, &route, 1, &octet, 1, &len, &index), none, len, index, "routes of null");
   expect(pigy_table_validate(0, &route, &validity, &reason) == none, 0, "a route of null");
   expect(validity == PIGY_NO_VALIDITY && !reason, 0, "a validity of null");
   len = ANY;
-  expect_none(pigy_table_covering(0, &route, &covering, 1, &len), none, len, 0, "what covers by null");
+  EXPECT_NONE(pigy_table_covering(0, &route, &covering, 1, &len), none, len, 0, "what covers by null");
   len = ANY;
-  expect_none(pigy_table_len(0, &len), none, len, 0, "the length of null");
+  EXPECT_NONE(pigy_table_len(0, &len), none, len, 0, "the length of null");
   len = ANY;
-  expect_none(pigy_table_vrps(0, &vrp, 1, &len), none, len, 0, "VRPs of null");
+  EXPECT_NONE(pigy_table_vrps(0, &vrp, 1, &len), none, len, 0, "VRPs of null");
   index = ANY;
-  expect_none(pigy_table_with_changes(0, &vrp, 1, &vrp, 1, &next, &index), none, index, next != 0, "null is changed");
+  EXPECT_NONE(pigy_table_with_changes(0, &vrp, 1, &vrp, 1, &next, &index), none, index, next != 0, "null is changed");
   expect(pigy_table_new(&vrp, 1, &table, &index) == PIGY_OK, 0, "a table beside null");
   for (int i = 0; i < 3; i++) {
     const pigy_table *old = i == 1 ? table : 0, *other = i == 2 ? table : 0;
     len = index = ANY;
-    expect_none(pigy_table_revalidate(old, other, &route, 1, &octet, 1, &len, &index), none, len, index,
+    EXPECT_NONE(pigy_table_revalidate(old, other, &route, 1, &octet, 1, &len, &index), none, len, index,
                 "changes of null");
   }
   expect(octet == MARK, 0, "an octet of null");
@@ -1036,19 +1038,19 @@ static void ask_empty_table(void) {
   pigy_table *table = 0, *next = 0;
   uint8_t validity = MARK, reason = MARK;
   size_t len = ANY, index = ANY;
-  expect_none(pigy_table_new(0, 0, &table, &index), PIGY_OK, index, !table, "an empty table");
+  EXPECT_NONE(pigy_table_new(0, 0, &table, &index), PIGY_OK, index, !table, "an empty table");
   index = ANY;
-  expect_none(pigy_table_with_changes(table, 0, 0, 0, 0, &next, &index), PIGY_OK, index, !next, "no changes");
+  EXPECT_NONE(pigy_table_with_changes(table, 0, 0, 0, 0, &next, &index), PIGY_OK, index, !next, "no changes");
   index = ANY;
-  expect_none(pigy_table_validate_routes(table, 0, 0, 0, 0, &len, &index), PIGY_OK, len, index, "no routes");
+  EXPECT_NONE(pigy_table_validate_routes(table, 0, 0, 0, 0, &len, &index), PIGY_OK, len, index, "no routes");
   expect(pigy_table_validate(table, &route, &validity, &reason) == PIGY_OK, 0, "a route by no VRPs");
   expect(validity == PIGY_NOT_FOUND && !reason, 0, "a validity by no VRPs");
   len = index = ANY;
-  expect_none(pigy_table_revalidate(table, next, 0, 0, 0, 0, &len, &index), PIGY_OK, len, index, "no changed routes");
+  EXPECT_NONE(pigy_table_revalidate(table, next, 0, 0, 0, 0, &len, &index), PIGY_OK, len, index, "no changed routes");
   len = ANY;
-  expect_none(pigy_table_covering(table, &route, 0, 0, &len), PIGY_OK, len, 0, "no VRPs that cover a route");
+  EXPECT_NONE(pigy_table_covering(table, &route, 0, 0, &len), PIGY_OK, len, 0, "no VRPs that cover a route");
   len = ANY;
-  expect_none(pigy_table_vrps(table, 0, 0, &len), PIGY_OK, len, 0, "no VRPs of a table");
+  EXPECT_NONE(pigy_table_vrps(table, 0, 0, &len), PIGY_OK, len, 0, "no VRPs of a table");
   pigy_table_free(next);
   pigy_table_free(table);
 }
@@ -1057,21 +1059,21 @@ static void ask_empty_table(void) {
 static void ask_empty_set(pigy_set empty, pigy_buffers *out) {
   pigy_resources *set = 0, *over = 0, *other = 0;
   size_t len = ANY, index = ANY;
-  expect_none(pigy_resources_from_text(0, 0, PIGY_IPV6, &set), PIGY_OK, !set, 0, "an empty text");
-  expect_none(pigy_resources_verify_path(set, 0, 0, 0, 0, PIGY_STRICT, &other, &over, &index), PIGY_OK, index,
+  EXPECT_NONE(pigy_resources_from_text(0, 0, PIGY_IPV6, &set), PIGY_OK, !set, 0, "an empty text");
+  EXPECT_NONE(pigy_resources_verify_path(set, 0, 0, 0, 0, PIGY_STRICT, &other, &over, &index), PIGY_OK, index,
               !other || over, "an empty path by a handle");
   pigy_resources_free(other);
-  expect_none(pigy_resources_verify(set, empty, 0, PIGY_STRICT, PIGY_TRIM, &other, &over), PIGY_ABSENT, other != 0,
+  EXPECT_NONE(pigy_resources_verify(set, empty, 0, PIGY_STRICT, PIGY_TRIM, &other, &over), PIGY_ABSENT, other != 0,
               over != 0, "no extension by a handle");
-  expect_none(pigy_resources_prefixes(set, PIGY_IPV6, 0, 0, &len), PIGY_OK, len, 0, "no prefixes of a handle");
+  EXPECT_NONE(pigy_resources_prefixes(set, PIGY_IPV6, 0, 0, &len), PIGY_OK, len, 0, "no prefixes of a handle");
   len = ANY;
-  expect_none(pigy_resources_as_ranges(set, 0, 0, &len), PIGY_OK, len, 0, "no AS ranges of a handle");
+  EXPECT_NONE(pigy_resources_as_ranges(set, 0, 0, &len), PIGY_OK, len, 0, "no AS ranges of a handle");
   len = ANY;
-  expect_none(pigy_resources_ip_ranges(set, PIGY_IPV4, 0, 0, &len), PIGY_OK, len, 0, "no IP ranges of a handle");
+  EXPECT_NONE(pigy_resources_ip_ranges(set, PIGY_IPV4, 0, 0, &len), PIGY_OK, len, 0, "no IP ranges of a handle");
   len = ANY;
-  expect_none(pigy_resources_text(set, PIGY_ASN, 0, 0, &len), PIGY_OK, len, 0, "no text of a handle");
+  EXPECT_NONE(pigy_resources_text(set, PIGY_ASN, 0, 0, &len), PIGY_OK, len, 0, "no text of a handle");
   out->as_len = out->ip_len = ANY;
-  expect_none(pigy_resources_der(set, out), PIGY_OK, out->as_len, out->ip_len, "no DER of a handle");
+  EXPECT_NONE(pigy_resources_der(set, out), PIGY_OK, out->as_len, out->ip_len, "no DER of a handle");
   pigy_resources_free(set);
 }
 
@@ -1088,34 +1090,34 @@ static void ask_empty(void) {
   for (pigy_present present = 0; present <= PIGY_HAS_BOTH; present++) {
     uint32_t status = !present ? PIGY_ABSENT : PIGY_SECOND + (present == PIGY_HAS_IP ? PIGY_BAD_IP : PIGY_BAD_AS) + 1u;
     out = excess = none;
-    expect_none(pigy_verify(empty, empty, present, PIGY_STRICT, PIGY_REFUSE, &out, &excess), status,
+    EXPECT_NONE(pigy_verify(empty, empty, present, PIGY_STRICT, PIGY_REFUSE, &out, &excess), status,
                 out.as_len + out.ip_len, excess.as_len + excess.ip_len, "an empty certificate");
   }
   out = excess = none;
   expect(pigy_verify_path(empty, 0, 0, 0, 0, PIGY_STRICT, &out, &excess, &index) == PIGY_OK && !index, 0,
          "an empty path");
-  expect_none(PIGY_OK, PIGY_OK, out.as_len + out.ip_len, excess.as_len + excess.ip_len, "lengths of an empty path");
+  expect(!out.as_len && !out.ip_len && !excess.as_len && !excess.ip_len, 0, "lengths of an empty path");
   for (int i = 0; i < 3; i++) {
     out = none;
-    expect_none(made[i](empty, empty, PIGY_STRICT, &out), PIGY_OK, out.as_len, out.ip_len, "a set of empty sets");
+    EXPECT_NONE(made[i](empty, empty, PIGY_STRICT, &out), PIGY_OK, out.as_len, out.ip_len, "a set of empty sets");
   }
   for (int i = 0; i < 2; i++) {
     uint8_t answer = MARK;
-    expect_none(tested[i](empty, empty, PIGY_STRICT, &answer), PIGY_OK, answer != 1, 0, "empty sets are compared");
+    EXPECT_NONE(tested[i](empty, empty, PIGY_STRICT, &answer), PIGY_OK, answer != 1, 0, "empty sets are compared");
   }
   out = none;
-  expect_none(pigy_set_from_text(0, 0, PIGY_ASN, &out), PIGY_OK, out.as_len, out.ip_len, "an empty list");
-  expect_none(pigy_prefixes(0, 0, PIGY_STRICT, PIGY_IPV4, 0, 0, &len), PIGY_OK, len, 0, "prefixes of no addresses");
+  EXPECT_NONE(pigy_set_from_text(0, 0, PIGY_ASN, &out), PIGY_OK, out.as_len, out.ip_len, "an empty list");
+  EXPECT_NONE(pigy_prefixes(0, 0, PIGY_STRICT, PIGY_IPV4, 0, 0, &len), PIGY_OK, len, 0, "prefixes of no addresses");
   len = ANY;
-  expect_none(pigy_as_ranges(0, 0, PIGY_STRICT, 0, 0, &len), PIGY_OK, len, 0, "ranges of no AS numbers");
+  EXPECT_NONE(pigy_as_ranges(0, 0, PIGY_STRICT, 0, 0, &len), PIGY_OK, len, 0, "ranges of no AS numbers");
   len = ANY;
-  expect_none(pigy_ip_ranges(0, 0, PIGY_STRICT, PIGY_IPV4, 0, 0, &len), PIGY_OK, len, 0, "ranges of no addresses");
+  EXPECT_NONE(pigy_ip_ranges(0, 0, PIGY_STRICT, PIGY_IPV4, 0, 0, &len), PIGY_OK, len, 0, "ranges of no addresses");
   len = index = ANY;
-  expect_none(pigy_validate(0, 0, 0, 0, 0, 0, &len, &index), PIGY_OK, len, index, "no VRPs and no routes");
+  EXPECT_NONE(pigy_validate(0, 0, 0, 0, 0, 0, &len, &index), PIGY_OK, len, index, "no VRPs and no routes");
   len = index = ANY;
-  expect_none(pigy_vrps_read(0, 0, 0, 0, &len, &index), PIGY_BAD_FILE + 6u, len, index, "an empty file");
+  EXPECT_NONE(pigy_vrps_read(0, 0, 0, 0, &len, &index), PIGY_BAD_FILE + 6u, len, index, "an empty file");
   len = ANY;
-  expect_none(pigy_answer(0, 0, 0, 0, &len), PIGY_BAD_QUERY, len, 0, "an empty line");
+  EXPECT_NONE(pigy_answer(0, 0, 0, 0, &len), PIGY_BAD_QUERY, len, 0, "an empty line");
   ask_empty_set(empty, &out);
   ask_empty_table();
 }
@@ -1305,8 +1307,9 @@ static void ask_on_threads(questions rows) {
 
 /* ---- the stack */
 
-/* The header requires STACK for pigy_vrps_read, and STACK_OF_OTHERS for each other call. It says that pigy_vrps_read uses
- * less than USED_TO_READ of it, and that each other call uses less than USED. The stack of the thread is much larger. */
+/* The header requires STACK for pigy_vrps_read, and STACK_OF_OTHERS for each other call. It says that pigy_vrps_read
+ * uses less than USED_TO_READ of it, and that each other call uses less than USED. The stack of the thread is much
+ * larger. */
 enum { STACK = 128 << 10, STACK_OF_OTHERS = 16 << 10, USED = 8 << 10, USED_TO_READ = 64 << 10,
        STACK_OF_THREAD = 8 << 20, ALIGNED = 4096 };
 

@@ -1,9 +1,9 @@
 #!/usr/bin/env python3
 """Tests the type hints with mypy: test_types.py [PYTHON].
 
-mypy reads the package that PYTHON has installed, or the package in this folder if no PYTHON is passed. In strict mode
-it has to accept the sources of the package, the backend that builds the package, and `right_calls.py`. It has to refuse
-each line of `wrong_calls.py` that is marked, and no other line. The status is 1 if it does not.
+mypy reads the package that PYTHON has installed, or the sources of the package if no PYTHON is passed. In strict mode
+it has to accept the package, the script that makes its bindings, and `right_calls.py`. It has to refuse each line of
+`wrong_calls.py` that is marked, and no other line. The status is 1 if it does not.
 """
 
 import os
@@ -14,9 +14,12 @@ import tempfile
 from pathlib import Path
 
 HERE = Path(__file__).resolve().parent
+SOURCES = HERE.parent / "src"
+SCRIPT = HERE.parents[1] / "bindings.py"
 REPORT = re.compile(r"^(?:.*/)?wrong_calls\.py:(\d+): error: (.*)$")
 # The codes of mypy for a wrong argument or a wrong use of a result. Which of them a call has depends on the version.
-CODES = ("arg-type", "assignment", "call-arg", "call-overload", "list-item", "misc", "type-var")
+CODES = ("arg-type", "assignment", "call-arg", "call-overload", "list-item", "misc", "type-var", "operator", "index")
+CODES += ("attr-defined", "comparison-overlap", "func-returns-value", "return-value", "unused-coroutine")
 
 
 def run(folder: str, *words: str) -> tuple[int, str]:
@@ -26,7 +29,7 @@ def run(folder: str, *words: str) -> tuple[int, str]:
         The status, and the output.
     """
     python = [] if len(sys.argv) == 1 else ["--python-executable", os.path.abspath(sys.argv[1])]
-    path = {"MYPYPATH": str(HERE)} if len(sys.argv) == 1 else {}
+    path = {"MYPYPATH": str(SOURCES)} if len(sys.argv) == 1 else {}
     command = ["mypy", "--strict", "--no-error-summary", "--hide-error-context", "--cache-dir", f"{folder}/cache"]
     environment = {name: value for name, value in os.environ.items() if name != "MYPYPATH"} | path
     done = subprocess.run([*command, *python, *words], cwd=folder, env=environment, capture_output=True, text=True)
@@ -42,9 +45,8 @@ def copy_of(name: str, folder: str) -> str:
 
 def faults(folder: str) -> list[str]:
     """Returns what mypy accepts or refuses in another way than it has to."""
-    sources = [str(it) for it in sorted(HERE.glob("*_of.py"))]
     found = []
-    for words in (["-p", "pigyelund"], sources, [copy_of("right_calls.py", folder)]):
+    for words in (["-p", "pigyelund"], [str(SCRIPT)], [copy_of("right_calls.py", folder)]):
         status, text = run(folder, *words)
         if status:
             found.append(f"mypy refuses {' '.join(words)}: {text}")

@@ -1,0 +1,144 @@
+#!/usr/bin/env python3
+"""bindings.py [--check]: makes foreign/python/src/pigyelund/_bindings.py from foreign/pigyelund.h.
+
+The file has the numbers, structs and prototypes of the header, for ctypes. The texts of statuses come from the library
+(pigy_status_text) when a program runs. With --check the script writes nothing, and the status is 1 if the file differs
+from what the script would write.
+"""
+
+import re
+import sys
+import textwrap
+from collections.abc import Iterator
+from pathlib import Path
+
+HERE = Path(__file__).resolve().parent
+HEADER, MADE = HERE / "pigyelund.h", HERE / "python" / "src" / "pigyelund" / "_bindings.py"
+TYPES = {
+    "uint8_t": "c_uint8",
+    "uint32_t": "c_uint32",
+    "size_t": "c_size_t",
+    "const char *": "c_char_p",
+    "char *": "c_char_p",
+    "const uint8_t *": "c_char_p",
+    "pigy_resources *": "c_void_p",
+    "pigy_table *": "c_void_p",
+}
+# The formats of the module `struct`; struct_class adds those of structs.
+FORMATS = {"c_uint8": "B", "c_uint32": "I", "c_size_t": "N"}
+HEAD = '''"""The numbers, structs and calls of foreign/pigyelund.h. foreign/bindings.py makes this file. Do not edit it."""
+
+from ctypes import POINTER, Array, Structure, c_char_p, c_size_t, c_uint8, c_uint32, c_void_p
+from enum import IntEnum
+'''
+
+
+def class_of(struct: str) -> str:
+    """Returns the name of the class for a struct: `AsRange` for `pigy_as_range`."""
+    return "".join(it.capitalize() for it in struct.split("_")[1:])
+
+
+def enumerations(text: str) -> Iterator[list[tuple[str, str, str]]]:
+    """Yields the constants of each enumeration: the name without PIGY_, the number, and the comment or an empty text."""
+    for body in re.findall(r"^PIGY_ENUM \{(.*?)\}", text, re.MULTILINE | re.DOTALL):
+        found = re.findall(r"(?:/\*((?:(?!\*/).)*)\*/\s*)?PIGY_(\w+) = (\w+),?[ ]*(?:/\* (.*?) \*/)?", body, re.DOTALL)
+        yield [(name, number, after or before) for before, name, number, after in found]
+
+
+def shortened(comment: str) -> str:
+    """Returns the prose of a comment in one line, without PIGY_, and without a table."""
+    prose = re.split(r":\n +\*\n", comment)[0]
+    return " ".join(re.sub(r"\n +\* ?", " ", prose).replace("PIGY_", "").split())
+
+
+def status_class(constants: list[tuple[str, str, str]]) -> Iterator[str]:
+    """Yields the lines of the class of statuses. Its docstring has the comments of the header."""
+    yield "class Status(IntEnum):"
+    yield '    """The statuses of a call. A number n, or SECOND, is added to some of them, as in `pigyelund.h`.'
+    yield ""
+    yield "    Attributes:"
+    for name, _, comment in constants:
+        text = shortened(comment).rstrip(".")
+        yield from textwrap.wrap(f"{name}: {text}.", 120, initial_indent=" " * 8, subsequent_indent=" " * 12)
+    yield '    """'
+    yield ""
+    yield from (f"    {name} = {number}" for name, number, _ in constants)
+
+
+def struct_class(body: str, name: str) -> Iterator[str]:
+    """Yields the lines of the class of a struct."""
+    fields = []
+    for type_, pointer, field, count in re.findall(r"^  ((?:const )?\w+) (\*?)(\w+)(?:\[(\d+)\])?;", body, re.M):
+        plain = type_.removeprefix("const ")
+        kind = "c_void_p" if pointer else TYPES.get(plain, class_of(plain))
+        field = "asn" if field == "as" else field  # `as` is a keyword of Python
+        python = "int | None" if pointer else "int" if plain in TYPES else class_of(plain)
+        fields.append((field, f"{kind} * {count}" if count else kind, f"Array[{kind}]" if count else python))
+    FORMATS[class_of(name)] = "".join(FORMATS.get(kind.split(" ")[0], "P") if " * " not in kind else f"{kind.split()[-1]}s"
+                                      for _, kind, _ in fields)
+    yield f"class {class_of(name)}(Structure):"
+    yield f'    """The struct `{name}`."""'
+    yield ""
+    yield "    _fields_ = ["
+    yield from (f'        ("{field}", {kind}),' for field, kind, _ in fields)
+    yield "    ]"
+    yield from (f"    {field}: {python}" for field, _, python in fields)
+
+
+def type_of(text: str) -> str:
+    """Returns the type of a parameter or of a result for ctypes."""
+    text = text.strip()
+    plain = text.removeprefix("const ")
+    known = TYPES.get(text) or TYPES.get(plain)
+    if known:
+        return known
+    if plain.endswith("*"):
+        return f"POINTER({type_of(plain.removesuffix('*'))})"
+    return class_of(plain)
+
+
+def calls(text: str) -> Iterator[str]:
+    """Yields the lines of the dict of prototypes."""
+    yield "# The name of each call, with the type of its result and those of its parameters."
+    yield "CALLS: dict[str, tuple[type | None, list[type]]] = {"
+    for result, name, listed in re.findall(r"^ \*/\n([\w ]+?\*?) ?(pigy_\w+)\(([^;{]*?)\)", text, re.MULTILINE):
+        parameters = [] if listed == "void" else [re.sub(r"\w+$", "", " ".join(it.split())) for it in listed.split(",")]
+        types = ", ".join(map(type_of, parameters))
+        line = f'"{name}": ({"None" if result == "void" else type_of(result)}, [{types}]),'
+        yield from textwrap.wrap(line, 120, initial_indent=" " * 4, subsequent_indent=" " * 8)
+    yield "}"
+
+
+def made() -> str:
+    """Returns the contents of the file."""
+    text = HEADER.read_text()
+    TYPES.update({it: "c_uint32" for it in re.findall(r"^typedef uint32_t (pigy_\w+);", text, re.MULTILINE)})
+    statuses, *others = enumerations(text)
+    version = re.findall(r"^#define PIGY_VERSION_NUMBER (\d+)u$", text, re.MULTILINE)[0]
+    structs = re.findall(r"^typedef struct \{\n(.*?)^\} (pigy_\w+);", text, re.MULTILINE | re.DOTALL)
+    parts = [HEAD, f"VERSION_NUMBER = {version}"]
+    parts += [f"{name} = {number}" for group in others for name, number, _ in group]
+    for lines in (status_class(statuses), *(struct_class(*it) for it in structs), calls(text)):
+        parts += ["", "", *lines]
+    packed = {name: it + "0I" * ("I" in it) for name, it in FORMATS.items() if name[0].isupper() and "P" not in it}
+    parts += ["", "", "# The formats of structs, with the padding of C, for the module `struct`."]
+    parts += [f"{name.upper()}_FORMAT = \"@{it}\"" for name, it in packed.items() if "N" not in it]
+    return "\n".join(parts) + "\n"
+
+
+def main() -> int:
+    """Writes the file, or compares it."""
+    if sys.argv[1:] not in ([], ["--check"]):
+        print(__doc__.splitlines()[0], file=sys.stderr)
+        return 2
+    text = made()
+    if not sys.argv[1:]:
+        MADE.write_text(text)
+    elif not MADE.exists() or MADE.read_text() != text:
+        print(f"{MADE}: not the calls of pigyelund.h; run foreign/bindings.py")
+        return 1
+    return 0
+
+
+if __name__ == "__main__":
+    sys.exit(main())

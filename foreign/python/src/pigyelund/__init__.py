@@ -1,0 +1,93 @@
+"""Bindings to Pigyelund, a formally verified library for RPKI resource sets and route origin validation.
+
+The package is for programs that check the resources of certificates (RFC 3779), operate on sets of resources, or
+validate route origins (RFC 6811). It calls the proved shared library through ctypes. The package itself is tested, not
+proved. `docs/PYTHON.md` in the repository is the guide: installation, pandas, Dask, threads.
+
+Route origins: a `Table` of VRPs (validated ROA payloads) validates routes. `Table.read` makes one of a validator's
+file, and `read_vrps` lists the VRPs of such a file.
+
+    >>> from pigyelund import Route, Table, Vrp
+    >>> table = Table([Vrp("10.0.0.0/8-16 AS64496")])
+    >>> table.validate(Route("10.0.0.0/16 AS64496"))
+    <Validity.VALID: 0>
+
+Certificates: `Resources` is a set of resources, with the operators of a set. `Resources.verify` compares the claim of a
+certificate with its issuer's set.
+
+    >>> from pigyelund import Extensions, OverclaimedError, Resources
+    >>> issuer = Resources.from_text(v4="10.0.0.0/8")
+    >>> claim = Resources.from_text(v4="10.0.0.0/8, 12.0.0.0/8")
+    >>> claim <= issuer
+    False
+    >>> try:
+    ...     issuer.verify(claim.der())
+    ... except OverclaimedError as refused:
+    ...     print(refused, refused.excess)
+    overclaimed IPv4 resources 12.0.0.0/8
+
+A call that fails raises a subclass of `PigyelundError`. An argument of a wrong type raises a `TypeError`.
+`status_text` returns the text of a status. `pigyelund.arrays` has the dtypes of numpy. It needs numpy, and the rest of
+the package does not.
+
+The first call loads the shared library, and `load` says which one. `pigyelund.__version__` is the version of the
+package, and `library_version` returns that of the library.
+"""
+
+from ._bindings import NO_VALIDITY, Status
+from ._library import library_version, load, status_text
+from .errors import (
+    ChangeError,
+    DerError,
+    InheritedError,
+    NoExtensionError,
+    OriginError,
+    OutOfMemoryError,
+    OverclaimedError,
+    PigyelundError,
+    QueryError,
+    SetTextError,
+    VrpFileError,
+)
+from .resources import Certificate, Encoding, Extensions, Mode, Resources
+from .table import Changes, Reason, Table, Validity, answer, read_octets, read_vrps
+from .values import Asn, Covering, Family, Mismatch, Route, Vrp
+
+__all__ = [
+    "NO_VALIDITY",
+    "Asn",
+    "Certificate",
+    "ChangeError",
+    "Changes",
+    "Covering",
+    "DerError",
+    "Encoding",
+    "Extensions",
+    "Family",
+    "InheritedError",
+    "Mismatch",
+    "Mode",
+    "NoExtensionError",
+    "OriginError",
+    "OutOfMemoryError",
+    "OverclaimedError",
+    "PigyelundError",
+    "QueryError",
+    "Reason",
+    "Resources",
+    "Route",
+    "SetTextError",
+    "Status",
+    "Table",
+    "Validity",
+    "Vrp",
+    "VrpFileError",
+    "answer",
+    "library_version",
+    "load",
+    "read_octets",
+    "read_vrps",
+    "status_text",
+]
+
+__version__ = "0.2.0"

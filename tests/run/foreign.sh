@@ -248,78 +248,10 @@ of_install() {
         DOCDIR="$spaced/elsewhere/doc"
 }
 
-# Makes a library of that name in a folder, whose calls are of version 4.
-older() {
-    mkdir -p "$1" && echo 'unsigned pigy_version(void) { return 4; }' |
-        gcc -shared -fPIC -x c - -o "$1/libpigyelund.so" || fail "an older library"
-}
-
-# finds COMMAND ..: Python takes the library that answers
-finds() { [ "$("$@" "$out/there/bin/python" "$out/finds.py" 2>&1)" = AS1 ] || fail "Python finds the library: $*"; }
-# names FOLDER COMMAND ..: Python takes the older library of a folder, and says in one line that it is older
-names() {
-    text="ImportError: $1/libpigyelund.so: the library has version 4 of the calls, and this package needs version 5; "
-    shift
-    "$@" "$out/there/bin/python" "$out/finds.py" 2>&1 | tail -n 1 | grep -qF "$text" || fail "Python names: $*: $text"
-}
-
-# Python takes the library in the folder PIGYELUND_LIB, else that of the package, else that of the loader.
-of_python_search() {
-    cat >"$out/finds.py" <<'END'
-import pigyelund
-print(pigyelund.Pigyelund().answer("norm as 1"))
-END
-    package=$(echo "$out"/there/lib/python3*/site-packages/pigyelund)
-    older "$out/older"
-    finds env PIGYELUND_LIB="$prefix/lib"
-    finds env -C "$prefix/lib" PIGYELUND_LIB=.
-    finds env -u PIGYELUND_LIB LD_LIBRARY_PATH="$prefix/lib"
-    mkdir "$out/runtime" && cp "$prefix/lib/libpigyelund.so" "$out/runtime/libpigyelund.so.1" || fail "a library alone"
-    finds env PIGYELUND_LIB="$out/runtime"
-    finds env -u PIGYELUND_LIB LD_LIBRARY_PATH="$out/runtime"
-    older "$out/runtime"
-    finds env -u PIGYELUND_LIB LD_LIBRARY_PATH="$out/runtime"
-    names "$out/older" env PIGYELUND_LIB="$out/older" LD_LIBRARY_PATH="$prefix/lib"
-    cp "$out/older/libpigyelund.so" "$package"
-    finds env PIGYELUND_LIB="$prefix/lib"
-    names "$package" env -u PIGYELUND_LIB LD_LIBRARY_PATH="$prefix/lib"
-    cp "$prefix/lib/libpigyelund.so" "$package"
-    finds env -u PIGYELUND_LIB LD_LIBRARY_PATH="$out/older"
-    names "$out/older" env PIGYELUND_LIB="$out/older"
-}
-
-# mypy accepts the package and right calls of it, and refuses wrong calls: those of the sources, and as pip installs it.
-of_python_types() {
-    has "the type hints of Python" mypy || return
-    foreign/python/test_types.py || fail "the type hints of the sources"
-    foreign/python/test_types.py "$out/there/bin/python" || fail "the type hints of the installed package"
-}
-
-# The files that the backend makes have the right metadata, sums and tags, and are the same octets each time. pip
-# installs the package in place, the source archive, and a wheel with the library inside. This wheel finds the library
-# by itself.
-of_python_wheels() {
-    PYTHONDONTWRITEBYTECODE=1 python3 foreign/python/test_wheel.py "$prefix/lib/libpigyelund.so" || fail "the wheels"
-    cp -rL foreign/python "$out/package" || { fail "a copy of the package"; return; }
-    pip_installs -e "$out/package" && finds env PIGYELUND_LIB="$prefix/lib"
-    imported=$("$out/there/bin/python" -c 'import pigyelund; print(pigyelund.__file__)')
-    [ "$imported" = "$out/package/pigyelund/__init__.py" ] ||
-        fail "pip install -e imports the package in place"
-    python3 -c 'import sys; sys.path[0] = sys.argv[1]; import wheel_of; wheel_of.build_sdist(sys.argv[2])' \
-        "$out/package" "$out" || fail "build_sdist"
-    pip_installs "$out"/pigyelund-*.tar.gz && finds env PIGYELUND_LIB="$prefix/lib"
-    cp "$prefix/lib/libpigyelund.so" "$out/package/pigyelund"
-    "$out/there/bin/pip" wheel -q --no-deps --config-settings=processor=x86-64-v2 -w "$out/wheels" "$out/package" ||
-        fail "pip wheel"
-    ls "$out"/wheels/pigyelund-*-py3-none-manylinux_*.whl >/dev/null ||
-        fail "the wheel with the library has a manylinux tag"
-    pip_installs "$out"/wheels/pigyelund-*.whl && finds env -u PIGYELUND_LIB LD_LIBRARY_PATH="$out/older"
-}
-
-# pip_installs ARGUMENT ..: pip installs the package from there, in place of the one that is installed
-pip_installs() {
-    "$out/there/bin/pip" uninstall -q -y pigyelund && rm -rf "$package" && "$out/there/bin/pip" install -q "$@" ||
-        fail "pip install $*"
+# of_package PYTHON: runs the test of the package
+of_package() {
+    PYTHONPATH=foreign/python/src "$1" foreign/python/tests/test.py "$prefix/lib/libpigyelund.so" out/foreign ||
+        fail "the test in $1"
 }
 
 # Each Python that the package names runs its test, and the one before the first can't import it.
@@ -328,38 +260,51 @@ of_each_python() {
     named=$(sed -n 's/^ *"Programming Language :: Python :: \(3\.[0-9]*\)",$/\1/p' foreign/python/pyproject.toml)
     [ "$(echo "$named" | head -n 1)" = "3.$least" ] || fail "the first Python of the package is 3.$least: $named"
     for version in $named; do
-        if ! "python$version" -c '' 2>/dev/null; then
+        if "python$version" -c '' 2>/dev/null; then
+            of_package "python$version"
+        else
             echo "left out: the test of the package in Python $version needs python$version"
-        elif ! PYTHONPATH=foreign/python "python$version" foreign/python/test.py "$prefix/lib/libpigyelund.so" \
-            out/foreign; then
-            fail "the test in Python $version"
         fi
     done
     before=python3.$((least - 1))
     if ! "$before" -c '' 2>/dev/null; then
         echo "left out: the Python before the package's first needs $before"
-    elif PYTHONPATH=foreign/python "$before" -c 'import pigyelund' 2>/dev/null; then
+    elif PYTHONPATH=foreign/python/src "$before" -c 'import pigyelund' 2>/dev/null; then
         fail "$before imports the package, which wants python3.$least"
     fi
 }
 
+# The wheels, the source archive and installations, by the first Python that has what makes a wheel.
+of_wheels() {
+    for python in python3 /usr/bin/python3; do
+        if "$python" -c 'import ensurepip, setuptools, venv, wheel' 2>/dev/null; then
+            "$python" foreign/python/tests/test_wheel.py "$prefix/lib/libpigyelund.so" || fail "the wheels"
+            "$python" foreign/python/tests/test_install.py "$prefix/lib" || fail "installations of the package"
+            return
+        fi
+    done
+    echo "left out: wheels need python3-setuptools, python3-wheel and python3-venv"
+}
+
 of_python() {
-    PYTHONPATH=foreign/python python3 foreign/python/test.py "$prefix/lib/libpigyelund.so" out/foreign ||
-        fail "the test in Python"
+    export PYTHONDONTWRITEBYTECODE=1
+    foreign/bindings.py --check || fail "the bindings of Python"
+    of_package python3
     of_each_python
-    python3 -c 'import ensurepip, venv' 2>/dev/null || { echo "left out: pip needs python3-venv"; return; }
-    python3 -m venv "$out/there" && "$out/there/bin/pip" install -q foreign/python || { fail "pip install"; return; }
-    of_python_search
-    of_python_types
-    of_python_wheels
+    if has "the type hints of Python" mypy; then
+        foreign/python/tests/test_types.py || fail "the type hints"
+    fi
+    tests/misuse/run.py "$spaced" python || fail "wrong callers in Python are refused"
+    of_wheels
     on_page PYTHON.md "First program"
-    PIGYELUND_LIB="$prefix/lib" PYTHONPATH=foreign/python python3 foreign/python/examples/table.py \
+    PIGYELUND_LIB="$prefix/lib" PYTHONPATH=foreign/python/src python3 foreign/python/examples/table.py \
         <foreign/c/examples/vrps.csv >"$out/example.txt" &&
         diff foreign/python/examples/table.txt "$out/example.txt" || fail "the example table.py"
     if /usr/bin/python3 -c 'import pandas' 2>/dev/null; then
+        of_package /usr/bin/python3 # with numpy
         on_page PYTHON.md "Many routes"
     else
-        echo "left out: many routes in Python need python3-pandas"
+        echo "left out: many routes and arrays in Python need python3-pandas"
     fi
     tests/run/foreign_dask.py "$prefix/lib" || fail "routes in partitions by Dask"
 }

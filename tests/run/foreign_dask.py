@@ -45,7 +45,7 @@ def write_files(folder: Path) -> str:
     commands = "".join(it.text for it in blocks_of(PAGE, FILES_TITLE) if it.kind == "sh")
     files = dict(re.findall(r"^cat >(\S+) <<END\n(.*?)^END$", commands, re.MULTILINE | re.DOTALL))
     (folder / "csv").write_text(files["vrps.csv"])
-    routes = (line.split(",") for line in files["routes.csv"].splitlines()[1:])
+    routes = (line.split(",") for line in files["routes.csv"].splitlines()[1:-1])  # without the malformed one
     (folder / "routes").write_text("".join(f"{prefix} AS{asn}\n" for prefix, asn in routes))
     return next(it.shown for it in blocks if "python3 validate_routes.py " in it.text)
 
@@ -98,7 +98,7 @@ def main() -> int:
     if subprocess.run([SYSTEM, "-c", "import dask.bag, distributed"], capture_output=True).returncode:
         print("left out: routes in partitions by Dask need python3-distributed")
         return 0
-    environment = os.environ | {"PIGYELUND_LIB": sys.argv[1], "PYTHONPATH": str(TOP / "foreign" / "python")}
+    environment = os.environ | {"PIGYELUND_LIB": sys.argv[1], "PYTHONPATH": str(TOP / "foreign" / "python" / "src")}
     with tempfile.TemporaryDirectory() as folder:
         return told(faults_of(Path(folder), environment), "Dask: {} faults")
 

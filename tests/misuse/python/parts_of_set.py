@@ -1,4 +1,4 @@
 # refused at compile: object is not iterable
-from pigyelund import Extensions, Resources
+from pigyelund import Resources
 
 asn, ip = Resources.from_text(v4="10.0.0.0/8")

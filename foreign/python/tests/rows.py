@@ -107,6 +107,8 @@ class Row:
             found = [tuple(bytes(run)[: len(it)] for run, it in zip(*pair)) for pair in zip(held, wanted)]
             if (status, number) != (self.status if fits else Status.TOO_SMALL, self.number):
                 return False
+            if self.call not in ("verify", "path"):
+                said[1] = 7, 7  # the call has no buffers of overclaimed resources
             if [(it.as_len, it.ip_len) for it in buffers] != said or found != wanted:
                 return False
             if any(any(bytes(run)[len(it) :]) for pair in zip(held, wanted) for run, it in zip(*pair)):
@@ -482,9 +484,11 @@ def is_of_table(row: Row) -> bool:
         with Table(given) as table:
             return call(table), b""
 
-    forms: list[Any] = [[structs(it, 23) for it in row.second], [values_of(Vrp, it) for it in row.second]]
-    if row.call != "changed" or None in forms[1]:
-        return all(row.is_by_package(lambda: by_package(given)) for given in givens(Vrp, row.first[0]))
+    forms: list[Any] = [[]]
+    if row.call == "changed":
+        forms = [[structs(it, 23) for it in row.second], [values_of(Vrp, it) for it in row.second]]
+    if None in forms[-1]:
+        forms.pop()
     while forms:
         if not all(row.is_by_package(lambda: by_package(given)) for given in givens(Vrp, row.first[0])):
             return False

@@ -198,7 +198,7 @@ def formats(_: Path) -> Iterator[str]:
 
 def sockets(_: Path) -> Iterator[str]:
     """A struct with AF_INET or AF_INET6 as its family, or without one, is malformed."""
-    with Table([Vrp(TEN, 1), Vrp("::/0-128", 1)]) as made:
+    with Table([Vrp(TEN, 1), Vrp("::/0-128 AS1")]) as made:
         for family in (0, 1, 2, 3, 5, 10, 255):
             octets = struct.pack("16sIBBxx", TEN.network_address.packed, 1, family, 8)
             if made.validate_octets(octets, allow_malformed=True) != b"\xff":
@@ -377,8 +377,8 @@ def arrays_of_numpy(_: Path) -> Iterator[str]:
             yield "routes of an array"
         if arrays.validate(made, routes[::-1]).tolist() != codes[::-1] or arrays.validate(made, routes[:0]).size:
             yield "a view of an array"
-        many = numpy.tile(routes, 10000)
-        if arrays.validate(made, many).tolist() != codes * 10000:
+        many = numpy.tile(routes, 1000)
+        if arrays.validate(made, many).tolist() != codes * 1000:
             yield "many routes"
         packed = numpy.dtype([(name, arrays.ROUTE[name]) for name in arrays.ROUTE.names])
         wide = arrays.ROUTE.newbyteorder()

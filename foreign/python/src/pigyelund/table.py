@@ -24,7 +24,7 @@ Routes: TypeAlias = "Iterable[Route] | ReadableBuffer"
 Array: TypeAlias = "ctypes.Array[Any]"
 Answer = TypeVar("Answer")
 SIZE = 24  # octets of a VRP or of a route
-PART = 1 << 16  # routes of one call of C that may have malformed ones
+PART = 1 << 12  # routes of one call of C if some may be malformed
 
 
 class Validity(Enum):
@@ -107,8 +107,9 @@ def array_of(kind: type[ctypes.Structure], of: type[Packed], given: object) -> A
             raise TypeError(f"{given!r} is neither an iterable of {of.__name__} nor a buffer") from None
         octets = b"".join(octets_of(of, given))
         return (kind * (len(octets) // SIZE)).from_buffer_copy(octets)
-    named = "{" in view.format
-    if named and (view.itemsize != SIZE or plain_format(None, view.format) != plain_format(kind)) or "O" == view.format:
+    named, kinds = "{" in view.format, re.sub(":[^:]*:", "", view.format)  # names of fields are between colons
+    is_other = named and (view.itemsize != SIZE or plain_format(None, view.format) != plain_format(kind))
+    if is_other or "O" in kinds:
         raise TypeError(f"a buffer of elements {view.format!r}, expected {plain_format(kind)!r} of {SIZE} octets")
     count, rest = divmod(view.nbytes, SIZE)
     if rest:

@@ -1,5 +1,5 @@
 #!/usr/bin/env python3
-"""bindings.py [--check]: makes foreign/python/src/pigyelund/_bindings.py from foreign/pigyelund.h.
+"""bindings.py --write|--check: makes foreign/python/src/pigyelund/_bindings.py from foreign/pigyelund.h.
 
 The file has the numbers, structs and prototypes of the header, for ctypes. The texts of statuses come from the library
 (pigy_status_text) when a program runs. With --check the script writes nothing, and the status is 1 if the file differs
@@ -128,16 +128,17 @@ def made() -> str:
 
 def main() -> int:
     """Writes the file, or compares it."""
-    if sys.argv[1:] not in ([], ["--check"]):
-        print(__doc__.splitlines()[0], file=sys.stderr)
-        return 2
-    text = made()
-    if not sys.argv[1:]:
-        MADE.write_text(text)
-    elif not MADE.exists() or MADE.read_text() != text:
-        print(f"{MADE}: not the calls of pigyelund.h; run foreign/bindings.py")
-        return 1
-    return 0
+    match sys.argv[1:]:
+        case ["--write"]:
+            MADE.write_text(made())
+            return 0
+        case ["--check"]:
+            if MADE.exists() and MADE.read_text() == made():
+                return 0
+            print(f"{MADE}: not the calls of pigyelund.h; run foreign/bindings.py --write")
+            return 1
+    print("usage: bindings.py --write|--check", file=sys.stderr)
+    return 2
 
 
 if __name__ == "__main__":

@@ -287,8 +287,8 @@ class Resources(Frozen):
             TypeError: An argument is of a wrong type.
         """
         check("certificate", certificate, Extensions)
-        check("mode", mode, Mode)
         check("encoding", encoding, Encoding)
+        check("mode", mode, Mode)
         out, excess = Handle(FREE), Handle(FREE)
         octets, present = certificate._set(), certificate._present()
         outputs = byref(out.stored), byref(excess.stored)

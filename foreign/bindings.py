@@ -26,7 +26,7 @@ TYPES = {
 }
 # The formats of the module `struct`; struct_class adds those of structs.
 FORMATS = {"c_uint8": "B", "c_uint32": "I", "c_size_t": "N"}
-HEAD = '''"""The numbers, structs and calls of foreign/pigyelund.h. foreign/bindings.py makes this file. Do not edit it."""
+HEAD = '''"""The numbers, structs and calls of foreign/pigyelund.h. foreign/bindings.py makes this file."""
 
 from ctypes import POINTER, Array, Structure, c_char_p, c_size_t, c_uint8, c_uint32, c_void_p
 from enum import IntEnum
@@ -39,7 +39,7 @@ def class_of(struct: str) -> str:
 
 
 def enumerations(text: str) -> Iterator[list[tuple[str, str, str]]]:
-    """Yields the constants of each enumeration: the name without PIGY_, the number, and the comment or an empty text."""
+    """Yields the constants of each enumeration: the name without PIGY_, the number, and the comment."""
     for body in re.findall(r"^PIGY_ENUM \{(.*?)\}", text, re.MULTILINE | re.DOTALL):
         found = re.findall(r"(?:/\*((?:(?!\*/).)*)\*/\s*)?PIGY_(\w+) = (\w+),?[ ]*(?:/\* (.*?) \*/)?", body, re.DOTALL)
         yield [(name, number, after or before) for before, name, number, after in found]
@@ -74,8 +74,7 @@ def struct_class(body: str, name: str) -> Iterator[str]:
         field = "asn" if field == "as" else field  # `as` is a keyword of Python
         python = "int | None" if pointer else "int" if plain in TYPES else class_of(plain)
         fields.append((field, f"{kind} * {count}" if count else kind, f"Array[{kind}]" if count else python))
-    FORMATS[class_of(name)] = "".join(FORMATS.get(kind.split(" ")[0], "P") if " * " not in kind else f"{kind.split()[-1]}s"
-                                      for _, kind, _ in fields)
+    FORMATS[class_of(name)] = "".join(format_of(kind) for _, kind, _ in fields)
     yield f"class {class_of(name)}(Structure):"
     yield f'    """The struct `{name}`."""'
     yield ""
@@ -83,6 +82,12 @@ def struct_class(body: str, name: str) -> Iterator[str]:
     yield from (f'        ("{field}", {kind}),' for field, kind, _ in fields)
     yield "    ]"
     yield from (f"    {field}: {python}" for field, _, python in fields)
+
+
+def format_of(kind: str) -> str:
+    """Returns the format of a field of a struct."""
+    name, _, count = kind.partition(" * ")
+    return f"{count}s" if count else FORMATS.get(name, "P")
 
 
 def type_of(text: str) -> str:

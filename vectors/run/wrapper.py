@@ -1,8 +1,8 @@
 #!/usr/bin/env python3
 """wrapper.py [--show] [--only NAME] [--json FILE]: asks the library through the Python wrapper.
 
-PIGYELUND_LIB names the folder of libpigyelund.so, and PYTHONPATH has the package pigyelund (foreign/python/src). A value
-is canonical if a strict call accepts it. The status is 77 if the package or the library is missing."""
+PIGYELUND_LIB names the folder of libpigyelund.so, and PYTHONPATH has the package pigyelund (foreign/python/src). A
+value is canonical if a strict call accepts it. The status is 77 if the package or the library is missing."""
 
 import sys
 from collections import Counter

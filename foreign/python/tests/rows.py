@@ -563,13 +563,13 @@ def is_text(row: Row) -> bool:
     return row.is_by_package(lambda: pair_of(Resources.from_text(**lists)))
 
 
-ASKED = {"verify": is_verified, "path": is_verified_path, "origins": are_origins, "answer": is_line, "print": is_printed}
+ASKED = {"verify": is_verified, "path": is_verified_path, "origins": are_origins, "answer": is_line}
 ASKED |= dict.fromkeys(("covering", "vrps", "changed"), is_of_table)
 ASKED |= dict.fromkeys(("cover", "as_ranges", "ip_ranges"), is_listed)
 ASKED |= dict.fromkeys(OPERATORS, is_operation)
 ASKED |= dict.fromkeys(("contains", "equal"), is_test)
 ASKED |= {"contains_asn": has_asn, "contains_prefix": has_prefix}
-ASKED |= {"differ": are_differences, "read": is_read, "text": is_text}
+ASKED |= {"differ": are_differences, "read": is_read, "text": is_text, "print": is_printed}
 
 
 def faults(lines: list[str]) -> Iterator[str]:

@@ -426,8 +426,9 @@ def sets(_: Path) -> Iterator[str]:
     both = ten | six
     asked = [TEN in ten, ip_address("10.1.2.3") in both, Asn(7) in both, Vrp(SIX, 1) in both, six in both, ten in ten]
     asked += [ten < both, ten <= both, both > six, both >= both, ten != six, both - ten == six, both & ten == ten]
-    asked += [ten ^ both == six, bool(ten), not ten & six, both == Resources([Asn(7), SIX, TEN]), ten == Resources([TEN])]
-    asked += [len({ten, Resources([TEN]), six}) == 2, kept(both) == both, copy.copy(both) == both == copy.deepcopy(both)]
+    asked += [ten ^ both == six, bool(ten), not ten & six, both == Resources([Asn(7), SIX, TEN])]
+    asked += [len({ten, Resources([TEN]), six}) == 2, kept(both) == both, ten == Resources([TEN])]
+    asked += [copy.copy(both) == both == copy.deepcopy(both)]
     asked += [str(both) == "AS7, 10.0.0.0/8, 2001:db8::/32", [*both.asns()] == [Asn(7)], both.prefixes() == [TEN, SIX]]
     asked += [repr(both) == "Resources.from_text(asn='AS7', v4='10.0.0.0/8', v6='2001:db8::/32')"]
     asked += [both.as_ranges() == [(Asn(7), Asn(7))], both.ranges(Family.V4) == [(TEN[0], TEN[-1])]]

@@ -58,7 +58,7 @@ def addresses(_: Path) -> Iterator[str]:
 
 
 def no_prefixes(_: Path) -> Iterator[str]:
-    """A prefix that is neither a network, an address nor a text, or has a scope, is refused. The text has the prefix."""
+    """A prefix that is no network, address or text, or has a scope, is refused. The text has the prefix."""
     other = "is no network or address of ipaddress, and no text"
     scope = "has a scope, which no prefix has"
     interface = "is an interface; pass its network or its ip"

@@ -35,7 +35,8 @@ class Tree:
 
     def __init__(self, folder: Path, library: str | None = None) -> None:
         self.folder = folder
-        shutil.copytree(HERE, folder, ignore=shutil.ignore_patterns("__pycache__", ".*", LIBRARY, "build", "*.egg-info"))
+        skipped = shutil.ignore_patterns("__pycache__", ".*", LIBRARY, "build", "*.egg-info")
+        shutil.copytree(HERE, folder, ignore=skipped)
         if library:
             shutil.copy(library, folder / "src" / "pigyelund" / LIBRARY)
 

@@ -1,4 +1,4 @@
-"""The numbers, structs and calls of foreign/pigyelund.h. foreign/bindings.py makes this file. Do not edit it."""
+"""The numbers, structs and calls of foreign/pigyelund.h. foreign/bindings.py makes this file."""
 
 from ctypes import POINTER, Array, Structure, c_char_p, c_size_t, c_uint8, c_uint32, c_void_p
 from enum import IntEnum

@@ -80,7 +80,8 @@ class Extensions:
         for name, value in (("asn", self.asn), ("ip", self.ip)):
             if value is not None and type(value) is not bytes:
                 check(name, value, bytes)
-                object.__setattr__(self, name, memoryview(value).tobytes())  # `len` of a subclass may say another length
+                # `len` of a subclass may say another length
+                object.__setattr__(self, name, memoryview(value).tobytes())
 
     def _set(self) -> _bindings.Set:
         """Returns the struct with the addresses of both values. It is valid as long as this object is there."""

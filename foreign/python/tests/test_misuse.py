@@ -169,7 +169,7 @@ class Owning(ctypes.Structure):
 
 
 def formats(_: Path) -> Iterator[str]:
-    """A buffer of structs needs the fields of a VRP or of a route. One of Python objects has pointers, and is refused."""
+    """A buffer of structs needs the fields of a VRP or a route. One of Python objects has pointers, and is refused."""
     octets = bytes(Vrp(TEN, 1)) + bytes(Vrp(TEN, 2))
     right = (_bindings.Vrp * 2).from_buffer_copy(octets)
     for buffer in (right, ((_bindings.Vrp * 2) * 1)(right), memoryview(right), octets, memoryview(octets).cast("I")):

@@ -14,12 +14,11 @@
 import socket
 from collections.abc import Iterable
 from importlib import import_module
-from operator import index
-from typing import Any, SupportsIndex, TypeAlias
+from typing import Any, TypeAlias
 
 from . import _bindings
 from .table import Table, read_octets
-from .values import LAST_AS
+from .values import LAST_AS, integer_of
 from .values import ROUTE as PACKED
 
 # mypy reads the package also where numpy is not installed.
@@ -76,11 +75,12 @@ def row(prefix: object, asn: object) -> bytes:
     address, _, length = str(prefix).partition("/")
     family = socket.AF_INET6 if ":" in address else socket.AF_INET
     is_length = len(length) < 4 and length.isascii() and length.isdigit() and int(length) < 256
-    if not (isinstance(asn, SupportsIndex) and 0 <= index(asn) <= LAST_AS and is_length):
+    originator = integer_of(asn)
+    if originator is None or not 0 <= originator <= LAST_AS or not is_length:
         return bytes(PACKED.size)
     try:
         octets = socket.inet_pton(family, address)
     except (OSError, ValueError):
         return bytes(PACKED.size)
     number = _bindings.IPV6 if len(octets) == 16 else _bindings.IPV4
-    return PACKED.pack(octets, index(asn), number, int(length))
+    return PACKED.pack(octets, originator, number, int(length))

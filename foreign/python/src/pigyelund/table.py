@@ -365,7 +365,7 @@ class Table:
     def validate_octets(self, routes: Routes, *, allow_malformed: bool = False) -> bytes:
         """Validates routes like `validate_routes`, and returns one octet for each route. Use it for millions of routes.
 
-        The call copies your buffer. During the call the copies take up to 48 octets for each route.
+        The call copies your buffer. During the call the copies take up to 60 octets for each route.
 
         Args:
             routes: The routes: a buffer of C structs, or an iterable of `Route`.

@@ -8,7 +8,7 @@ from enum import Enum, Flag
 from functools import total_ordering
 from ipaddress import IPv4Address, IPv4Interface, IPv4Network, IPv6Address, IPv6Interface, IPv6Network, ip_network
 from operator import index
-from typing import NoReturn, SupportsIndex, TypeAlias, overload
+from typing import NoReturn, SupportsIndex, TypeAlias, cast, overload
 
 from . import _bindings
 from ._bindings import Status
@@ -127,12 +127,20 @@ def number_of(asn: object) -> int:
         return asn._number
     if isinstance(asn, str):
         return number_of_text(asn)
-    if isinstance(asn, bool) or not isinstance(asn, SupportsIndex):
+    number = integer_of(asn)
+    if number is None:
         raise TypeError(f"asn: {asn!r} is no AS number")
-    number = index(asn)
     if not 0 <= number <= LAST_AS:
         raise ValueError(f"asn: {number} is not from 0 to {LAST_AS}")
     return number
+
+
+def integer_of(value: object) -> int | None:
+    """Returns an integer, also one of numpy, as an `int`. Returns None for any other value, and for a truth value."""
+    try:
+        return None if isinstance(value, bool) else index(cast(SupportsIndex, value))
+    except TypeError:
+        return None
 
 
 def number_of_text(text: str) -> int:
@@ -234,11 +242,9 @@ class Vrp(Packed):
                 raise ValueError(f"max_len: {length!r} is no number")
             max_len = int(length) if dash else None
         network, number = network_of(prefix), number_of(asn)
-        if max_len is None:
-            max_len = network.prefixlen
-        elif isinstance(max_len, bool) or not isinstance(max_len, SupportsIndex):
+        most = network.prefixlen if max_len is None else integer_of(max_len)
+        if most is None:
             raise TypeError(f"max_len: {max_len!r} is no integer")
-        most = index(max_len)
         if not network.prefixlen <= most <= network.max_prefixlen:
             raise ValueError(f"max_len: {most} is not from {network.prefixlen} to {network.max_prefixlen}")
         address, family = network.network_address.packed, family_of(network).value

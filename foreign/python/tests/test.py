@@ -6,6 +6,7 @@ the text of each status. The functions in `OTHERS` test what no row tests. The s
 """
 
 import copy
+import os
 import pickle
 import sys
 from collections.abc import Callable, Iterator
@@ -483,7 +484,7 @@ OTHERS += (equal_values, value_texts, sets, changes_by_sets, copies, *OF_PREFIXE
 
 def main() -> int:
     """Makes the test of each row, and the tests in `OTHERS`."""
-    load(sys.argv[1])
+    load(os.path.abspath(sys.argv[1]))
     folder = Path(sys.argv[2])
     lines = (folder / "rows.txt").read_text().splitlines()
     faults = [*rows.faults(lines)]

@@ -7,7 +7,6 @@ makes the call, if its types can express the arguments.
 import ctypes
 from collections.abc import Callable, Iterator
 from ctypes import byref, c_size_t, c_uint8, c_void_p
-from ipaddress import ip_network
 from typing import Any
 
 from pigyelund import (

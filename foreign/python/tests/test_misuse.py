@@ -6,12 +6,15 @@ Each test yields a text for each fault.
 import ctypes
 import doctest
 import gc
+import io
+import re
 import struct
 import subprocess
 import sys
 import tempfile
 import tracemalloc
 from collections.abc import Callable, Iterator
+from contextlib import redirect_stdout
 from ipaddress import IPv4Network
 from pathlib import Path
 from typing import Any
@@ -37,8 +40,8 @@ from pigyelund import (
 )
 from spies import Counted, spied
 
+README = Path(__file__).resolve().parents[1] / "README.md"
 TEN = IPv4Network("10.0.0.0/8")
-TO_TEN = Route(TEN, 1)
 
 
 def interrupted(_: Path) -> Iterator[str]:
@@ -328,6 +331,12 @@ def examples(_: Path) -> Iterator[str]:
                 yield f"the docstring of {test.name}: {''.join(said)}"
     if count < 30:
         yield f"{count} lines of docstrings' examples were run"
+    (program,) = re.findall(r"^```python\n(.*?)^```$", README.read_text(), re.MULTILINE | re.DOTALL)
+    printed = io.StringIO()
+    with redirect_stdout(printed):
+        exec(program, {})
+    if printed.getvalue().split() != re.findall(r"  # (.*)$", program, re.MULTILINE):
+        yield f"README.md prints {printed.getvalue()}"
 
 
 def has_numpy() -> bool:

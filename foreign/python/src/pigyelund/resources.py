@@ -5,7 +5,7 @@ from collections.abc import Callable, Iterable, Iterator
 from ctypes import byref, c_size_t, c_uint8, c_void_p
 from dataclasses import dataclass
 from enum import Enum
-from ipaddress import IPv4Address, IPv4Network, IPv6Address, IPv6Network
+from ipaddress import IPv4Address, IPv6Address
 from struct import iter_unpack
 from typing import ClassVar, TypeAlias
 

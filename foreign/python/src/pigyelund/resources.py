@@ -12,7 +12,7 @@ from typing import ClassVar, TypeAlias
 from . import _bindings
 from ._bindings import Status
 from ._library import Handle, library, listed, texted
-from .errors import DerError, PigyelundError, error_for_status
+from .errors import DerError, error_for_status
 from .values import Address, Asn, Family, Frozen, Network, Vrp, family_of, network_in, network_of
 
 FREE = "pigy_resources_free"

@@ -1,38 +1,74 @@
-//! Address prefixes, and the errors of values and texts that are not valid.
-use alloc::string::String;
-use core::error::Error;
-use core::fmt::{Display, Formatter, Result as Written};
-use core::net::{AddrParseError, IpAddr, Ipv4Addr, Ipv6Addr};
-use core::str::FromStr;
+//! Address prefixes, and the error of values and texts.
+use std::error::Error;
+use std::fmt::{Display, Formatter, Result as Written};
+use std::net::{AddrParseError, IpAddr, Ipv4Addr, Ipv6Addr};
+use std::str::FromStr;
 
 use crate::Family;
+use pigyelund_sys as sys;
 
-/// An address prefix.
+/// An address prefix. No host bits are set.
 ///
-/// `Display` and `FromStr` use the form `10.0.0.0/8`. The order of prefixes is that of [`Table::vrps`]: IPv4 before
-/// IPv6, then by address, then the shorter prefix first.
+/// `Display` and `FromStr` use the form `10.0.0.0/8`. The order of prefixes is IPv4 before IPv6, then by address, then
+/// the shorter prefix first.
 ///
-/// The fields are public, and nothing checks them. [`Prefix::new`], [`Prefix::containing`], `FromStr` and `TryFrom`
-/// return valid prefixes only.
+/// Users of the crate `ipnet` find the calls of `IpNet`. [`Prefix::addr`] and [`Prefix::network`] are equal, since a
+/// prefix has no host bits. [`Prefix::containing`] clears them.
 ///
 /// # Example
 ///
 /// ```
 /// use pigyelund::Prefix;
+/// use std::net::IpAddr;
 ///
 /// let ten: Prefix = "10.0.0.0/8".parse().unwrap();
-/// assert_eq!(Prefix::containing("10.1.2.3".parse().unwrap(), 8), Ok(ten));
+/// let address: IpAddr = "10.1.2.3".parse().unwrap();
+/// assert_eq!(Prefix::containing(address, 8), Ok(ten));
+/// assert!(ten.contains(address));
 /// let wrong = "10.1.0.0/8".parse::<Prefix>().unwrap_err();
 /// assert_eq!(wrong.to_string(), "prefix 10.1.0.0/8 has host bits set: expected 10.0.0.0/8");
 /// ```
-///
-/// [`Table::vrps`]: crate::Table::vrps
 #[derive(Clone, Copy, Debug, PartialEq, Eq, PartialOrd, Ord, Hash)]
 pub struct Prefix {
-    /// The first address of the prefix.
-    pub address: IpAddr,
-    /// The length in bits: 0 to 32 for IPv4, 0 to 128 for IPv6.
-    pub len: u8,
+    address: IpAddr,
+    len: u8,
+}
+
+/// Returns the number of bits of an address: 32 for IPv4, 128 for IPv6.
+fn bits_of(address: IpAddr) -> u8 {
+    match address {
+        IpAddr::V4(_) => 32,
+        IpAddr::V6(_) => 128,
+    }
+}
+
+/// Returns an address as a number.
+fn number(address: IpAddr) -> u128 {
+    match address {
+        IpAddr::V4(v4) => u32::from(v4).into(),
+        IpAddr::V6(v6) => v6.into(),
+    }
+}
+
+/// Returns the address of a family that is this number. For IPv4 the number has 32 bits.
+fn address_of(family: Family, number: u128) -> IpAddr {
+    match family {
+        Family::V4 => IpAddr::V4(Ipv4Addr::from(number as u32)),
+        Family::V6 => IpAddr::V6(Ipv6Addr::from(number)),
+    }
+}
+
+/// Returns the address in a struct of the library.
+pub(crate) fn address_in(octets: &[u8; 16], family: Family) -> IpAddr {
+    match family {
+        Family::V4 => IpAddr::from([octets[0], octets[1], octets[2], octets[3]]),
+        Family::V6 => IpAddr::from(*octets),
+    }
+}
+
+/// Returns the number with these bits set: the lowest `count`, from 0 to 128.
+fn low_bits(count: u8) -> u128 {
+    u128::MAX.checked_shr(u32::from(128 - count)).unwrap_or(0)
 }
 
 impl Prefix {
@@ -42,7 +78,8 @@ impl Prefix {
     ///
     /// - [`ValueError::PrefixLen`]: `len` is above 32 for IPv4, or above 128 for IPv6.
     /// - [`ValueError::HostBits`]: a bit of `address` after the first `len` is set.
-    pub fn new(address: IpAddr, len: u8) -> Result<Prefix, ValueError> {
+    pub fn new(address: impl Into<IpAddr>, len: u8) -> Result<Prefix, ValueError> {
+        let address = address.into();
         let prefix = Prefix::containing(address, len)?;
         if prefix.address != address {
             return Err(ValueError::HostBits { address, len });
@@ -55,41 +92,154 @@ impl Prefix {
     /// # Errors
     ///
     /// [`ValueError::PrefixLen`]: `len` is above 32 for IPv4, or above 128 for IPv6.
-    pub fn containing(address: IpAddr, len: u8) -> Result<Prefix, ValueError> {
-        let bits = bits_of(address);
-        let Some(host) = bits.checked_sub(len).map(u32::from) else {
+    pub fn containing(address: impl Into<IpAddr>, len: u8) -> Result<Prefix, ValueError> {
+        let address = address.into();
+        let Some(host) = bits_of(address).checked_sub(len) else {
             return Err(ValueError::PrefixLen { address, len });
         };
-        let address = match address {
-            IpAddr::V4(v4) => {
-                let mask = u32::MAX.checked_shl(host).unwrap_or(0);
-                IpAddr::V4(Ipv4Addr::from(u32::from(v4) & mask))
-            }
-            IpAddr::V6(v6) => {
-                let mask = u128::MAX.checked_shl(host).unwrap_or(0);
-                IpAddr::V6(Ipv6Addr::from(u128::from(v6) & mask))
-            }
-        };
+        let first = number(address) & !low_bits(host);
+        let address = address_of(Family::from(address), first);
         Ok(Prefix { address, len })
+    }
+
+    /// Returns the prefix of a struct of the library, which has no host bits.
+    pub(crate) fn of(address: &[u8; 16], family: u8, len: u8) -> Prefix {
+        let is_v4 = u32::from(family) == sys::PIGY_IPV4;
+        let family = if is_v4 { Family::V4 } else { Family::V6 };
+        let address = address_in(address, family);
+        Prefix { address, len }
+    }
+
+    /// Returns the octets of the address, with 12 octets that are 0 after an IPv4 address, and the number of the
+    /// family.
+    pub(crate) fn parts(&self) -> ([u8; 16], u8) {
+        let mut octets = [0; 16];
+        match self.address {
+            IpAddr::V4(v4) => octets[..4].copy_from_slice(&v4.octets()),
+            IpAddr::V6(v6) => octets = v6.octets(),
+        }
+        (octets, self.family() as u8)
+    }
+
+    /// Returns the first address.
+    pub fn addr(&self) -> IpAddr {
+        self.address
+    }
+
+    /// Returns the length in bits: 0 to 32 for IPv4, 0 to 128 for IPv6.
+    pub fn prefix_len(&self) -> u8 {
+        self.len
+    }
+
+    /// Returns the greatest length of the family: 32 for IPv4, 128 for IPv6.
+    pub fn max_prefix_len(&self) -> u8 {
+        bits_of(self.address)
     }
 
     /// Returns the address family.
     pub fn family(&self) -> Family {
         Family::from(self.address)
     }
+
+    /// Returns the first address, as [`Prefix::addr`].
+    pub fn network(&self) -> IpAddr {
+        self.address
+    }
+
+    /// Returns the last address.
+    pub fn broadcast(&self) -> IpAddr {
+        address_of(self.family(), self.last())
+    }
+
+    /// Returns the address whose first `prefix_len` bits are set.
+    pub fn netmask(&self) -> IpAddr {
+        let all = low_bits(self.max_prefix_len());
+        address_of(self.family(), all & !self.host_bits())
+    }
+
+    /// Returns the address whose bits after the first `prefix_len` are set.
+    pub fn hostmask(&self) -> IpAddr {
+        address_of(self.family(), self.host_bits())
+    }
+
+    /// Returns the number whose bits after the first `prefix_len` are set.
+    fn host_bits(&self) -> u128 {
+        low_bits(self.max_prefix_len() - self.len)
+    }
+
+    /// Returns the last address as a number.
+    fn last(&self) -> u128 {
+        number(self.address) | self.host_bits()
+    }
+
+    /// Returns whether this prefix has an address, or each address of another prefix.
+    pub fn contains(&self, other: impl Into<Prefix>) -> bool {
+        let other = other.into();
+        self.len <= other.len && Prefix::containing(other.address, self.len) == Ok(*self)
+    }
+
+    /// Returns the prefix that is one bit shorter and contains this one. Returns `None` for length 0.
+    pub fn supernet(&self) -> Option<Prefix> {
+        Prefix::containing(self.address, self.len.checked_sub(1)?).ok()
+    }
+
+    /// Returns whether this prefix and another one are the two halves of their [`Prefix::supernet`].
+    pub fn is_sibling(&self, other: &Prefix) -> bool {
+        self != other
+            && self.len > 0
+            && self.len == other.len
+            && self.supernet() == other.supernet()
+    }
+
+    /// Returns the prefixes of a length that this prefix contains, in ascending order.
+    ///
+    /// # Errors
+    ///
+    /// [`ValueError::SubnetLen`]: `len` is below the length of this prefix, or above 32 for IPv4, or above 128 for
+    /// IPv6.
+    ///
+    /// # Example
+    ///
+    /// ```
+    /// let ten: pigyelund::Prefix = "10.0.0.0/8".parse().unwrap();
+    /// let halves: Vec<_> = ten.subnets(9).unwrap().map(|it| it.to_string()).collect();
+    /// assert_eq!(halves, ["10.0.0.0/9", "10.128.0.0/9"]);
+    /// ```
+    pub fn subnets(&self, len: u8) -> Result<Subnets, ValueError> {
+        if !(self.len..=self.max_prefix_len()).contains(&len) {
+            return Err(ValueError::SubnetLen { prefix: *self, len });
+        }
+        let address = self.address;
+        Ok(Subnets {
+            next: Some(Prefix { address, len }),
+            last: self.last(),
+        })
+    }
 }
 
-/// Returns the number of bits of an address: 32 for IPv4, 128 for IPv6.
-fn bits_of(address: IpAddr) -> u8 {
-    match address {
-        IpAddr::V4(_) => 32,
-        IpAddr::V6(_) => 128,
+/// The prefixes of a length in a prefix: the iterator of [`Prefix::subnets`].
+#[derive(Clone, Debug)]
+pub struct Subnets {
+    next: Option<Prefix>,
+    last: u128,
+}
+
+impl Iterator for Subnets {
+    type Item = Prefix;
+
+    fn next(&mut self) -> Option<Prefix> {
+        let found = self.next?;
+        self.next = (found.last() < self.last).then(|| Prefix {
+            address: address_of(found.family(), found.last() + 1),
+            len: found.len,
+        });
+        Some(found)
     }
 }
 
 /// Checks the maximum length of a VRP with this prefix.
 pub(crate) fn check_max_len(prefix: Prefix, max_len: u8) -> Result<(), ValueError> {
-    if (prefix.len..=bits_of(prefix.address)).contains(&max_len) {
+    if (prefix.len..=prefix.max_prefix_len()).contains(&max_len) {
         Ok(())
     } else {
         Err(ValueError::MaxLen { prefix, max_len })
@@ -132,29 +282,11 @@ impl From<Prefix> for (IpAddr, u8) {
 }
 
 /// The same as [`Prefix::new`].
-impl TryFrom<(IpAddr, u8)> for Prefix {
+impl<T: Into<IpAddr>> TryFrom<(T, u8)> for Prefix {
     type Error = ValueError;
 
-    fn try_from((address, len): (IpAddr, u8)) -> Result<Prefix, ValueError> {
+    fn try_from((address, len): (T, u8)) -> Result<Prefix, ValueError> {
         Prefix::new(address, len)
-    }
-}
-
-/// The same as [`Prefix::new`].
-impl TryFrom<(Ipv4Addr, u8)> for Prefix {
-    type Error = ValueError;
-
-    fn try_from((address, len): (Ipv4Addr, u8)) -> Result<Prefix, ValueError> {
-        Prefix::new(IpAddr::V4(address), len)
-    }
-}
-
-/// The same as [`Prefix::new`].
-impl TryFrom<(Ipv6Addr, u8)> for Prefix {
-    type Error = ValueError;
-
-    fn try_from((address, len): (Ipv6Addr, u8)) -> Result<Prefix, ValueError> {
-        Prefix::new(IpAddr::V6(address), len)
     }
 }
 
@@ -168,52 +300,52 @@ pub(crate) fn number_of<T: FromStr>(text: &str) -> Option<T> {
 ///
 /// # Errors
 ///
-/// - [`ParseError::Form`]: the text has no `/`.
-/// - [`ParseError::Address`]: the part before the `/` is no address.
-/// - [`ParseError::PrefixLen`]: the part after the `/` is no decimal number, or is above 255.
-/// - [`ParseError::Value`]: the error of [`Prefix::new`].
+/// - [`ValueError::Form`]: the text has no `/`.
+/// - [`ValueError::Address`]: the part before the `/` is no address.
+/// - [`ValueError::PrefixLenText`]: the part after the `/` is no decimal number, or is above 255.
+/// - The errors of [`Prefix::new`].
 impl FromStr for Prefix {
-    type Err = ParseError;
+    type Err = ValueError;
 
-    fn from_str(text: &str) -> Result<Prefix, ParseError> {
+    fn from_str(text: &str) -> Result<Prefix, ValueError> {
         let Some((address, len)) = text.split_once('/') else {
-            return Err(ParseError::Form {
+            return Err(ValueError::Form {
                 text: text.into(),
                 expected: "ADDRESS/LENGTH, for example 10.0.0.0/8",
             });
         };
-        let address: IpAddr = address.parse().map_err(|source| ParseError::Address {
+        let address: IpAddr = address.parse().map_err(|source| ValueError::Address {
             text: address.into(),
             source,
         })?;
         let Some(len) = number_of(len) else {
-            return Err(ParseError::PrefixLen {
+            return Err(ValueError::PrefixLenText {
                 text: len.into(),
                 max: bits_of(address),
             });
         };
-        Ok(Prefix::new(address, len)?)
+        Prefix::new(address, len)
     }
 }
 
 /// Reads the maximum length of a VRP with this prefix.
-pub(crate) fn read_max_len(prefix: Prefix, text: &str) -> Result<u8, ParseError> {
+pub(crate) fn read_max_len(prefix: Prefix, text: &str) -> Result<u8, ValueError> {
     let Some(max_len) = number_of(text) else {
-        return Err(ParseError::MaxLen {
+        return Err(ValueError::MaxLenText {
             text: text.into(),
             min: prefix.len,
-            max: bits_of(prefix.address),
+            max: prefix.max_prefix_len(),
         });
     };
     check_max_len(prefix, max_len)?;
     Ok(max_len)
 }
 
-/// The error of values that are not a prefix, or not a VRP.
+/// The error of values and texts that are not an AS number, a prefix, a VRP or a route.
 ///
-/// `Display` writes the wrong value, and what is expected.
+/// `Display` writes the wrong value or the wrong part of the text, and what is expected.
 #[non_exhaustive]
-#[derive(Clone, Copy, Debug, PartialEq, Eq, Hash)]
+#[derive(Clone, Debug, PartialEq, Eq)]
 pub enum ValueError {
     /// The prefix length is above 32 for IPv4, or above 128 for IPv6.
     PrefixLen {
@@ -231,53 +363,18 @@ pub enum ValueError {
     },
     /// The maximum length is below the prefix length, or above 32 for IPv4, or above 128 for IPv6.
     MaxLen {
-        /// The prefix, which is valid.
+        /// The prefix.
         prefix: Prefix,
         /// The maximum length in bits.
         max_len: u8,
     },
-}
-
-impl Display for ValueError {
-    fn fmt(&self, out: &mut Formatter<'_>) -> Written {
-        match *self {
-            ValueError::PrefixLen { address, len } => {
-                let bits = bits_of(address);
-                write!(
-                    out,
-                    "prefix length {len} of {address}/{len} is above {bits}: expected 0 to {bits}"
-                )
-            }
-            ValueError::HostBits { address, len } => {
-                write!(out, "prefix {address}/{len} has host bits set")?;
-                match Prefix::containing(address, len) {
-                    Ok(prefix) => write!(out, ": expected {prefix}"),
-                    Err(_) => Ok(()),
-                }
-            }
-            ValueError::MaxLen { prefix, max_len } => {
-                let (len, bits) = (prefix.len, bits_of(prefix.address));
-                write!(out, "max length {max_len} of {prefix} is ")?;
-                if max_len < len {
-                    write!(out, "below prefix length {len}")?;
-                } else {
-                    write!(out, "above {bits}")?;
-                }
-                write!(out, ": expected {len} to {bits}")
-            }
-        }
-    }
-}
-
-impl Error for ValueError {}
-
-/// The error of a text that is not a prefix, a VRP or a route.
-///
-/// `Display` writes the wrong part of the text between quotation marks, and what is expected. For
-/// [`ParseError::Value`] it writes the text of the [`ValueError`].
-#[non_exhaustive]
-#[derive(Clone, Debug, PartialEq, Eq)]
-pub enum ParseError {
+    /// The length of subnets is below the prefix length, or above 32 for IPv4, or above 128 for IPv6.
+    SubnetLen {
+        /// The prefix.
+        prefix: Prefix,
+        /// The length of the subnets in bits.
+        len: u8,
+    },
     /// The text does not have the parts of a prefix, of a VRP or of a route.
     Form {
         /// The text.
@@ -289,20 +386,20 @@ pub enum ParseError {
     Address {
         /// The part of the text that should be an address.
         text: String,
-        /// The error of `core::net`.
+        /// The error of the standard library.
         source: AddrParseError,
     },
     /// The prefix length is not a decimal number from 0 to 255. A number up to 255 that is too great for the family is
-    /// [`ValueError::PrefixLen`], in [`ParseError::Value`].
-    PrefixLen {
+    /// [`ValueError::PrefixLen`].
+    PrefixLenText {
         /// The part of the text that should be a prefix length.
         text: String,
         /// The greatest prefix length of the family, in bits.
         max: u8,
     },
     /// The maximum length is not a decimal number from 0 to 255. A number up to 255 that does not fit the prefix is
-    /// [`ValueError::MaxLen`], in [`ParseError::Value`].
-    MaxLen {
+    /// [`ValueError::MaxLen`].
+    MaxLenText {
         /// The part of the text that should be a maximum length.
         text: String,
         /// The prefix length in bits. This is the least maximum length.
@@ -315,42 +412,62 @@ pub enum ParseError {
         /// The part of the text that should be an AS number.
         text: String,
     },
-    /// Each part of the text can be read, but the values are no valid prefix, VRP or route: `10.0.0.1/8` has host bits.
-    Value(ValueError),
 }
 
-impl From<ValueError> for ParseError {
-    fn from(error: ValueError) -> ParseError {
-        ParseError::Value(error)
+/// Writes how a length is outside of the range that begins with the length of a prefix.
+fn write_len(out: &mut Formatter<'_>, what: &str, prefix: &Prefix, found: u8) -> Written {
+    let (len, bits) = (prefix.len, prefix.max_prefix_len());
+    write!(out, "{what} {found} of {prefix} is ")?;
+    if found < len {
+        write!(out, "below prefix length {len}")?;
+    } else {
+        write!(out, "above {bits}")?;
     }
+    write!(out, ": expected {len} to {bits}")
 }
 
-impl Display for ParseError {
+impl Display for ValueError {
     fn fmt(&self, out: &mut Formatter<'_>) -> Written {
         match self {
-            ParseError::Form { text, expected } => write!(out, "{text:?}: expected {expected}"),
-            ParseError::Address { text, .. } => {
+            ValueError::PrefixLen { address, len } => {
+                let bits = bits_of(*address);
+                write!(
+                    out,
+                    "prefix length {len} of {address}/{len} is above {bits}: expected 0 to {bits}"
+                )
+            }
+            ValueError::HostBits { address, len } => {
+                write!(out, "prefix {address}/{len} has host bits set")?;
+                match Prefix::containing(*address, *len) {
+                    Ok(prefix) => write!(out, ": expected {prefix}"),
+                    Err(_) => Ok(()),
+                }
+            }
+            ValueError::MaxLen { prefix, max_len } => {
+                write_len(out, "max length", prefix, *max_len)
+            }
+            ValueError::SubnetLen { prefix, len } => write_len(out, "subnet length", prefix, *len),
+            ValueError::Form { text, expected } => write!(out, "{text:?}: expected {expected}"),
+            ValueError::Address { text, .. } => {
                 write!(out, "address {text:?}: expected an IPv4 or IPv6 address")
             }
-            ParseError::PrefixLen { text, max } => {
+            ValueError::PrefixLenText { text, max } => {
                 write!(out, "prefix length {text:?}: expected 0 to {max}")
             }
-            ParseError::MaxLen { text, min, max } => {
+            ValueError::MaxLenText { text, min, max } => {
                 write!(out, "max length {text:?}: expected {min} to {max}")
             }
-            ParseError::Asn { text } => {
+            ValueError::Asn { text } => {
                 write!(out, "AS number {text:?}: expected AS0 to AS{}", u32::MAX)
             }
-            ParseError::Value(error) => error.fmt(out),
         }
     }
 }
 
-impl Error for ParseError {
+impl Error for ValueError {
     fn source(&self) -> Option<&(dyn Error + 'static)> {
         match self {
-            ParseError::Address { source, .. } => Some(source),
-            ParseError::Value(error) => Some(error),
+            ValueError::Address { source, .. } => Some(source),
             _ => None,
         }
     }

@@ -1,37 +1,37 @@
 //! A table of VRPs that is built once and queried many times.
-use alloc::vec;
-use alloc::vec::{IntoIter, Vec};
-use core::fmt::{Debug, Formatter};
-use core::net::IpAddr;
+use std::cmp::Reverse;
+use std::fmt::{Debug, Display, Formatter, Result as Written};
+use std::ptr::null_mut;
 
-use crate::buffers::with_items;
-use crate::raw::{self, OK, OTHER_AS, TOO_LONG};
-use crate::{address_of, validity_of, OriginError, Prefix, Reason, Route, Validity, Vrp};
+use crate::buffers::items;
+use crate::{Asn, InvalidReason, Prefix, Route, TableError, Validity, Vrp};
+use pigyelund_sys as sys;
+use sys::PIGY_OK;
 
 /// A table of VRPs (validated ROA payloads) for route origin validation (RFC 6811, 2).
 ///
-/// A table can be queried any number of times. It never changes: [`Table::changed`] makes the next table from withdrawn
-/// and announced VRPs (RFC 8210, 5.3).
+/// A table can be queried any number of times. It never changes: [`Table::with_changes`] makes the next table from
+/// announced and withdrawn VRPs (RFC 8210, 5.3).
 ///
 /// A table is `Send` and `Sync`: any number of threads may query it at once.
 ///
 /// # Example
 ///
 /// ```
-/// use pigyelund::{Route, Table, Validity, Vrp};
+/// use pigyelund::{InvalidReason, Route, Table, Validity, Vrp};
 ///
-/// fn main() -> Result<(), pigyelund::OriginError> {
+/// fn main() -> Result<(), pigyelund::TableError> {
 ///     let table = Table::new(&["10.0.0.0/8-16 AS64496".parse().unwrap()])?;
 ///     let route: Route = "10.0.0.0/24 AS64497".parse().unwrap();
-///     assert_eq!(table.origin(&route).unwrap(), Validity::Invalid);
+///     assert_eq!(table.validate(&route), Validity::Invalid(InvalidReason::As));
 ///     // Why: the VRP has another AS, and the route is longer than its maximum length.
-///     for vrp in table.covering(&route).unwrap() {
-///         assert!(vrp.is_other_as() && vrp.is_too_long());
+///     for found in table.covering(&route)? {
+///         assert!(found.is_other_as() && found.is_too_long());
 ///     }
 ///     // The next table has a second VRP, which matches.
 ///     let fresh: Vrp = "10.0.0.0/8-24 AS64497".parse().unwrap();
-///     let next = table.changed(&[fresh], &[])?;
-///     assert_eq!(next.origin(&route).unwrap(), Validity::Valid);
+///     let next = table.with_changes(&[fresh], &[])?;
+///     assert_eq!(next.validate(&route), Validity::Valid);
 ///     Ok(())
 /// }
 /// ```
@@ -44,36 +44,110 @@ use crate::{address_of, validity_of, OriginError, Prefix, Reason, Route, Validit
 /// fn copy<T: Clone>(_: T) {}
 /// copy(pigyelund::Table::new(&[]).unwrap());
 /// ```
-pub struct Table(raw::Table);
+pub struct Table(*mut sys::pigy_table);
+
+// SAFETY: what a handle points to never changes, and any number of threads may use it (THREADS in pigyelund.h).
+unsafe impl Send for Table {}
+// SAFETY: as above.
+unsafe impl Sync for Table {}
+
+impl Drop for Table {
+    fn drop(&mut self) {
+        // SAFETY: the handle came from the library. No other value has it, and no call with it is running.
+        unsafe { sys::pigy_table_free(self.0) }
+    }
+}
 
 /// The number of covering VRPs for which one call of the library is enough. A route with more needs a second call.
 const COVERING: usize = 16;
 
 /// Writes the number of VRPs, for example `Table { len: 3 }`.
 impl Debug for Table {
-    fn fmt(&self, out: &mut Formatter<'_>) -> core::fmt::Result {
+    fn fmt(&self, out: &mut Formatter<'_>) -> Written {
         out.debug_struct("Table").field("len", &self.len()).finish()
     }
 }
 
-/// Returns the table if the status is [`OK`], or else the reason.
-fn table_or_error((status, table, index): (u32, raw::Table, usize)) -> Result<Table, OriginError> {
-    if status == OK {
-        return Ok(Table(table));
-    }
-    let reason = Reason::of_status(status);
-    Err(OriginError { reason, index })
+/// Returns the pointer of VRPs for the library.
+fn vrps_of(vrps: &[Vrp]) -> *const sys::pigy_vrp {
+    vrps.as_ptr().cast()
 }
 
-/// Returns the elements if the status is [`OK`], or else the reason.
-fn items_or_error<T>((status, items): (u32, Vec<T>)) -> Result<Vec<T>, Reason> {
-    if status == OK {
-        return Ok(items);
-    }
-    Err(Reason::of_status(status))
+/// Returns the pointer of routes for the library.
+fn routes_of(routes: &[Route]) -> *const sys::pigy_route {
+    routes.as_ptr().cast()
+}
+
+/// Returns the error of a status that has no position.
+fn without_position(status: u32) -> TableError {
+    TableError { status, at: 0 }
+}
+
+/// Reads the VRPs of a validator's file, as rpki-client, FORT and Routinator write it.
+///
+/// The VRPs are in the order of the file. A VRP that the file repeats is repeated in the result.
+///
+/// The first character that is not white space decides how the file is read. If it is `{`, the file is JSON, with the
+/// VRPs in the array `roas`. If it is `[`, the file is invalid. Any other file is CSV. `pigy_vrps_read` in
+/// `pigyelund.h` says what is valid. No line and no item is skipped: one that is invalid makes the whole file invalid.
+/// The result has expired VRPs too.
+///
+/// # Errors
+///
+/// - [`Reason::BadFile`]: the file is invalid as a whole.
+/// - [`Reason::BadLine`], [`Reason::BadItem`]: a line of CSV or an item of JSON is invalid. [`TableError::line`] is the
+///   number of the first one, from 1.
+/// - [`Reason::Memory`].
+///
+/// # Example
+///
+/// ```
+/// let vrps = pigyelund::read_vrps(b"ASN,IP Prefix,Max Length\nAS64496,10.0.0.0/8,16\n").unwrap();
+/// assert_eq!(vrps[0].to_string(), "10.0.0.0/8-16 AS64496");
+/// let refused = pigyelund::read_vrps(b"AS64496,10.0.0.1/8,16\n").unwrap_err();
+/// assert_eq!(refused.line(), Some(1));
+/// ```
+///
+/// [`Reason::BadFile`]: crate::Reason::BadFile
+/// [`Reason::BadLine`]: crate::Reason::BadLine
+/// [`Reason::BadItem`]: crate::Reason::BadItem
+/// [`Reason::Memory`]: crate::Reason::Memory
+pub fn read_vrps(file: &[u8]) -> Result<Vec<Vrp>, TableError> {
+    let mut at = 0;
+    // Nearly all lines have at least 24 octets, and all items have more.
+    // SAFETY: the call writes the VRPs, if it returns PIGY_OK. The pointer and the length are those of the slice.
+    let found = unsafe {
+        items(file.len() / 24, |out: *mut Vrp, capacity, len| {
+            sys::pigy_vrps_read(
+                file.as_ptr(),
+                file.len(),
+                out.cast(),
+                capacity,
+                len,
+                &mut at,
+            )
+        })
+    };
+    found.map_err(|status| TableError { status, at })
 }
 
 impl Table {
+    /// Returns the table of a handle, or the error of a status.
+    ///
+    /// # Safety
+    ///
+    /// The library stored the handle with this status. No other value has it.
+    unsafe fn of(
+        status: u32,
+        handle: *mut sys::pigy_table,
+        at: usize,
+    ) -> Result<Table, TableError> {
+        if status == PIGY_OK {
+            return Ok(Table(handle));
+        }
+        Err(TableError { status, at })
+    }
+
     /// Builds a table of VRPs.
     ///
     /// The VRPs may come in any order. The table copies them. Duplicates are kept: a VRP that is passed twice is listed
@@ -81,26 +155,28 @@ impl Table {
     ///
     /// # Errors
     ///
-    /// [`OriginError::index`] is the index, from 0, of the first malformed VRP. The reason is the first of these that
-    /// applies to this VRP:
+    /// [`Reason::Memory`](crate::Reason::Memory) only.
+    pub fn new(vrps: &[Vrp]) -> Result<Table, TableError> {
+        let (mut out, mut at) = (null_mut(), 0);
+        // SAFETY: the pointer and the length are those of the slice. The call stores a handle of its own.
+        unsafe {
+            let status = sys::pigy_table_new(vrps_of(vrps), vrps.len(), &mut out, &mut at);
+            Table::of(status, out, at)
+        }
+    }
+
+    /// Builds the table of the VRPs of a validator's file.
     ///
-    /// - [`Reason::BadFamily`] with [`Side::First`]: its family is neither IPv4 nor IPv6.
-    /// - [`Reason::BadPrefix`] with [`Side::First`]: its prefix length is above 32 (IPv4) or 128 (IPv6), or host bits
-    ///   are set.
-    /// - [`Reason::BadMaxLen`]: its maximum length is below its prefix length, or above 32 (IPv4) or 128
-    ///   (IPv6).
+    /// # Errors
     ///
-    /// The call may return [`Reason::Memory`] instead of any other result.
-    ///
-    /// [`Side::First`]: crate::Side::First
-    pub fn new(vrps: &[Vrp]) -> Result<Table, OriginError> {
-        table_or_error(raw::Table::new(vrps))
+    /// Those of [`read_vrps`].
+    pub fn read(file: &[u8]) -> Result<Table, TableError> {
+        Table::new(&read_vrps(file)?)
     }
 
     /// Returns a new table: this one without `withdrawn`, and then with `announced` (RFC 8210, 5.3).
     ///
-    /// This table stays as it is. VRPs are the same if prefix, maximum length and AS are the same. A VRP that is both
-    /// withdrawn and announced is in the new table once.
+    /// This table stays as it is. A VRP that is both withdrawn and announced is in the new table once.
     ///
     /// # Parameters
     ///
@@ -109,109 +185,137 @@ impl Table {
     ///
     /// # Errors
     ///
-    /// [`OriginError::index`] is the index, from 0, of the refused VRP in its list. The reason is the first of these
-    /// that applies:
+    /// [`TableError::index`] is the index, from 0, of the VRP at fault in its list. The reason is the first of these
+    /// that applies, or [`Reason::Memory`]:
     ///
-    /// - [`Reason::BadFamily`], [`Reason::BadPrefix`] with [`Side::First`], [`Reason::BadMaxLen`]: the first malformed
-    ///   VRP of `announced`.
-    /// - [`Reason::BadFamily`], [`Reason::BadPrefix`] with [`Side::Second`], [`Reason::BadWithdrawnMaxLen`]: the first
-    ///   malformed VRP of `withdrawn`.
     /// - [`Reason::UnknownWithdrawal`]: the first VRP of `withdrawn` that the table does not have, or that occurs
     ///   earlier in the list.
     /// - [`Reason::DuplicateAnnouncement`]: the first VRP of `announced` that the table has and that is not withdrawn,
     ///   or that occurs earlier in the list.
     ///
-    /// The call may return [`Reason::Memory`] instead of any other result.
+    /// [`Reason::Memory`]: crate::Reason::Memory
+    /// [`Reason::UnknownWithdrawal`]: crate::Reason::UnknownWithdrawal
+    /// [`Reason::DuplicateAnnouncement`]: crate::Reason::DuplicateAnnouncement
+    pub fn with_changes(&self, announced: &[Vrp], withdrawn: &[Vrp]) -> Result<Table, TableError> {
+        let (mut out, mut at) = (null_mut(), 0);
+        // SAFETY: as in `new`. The table lives until the call returns.
+        unsafe {
+            let status = sys::pigy_table_with_changes(
+                self.0,
+                vrps_of(announced),
+                announced.len(),
+                vrps_of(withdrawn),
+                withdrawn.len(),
+                &mut out,
+                &mut at,
+            );
+            Table::of(status, out, at)
+        }
+    }
+
+    /// Returns the changes from this table to another one. [`Table::with_changes`] applies them.
     ///
-    /// [`Side::First`]: crate::Side::First
-    /// [`Side::Second`]: crate::Side::Second
-    pub fn changed(&self, announced: &[Vrp], withdrawn: &[Vrp]) -> Result<Table, OriginError> {
-        table_or_error(self.0.changed(announced, withdrawn))
+    /// A VRP is announced if only `next` has it, and withdrawn if only this table has it. Each is listed once, in the
+    /// order of [`Table::vrps`].
+    ///
+    /// # Errors
+    ///
+    /// [`Reason::Memory`](crate::Reason::Memory) only.
+    pub fn changes(&self, next: &Table) -> Result<Changes, TableError> {
+        let (old, new) = (self.vrps()?, next.vrps()?);
+        Ok(Changes {
+            announced: without(&new, &old),
+            withdrawn: without(&old, &new),
+        })
+    }
+
+    /// Validates one route (RFC 6811, 2). The call takes no memory.
+    pub fn validate(&self, route: &Route) -> Validity {
+        let (mut validity, mut reason) = (0, 0);
+        // SAFETY: the table and the route live until the call returns.
+        let status =
+            unsafe { sys::pigy_table_validate(self.0, &route.0, &mut validity, &mut reason) };
+        assert_eq!(status, PIGY_OK, "{}", crate::status_text(status));
+        Validity::of(validity, reason)
     }
 
     /// Validates routes (RFC 6811, 2). Returns the validity of each route, in the order of `routes`.
     ///
+    /// Many routes in one call take less time each. A route that is invalid takes the time of [`Table::validate`] too.
+    ///
     /// # Errors
     ///
-    /// [`OriginError::index`] is the index, from 0, of the first malformed route:
-    ///
-    /// - [`Reason::BadFamily`] with [`Side::Second`]: its family is neither IPv4 nor IPv6.
-    /// - [`Reason::BadPrefix`] with [`Side::Second`]: its prefix length is above 32 (IPv4) or 128 (IPv6), or host bits
-    ///   are set.
-    ///
-    /// The call may return [`Reason::Memory`] instead of any other result.
-    ///
-    /// [`Side::Second`]: crate::Side::Second
-    pub fn origins(&self, routes: &[Route]) -> Result<Vec<Validity>, OriginError> {
-        let mut octets = vec![0; routes.len()];
-        let (status, _, index) = self.0.origins(routes, &mut octets);
-        if status != OK {
-            let reason = Reason::of_status(status);
-            return Err(OriginError { reason, index });
-        }
-        Ok(octets.into_iter().map(validity_of).collect())
+    /// [`Reason::Memory`](crate::Reason::Memory) only.
+    pub fn validate_routes(&self, routes: &[Route]) -> Result<Vec<Validity>, TableError> {
+        // SAFETY: the call writes an octet for each route, if it returns PIGY_OK. The table and the slice live until
+        // the call returns.
+        let octets = unsafe {
+            items(routes.len(), |out, capacity, len| {
+                let (start, count, mut at) = (routes_of(routes), routes.len(), 0);
+                sys::pigy_table_validate_routes(self.0, start, count, out, capacity, len, &mut at)
+            })
+        };
+        let octets = octets.map_err(without_position)?;
+        // The call has no reasons.
+        let validity = |(octet, route): (&u8, &Route)| match u32::from(*octet) {
+            sys::PIGY_INVALID => self.validate(route),
+            _ => Validity::of(*octet, 0),
+        };
+        Ok(octets.iter().zip(routes).map(validity).collect())
     }
 
     /// Returns the indices of the routes whose validity differs between this table and `next` (RFC 6811, 4).
     ///
-    /// These are indices in `routes`, from 0, ascending.
+    /// These are indices in `routes`, from 0, ascending. The reason why a route is invalid is not compared.
     ///
     /// # Parameters
     ///
-    /// - `next`: the other table, for example one that [`Table::changed`] made.
+    /// - `next`: the other table, for example one that [`Table::with_changes`] made.
     /// - `routes`: the routes.
     ///
     /// # Errors
     ///
-    /// Those of [`Table::origins`].
-    pub fn changed_routes(
-        &self,
-        next: &Table,
-        routes: &[Route],
-    ) -> Result<Vec<usize>, OriginError> {
-        let mut octets = vec![0; routes.len()];
-        let (status, _, index) = self.0.routes_changed(&next.0, routes, &mut octets);
-        if status != OK {
-            let reason = Reason::of_status(status);
-            return Err(OriginError { reason, index });
-        }
+    /// [`Reason::Memory`](crate::Reason::Memory) only.
+    pub fn revalidate(&self, next: &Table, routes: &[Route]) -> Result<Vec<usize>, TableError> {
+        // SAFETY: as in `validate_routes`.
+        let octets = unsafe {
+            items(routes.len(), |out: *mut u8, capacity, len| {
+                let (start, count, mut at) = (routes_of(routes), routes.len(), 0);
+                sys::pigy_table_revalidate(
+                    self.0, next.0, start, count, out, capacity, len, &mut at,
+                )
+            })
+        };
+        let octets = octets.map_err(without_position)?;
         let marked = octets.iter().enumerate().filter(|(_, octet)| **octet != 0);
         Ok(marked.map(|(at, _)| at).collect())
     }
 
-    /// Validates one route (RFC 6811, 2).
-    ///
-    /// # Errors
-    ///
-    /// The reasons of [`Table::origins`], for this route.
-    pub fn origin(&self, route: &Route) -> Result<Validity, Reason> {
-        let mut octet = [0];
-        match self.0.origins(core::slice::from_ref(route), &mut octet) {
-            (OK, ..) => Ok(validity_of(octet[0])),
-            (status, ..) => Err(Reason::of_status(status)),
-        }
-    }
-
     /// Returns the VRPs that cover a route. They explain its validity: the route is valid if one of them matches.
-    ///
-    /// The program `origins` has two words for an invalid route. The route is `invalid-as` if [`Covering::is_other_as`]
-    /// is true for each VRP of the list, and `invalid-length` otherwise.
     ///
     /// The longest prefix comes first. VRPs of the same prefix come by ascending AS number. VRPs of the same prefix and
     /// AS come by descending maximum length. [`Table::vrps`] has another order.
     ///
     /// # Errors
     ///
-    /// The reasons of [`Table::origins`], for this route.
-    pub fn covering(&self, route: &Route) -> Result<IntoIter<Covering>, Reason> {
-        let found = items_or_error(with_items(COVERING, |out| self.0.covering(route, out)))?;
-        let found: Vec<Covering> = found.iter().map(Covering::of).collect();
-        Ok(found.into_iter())
+    /// [`Reason::Memory`](crate::Reason::Memory) only.
+    pub fn covering(&self, route: &Route) -> Result<Vec<Covering>, TableError> {
+        // SAFETY: the call writes the VRPs, if it returns PIGY_OK. The table and the route live until it returns.
+        let found = unsafe {
+            items(COVERING, |out: *mut Covering, capacity, len| {
+                sys::pigy_table_covering(self.0, &route.0, out.cast(), capacity, len)
+            })
+        };
+        found.map_err(without_position)
     }
 
     /// Returns the number of VRPs, duplicates included.
     pub fn len(&self) -> usize {
-        self.0.count().1
+        let mut len = 0;
+        // SAFETY: the table lives until the call returns.
+        let status = unsafe { sys::pigy_table_len(self.0, &mut len) };
+        assert_eq!(status, PIGY_OK, "{}", crate::status_text(status));
+        len
     }
 
     /// Returns whether the table has no VRP.
@@ -225,60 +329,142 @@ impl Table {
     /// prefix come by descending AS number. VRPs of the same prefix and AS come by ascending maximum length.
     /// [`Table::covering`] has another order.
     ///
-    /// The last 12 octets of an IPv4 address are 0, as in a VRP of [`Vrp::new`].
-    ///
     /// # Errors
     ///
-    /// [`Reason::Memory`] only.
-    pub fn vrps(&self) -> Result<IntoIter<Vrp>, Reason> {
-        let found = items_or_error(with_items(self.len(), |out| self.0.vrps(out)))?;
-        Ok(found.into_iter())
+    /// [`Reason::Memory`](crate::Reason::Memory) only.
+    pub fn vrps(&self) -> Result<Vec<Vrp>, TableError> {
+        // SAFETY: as in `covering`.
+        let found = unsafe {
+            items(self.len(), |out: *mut Vrp, capacity, len| {
+                sys::pigy_table_vrps(self.0, out.cast(), capacity, len)
+            })
+        };
+        found.map_err(without_position)
+    }
+}
+
+/// Returns what the order of a table compares.
+fn place(vrp: &Vrp) -> (Prefix, Reverse<Asn>, u8) {
+    (vrp.prefix(), Reverse(vrp.asn()), vrp.max_len())
+}
+
+/// Returns the VRPs of one list that the other does not have, each once. Both lists are in the order of a table.
+fn without(one: &[Vrp], other: &[Vrp]) -> Vec<Vrp> {
+    let mut others = other.iter().peekable();
+    let mut found = Vec::new();
+    for vrp in one {
+        while others.next_if(|it| place(it) < place(vrp)).is_some() {}
+        if others.peek() != Some(&vrp) && found.last() != Some(vrp) {
+            found.push(*vrp);
+        }
+    }
+    found
+}
+
+/// The changes from one table to another: what [`Table::changes`] returns.
+#[derive(Clone, Debug, PartialEq, Eq, Hash)]
+pub struct Changes {
+    /// The VRPs that only the other table has.
+    pub announced: Vec<Vrp>,
+    /// The VRPs that only the first table has.
+    pub withdrawn: Vec<Vrp>,
+}
+
+/// Iterates over [`Table::vrps`]. Panics if the library is out of memory.
+impl IntoIterator for &Table {
+    type Item = Vrp;
+    type IntoIter = std::vec::IntoIter<Vrp>;
+
+    fn into_iter(self) -> Self::IntoIter {
+        self.vrps()
+            .unwrap_or_else(|error| panic!("{error}"))
+            .into_iter()
+    }
+}
+
+/// The table of all VRPs. Panics if the library is out of memory.
+impl FromIterator<Vrp> for Table {
+    fn from_iter<I: IntoIterator<Item = Vrp>>(vrps: I) -> Table {
+        let vrps: Vec<Vrp> = vrps.into_iter().collect();
+        Table::new(&vrps).unwrap_or_else(|error| panic!("{error}"))
     }
 }
 
 /// A VRP that covers a route, and why it does not match the route (RFC 6811, 2).
-#[derive(Clone, Copy, Debug, PartialEq, Eq, Hash)]
-pub struct Covering {
-    /// The prefix of the VRP.
-    pub prefix: Prefix,
-    /// The maximum length (maxLength, RFC 9582, 4.3.2) in bits: at least `prefix.len`, at most 32 or 128.
-    pub max_len: u8,
-    /// The AS that may originate the prefix.
-    pub asn: u32,
-    mismatch: u32,
-}
+// The layout is that of the library.
+#[repr(transparent)]
+#[derive(Clone, Copy)]
+pub struct Covering(sys::pigy_covering);
 
 impl Covering {
-    fn of(covering: &raw::Covering) -> Covering {
-        let width = if u32::from(covering.family) == raw::IPV4 {
-            4
-        } else {
-            16
-        };
-        let address: IpAddr = address_of(&covering.address[..width]);
-        Covering {
-            prefix: Prefix {
-                address,
-                len: covering.len,
-            },
-            max_len: covering.max_len,
-            asn: covering.asn,
-            mismatch: u32::from(covering.mismatch),
-        }
+    /// Returns the VRP.
+    pub fn vrp(&self) -> Vrp {
+        Vrp(self.0.vrp)
     }
 
     /// Returns whether the VRP matches the route.
     pub fn is_match(&self) -> bool {
-        self.mismatch == 0
+        self.0.mismatch == 0
     }
 
-    /// Returns whether the VRP's AS is not the route's, or both are AS 0.
+    /// Returns whether the AS of the VRP is not the route's, or is AS 0.
     pub fn is_other_as(&self) -> bool {
-        self.mismatch & OTHER_AS != 0
+        self.0.mismatch & sys::PIGY_OTHER_AS != 0
     }
 
     /// Returns whether the route's prefix is longer than the maximum length.
     pub fn is_too_long(&self) -> bool {
-        self.mismatch & TOO_LONG != 0
+        self.0.mismatch & sys::PIGY_TOO_LONG != 0
+    }
+}
+
+impl PartialEq for Covering {
+    fn eq(&self, other: &Covering) -> bool {
+        (self.vrp(), self.0.mismatch) == (other.vrp(), other.0.mismatch)
+    }
+}
+
+impl Eq for Covering {}
+
+impl std::hash::Hash for Covering {
+    fn hash<H: std::hash::Hasher>(&self, state: &mut H) {
+        (self.vrp(), self.0.mismatch).hash(state);
+    }
+}
+
+/// Writes the VRP and both reasons, for example `Covering { vrp: 10.0.0.0/8-8 AS1, other_as: true, too_long: false }`.
+impl Debug for Covering {
+    fn fmt(&self, out: &mut Formatter<'_>) -> Written {
+        out.debug_struct("Covering")
+            .field("vrp", &format_args!("{}", self.vrp()))
+            .field("other_as", &self.is_other_as())
+            .field("too_long", &self.is_too_long())
+            .finish()
+    }
+}
+
+/// Writes prefix, maximum length and AS of the VRP, for example `10.0.0.0/8-16 AS64496`.
+impl Display for Covering {
+    fn fmt(&self, out: &mut Formatter<'_>) -> Written {
+        Display::fmt(&self.vrp(), out)
+    }
+}
+
+/// The VRP without the reason why it does not match.
+impl From<Covering> for Vrp {
+    fn from(covering: Covering) -> Vrp {
+        covering.vrp()
+    }
+}
+
+impl Validity {
+    /// Returns the validity with these numbers of `pigyelund.h`.
+    fn of(validity: u8, reason: u8) -> Validity {
+        match (u32::from(validity), u32::from(reason)) {
+            (sys::PIGY_VALID, _) => Validity::Valid,
+            (sys::PIGY_NOT_FOUND, _) => Validity::NotFound,
+            (_, sys::PIGY_INVALID_LENGTH) => Validity::Invalid(InvalidReason::Length),
+            _ => Validity::Invalid(InvalidReason::As),
+        }
     }
 }

@@ -1,14 +1,9 @@
 //! Tests how often the calls of the crate call the library: once for nearly all golden tests of `rows.txt`.
-use core::cell::Cell;
-use std::vec::Vec;
-use std::{println, thread_local};
+use std::cell::Cell;
 
-use crate::buffers::{with_buffers, with_items};
-use crate::raw::{ABSENT, MEMORY, OK, TOO_SMALL};
-use crate::{
-    answer, combine, cover, verify, Encoding, Extensions, Family, Octets, Operation, Overclaim,
-    Resources, Route, Table, Vrp,
-};
+use crate::buffers::items;
+use crate::{answer, read_vrps, Encoding, Extensions, Family, Kind, Resources, Route, Table, Vrp};
+use pigyelund_sys::{PIGY_ABSENT, PIGY_MEMORY, PIGY_OK, PIGY_TOO_SMALL};
 
 thread_local! {
     static CALLS: Cell<usize> = const { Cell::new(0) };
@@ -33,109 +28,114 @@ fn octets(word: &str) -> Vec<u8> {
         .collect()
 }
 
-/// Makes the call of a row in the lenient encoding, and returns how often the library is called. Returns `None` for a
-/// row of another call.
-fn calls_of_row(words: &[&str]) -> Option<usize> {
-    let numbers: Vec<u32> = words[1].split(',').flat_map(str::parse).collect();
-    let runs: Vec<Vec<u8>> = words[2..6].iter().map(|word| octets(word)).collect();
-    let set = |at: usize| Octets {
-        asn: &runs[at],
-        ip: &runs[at + 1],
+/// Makes each call with buffers on the set of a row in the lenient encoding, the line of a row, or its file. Returns
+/// how often each call calls the library.
+fn calls_of_row(words: &[&str]) -> Vec<usize> {
+    let [asn, ip] = [2, 3].map(|at| octets(words[at]));
+    match words[0] {
+        "answer" => return vec![calls_of(|| answer(&asn))],
+        "read" => return vec![calls_of(|| read_vrps(&asn))],
+        "print" => {}
+        _ => return vec![],
+    }
+    let extensions = Extensions {
+        asn: (!asn.is_empty()).then_some(&asn),
+        ip: (!ip.is_empty()).then_some(&ip),
     };
-    let operation = match words[0] {
-        "verify" => {
-            let certificate = Extensions {
-                asn: (numbers[1] & 1 != 0).then_some(&runs[2]),
-                ip: (numbers[1] & 2 != 0).then_some(&runs[3]),
-            };
-            let mode = [Overclaim::Refuse, Overclaim::Trim][numbers[2] as usize % 2];
-            return Some(calls_of(|| {
-                verify(set(0), certificate, Encoding::Lenient, mode)
-            }));
-        }
-        "cover" => {
-            let family = [Family::V4, Family::V6][numbers[1] as usize % 2];
-            return Some(calls_of(|| cover(&runs[0], Encoding::Lenient, family)));
-        }
-        "answer" => return Some(calls_of(|| answer(&runs[0]))),
-        "union" => Operation::Union,
-        "intersection" => Operation::Intersection,
-        "difference" => Operation::Difference,
-        _ => return None,
+    let Ok(set) = Resources::read(extensions, Encoding::Lenient) else {
+        return vec![];
     };
-    Some(calls_of(|| {
-        combine(operation, set(0), set(2), Encoding::Lenient)
-    }))
+    let mut found = vec![calls_of(|| set.der()), calls_of(|| set.as_ranges())];
+    found.extend([Family::V4, Family::V6].map(|it| calls_of(|| set.prefixes(it))));
+    found.extend([Family::V4, Family::V6].map(|it| calls_of(|| set.ip_ranges(it))));
+    found.extend([Kind::Asn, Kind::V4, Kind::V6].map(|it| calls_of(|| set.text(it))));
+    found
 }
 
-/// At most one row of a hundred needs a second call. No row needs a third.
+/// At most one call of a hundred calls the library a second time. None calls it a third time.
 #[test]
 fn one_call_is_enough() {
-    let top = std::env!("CARGO_MANIFEST_DIR");
+    let top = env!("CARGO_MANIFEST_DIR");
     // tests/run/foreign_rows.py of the repository makes the rows. The package has them in `tests/shared`.
-    let text = std::fs::read_to_string(std::format!("{top}/../../out/foreign/rows.txt"))
-        .or_else(|_| std::fs::read_to_string(std::format!("{top}/tests/shared/rows.txt")))
+    let text = std::fs::read_to_string(format!("{top}/../../out/foreign/rows.txt"))
+        .or_else(|_| std::fs::read_to_string(format!("{top}/tests/shared/rows.txt")))
         .unwrap();
     let mut found = [0; 3];
-    for row in text.lines().filter(|row| !row.starts_with("path")) {
+    for row in text.lines() {
         let words: Vec<&str> = row.split(' ').collect();
-        if let Some(calls) = calls_of_row(&words) {
+        for calls in calls_of_row(&words) {
             found[calls] += 1;
             if calls > 1 {
                 println!("two calls: {row}");
             }
         }
     }
-    assert!(found[1] > 1000 && found[2] * 100 <= found[1], "{found:?}");
+    assert!(
+        found[0] == 0 && found[1] > 1000 && found[2] * 100 <= found[1],
+        "{found:?}"
+    );
 }
 
-/// Writes `wanted` to the front of a buffer, if it fits. Returns its length, and whether it fits.
-fn write(wanted: &[u8], out: &mut [u8]) -> (bool, usize) {
-    let fits = wanted.len() <= out.len();
-    if fits {
-        out[..wanted.len()].copy_from_slice(wanted);
-    }
-    (fits, wanted.len())
-}
-
-/// The second call has buffers of the required lengths. A result has no unused capacity.
+/// The second call has a buffer of the required capacity. A result has no unused capacity.
 #[test]
 fn small_buffers_are_replaced() {
-    let (asn, ip) = ([1; 100], [2; 7]);
-    for (as_capacity, ip_capacity, wanted) in [(100, 7, 1), (500, 500, 1), (0, 500, 2), (99, 7, 2)]
-    {
-        let call = |as_out: &mut [u8], ip_out: &mut [u8]| {
-            let ((as_fits, as_len), (ip_fits, ip_len)) = (write(&asn, as_out), write(&ip, ip_out));
-            let status = if as_fits && ip_fits { OK } else { TOO_SMALL };
-            (status, as_len, ip_len)
+    let wanted = [1_u8; 100];
+    for (capacity, calls) in [(0, 2), (99, 2), (100, 1), (200, 1)] {
+        let call = |out: *mut u8, capacity, len: &mut usize| {
+            *len = wanted.len();
+            if capacity < wanted.len() {
+                return PIGY_TOO_SMALL;
+            }
+            // SAFETY: the buffer has the capacity.
+            unsafe { out.copy_from(wanted.as_ptr(), wanted.len()) };
+            PIGY_OK
         };
-        let calls = calls_of(|| {
-            let (status, set) = with_buffers(as_capacity, ip_capacity, call);
-            assert_eq!((status, &set.asn[..], &set.ip[..]), (OK, &asn[..], &ip[..]));
-            assert_eq!((set.asn.capacity(), set.ip.capacity()), (100, 7));
+        let found = calls_of(|| {
+            // SAFETY: the call writes the octets.
+            let found = unsafe { items(capacity, call) }.unwrap();
+            assert_eq!((&found[..], found.capacity()), (&wanted[..], 100));
         });
-        assert_eq!(calls, wanted);
+        assert_eq!(found, calls);
     }
-    for (capacity, wanted) in [(0, 2), (99, 2), (100, 1), (200, 1)] {
-        let call = |out: &mut [u8]| match write(&asn, out) {
-            (true, len) => (OK, len),
-            (false, len) => (TOO_SMALL, len),
+    // With an error nothing is written, and the length is 0.
+    for status in [PIGY_ABSENT, PIGY_MEMORY] {
+        // SAFETY: the call does not return PIGY_OK.
+        let found = unsafe { items(64, |_: *mut u8, _, _| status) };
+        assert_eq!(found, Err(status));
+    }
+}
+
+/// A set with more DER, prefixes, ranges or text than usual needs a second call.
+#[test]
+fn calls_of_large_sets() {
+    for (count, calls) in [(1, 1), (64, 1), (65, 2), (5000, 2)] {
+        let of = |prefix: &str| -> Resources {
+            let each = (0..count).map(|at| format!("{prefix}{}", 2 * at));
+            each.collect::<Vec<_>>().join(",").parse().unwrap()
         };
-        let calls = calls_of(|| assert_eq!(with_items(capacity, call), (OK, asn.to_vec())));
-        assert_eq!(calls, wanted);
+        let (numbers, addresses) = (of("AS"), of("2001:db8::1:"));
+        assert_eq!(calls_of(|| numbers.as_ranges().unwrap()), calls);
+        let v6 = Family::V6;
+        assert_eq!(calls_of(|| addresses.ip_ranges(v6).unwrap()), calls);
+        if calls == 1 && count > 1 {
+            continue;
+        }
+        assert_eq!(calls_of(|| addresses.prefixes(v6).unwrap()), calls);
+        for set in [&numbers, &addresses] {
+            let is_long = set.der().unwrap().asn.len() + set.der().unwrap().ip.len() > 512;
+            assert_eq!(calls_of(|| set.der().unwrap()), 1 + usize::from(is_long));
+        }
     }
-    // With an error nothing is written, and the lengths are 0.
-    let (status, set) = with_buffers(64, 64, |_, _| (ABSENT, 0, 0));
-    assert_eq!((status, set), (ABSENT, Resources::default()));
-    assert_eq!(with_items::<u8>(64, |_| (MEMORY, 0)), (MEMORY, Vec::new()));
 }
 
 /// A table knows the number of its VRPs. A route with more covering VRPs than usual needs a second call.
 #[test]
 fn calls_of_tables() {
     let vrps = |count: u32| -> Vec<Vrp> {
-        let net = "10.0.0.0".parse().unwrap();
-        (0..count).map(|asn| Vrp::new(net, 8, 8, asn)).collect()
+        let ten = "10.0.0.0/8".parse().unwrap();
+        (0..count)
+            .map(|asn| Vrp::new(ten, 8, asn).unwrap())
+            .collect()
     };
     let route: Route = "10.0.0.0/8 AS1".parse().unwrap();
     for (count, covering) in [(0, 1), (1, 1), (16, 1), (17, 2), (5000, 2)] {

@@ -1,160 +1,189 @@
-//! Accessors, checked constructors and texts of VRPs and routes.
-use core::fmt::{Display, Formatter, Result as Written};
-use core::net::IpAddr;
-use core::str::FromStr;
+//! VRPs and routes: checked constructors, accessors and texts.
+use std::cmp::Ordering;
+use std::fmt::{Debug, Display, Formatter, Result as Written};
+use std::hash::{Hash, Hasher};
+use std::str::FromStr;
 
-use crate::prefix::{check_max_len, number_of, read_max_len};
-use crate::raw;
-use crate::{address_of, Covering, ParseError, Prefix, Route, ValueError, Vrp};
+use crate::prefix::{check_max_len, read_max_len};
+use crate::{Asn, Prefix, ValueError};
+use pigyelund_sys as sys;
 
-/// Returns the address in the fields of a VRP or route. If the family is unknown, this is all 16 octets as IPv6.
-fn address_in(address: &[u8; 16], family: u8) -> IpAddr {
-    address_of(if u32::from(family) == raw::IPV4 {
-        &address[..4]
-    } else {
-        address
-    })
-}
+/// A VRP (validated ROA payload, RFC 6811, 2): a prefix, its maximum length, and the AS that may originate it.
+///
+/// `Display` and `FromStr` use the form `10.0.0.0/8-16 AS64496`. VRPs are ordered by prefix, then by maximum length,
+/// then by AS. [`Table::vrps`](crate::Table::vrps) has another order.
+///
+/// # Example
+///
+/// ```
+/// use pigyelund::Vrp;
+///
+/// let vrp: Vrp = "10.0.0.0/8-16 AS64496".parse().unwrap();
+/// assert_eq!(Vrp::new(vrp.prefix(), 16, 64496), Ok(vrp));
+/// let refused = Vrp::new(vrp.prefix(), 7, 64496).unwrap_err();
+/// assert_eq!(refused.to_string(), "max length 7 of 10.0.0.0/8 is below prefix length 8: expected 8 to 32");
+/// ```
+// The layout is that of the library, so that a slice can be passed to it. All octets of the address that the library
+// does not read are 0.
+#[repr(transparent)]
+#[derive(Clone, Copy)]
+pub struct Vrp(pub(crate) sys::pigy_vrp);
+
+/// A route (RFC 6811, 2): a prefix, and the AS that originates it.
+///
+/// `Display` and `FromStr` use the form `10.0.0.0/8 AS64496`. Routes are ordered by prefix, then by AS.
+// The layout is that of the library, as for VRPs.
+#[repr(transparent)]
+#[derive(Clone, Copy)]
+pub struct Route(pub(crate) sys::pigy_route);
 
 impl Vrp {
-    /// Returns a VRP if the values are valid.
-    ///
-    /// [`Vrp::new`] has the parameters and their ranges.
+    /// Returns the VRP of a prefix, a maximum length in bits, and the AS that may originate the prefix.
     ///
     /// # Errors
     ///
-    /// - [`ValueError::PrefixLen`]: `len` is above 32 for IPv4, or above 128 for IPv6.
-    /// - [`ValueError::HostBits`]: a bit of `address` after the first `len` is set.
-    /// - [`ValueError::MaxLen`]: `max_len` is below `len`, or above 32 for IPv4, or above 128 for IPv6.
-    pub fn try_new(address: IpAddr, len: u8, max_len: u8, asn: u32) -> Result<Vrp, ValueError> {
-        Vrp::try_from((Prefix::new(address, len)?, max_len, asn))
+    /// [`ValueError::MaxLen`]: `max_len` is below the prefix length, or above 32 for IPv4, or above 128 for IPv6.
+    pub fn new(prefix: Prefix, max_len: u8, asn: impl Into<Asn>) -> Result<Vrp, ValueError> {
+        check_max_len(prefix, max_len)?;
+        let (address, family) = prefix.parts();
+        Ok(Vrp(sys::pigy_vrp {
+            address,
+            asn: asn.into().number(),
+            family,
+            len: prefix.prefix_len(),
+            max_len,
+        }))
     }
 
-    /// Returns the first address of the prefix.
-    ///
-    /// If the field `family` is neither [`raw::IPV4`] nor [`raw::IPV6`], this is the IPv6 address of all 16 octets.
-    pub fn addr(&self) -> IpAddr {
-        address_in(&self.address, self.family)
-    }
-
-    /// Returns the prefix: [`Vrp::addr`] and the prefix length. It is valid if the VRP is valid.
+    /// Returns the prefix.
     pub fn prefix(&self) -> Prefix {
-        Prefix {
-            address: self.addr(),
-            len: self.len,
-        }
+        Prefix::of(&self.0.address, self.0.family, self.0.len)
     }
 
-    /// Returns the maximum length in bits.
+    /// Returns the maximum length (maxLength, RFC 9582, 4.3.2) in bits.
     pub fn max_len(&self) -> u8 {
-        self.max_len
+        self.0.max_len
     }
 
     /// Returns the AS that may originate the prefix.
-    pub fn asn(&self) -> u32 {
-        self.asn
+    pub fn asn(&self) -> Asn {
+        Asn::new(self.0.asn)
+    }
+
+    /// Returns what comparisons and hashes use.
+    fn key(&self) -> (Prefix, u8, Asn) {
+        (self.prefix(), self.max_len(), self.asn())
     }
 }
 
 impl Route {
-    /// Returns a route if the values are valid.
+    /// Returns the route of a prefix and the AS that originates it.
     ///
-    /// [`Route::new`] has the parameters and their ranges.
-    ///
-    /// # Errors
-    ///
-    /// - [`ValueError::PrefixLen`]: `len` is above 32 for IPv4, or above 128 for IPv6.
-    /// - [`ValueError::HostBits`]: a bit of `address` after the first `len` is set.
-    pub fn try_new(address: IpAddr, len: u8, asn: u32) -> Result<Route, ValueError> {
-        Route::try_from((Prefix::new(address, len)?, asn))
+    /// Use AS 0 if the path of the route ends in an AS_SET: then no VRP matches (RFC 6811, 2). Use the router's own AS
+    /// if the path is empty or ends in a confederation segment.
+    pub fn new(prefix: Prefix, asn: impl Into<Asn>) -> Route {
+        let (address, family) = prefix.parts();
+        Route(sys::pigy_route {
+            address,
+            asn: asn.into().number(),
+            family,
+            len: prefix.prefix_len(),
+        })
     }
 
-    /// Returns the first address of the prefix.
-    ///
-    /// If the field `family` is neither [`raw::IPV4`] nor [`raw::IPV6`], this is the IPv6 address of all 16 octets.
-    pub fn addr(&self) -> IpAddr {
-        address_in(&self.address, self.family)
-    }
-
-    /// Returns the prefix: [`Route::addr`] and the prefix length. It is valid if the route is valid.
+    /// Returns the prefix.
     pub fn prefix(&self) -> Prefix {
-        Prefix {
-            address: self.addr(),
-            len: self.len,
+        Prefix::of(&self.0.address, self.0.family, self.0.len)
+    }
+
+    /// Returns the AS that originates the route.
+    pub fn asn(&self) -> Asn {
+        Asn::new(self.0.asn)
+    }
+
+    /// Returns what comparisons and hashes use.
+    fn key(&self) -> (Prefix, Asn) {
+        (self.prefix(), self.asn())
+    }
+}
+
+/// Compares and hashes values by their keys.
+macro_rules! by_key {
+    ($($name:ident)*) => {$(
+        impl PartialEq for $name {
+            fn eq(&self, other: &$name) -> bool {
+                self.key() == other.key()
+            }
         }
-    }
 
-    /// Returns the AS that originates the route, or 0 if the path ends in an AS_SET.
-    pub fn asn(&self) -> u32 {
-        self.asn
+        impl Eq for $name {}
+
+        impl PartialOrd for $name {
+            fn partial_cmp(&self, other: &$name) -> Option<Ordering> {
+                Some(self.cmp(other))
+            }
+        }
+
+        impl Ord for $name {
+            fn cmp(&self, other: &$name) -> Ordering {
+                self.key().cmp(&other.key())
+            }
+        }
+
+        impl Hash for $name {
+            fn hash<H: Hasher>(&self, state: &mut H) {
+                self.key().hash(state);
+            }
+        }
+    )*};
+}
+
+by_key!(Vrp Route);
+
+/// Writes the values, for example `Vrp { prefix: 10.0.0.0/8, max_len: 16, asn: 64496 }`.
+impl Debug for Vrp {
+    fn fmt(&self, out: &mut Formatter<'_>) -> Written {
+        out.debug_struct("Vrp")
+            .field("prefix", &format_args!("{}", self.prefix()))
+            .field("max_len", &self.max_len())
+            .field("asn", &self.asn().number())
+            .finish()
     }
 }
 
-/// A VRP of a prefix, a maximum length in bits, and an AS. The errors are those of [`Vrp::try_new`].
-impl TryFrom<(Prefix, u8, u32)> for Vrp {
-    type Error = ValueError;
-
-    fn try_from((prefix, max_len, asn): (Prefix, u8, u32)) -> Result<Vrp, ValueError> {
-        let Prefix { address, len } = Prefix::new(prefix.address, prefix.len)?;
-        check_max_len(prefix, max_len)?;
-        Ok(Vrp::new(address, len, max_len, asn))
-    }
-}
-
-/// A route of a prefix and an AS. The errors are those of [`Route::try_new`].
-impl TryFrom<(Prefix, u32)> for Route {
-    type Error = ValueError;
-
-    fn try_from((prefix, asn): (Prefix, u32)) -> Result<Route, ValueError> {
-        let Prefix { address, len } = Prefix::new(prefix.address, prefix.len)?;
-        Ok(Route::new(address, len, asn))
-    }
-}
-
-/// The VRP without the reason why it does not match.
-impl From<Covering> for Vrp {
-    fn from(covering: Covering) -> Vrp {
-        let Prefix { address, len } = covering.prefix;
-        Vrp::new(address, len, covering.max_len, covering.asn)
+/// Writes the values, for example `Route { prefix: 10.0.0.0/8, asn: 64496 }`.
+impl Debug for Route {
+    fn fmt(&self, out: &mut Formatter<'_>) -> Written {
+        out.debug_struct("Route")
+            .field("prefix", &format_args!("{}", self.prefix()))
+            .field("asn", &self.asn().number())
+            .finish()
     }
 }
 
 /// Writes prefix, maximum length and AS, for example `10.0.0.0/8-16 AS64496`.
 impl Display for Vrp {
     fn fmt(&self, out: &mut Formatter<'_>) -> Written {
-        write!(out, "{}-{} AS{}", self.prefix(), self.max_len, self.asn)
-    }
-}
-
-/// Writes prefix, maximum length and AS of the VRP, for example `10.0.0.0/8-16 AS64496`.
-impl Display for Covering {
-    fn fmt(&self, out: &mut Formatter<'_>) -> Written {
-        Display::fmt(&Vrp::from(*self), out)
+        write!(out, "{}-{} {}", self.prefix(), self.max_len(), self.asn())
     }
 }
 
 /// Writes prefix and AS, for example `10.0.0.0/8 AS64496`.
 impl Display for Route {
     fn fmt(&self, out: &mut Formatter<'_>) -> Written {
-        write!(out, "{} AS{}", self.prefix(), self.asn)
+        write!(out, "{} {}", self.prefix(), self.asn())
     }
 }
 
 /// Splits a text at its first space into a prefix, perhaps with a maximum length, and an AS number.
-fn split<'a>(text: &'a str, expected: &'static str) -> Result<(&'a str, u32), ParseError> {
+fn split<'a>(text: &'a str, expected: &'static str) -> Result<(&'a str, Asn), ValueError> {
     let Some((prefix, asn)) = text.split_once(' ') else {
-        return Err(ParseError::Form {
+        return Err(ValueError::Form {
             text: text.into(),
             expected,
         });
     };
-    let is_named = asn
-        .get(..2)
-        .is_some_and(|start| start.eq_ignore_ascii_case("AS"));
-    match number_of(if is_named { &asn[2..] } else { asn }) {
-        Some(number) => Ok((prefix, number)),
-        None => Err(ParseError::Asn { text: asn.into() }),
-    }
+    Ok((prefix, asn.parse()?))
 }
 
 /// Reads `PREFIX-MAXLEN ASN`, for example `10.0.0.0/8-16 AS64496`.
@@ -166,15 +195,15 @@ fn split<'a>(text: &'a str, expected: &'static str) -> Result<(&'a str, u32), Pa
 ///
 /// The text is split at its first space. The AS number after the space is checked before the prefix:
 ///
-/// - [`ParseError::Form`]: the text has no space, or its prefix has no `/`.
-/// - [`ParseError::Asn`]: the AS number is no decimal number from 0 to 4294967295.
-/// - [`ParseError::Address`]: the address is neither an IPv4 address nor an IPv6 address.
-/// - [`ParseError::PrefixLen`], [`ParseError::MaxLen`]: this length is no decimal number, or is above 255.
-/// - [`ParseError::Value`]: the error of [`Vrp::try_new`], for example for the length 33 of an IPv4 prefix.
+/// - [`ValueError::Form`]: the text has no space, or its prefix has no `/`.
+/// - [`ValueError::Asn`]: the AS number is no decimal number from 0 to 4294967295.
+/// - [`ValueError::Address`]: the address is neither an IPv4 address nor an IPv6 address.
+/// - [`ValueError::PrefixLenText`], [`ValueError::MaxLenText`]: this length is no decimal number, or is above 255.
+/// - The errors of [`Prefix::new`] and [`Vrp::new`].
 impl FromStr for Vrp {
-    type Err = ParseError;
+    type Err = ValueError;
 
-    fn from_str(text: &str) -> Result<Vrp, ParseError> {
+    fn from_str(text: &str) -> Result<Vrp, ValueError> {
         let expected = "PREFIX-MAXLEN ASN, for example 10.0.0.0/8-16 AS64496";
         let (lengths, asn) = split(text, expected)?;
         let (prefix, max_len) = match lengths.split_once('-') {
@@ -184,9 +213,9 @@ impl FromStr for Vrp {
         let prefix: Prefix = prefix.parse()?;
         let max_len = match max_len {
             Some(max_len) => read_max_len(prefix, max_len)?,
-            None => prefix.len,
+            None => prefix.prefix_len(),
         };
-        Ok(Vrp::new(prefix.address, prefix.len, max_len, asn))
+        Vrp::new(prefix, max_len, asn)
     }
 }
 
@@ -198,17 +227,16 @@ impl FromStr for Vrp {
 ///
 /// The text is split at its first space. The AS number after the space is checked before the prefix:
 ///
-/// - [`ParseError::Form`]: the text has no space, or its prefix has no `/`.
-/// - [`ParseError::Asn`]: the AS number is no decimal number from 0 to 4294967295.
-/// - [`ParseError::Address`]: the address is neither an IPv4 address nor an IPv6 address.
-/// - [`ParseError::PrefixLen`]: the prefix length is no decimal number, or is above 255.
-/// - [`ParseError::Value`]: the error of [`Route::try_new`], for example for the length 33 of an IPv4 prefix.
+/// - [`ValueError::Form`]: the text has no space, or its prefix has no `/`.
+/// - [`ValueError::Asn`]: the AS number is no decimal number from 0 to 4294967295.
+/// - [`ValueError::Address`]: the address is neither an IPv4 address nor an IPv6 address.
+/// - [`ValueError::PrefixLenText`]: the prefix length is no decimal number, or is above 255.
+/// - The errors of [`Prefix::new`].
 impl FromStr for Route {
-    type Err = ParseError;
+    type Err = ValueError;
 
-    fn from_str(text: &str) -> Result<Route, ParseError> {
+    fn from_str(text: &str) -> Result<Route, ValueError> {
         let (prefix, asn) = split(text, "PREFIX ASN, for example 10.0.0.0/8 AS64496")?;
-        let prefix: Prefix = prefix.parse()?;
-        Ok(Route::new(prefix.address, prefix.len, asn))
+        Ok(Route::new(prefix.parse()?, asn))
     }
 }

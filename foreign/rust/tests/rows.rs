@@ -1,22 +1,23 @@
-//! Makes the golden tests of `rows.txt`, on one thread and on eight at once. Checks each named number and each
-//! status text.
+//! Makes the golden tests of `rows.txt`, on one thread and on eight at once. Checks each named number and each status
+//! text.
 //!
 //! A golden test is a line with a call, its arguments, and the stored result. The tests in C and Python read the same
-//! file.
-use pigyelund::raw;
-use pigyelund::raw::{NO, OK, TOO_SMALL};
+//! file. The calls of C are made with buffers of each length up to the needed one, and the calls of the crate once.
 use pigyelund::{
-    answer, as_ranges, contains, cover, difference, equal, intersection, ip_ranges, origins,
-    read_vrps, union, verify, verify_path, version, version_string, Certificate, Comparison,
-    Encoding, Extensions, Family, Fault, Octets, Operation, OriginError, Overclaim, PathError,
-    ReadError, Reason, ResourceError, Resources, Route, Side, Table, Validity, Vrp,
+    answer, read_vrps, status_text, version, Asn, Certificate, Encoding, Extensions, Family,
+    InvalidReason, Kind, Mode, Prefix, Reason, ResourceError, Resources, Route, Table, TableError,
+    Validity, Vrp,
 };
-use std::collections::{BTreeMap, HashSet};
-use std::error::Error;
-use std::net::{IpAddr, Ipv4Addr};
+use pigyelund_sys as sys;
+use pigyelund_sys::{PIGY_KIND, PIGY_OK, PIGY_SECOND, PIGY_TOO_SMALL};
+use std::collections::BTreeMap;
+use std::net::IpAddr;
+use std::ptr::{null, null_mut};
 use std::thread;
 
 const THREADS: usize = 8;
+/// What buffers and lengths have before a call.
+const UNTOUCHED: u8 = 0xa5;
 
 fn octets(word: &str) -> Vec<u8> {
     let digits = if word == "-" { "" } else { word };
@@ -26,25 +27,67 @@ fn octets(word: &str) -> Vec<u8> {
 }
 
 fn encoding_of(number: u32) -> Option<Encoding> {
-    match number {
-        0 => Some(Encoding::Lenient),
-        1 => Some(Encoding::Strict),
-        _ => None,
+    [Encoding::Lenient, Encoding::Strict]
+        .into_iter()
+        .find(|it| *it as u32 == number)
+}
+
+fn mode_of(number: u32) -> Option<Mode> {
+    [Mode::Refuse, Mode::Trim]
+        .into_iter()
+        .find(|it| *it as u32 == number)
+}
+
+fn family_of(number: u32) -> Option<Family> {
+    [Family::V4, Family::V6]
+        .into_iter()
+        .find(|it| *it as u32 == number)
+}
+
+fn kind_of(number: u32) -> Option<Kind> {
+    [Kind::Asn, Kind::V4, Kind::V6]
+        .into_iter()
+        .find(|it| *it as u32 == number)
+}
+
+/// A set or a certificate of a golden test: its AS identifiers and its IP address blocks.
+#[derive(Clone, Copy)]
+struct Octets<'a> {
+    asn: &'a [u8],
+    ip: &'a [u8],
+}
+
+impl<'a> Octets<'a> {
+    fn c(&self) -> sys::pigy_set {
+        sys::pigy_set {
+            as_: self.asn.as_ptr(),
+            as_len: self.asn.len(),
+            ip: self.ip.as_ptr(),
+            ip_len: self.ip.len(),
+        }
+    }
+
+    /// Returns the extensions of a set: one without octets is absent.
+    fn of_set(&self) -> Extensions<'a> {
+        Extensions {
+            asn: (!self.asn.is_empty()).then_some(self.asn),
+            ip: (!self.ip.is_empty()).then_some(self.ip),
+        }
+    }
+
+    /// Returns the extensions that `present` names.
+    fn of_certificate(&self, present: u32) -> Extensions<'a> {
+        Extensions {
+            asn: (present & sys::PIGY_HAS_AS != 0).then_some(self.asn),
+            ip: (present & sys::PIGY_HAS_IP != 0).then_some(self.ip),
+        }
     }
 }
 
-fn mode_of(number: u32) -> Option<Overclaim> {
-    match number {
-        0 => Some(Overclaim::Refuse),
-        1 => Some(Overclaim::Trim),
-        _ => None,
-    }
-}
-
-fn certificate(word: &str) -> raw::Certificate {
+fn certificate(word: &str) -> sys::pigy_certificate {
     let numbers: Vec<&str> = word.split(':').collect();
     let ranges: Vec<usize> = numbers[..4].iter().map(|n| n.parse().unwrap()).collect();
-    raw::Certificate {
+    sys::pigy_certificate {
         as_start: ranges[0],
         as_len: ranges[1],
         ip_start: ranges[2],
@@ -54,24 +97,16 @@ fn certificate(word: &str) -> raw::Certificate {
     }
 }
 
-/// Returns the extensions that `present` names.
-fn extensions_of(present: u32, octets: Octets<'_>) -> Extensions<'_> {
-    Extensions {
-        asn: (present & raw::HAS_AS != 0).then_some(octets.asn),
-        ip: (present & raw::HAS_IP != 0).then_some(octets.ip),
-    }
-}
-
-/// Returns the certificate at a position of `run`, or None if the position is outside or a number is unknown.
-fn certificate_at<'a>(run: &'a [u8], position: &raw::Certificate) -> Option<Certificate<'a>> {
-    let asn = run.get(position.as_start..position.as_start.checked_add(position.as_len)?)?;
-    let ip = run.get(position.ip_start..position.ip_start.checked_add(position.ip_len)?)?;
-    if position.present > raw::HAS_BOTH {
+/// Returns the certificate at a place of `run`, or None if the place is outside or a number is unknown.
+fn certificate_at<'a>(run: &'a [u8], place: &sys::pigy_certificate) -> Option<Certificate<'a>> {
+    let asn = run.get(place.as_start..place.as_start.checked_add(place.as_len)?)?;
+    let ip = run.get(place.ip_start..place.ip_start.checked_add(place.ip_len)?)?;
+    if place.present > sys::PIGY_HAS_BOTH {
         return None;
     }
     Some(Certificate {
-        extensions: extensions_of(position.present, Octets { asn, ip }),
-        mode: mode_of(position.mode)?,
+        extensions: Octets { asn, ip }.of_certificate(place.present),
+        mode: mode_of(place.mode)?,
     })
 }
 
@@ -82,12 +117,19 @@ fn octets_of(address: IpAddr) -> Vec<u8> {
     }
 }
 
+/// Returns 16 octets: those of an address, and 0 after an IPv4 address.
+fn padded(address: IpAddr) -> Vec<u8> {
+    let mut octets = octets_of(address);
+    octets.resize(16, 0);
+    octets
+}
+
 fn asn(octets: &[u8]) -> u32 {
     u32::from_be_bytes(octets[16..20].try_into().unwrap())
 }
 
-fn vrp(octets: &[u8]) -> Vrp {
-    Vrp {
+fn c_vrp(octets: &[u8]) -> sys::pigy_vrp {
+    sys::pigy_vrp {
         address: octets[..16].try_into().unwrap(),
         asn: asn(octets),
         family: octets[20],
@@ -96,8 +138,8 @@ fn vrp(octets: &[u8]) -> Vrp {
     }
 }
 
-fn route(octets: &[u8]) -> Route {
-    Route {
+fn c_route(octets: &[u8]) -> sys::pigy_route {
+    sys::pigy_route {
         address: octets[..16].try_into().unwrap(),
         asn: asn(octets),
         family: octets[20],
@@ -105,17 +147,70 @@ fn route(octets: &[u8]) -> Route {
     }
 }
 
+/// Returns the prefix of an address, a family and a length, or None if they are none.
+fn prefix(address: &[u8], family: u8, len: u8) -> Option<Prefix> {
+    let address = match family_of(family.into())? {
+        Family::V4 => IpAddr::from(<[u8; 4]>::try_from(&address[..4]).unwrap()),
+        Family::V6 => IpAddr::from(<[u8; 16]>::try_from(&address[..16]).unwrap()),
+    };
+    Prefix::new(address, len).ok()
+}
+
+fn vrp(octets: &[u8]) -> Option<Vrp> {
+    Vrp::new(
+        prefix(octets, octets[20], octets[21])?,
+        octets[22],
+        asn(octets),
+    )
+    .ok()
+}
+
+fn route(octets: &[u8]) -> Option<Route> {
+    Some(Route::new(
+        prefix(octets, octets[20], octets[21])?,
+        asn(octets),
+    ))
+}
+
+/// Returns all values, or the index of the first octets that are none.
+fn all<T>(octets: &[u8], len: usize, value: impl Fn(&[u8]) -> Option<T>) -> Result<Vec<T>, usize> {
+    let each = octets.chunks(len).enumerate();
+    each.map(|(at, it)| value(it).ok_or(at)).collect()
+}
+
 /// Returns the octets that `rows.txt` has for a VRP.
-fn row_octets(address: [u8; 16], asn: u32, rest: &[u8]) -> Vec<u8> {
-    [&address[..], &asn.to_be_bytes()[..], rest].concat()
+fn vrp_octets(vrp: &Vrp) -> Vec<u8> {
+    let prefix = vrp.prefix();
+    let mut octets = padded(prefix.addr());
+    octets.extend(vrp.asn().number().to_be_bytes());
+    octets.extend([prefix.family() as u8, prefix.prefix_len(), vrp.max_len()]);
+    octets
 }
 
 /// Returns the octets that `rows.txt` has for all VRPs of a table.
-fn vrp_octets(table: &Table) -> Vec<u8> {
+fn table_octets(table: &Table) -> Vec<u8> {
     let all = table.vrps().unwrap();
     assert_eq!(all.len(), table.len());
-    all.flat_map(|it| row_octets(it.address, it.asn, &[it.family, it.len, it.max_len]))
-        .collect()
+    all.iter().flat_map(vrp_octets).collect()
+}
+
+/// Returns buffers for a call, with lengths that the call has to replace.
+fn buffers(asn: &mut [u8], ip: &mut [u8]) -> sys::pigy_buffers {
+    sys::pigy_buffers {
+        as_: asn.as_mut_ptr(),
+        as_capacity: asn.len(),
+        as_len: usize::MAX,
+        ip: ip.as_mut_ptr(),
+        ip_capacity: ip.len(),
+        ip_len: usize::MAX,
+    }
+}
+
+/// Returns the answer of a call with a status: 1, 0, or the status of an error, with which the answer is 0.
+fn answered(call: impl FnOnce(&mut u8) -> u32) -> (u32, usize) {
+    let mut found = UNTOUCHED;
+    let status = call(&mut found);
+    (status, found.into())
 }
 
 /// A golden test: the call, its arguments, and the result that is expected.
@@ -124,10 +219,10 @@ struct Row<'a> {
     call: &'a str,
     numbers: Vec<u32>,
     runs: Vec<Vec<u8>>,
-    certificates: Vec<raw::Certificate>,
+    certificates: Vec<sys::pigy_certificate>,
     status: u32,
-    expected: Resources,
-    verified: Option<usize>,
+    expected: (Vec<u8>, Vec<u8>),
+    last: Option<usize>,
 }
 
 impl Row<'_> {
@@ -148,11 +243,8 @@ impl Row<'_> {
                 Vec::new()
             },
             status: words[6].parse().unwrap(),
-            expected: Resources {
-                asn: octets(words[7]),
-                ip: octets(words[8]),
-            },
-            verified: words[9].parse().ok(),
+            expected: (octets(words[7]), octets(words[8])),
+            last: words[9].parse().ok(),
         }
     }
 
@@ -170,369 +262,489 @@ impl Row<'_> {
         }
     }
 
-    fn lengths(&self) -> (usize, usize) {
-        (self.expected.asn.len(), self.expected.ip.len())
+    fn is_overclaim(&self) -> bool {
+        PIGY_KIND(self.status) == sys::PIGY_OVERCLAIM
     }
 
-    /// Makes the call with buffers of each length up to the needed one.
-    fn ask_capacities(&self, call: impl Fn(&mut [u8], &mut [u8]) -> (u32, usize, usize)) {
-        let (as_len, ip_len) = self.lengths();
+    /// Makes a call that writes a set, with buffers of each length up to the needed one.
+    fn ask_set(&self, call: impl Fn(&mut sys::pigy_buffers) -> u32) {
+        let (as_len, ip_len) = (self.expected.0.len(), self.expected.1.len());
         for capacity in 0..=as_len.max(ip_len) {
-            let (mut asn, mut ip) = (vec![0xa5; capacity], vec![0xa5; capacity]);
-            let found = call(&mut asn, &mut ip);
+            let (mut asn, mut ip) = (vec![UNTOUCHED; capacity], vec![UNTOUCHED; capacity]);
+            let mut out = buffers(&mut asn, &mut ip);
+            let status = call(&mut out);
             let fits = as_len <= capacity && ip_len <= capacity;
-            let status = if fits { self.status } else { TOO_SMALL };
-            assert_eq!(found, (status, as_len, ip_len), "{}", self.text);
-            let (mut expected_asn, mut expected_ip) = (vec![0xa5; capacity], vec![0xa5; capacity]);
+            let wanted = if fits { self.status } else { PIGY_TOO_SMALL };
+            let found = (status, out.as_len, out.ip_len);
+            assert_eq!(found, (wanted, as_len, ip_len), "{}", self.text);
+            let (mut wanted_as, mut wanted_ip) =
+                (vec![UNTOUCHED; capacity], vec![UNTOUCHED; capacity]);
             if fits {
-                expected_asn[..as_len].copy_from_slice(&self.expected.asn);
-                expected_ip[..ip_len].copy_from_slice(&self.expected.ip);
+                wanted_as[..as_len].copy_from_slice(&self.expected.0);
+                wanted_ip[..ip_len].copy_from_slice(&self.expected.1);
             }
-            assert_eq!((asn, ip), (expected_asn, expected_ip), "{}", self.text);
+            assert_eq!((asn, ip), (wanted_as, wanted_ip), "{}", self.text);
         }
     }
 
+    /// Makes a call that verifies. Overclaimed resources are in `excess`, and any other result in `out`. The other of
+    /// the two stays as it is, and has the lengths 0.
+    fn ask_verified(&self, call: impl Fn(&mut sys::pigy_buffers, &mut sys::pigy_buffers) -> u32) {
+        self.ask_set(|main| {
+            let (mut asn, mut ip) = ([UNTOUCHED; 300], [UNTOUCHED; 300]);
+            let mut other = buffers(&mut asn, &mut ip);
+            let status = if self.is_overclaim() {
+                call(&mut other, main)
+            } else {
+                call(main, &mut other)
+            };
+            assert_eq!((other.as_len, other.ip_len), (0, 0), "{}", self.text);
+            assert!(asn == [UNTOUCHED; 300] && ip == [UNTOUCHED; 300]);
+            status
+        });
+    }
+
+    /// Makes a call that writes elements, with buffers of each length up to the needed one and with one more. Each
+    /// element has `width` octets of the expected ones, which `octets` returns.
+    fn ask_items<T: Copy + Default>(
+        &self,
+        width: usize,
+        octets: impl Fn(&T) -> Vec<u8>,
+        call: impl Fn(*mut T, usize, &mut usize) -> u32,
+    ) {
+        let len = self.expected.0.len() / width;
+        for capacity in 0..=len + 1 {
+            let mut out = vec![T::default(); capacity];
+            let mut found = usize::MAX;
+            let status = call(out.as_mut_ptr(), capacity, &mut found);
+            let fits = len <= capacity;
+            let wanted = if fits { self.status } else { PIGY_TOO_SMALL };
+            assert_eq!((status, found), (wanted, len), "{}", self.text);
+            let (written, rest) = out.split_at(if fits { len } else { 0 });
+            let written: Vec<u8> = written.iter().flat_map(&octets).collect();
+            assert!(!fits || written == self.expected.0, "{}", self.text);
+            let untouched = octets(&T::default());
+            assert!(rest.iter().all(|it| octets(it) == untouched));
+        }
+    }
+
+    fn ask_octets(&self, call: impl Fn(*mut u8, usize, &mut usize) -> u32) {
+        self.ask_items(1, |octet: &u8| vec![*octet], call);
+    }
+
+    /// Compares a set, or the status of an error and the overclaimed resources, with the golden test.
     fn expect(&self, found: Result<Resources, ResourceError>) {
         let (status, set) = match found {
-            Ok(set) => (OK, set),
-            Err(ResourceError { reason, excess }) => (reason.status(), excess),
+            Ok(set) => (PIGY_OK, Some(set)),
+            Err(error) => (error.status(), error.excess().cloned()),
         };
+        assert_eq!(status, self.status, "{}", self.text);
+        let der = set.unwrap_or_default().der().unwrap();
+        assert_eq!((der.asn, der.ip), self.expected, "{}", self.text);
+    }
+
+    /// Compares octets, or the status of an error, with the golden test.
+    fn expect_octets(&self, found: Result<Vec<u8>, u32>) {
+        let (status, octets) = match found {
+            Ok(octets) => (PIGY_OK, octets),
+            Err(status) => (status, Vec::new()),
+        };
+        let found = (status, &octets);
+        assert_eq!(found, (self.status, &self.expected.0), "{}", self.text);
+    }
+
+    /// Compares an answer, or the status of an error, with the golden test.
+    fn expect_answer(&self, found: (u32, usize)) {
         assert_eq!(
-            (status, &set),
-            (self.status, &self.expected),
+            found,
+            (self.status, self.last.unwrap_or(0)),
             "{}",
             self.text
         );
     }
 
-    /// Makes a call of one output with buffers of each length up to the needed one.
-    fn ask_one_buffer(&self, call: impl Fn(&mut [u8]) -> (u32, usize)) {
-        self.ask_capacities(|asn, _| {
-            let (status, len) = call(asn);
-            (status, len, 0)
-        });
+    /// Reads a set by the encoding of the golden test. Returns None if this encoding is unknown.
+    fn read(&self, octets: Octets<'_>) -> Option<Result<Resources, ResourceError>> {
+        let encoding = encoding_of(self.numbers[0])?;
+        Some(Resources::read(octets.of_set(), encoding))
     }
 
     fn ask_verify(&self) {
-        let (issuer, octets) = (self.first(), self.second());
-        let (present, mode) = (self.numbers[1], self.numbers[2]);
-        let encoding = self.numbers[0];
-        self.ask_capacities(|asn, ip| {
-            raw::verify(issuer, present, octets, encoding, mode, asn, ip)
+        let (issuer, cert) = (self.first(), self.second());
+        let (encoding, present, mode) = (self.numbers[0], self.numbers[1], self.numbers[2]);
+        self.ask_verified(|out, excess| unsafe {
+            sys::pigy_verify(issuer.c(), cert.c(), present, encoding, mode, out, excess)
         });
-        if present > 3 {
+        let Some(issuer) = self.read(issuer) else {
+            return;
+        };
+        if present > sys::PIGY_HAS_BOTH {
             return;
         }
-        let certificate = extensions_of(present, octets);
         if let (Some(encoding), Some(mode)) = (encoding_of(encoding), mode_of(mode)) {
-            self.expect(verify(issuer, certificate, encoding, mode));
+            let extensions = cert.of_certificate(present);
+            self.expect(issuer.and_then(|it| it.verify(extensions, encoding, mode)));
         }
     }
 
     fn ask_path(&self) {
         let (anchor, run, certificates) = (self.first(), &self.runs[2], &self.certificates);
-        self.ask_capacities(|asn, ip| {
-            let (status, as_len, ip_len, verified) =
-                raw::verify_path(anchor, run, certificates, self.numbers[0], asn, ip);
-            assert_eq!(Some(verified), self.verified, "{}", self.text);
-            (status, as_len, ip_len)
+        self.ask_verified(|out, excess| {
+            let mut verified = usize::MAX;
+            let status = unsafe {
+                sys::pigy_verify_path(
+                    anchor.c(),
+                    run.as_ptr(),
+                    run.len(),
+                    certificates.as_ptr(),
+                    certificates.len(),
+                    self.numbers[0],
+                    out,
+                    excess,
+                    &mut verified,
+                )
+            };
+            assert_eq!(Some(verified), self.last, "{}", self.text);
+            status
         });
-        let Some(encoding) = encoding_of(self.numbers[0]) else {
-            return;
-        };
         let path: Option<Vec<_>> = certificates
             .iter()
             .map(|at| certificate_at(run, at))
             .collect();
-        let Some(path) = path else {
+        let (Some(anchor), Some(path)) = (self.read(anchor), path) else {
             return;
         };
-        let found = verify_path(anchor, &path, encoding);
+        let encoding = encoding_of(self.numbers[0]).unwrap();
+        let found = anchor.and_then(|it| it.verify_path(&path, encoding));
         let verified = match &found {
             Ok(_) => path.len(),
-            Err(PathError { verified, .. }) => *verified,
+            Err(error) => error.verified().unwrap_or(0),
         };
-        assert_eq!(Some(verified), self.verified, "{}", self.text);
-        self.expect(found.map_err(|refused| refused.error));
+        assert_eq!(Some(verified), self.last, "{}", self.text);
+        self.expect(found);
     }
 
     fn ask_cover(&self) {
         let (ip, encoding, number) = (&self.runs[0], self.numbers[0], self.numbers[1]);
-        self.ask_one_buffer(|out| raw::cover(ip, encoding, number, out));
-        let family = match number {
-            1 => Family::V4,
-            2 => Family::V6,
-            _ => return,
+        let width = if number == sys::PIGY_IPV4 { 4 } else { 16 };
+        let octets = |it: &sys::pigy_prefix| {
+            assert!(it.len == 0 || it.family == number as u8);
+            assert!(it.address[width..].iter().all(|octet| *octet == 0));
+            [&it.address[..width], &[it.len]].concat()
         };
-        let Some(encoding) = encoding_of(encoding) else {
-            return;
-        };
-        let found = cover(ip, encoding, family).map(|prefixes| Resources {
-            asn: prefixes
-                .iter()
-                .flat_map(|prefix| [octets_of(prefix.address), vec![prefix.len]].concat())
-                .collect(),
-            ip: Vec::new(),
+        self.ask_items(width + 1, octets, |out, capacity, len| unsafe {
+            sys::pigy_prefixes(ip.as_ptr(), ip.len(), encoding, number, out, capacity, len)
         });
-        self.expect(found);
-    }
-
-    fn ask_origins(&self) {
-        let vrps: Vec<Vrp> = self.runs[0].chunks(23).map(vrp).collect();
-        let routes: Vec<Route> = self.runs[2].chunks(22).map(route).collect();
-        self.ask_one_buffer(|out| {
-            let (status, len, index) = raw::origins(&vrps, &routes, out);
-            assert_eq!(Some(index), self.verified, "{}", self.text);
-            (status, len)
+        let (Some(set), Some(family)) = (self.read(Octets { asn: &[], ip }), family_of(number))
+        else {
+            return;
+        };
+        let found = set.and_then(|set| set.prefixes(family)).map(|prefixes| {
+            let octets = |it: &Prefix| [octets_of(it.addr()), vec![it.prefix_len()]].concat();
+            prefixes.iter().flat_map(octets).collect()
         });
-        match origins(&vrps, &routes) {
-            Ok(found) => self.expect_validities(&found),
-            Err(refused) => self.expect_refused(refused),
-        }
-    }
-
-    fn expect_validities(&self, found: &[Validity]) {
-        let octets: Vec<u8> = found.iter().map(|validity| *validity as u8).collect();
-        assert_eq!(
-            (OK, &octets),
-            (self.status, &self.expected.asn),
-            "{}",
-            self.text
-        );
-    }
-
-    fn vrps(&self, at: usize) -> Vec<Vrp> {
-        self.runs[at].chunks(23).map(vrp).collect()
-    }
-
-    /// Compares the status and the index of an error with those of the golden test.
-    fn expect_refused(&self, OriginError { reason, index }: OriginError) {
-        let found = (reason.status(), Some(index));
-        assert_eq!(found, (self.status, self.verified), "{}", self.text);
-    }
-
-    /// Validates the routes of a golden test by a table: all at once, and each alone.
-    fn ask_table_origins(&self) {
-        let routes: Vec<Route> = self.runs[2].chunks(22).map(route).collect();
-        let table = match Table::new(&self.vrps(0)) {
-            Ok(table) => table,
-            Err(refused) => return self.expect_refused(refused),
-        };
-        match table.origins(&routes) {
-            Ok(found) => {
-                self.expect_validities(&found);
-                for (route, validity) in routes.iter().zip(found) {
-                    assert_eq!(table.origin(route), Ok(validity), "{}", self.text);
-                }
-            }
-            Err(refused) => self.expect_refused(refused),
-        }
-    }
-
-    fn ask_covering(&self) {
-        let route = route(&self.runs[2]);
-        let table = match Table::new(&self.vrps(0)) {
-            Ok(table) => table,
-            Err(refused) => return self.expect_refused(refused),
-        };
-        let found = match table.covering(&route) {
-            Ok(found) => found,
-            Err(reason) => return assert_eq!(reason.status(), self.status, "{}", self.text),
-        };
-        let octets: Vec<u8> = found
-            .flat_map(|it| {
-                let address = octets_of(it.prefix.address);
-                let mut padded = [0; 16];
-                padded[..address.len()].copy_from_slice(&address);
-                let family = if it.prefix.address.is_ipv4() { 1 } else { 2 };
-                let why = u8::from(it.is_other_as()) + 2 * u8::from(it.is_too_long());
-                assert_eq!(it.is_match(), why == 0);
-                row_octets(padded, it.asn, &[family, it.prefix.len, it.max_len, why])
-            })
-            .collect();
-        assert_eq!(
-            (OK, &octets),
-            (self.status, &self.expected.asn),
-            "{}",
-            self.text
-        );
-    }
-
-    /// Compares all VRPs of a table, or of a changed table, with those of the golden test.
-    fn ask_vrps(&self) {
-        let table = match Table::new(&self.vrps(0)) {
-            Ok(table) => table,
-            Err(refused) => return self.expect_refused(refused),
-        };
-        if self.call == "vrps" {
-            assert_eq!(
-                (OK, vrp_octets(&table)),
-                (self.status, self.expected.asn.clone())
-            );
-            return;
-        }
-        let before = vrp_octets(&table);
-        match table.changed(&self.vrps(2), &self.vrps(3)) {
-            Ok(next) => {
-                let found = (OK, vrp_octets(&next));
-                assert_eq!(
-                    found,
-                    (self.status, self.expected.asn.clone()),
-                    "{}",
-                    self.text
-                );
-            }
-            Err(refused) => self.expect_refused(refused),
-        }
-        assert_eq!(vrp_octets(&table), before, "{}", self.text);
-    }
-
-    /// Compares the routes whose validity differs between two tables with those of the golden test.
-    fn ask_differ(&self) {
-        let routes: Vec<Route> = self.runs[2].chunks(22).map(route).collect();
-        let [old, new] = [0, 1].map(|at| Table::new(&self.vrps(at)).unwrap());
-        match old.changed_routes(&new, &routes) {
-            Ok(found) => {
-                let marks = self.expected.asn.iter().enumerate();
-                let marked: Vec<usize> = marks.filter(|it| *it.1 == 1).map(|it| it.0).collect();
-                assert_eq!((OK, found), (self.status, marked), "{}", self.text);
-                assert_eq!(new.changed_routes(&new, &routes), Ok(vec![]));
-            }
-            Err(refused) => self.expect_refused(refused),
-        }
-    }
-
-    fn ask_answer(&self) {
-        let line = &self.runs[0];
-        self.ask_one_buffer(|out| raw::answer(line, out));
-        let found = answer(line).map(String::into_bytes);
-        assert_eq!(found.as_ref(), Ok(&self.expected.asn), "{}", self.text);
-    }
-
-    fn ask_text(&self) {
-        let (kind, text) = (self.numbers[0], &self.runs[0]);
-        self.ask_capacities(|asn, ip| raw::set_from_text(kind, text, asn, ip));
-        let Ok(text) = std::str::from_utf8(text) else {
-            return;
-        };
-        match kind {
-            raw::ASN => self.expect(Resources::from_text(text, "", "")),
-            raw::IPV4 => self.expect(Resources::from_text("", text, "")),
-            raw::IPV6 => self.expect(Resources::from_text("", "", text)),
-            _ => {}
-        }
+        self.expect_octets(found.map_err(|error| error.status()));
     }
 
     fn ask_as_ranges(&self) {
-        let (asn, number) = (&self.runs[0], self.numbers[0]);
-        for capacity in 0..=self.expected.asn.len() / 8 + 1 {
-            let mut out = vec![raw::AsRange::default(); capacity];
-            let (status, count) = raw::as_ranges(asn, number, &mut out);
-            let fits = self.expected.asn.len() / 8 <= capacity;
-            let wanted = if fits { self.status } else { TOO_SMALL };
-            assert_eq!((status, count), (wanted, self.expected.asn.len() / 8));
-        }
-        let Some(encoding) = encoding_of(number) else {
+        let (asn, encoding) = (&self.runs[0], self.numbers[0]);
+        let octets = |it: &sys::pigy_as_range| [it.min, it.max].map(u32::to_be_bytes).concat();
+        self.ask_items(8, octets, |out, capacity, len| unsafe {
+            sys::pigy_as_ranges(asn.as_ptr(), asn.len(), encoding, out, capacity, len)
+        });
+        let Some(set) = self.read(Octets { asn, ip: &[] }) else {
             return;
         };
-        let found = as_ranges(asn, encoding).map(|ranges| Resources {
-            asn: ranges
-                .iter()
-                .flat_map(|it| [it.start().to_be_bytes(), it.end().to_be_bytes()].concat())
-                .collect(),
-            ip: Vec::new(),
+        let found = set.and_then(|set| set.as_ranges()).map(|ranges| {
+            let ends = ranges.iter().flat_map(|it| [*it.start(), *it.end()]);
+            ends.flat_map(|it| it.number().to_be_bytes()).collect()
         });
-        self.expect(found);
+        self.expect_octets(found.map_err(|error| error.status()));
     }
 
     fn ask_ip_ranges(&self) {
-        let (ip, number) = (&self.runs[0], self.numbers[0]);
-        for capacity in 0..=self.expected.asn.len() / 32 + 1 {
-            let mut out = vec![raw::IpRange::default(); capacity];
-            let (status, count) = raw::ip_ranges(ip, number, self.numbers[1], &mut out);
-            let fits = self.expected.asn.len() / 32 <= capacity;
-            let wanted = if fits { self.status } else { TOO_SMALL };
-            assert_eq!((status, count), (wanted, self.expected.asn.len() / 32));
-        }
-        let family = match self.numbers[1] {
-            1 => Family::V4,
-            2 => Family::V6,
-            _ => return,
-        };
-        let Some(encoding) = encoding_of(number) else {
+        let (ip, encoding, number) = (&self.runs[0], self.numbers[0], self.numbers[1]);
+        let octets = |it: &sys::pigy_ip_range| [it.min, it.max].concat();
+        self.ask_items(32, octets, |out, capacity, len| unsafe {
+            sys::pigy_ip_ranges(ip.as_ptr(), ip.len(), encoding, number, out, capacity, len)
+        });
+        let (Some(set), Some(family)) = (self.read(Octets { asn: &[], ip }), family_of(number))
+        else {
             return;
         };
-        let padded = |address: &IpAddr| {
-            let mut octets = octets_of(*address);
-            octets.resize(16, 0);
-            octets
-        };
-        let found = ip_ranges(ip, encoding, family).map(|ranges| Resources {
-            asn: ranges
-                .iter()
-                .flat_map(|it| [padded(it.start()), padded(it.end())].concat())
-                .collect(),
-            ip: Vec::new(),
+        let found = set.and_then(|set| set.ip_ranges(family)).map(|ranges| {
+            let ends = ranges.iter().flat_map(|it| [*it.start(), *it.end()]);
+            ends.flat_map(padded).collect()
         });
-        self.expect(found);
+        self.expect_octets(found.map_err(|error| error.status()));
     }
 
-    /// Reads the file of a golden test, with buffers of each length up to the needed one and with one more.
-    fn ask_read(&self) {
-        let (file, expected) = (&self.runs[0], self.vrps_expected());
-        for capacity in 0..=expected.len() + 1 {
-            let mut out = vec![Vrp::default(); capacity];
-            let fits = expected.len() <= capacity;
-            let status = if fits { self.status } else { TOO_SMALL };
-            let (found, count, line) = raw::vrps_read(file, &mut out);
-            let wanted = (status, expected.len(), self.verified.unwrap());
-            assert_eq!((found, count, line), wanted, "{}", self.text);
-            let written = if fits { &expected[..] } else { &[] };
-            assert_eq!(&out[..written.len()], written, "{}", self.text);
-            assert!(out[written.len()..].iter().all(|it| *it == Vrp::default()));
-        }
-        match read_vrps(file) {
-            Ok(vrps) => assert_eq!((OK, vrps), (self.status, expected), "{}", self.text),
-            Err(ReadError { reason, line }) => {
-                let found = (reason.status(), Some(line));
-                assert_eq!(found, (self.status, self.verified), "{}", self.text);
-            }
-        }
-    }
-
-    fn vrps_expected(&self) -> Vec<Vrp> {
-        self.expected.asn.chunks(23).map(vrp).collect()
+    /// Reads both sets of a golden test. The status of the second one says that it is the second.
+    fn two_sets(&self) -> Option<Result<(Resources, Resources), u32>> {
+        let first = self.read(self.first())?.map_err(|error| error.status());
+        let second = || self.read(self.second()).unwrap();
+        let second = || second().map_err(|error| error.status() + PIGY_SECOND);
+        Some(first.and_then(|first| Ok((first, second()?))))
     }
 
     fn ask_operation(
         &self,
-        operation: Operation,
-        safe: fn(Octets<'_>, Octets<'_>, Encoding) -> Result<Resources, ResourceError>,
+        c: Option<
+            unsafe extern "C" fn(sys::pigy_set, sys::pigy_set, u32, *mut sys::pigy_buffers) -> u32,
+        >,
+        call: fn(&Resources, &Resources) -> Result<Resources, ResourceError>,
+        operator: fn(Resources, &Resources) -> Resources,
     ) {
-        let (a, b) = (self.first(), self.second());
-        self.ask_capacities(|asn, ip| raw::combine(operation, a, b, self.numbers[0], asn, ip));
-        if let Some(encoding) = encoding_of(self.numbers[0]) {
-            self.expect(safe(a, b, encoding));
+        let (a, b) = (self.first().c(), self.second().c());
+        if let Some(c) = c {
+            self.ask_set(|out| unsafe { c(a, b, self.numbers[0], out) });
+        }
+        match self.two_sets() {
+            Some(Ok((a, b))) => {
+                let found = call(&a, &b).unwrap();
+                assert_eq!(operator(a, &b), found);
+                self.expect(Ok(found));
+            }
+            Some(Err(status)) => assert_eq!(status, self.status, "{}", self.text),
+            None => {}
         }
     }
 
     fn ask_comparison(
         &self,
-        comparison: Comparison,
-        safe: fn(Octets<'_>, Octets<'_>, Encoding) -> Result<bool, ResourceError>,
+        c: unsafe extern "C" fn(sys::pigy_set, sys::pigy_set, u32, *mut u8) -> u32,
+        call: fn(&Resources, &Resources) -> bool,
     ) {
-        let (a, b) = (self.first(), self.second());
-        let status = raw::compare(comparison, a, b, self.numbers[0]);
-        assert_eq!(status, self.status, "{}", self.text);
-        let Some(encoding) = encoding_of(self.numbers[0]) else {
+        let (a, b) = (self.first().c(), self.second().c());
+        self.expect_answer(answered(|found| unsafe { c(a, b, self.numbers[0], found) }));
+        match self.two_sets() {
+            Some(Ok((a, b))) => self.expect_answer((PIGY_OK, call(&a, &b).into())),
+            Some(Err(status)) => assert_eq!(status, self.status, "{}", self.text),
+            None => {}
+        }
+    }
+
+    /// Asks a set whether it has an AS number.
+    fn ask_contains_asn(&self) {
+        if let Some(set) = self.read(self.first()) {
+            match set {
+                Ok(set) => {
+                    let found = set.contains(Asn::new(self.numbers[1]));
+                    self.expect_answer((PIGY_OK, found.into()));
+                }
+                Err(error) => assert_eq!(error.status(), self.status, "{}", self.text),
+            }
+        }
+    }
+
+    /// Asks a set whether it has a prefix, by the call of C and by that of the crate.
+    fn ask_contains_prefix(&self) {
+        let octets = &self.runs[2];
+        let wanted = sys::pigy_prefix {
+            address: octets[..16].try_into().unwrap(),
+            family: octets[16],
+            len: octets[17],
+        };
+        let mut handle = null_mut();
+        let (set, encoding) = (self.first().c(), self.numbers[0]);
+        let status = unsafe { sys::pigy_resources_read(set, encoding, &mut handle) };
+        if status != PIGY_OK {
+            assert!(handle.is_null());
+            return assert_eq!(status, self.status, "{}", self.text);
+        }
+        self.expect_answer(answered(|found| unsafe {
+            sys::pigy_resources_contains_prefix(handle, &wanted, found)
+        }));
+        unsafe { sys::pigy_resources_free(handle) };
+        let set = self.read(self.first()).unwrap().unwrap();
+        match prefix(octets, wanted.family, wanted.len) {
+            Some(prefix) => self.expect_answer((PIGY_OK, set.contains(prefix).into())),
+            None => assert_ne!(self.status, PIGY_OK, "{}", self.text),
+        }
+    }
+
+    /// Writes one kind of resources of a set as text, and reads the text as the same resources.
+    fn ask_print(&self) {
+        let (Some(set), Some(kind)) = (self.read(self.first()), kind_of(self.numbers[1])) else {
             return;
         };
-        let found = match safe(a, b, encoding) {
-            Ok(true) => OK,
-            Ok(false) => NO,
-            Err(ResourceError { reason, .. }) => reason.status(),
+        let text = set.and_then(|set| set.text(kind));
+        if let Ok(text) = &text {
+            let again = Resources::from_text(text, kind).unwrap();
+            assert_eq!(text.parse(), Ok(again.clone()), "{}", self.text);
+            assert_eq!(
+                (again.to_string(), again.text(kind)),
+                (text.clone(), Ok(text.clone()))
+            );
+        }
+        let octets = text.map(String::into_bytes);
+        self.expect_octets(octets.map_err(|error| error.status()));
+    }
+
+    fn ask_text(&self) {
+        let (kind, text) = (self.numbers[0], &self.runs[0]);
+        let (start, len) = (text.as_ptr().cast(), text.len());
+        self.ask_set(|out| unsafe { sys::pigy_set_from_text(start, len, kind, out) });
+        if let (Ok(text), Some(kind)) = (std::str::from_utf8(text), kind_of(kind)) {
+            self.expect(Resources::from_text(text, kind));
+        }
+    }
+
+    fn ask_origins(&self) {
+        let vrps: Vec<_> = self.runs[0].chunks(23).map(c_vrp).collect();
+        let routes: Vec<_> = self.runs[2].chunks(22).map(c_route).collect();
+        self.ask_octets(|out, capacity, len| {
+            let mut index = usize::MAX;
+            let (first, second) = (vrps.as_ptr(), routes.as_ptr());
+            let (vrps, routes) = (vrps.len(), routes.len());
+            let status = unsafe {
+                sys::pigy_validate(first, vrps, second, routes, out, capacity, len, &mut index)
+            };
+            assert_eq!(Some(index), self.last, "{}", self.text);
+            status
+        });
+        let Some(table) = self.table(0) else { return };
+        let Some(routes) = self.values(2, 22, true, route) else {
+            return;
         };
-        assert_eq!(found, self.status, "{}", self.text);
+        let found = table.validate_routes(&routes).unwrap();
+        let numbers: Vec<u8> = found.iter().map(|it| it.number()).collect();
+        let reason = |it: &Validity| match it {
+            Validity::Invalid(InvalidReason::As) => 1,
+            Validity::Invalid(InvalidReason::Length) => 2,
+            _ => 0,
+        };
+        let reasons: Vec<u8> = found.iter().map(reason).collect();
+        assert_eq!((numbers, reasons), self.expected, "{}", self.text);
+        assert_eq!(self.status, PIGY_OK, "{}", self.text);
+        for (route, validity) in routes.iter().zip(found) {
+            assert_eq!(table.validate(route), validity, "{}", self.text);
+        }
+    }
+
+    /// Returns the VRPs or the routes of a word. If one of them is invalid, checks that the golden test says so.
+    fn values<T>(
+        &self,
+        at: usize,
+        len: usize,
+        is_second: bool,
+        value: impl Fn(&[u8]) -> Option<T>,
+    ) -> Option<Vec<T>> {
+        match all(&self.runs[at], len, value) {
+            Ok(values) => Some(values),
+            Err(index) => {
+                assert_eq!(
+                    PIGY_KIND(self.status),
+                    sys::PIGY_BAD_ARGUMENT,
+                    "{}",
+                    self.text
+                );
+                let found = (self.status & PIGY_SECOND != 0, self.last);
+                assert_eq!(found, (is_second, Some(index)), "{}", self.text);
+                None
+            }
+        }
+    }
+
+    fn table(&self, at: usize) -> Option<Table> {
+        let vrps = self.values(at, 23, false, vrp)?;
+        Some(Table::new(&vrps).unwrap())
+    }
+
+    /// Compares the status and the index of an error with those of the golden test.
+    fn expect_refused(&self, error: TableError) {
+        let found = (error.status(), error.index());
+        assert_eq!(found, (self.status, self.last), "{}", self.text);
+    }
+
+    fn ask_covering(&self) {
+        let Some(table) = self.table(0) else { return };
+        let Some(routes) = self.values(2, 22, true, route) else {
+            return;
+        };
+        let octets = |it: &pigyelund::Covering| {
+            let why = u8::from(it.is_other_as()) + 2 * u8::from(it.is_too_long());
+            assert_eq!(it.is_match(), why == 0);
+            [vrp_octets(&it.vrp()), vec![why]].concat()
+        };
+        let found = table.covering(&routes[0]).unwrap();
+        self.expect_octets(Ok(found.iter().flat_map(octets).collect()));
+    }
+
+    /// Compares all VRPs of a table, or of the next table, with those of the golden test.
+    fn ask_vrps(&self) {
+        let Some(table) = self.table(0) else { return };
+        if self.call == "vrps" {
+            return self.expect_octets(Ok(table_octets(&table)));
+        }
+        let before = table_octets(&table);
+        let Some(announced) = self.values(2, 23, false, vrp) else {
+            return;
+        };
+        let Some(withdrawn) = self.values(3, 23, true, vrp) else {
+            return;
+        };
+        match table.with_changes(&announced, &withdrawn) {
+            Ok(next) => {
+                self.expect_octets(Ok(table_octets(&next)));
+                let changes = table.changes(&next).unwrap();
+                let again = table.with_changes(&changes.announced, &changes.withdrawn);
+                assert_eq!(distinct(&again.unwrap()), distinct(&next), "{}", self.text);
+            }
+            Err(error) => self.expect_refused(error),
+        }
+        assert_eq!(table_octets(&table), before, "{}", self.text);
+    }
+
+    /// Compares the routes whose validity differs between two tables with those of the golden test.
+    fn ask_differ(&self) {
+        let [old, new] = [0, 1].map(|at| self.table(at).unwrap());
+        let Some(routes) = self.values(2, 22, true, route) else {
+            return;
+        };
+        let found = old.revalidate(&new, &routes).unwrap();
+        let marks = self.expected.0.iter().enumerate();
+        let marked: Vec<usize> = marks.filter(|it| *it.1 == 1).map(|it| it.0).collect();
+        assert_eq!((PIGY_OK, found), (self.status, marked), "{}", self.text);
+        assert_eq!(new.revalidate(&new, &routes), Ok(vec![]));
+    }
+
+    fn ask_answer(&self) {
+        let line = &self.runs[0];
+        let (start, len) = (line.as_ptr().cast(), line.len());
+        self.ask_octets(|out, capacity, written| unsafe {
+            sys::pigy_answer(start, len, out.cast(), capacity, written)
+        });
+        let found = answer(line).map(String::into_bytes);
+        self.expect_octets(found.map_err(|error| error.status()));
+    }
+
+    /// Reads the file of a golden test, with buffers of each length up to the needed one and with one more.
+    fn ask_read(&self) {
+        let file = &self.runs[0];
+        let octets = |it: &sys::pigy_vrp| {
+            let number = it.asn.to_be_bytes();
+            let last = [it.family, it.len, it.max_len];
+            [&it.address[..], &number[..], &last[..]].concat()
+        };
+        self.ask_items(23, octets, |out, capacity, len| {
+            let mut line = usize::MAX;
+            let (start, file) = (file.as_ptr(), file.len());
+            let status = unsafe { sys::pigy_vrps_read(start, file, out, capacity, len, &mut line) };
+            assert_eq!(Some(line), self.last, "{}", self.text);
+            status
+        });
+        match read_vrps(file) {
+            Ok(vrps) => {
+                assert_eq!(Table::read(file).unwrap().len(), vrps.len());
+                self.expect_octets(Ok(vrps.iter().flat_map(vrp_octets).collect()));
+            }
+            Err(error) => {
+                let found = (error.status(), Some(error.line().unwrap_or(0)));
+                assert_eq!(found, (self.status, self.last), "{}", self.text);
+                assert_eq!(Table::read(file).unwrap_err(), error);
+            }
+        }
     }
 
     fn ask(&self) {
@@ -540,26 +752,44 @@ impl Row<'_> {
             "verify" => self.ask_verify(),
             "path" => self.ask_path(),
             "cover" => self.ask_cover(),
-            "origins" => {
-                self.ask_origins();
-                self.ask_table_origins();
-            }
+            "origins" => self.ask_origins(),
             "covering" => self.ask_covering(),
             "vrps" | "changed" => self.ask_vrps(),
             "answer" => self.ask_answer(),
             "differ" => self.ask_differ(),
             "read" => self.ask_read(),
             "text" => self.ask_text(),
+            "print" => self.ask_print(),
             "as_ranges" => self.ask_as_ranges(),
             "ip_ranges" => self.ask_ip_ranges(),
-            "union" => self.ask_operation(Operation::Union, union),
-            "intersection" => self.ask_operation(Operation::Intersection, intersection),
-            "difference" => self.ask_operation(Operation::Difference, difference),
-            "contains" => self.ask_comparison(Comparison::Contains, contains),
-            "equal" => self.ask_comparison(Comparison::Equal, equal),
+            "union" => self.ask_operation(Some(sys::pigy_union), Resources::union, |a, b| a | b),
+            "intersection" => self.ask_operation(
+                Some(sys::pigy_intersection),
+                Resources::intersection,
+                |a, b| a & b,
+            ),
+            "difference" => {
+                self.ask_operation(Some(sys::pigy_difference), Resources::difference, |a, b| {
+                    a - b
+                })
+            }
+            "symmetric_difference" => {
+                self.ask_operation(None, Resources::symmetric_difference, |a, b| a ^ b)
+            }
+            "contains" => self.ask_comparison(sys::pigy_contains, |a, b| a.contains(b)),
+            "equal" => self.ask_comparison(sys::pigy_equal, |a, b| a == b),
+            "contains_asn" => self.ask_contains_asn(),
+            "contains_prefix" => self.ask_contains_prefix(),
             call => panic!("no call {call}"),
         }
     }
+}
+
+/// Returns the VRPs of a table, each once.
+fn distinct(table: &Table) -> Vec<Vrp> {
+    let mut vrps = table.vrps().unwrap();
+    vrps.dedup();
+    vrps
 }
 
 /// Returns the text of a test file that all languages share. `tests/run/foreign_rows.py` of the repository writes it
@@ -591,53 +821,39 @@ fn rows_are_answered_on_threads() {
     });
 }
 
-/// Returns the numbers with their names: statuses from the constants, options from the enums if they have one.
+/// Returns the numbers with their names: the constants, and those of the enums.
 fn named() -> Vec<(&'static str, u32)> {
-    vec![
-        ("OK", raw::OK),
-        ("TOO_SMALL", raw::TOO_SMALL),
-        ("MEMORY", raw::MEMORY),
-        ("INHERITED", raw::INHERITED),
-        ("BAD_MODE", raw::BAD_MODE),
-        ("OVERCLAIM_AS", raw::OVERCLAIM_AS),
-        ("OVERCLAIM_V4", raw::OVERCLAIM_V4),
-        ("OVERCLAIM_V6", raw::OVERCLAIM_V6),
-        ("NO", raw::NO),
-        ("BAD_ENCODING", raw::BAD_ENCODING),
-        ("ABSENT", raw::ABSENT),
-        ("OUTSIDE", raw::OUTSIDE),
-        ("BAD_PRESENT", raw::BAD_PRESENT),
-        ("BAD_FAMILY", raw::BAD_FAMILY),
-        ("BAD_PREFIX", raw::BAD_PREFIX),
-        ("BAD_MAX_LEN", raw::BAD_MAX_LEN),
-        ("NO_TABLE", raw::NO_TABLE),
-        ("UNKNOWN_WITHDRAWAL", raw::UNKNOWN_WITHDRAWAL),
-        ("DUPLICATE_ANNOUNCEMENT", raw::DUPLICATE_ANNOUNCEMENT),
-        ("BAD_KIND", raw::BAD_KIND),
-        ("BAD_AS", raw::BAD_AS),
-        ("BAD_IP", raw::BAD_IP),
-        ("BAD_LINE", raw::BAD_LINE),
-        ("BAD_ITEM", raw::BAD_ITEM),
-        ("BAD_FILE", raw::BAD_FILE),
-        ("SECOND", raw::SECOND),
-        ("BAD_TEXT", raw::BAD_TEXT),
+    macro_rules! constants {
+        ($($name:ident)*) => { vec![$((stringify!($name), sys::$name)),*] };
+    }
+    let found = constants! {
+        PIGY_OK PIGY_TOO_SMALL PIGY_MEMORY PIGY_BAD_ARGUMENT PIGY_BAD_ENCODING PIGY_BAD_MODE PIGY_BAD_PRESENT
+        PIGY_BAD_FAMILY PIGY_BAD_KIND PIGY_BAD_PREFIX PIGY_BAD_MAX_LEN PIGY_OUTSIDE PIGY_NO_HANDLE PIGY_BAD_AS
+        PIGY_BAD_IP PIGY_INHERITED PIGY_ABSENT PIGY_OVERCLAIM PIGY_OVERCLAIM_V4 PIGY_OVERCLAIM_AS PIGY_OVERCLAIM_V6
+        PIGY_BAD_CHANGE PIGY_UNKNOWN_WITHDRAWAL PIGY_DUPLICATE_ANNOUNCEMENT PIGY_BAD_LINE PIGY_BAD_ITEM
+        PIGY_BAD_FILE PIGY_BAD_TEXT PIGY_BAD_QUERY PIGY_SECOND PIGY_HAS_AS PIGY_HAS_IP PIGY_HAS_BOTH
+        PIGY_NO_VALIDITY PIGY_OTHER_AS PIGY_TOO_LONG
+    };
+    let found = found
+        .into_iter()
+        .map(|it| (it.0.trim_start_matches("PIGY_"), it.1));
+    let invalid = Validity::Invalid(InvalidReason::As);
+    let of_enums = [
         ("LENIENT", Encoding::Lenient as u32),
         ("STRICT", Encoding::Strict as u32),
-        ("REFUSE", Overclaim::Refuse as u32),
-        ("TRIM", Overclaim::Trim as u32),
-        ("HAS_AS", raw::HAS_AS),
-        ("HAS_IP", raw::HAS_IP),
-        ("HAS_BOTH", raw::HAS_BOTH),
-        ("ASN", raw::ASN),
+        ("REFUSE", Mode::Refuse as u32),
+        ("TRIM", Mode::Trim as u32),
+        ("ASN", Kind::Asn as u32),
         ("IPV4", Family::V4 as u32),
         ("IPV6", Family::V6 as u32),
-        ("VALID", Validity::Valid as u32),
-        ("NOT_FOUND", Validity::NotFound as u32),
-        ("INVALID", Validity::Invalid as u32),
-        ("OTHER_AS", raw::OTHER_AS),
-        ("TOO_LONG", raw::TOO_LONG),
-        ("VERSION", version()),
-    ]
+        ("VALID", Validity::Valid.number().into()),
+        ("NOT_FOUND", Validity::NotFound.number().into()),
+        ("INVALID", invalid.number().into()),
+        ("INVALID_AS", InvalidReason::As as u32),
+        ("INVALID_LENGTH", InvalidReason::Length as u32),
+        ("VERSION_NUMBER", version()),
+    ];
+    found.chain(of_enums).collect()
 }
 
 #[test]
@@ -650,206 +866,71 @@ fn names_have_their_numbers() {
         .map(|(name, number)| (name, number.parse().unwrap()))
         .collect();
     assert_eq!(named().into_iter().collect::<BTreeMap<_, _>>(), stored);
-    let numbers = version_string().split('.').map(str::parse::<u32>);
     assert_eq!(
-        numbers.filter(Result::is_ok).count(),
-        3,
-        "{}",
-        version_string()
+        [Kind::from(Family::V4), Kind::from(Family::V6)],
+        [Kind::V4, Kind::V6]
     );
 }
 
+/// Each status has its text. A status that the crate returns has a reason of its own, and any other status is `Other`.
 #[test]
 fn statuses_have_their_texts() {
+    let mut reasons = Vec::new();
     for line in shared("texts.txt").lines() {
         let (status, text) = line.split_once(' ').unwrap();
-        let reason = Reason::of_status(status.parse().unwrap());
-        assert_eq!(reason.to_string(), text);
-    }
-    for status in 0..0x1300 {
-        assert_eq!(Reason::of_status(status).status(), status);
-    }
-}
-
-/// Makes a call and passes its error on by `?`, which must accept each error type.
-fn reasons_of(issuer: Octets<'_>, claim: &[u8], at: usize) -> Result<(), Box<dyn Error>> {
-    let extensions = |ip| Extensions {
-        asn: None,
-        ip: Some(ip),
-    };
-    let certificate = |ip| Certificate {
-        extensions: extensions(ip),
-        mode: Overclaim::Refuse,
-    };
-    let ten = Ipv4Addr::new(10, 0, 0, 0).into();
-    match at {
-        0 => verify(
-            issuer,
-            extensions(claim),
-            Encoding::Lenient,
-            Overclaim::Refuse,
-        )
-        .map(drop)?,
-        1 => {
-            let path = [certificate(issuer.ip), certificate(claim)];
-            verify_path(issuer, &path, Encoding::Lenient).map(drop)?
+        let status = status.parse().unwrap();
+        assert_eq!(status_text(status), text);
+        let of_caller = [PIGY_OK, PIGY_TOO_SMALL, sys::PIGY_BAD_ARGUMENT];
+        let is_other = of_caller.contains(&PIGY_KIND(status)) || text == "unknown status";
+        let reason = Reason::from_status(status);
+        assert_eq!(reason == Reason::Other(status), is_other, "{line}");
+        if status < PIGY_SECOND {
+            assert!(!reasons.contains(&reason), "{line}");
+            reasons.push(reason);
+        } else if !is_other {
+            assert_eq!(Reason::from_status(status - PIGY_SECOND), reason);
         }
-        2 => {
-            let vrps = [Vrp::new(ten, 8, 8, 1), Vrp::new(ten, 8, 7, 1)];
-            origins(&vrps, &[]).map(drop)?
-        }
-        _ => answer(b"norm as 1").map(drop)?,
     }
-    Ok(())
-}
-
-#[test]
-fn reasons_are_errors() {
-    let issuer = octets("300c300a0402000130040302000a");
-    let claim = octets("3010300e0402000130080302000a0302000c");
-    let texts = [
-        "overclaimed IPv4 resources",
-        "after 1 certificates: overclaimed IPv4 resources",
-        "at index 1: bad maximum length of a VRP",
-    ];
-    let issuer = Octets {
-        asn: &[],
-        ip: &issuer,
-    };
-    for (at, text) in texts.iter().enumerate() {
-        assert_eq!(
-            reasons_of(issuer, &claim, at).unwrap_err().to_string(),
-            *text
-        );
+    assert!(reasons.len() > 80);
+    for status in [1, 255, 0x300, 0x80f, 0x8007, 0x20008, 0x40003, 0x2000001] {
+        assert_eq!(Reason::from_status(status), Reason::Other(status));
+        assert_eq!(status_text(status), "unknown status");
     }
-    assert!(reasons_of(issuer, &claim, texts.len()).is_ok());
-    let inherits = octets("3004a0020500");
-    let inherits = Octets {
-        asn: &inherits,
-        ip: &[],
+    // PIGY_SECOND is added to the kinds of sets only.
+    for kind in [sys::PIGY_MEMORY, sys::PIGY_ABSENT, sys::PIGY_OVERCLAIM_V4] {
+        let status = PIGY_SECOND + kind;
+        assert_eq!(Reason::from_status(status), Reason::Other(status));
+    }
+}
+
+/// A call with a null handle has the status `PIGY_NO_HANDLE`. The calls that free do nothing.
+#[test]
+fn null_handles_are_refused() {
+    let table: *const sys::pigy_table = null();
+    let set: *const sys::pigy_resources = null();
+    let route = c_route(&[0; 22]);
+    let (mut out, mut octet, mut len, mut index) = (null_mut(), [0], 0, 0);
+    let (mut sets, mut yes) = (null_mut(), UNTOUCHED);
+    let found = unsafe {
+        sys::pigy_table_free(null_mut());
+        sys::pigy_resources_free(null_mut());
+        let octets = octet.as_mut_ptr();
+        [
+            sys::pigy_table_validate(table, &route, &mut octet[0], &mut 0),
+            sys::pigy_table_validate_routes(table, &route, 1, octets, 1, &mut len, &mut index),
+            sys::pigy_table_revalidate(table, table, &route, 1, octets, 1, &mut len, &mut index),
+            sys::pigy_table_covering(table, &route, null_mut(), 0, &mut len),
+            sys::pigy_table_len(table, &mut len),
+            sys::pigy_table_vrps(table, null_mut(), 0, &mut len),
+            sys::pigy_table_with_changes(table, null(), 0, null(), 0, &mut out, &mut index),
+            sys::pigy_resources_union(set, set, &mut sets),
+            sys::pigy_resources_contains(set, set, &mut yes),
+            sys::pigy_resources_equal(set, set, &mut yes),
+        ]
     };
-    let found = union(issuer, inherits, Encoding::Lenient).unwrap_err();
-    assert_eq!(found.reason, Reason::Inherited(Side::Second));
-    let found = cover(&[0x30], Encoding::Lenient, Family::V6).unwrap_err();
-    assert_eq!(found.reason, Reason::BadIp(Side::First, Fault::Truncated));
-}
-
-/// Threads query one table at once, while each makes a changed table from it.
-#[test]
-fn a_table_is_asked_on_threads() {
-    let net = |at: usize| IpAddr::V4(Ipv4Addr::from((at as u32) << 12));
-    let vrps: Vec<Vrp> = (0..4000).map(|at| Vrp::new(net(at), 20, 24, 7)).collect();
-    let table = Table::new(&vrps).unwrap();
-    thread::scope(|scope| {
-        for turn in 0..THREADS {
-            let (table, vrps) = (&table, &vrps);
-            scope.spawn(move || {
-                for at in (turn..vrps.len()).step_by(3) {
-                    let found = table.origin(&Route::new(net(at), 24, 7));
-                    assert_eq!(found, Ok(Validity::Valid));
-                }
-                let next = table.changed(&[], &vrps[turn..turn + 1]).unwrap();
-                assert_eq!(next.len(), vrps.len() - 1);
-                let gone = next.origin(&Route::new(net(turn), 24, 7));
-                assert_eq!(gone, Ok(Validity::NotFound));
-            });
-        }
-    });
-    assert_eq!(table.len(), vrps.len());
-}
-
-/// The set differences of two lists of VRPs, as changes, turn the table of one list into that of the other.
-#[test]
-fn changes_are_made_by_sets() {
-    let ten = IpAddr::V4(Ipv4Addr::new(10, 0, 0, 0));
-    let of = |numbers: std::ops::Range<u32>, lengths: u32| -> HashSet<Vrp> {
-        let vrp = |asn| Vrp::new(ten, 8, 8 + (asn % lengths) as u8, asn);
-        numbers.map(vrp).collect()
-    };
-    let (old, new) = (of(1..9, 3), of(3..12, 2));
-    let table = Table::new(&Vec::from_iter(old.clone())).unwrap();
-    let (announced, withdrawn) = (Vec::from_iter(&new - &old), Vec::from_iter(&old - &new));
-    let next = table.changed(&announced, &withdrawn).unwrap();
-    let wanted = Table::new(&Vec::from_iter(new)).unwrap();
-    assert_eq!(vrp_octets(&next), vrp_octets(&wanted));
-    let routes = [9, 9, 10].map(|len| Route::new(ten, len, 3));
-    assert_eq!(HashSet::from(routes).len(), 2);
-    let covering = routes.map(|route| HashSet::<_>::from_iter(wanted.covering(&route).unwrap()));
-    assert!(covering[0] == covering[1] && covering[0] != covering[2]);
-}
-
-/// A VRP that is passed twice is returned twice. A single withdrawal removes both copies.
-#[test]
-fn a_table_has_copies() {
-    let ten = IpAddr::V4(Ipv4Addr::new(10, 0, 0, 0));
-    let [twice, other] = [1, 2].map(|asn| Vrp::new(ten, 8, 8, asn));
-    let table = Table::new(&[twice, other, twice]).unwrap();
-    let listed = |table: Table| table.vrps().unwrap().collect::<Vec<_>>();
-    assert_eq!(table.covering(&Route::new(ten, 8, 1)).unwrap().len(), 3);
-    assert_eq!(format!("{table:?}"), "Table { len: 3 }");
-    let covering: Vec<_> = table.covering(&Route::new(ten, 8, 1)).unwrap().collect();
+    assert_eq!(found, [sys::PIGY_NO_HANDLE; 10]);
     assert_eq!(
-        covering.iter().map(|it| Vrp::from(*it)).collect::<Vec<_>>(),
-        [twice, twice, other]
+        (out, sets, len, index, yes),
+        (null_mut(), null_mut(), 0, 0, 0)
     );
-    assert_eq!(covering[2].to_string(), "10.0.0.0/8-8 AS2");
-    assert_eq!(listed(table.changed(&[], &[twice]).unwrap()), [other]);
-    assert_eq!(
-        listed(table.changed(&[twice], &[twice]).unwrap()),
-        [other, twice]
-    );
-    let refused = table.changed(&[], &[twice, twice]).unwrap_err();
-    assert_eq!(
-        (refused.reason, refused.index),
-        (Reason::UnknownWithdrawal, 1)
-    );
-    let refused = table.changed(&[twice], &[]).unwrap_err();
-    assert_eq!(
-        (refused.reason, refused.index),
-        (Reason::DuplicateAnnouncement, 0)
-    );
-    assert_eq!(listed(table), [other, twice, twice]);
-}
-
-#[test]
-fn a_null_table_is_refused() {
-    let null = raw::Table::null();
-    let route = Route::new(Ipv4Addr::new(10, 0, 0, 0).into(), 8, 1);
-    assert!(null.is_null());
-    assert_eq!(null.origins(&[route], &mut [0]), (raw::NO_TABLE, 0, 0));
-    assert_eq!(null.covering(&route, &mut []), (raw::NO_TABLE, 0));
-    let found = null.routes_changed(&null, &[route], &mut [0]);
-    assert_eq!(found, (raw::NO_TABLE, 0, 0));
-    assert_eq!(null.count(), (raw::NO_TABLE, 0));
-    assert_eq!(null.vrps(&mut []), (raw::NO_TABLE, 0));
-    let (status, next, index) = null.changed(&[], &[]);
-    assert_eq!((status, next.is_null(), index), (raw::NO_TABLE, true, 0));
-}
-
-#[test]
-fn addresses_are_of_their_families() {
-    let v4 = IpAddr::V4(Ipv4Addr::new(10, 0, 0, 0));
-    let v6 = IpAddr::from([0x2001, 0xdb8, 0, 0, 0, 0, 0, 0]);
-    let vrps = [Vrp::new(v4, 8, 16, 64496), Vrp::new(v6, 32, 48, 64496)];
-    let routes = [
-        Route::new(v4, 16, 64496),
-        Route::new(v6, 49, 64496),
-        Route::new(v6, 31, 64496),
-    ];
-    let found = origins(&vrps, &routes);
-    assert_eq!(
-        found,
-        Ok(vec![Validity::Valid, Validity::Invalid, Validity::NotFound])
-    );
-    let found = cover(
-        &octets("300c300a0402000130040302000a"),
-        Encoding::Strict,
-        Family::V4,
-    );
-    let prefixes = found.unwrap();
-    assert_eq!(prefixes[0].to_string(), "10.0.0.0/8");
-    let six = "2001:db8::/32".parse().unwrap();
-    let set = Resources::from_prefixes(&[six, prefixes[0], six]).unwrap();
-    let text = Resources::from_text("", "10.0.0.0-10.255.255.255", "2001:db8::/32");
-    assert_eq!(Ok(set), text);
 }

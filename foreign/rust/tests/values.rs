@@ -1,10 +1,9 @@
-//! Tests prefixes, VRPs and routes: texts, checked constructors, conversions, accessors and errors. No test calls the
-//! library.
+//! Tests AS numbers, prefixes, VRPs and routes: texts, checked constructors, conversions, accessors, orders and errors.
+//! No test calls the library.
 use pigyelund::{
-    raw, Extensions, Family, Octets, OriginError, ParseError, PathError, Prefix, Reason,
+    Asn, Der, Extensions, Family, InvalidReason, Prefix, Route, Validity, ValueError, Vrp,
 };
-use pigyelund::{ResourceError, Resources, Route, Validity, ValueError, Vrp};
-use std::collections::HashMap;
+use std::collections::{BTreeSet, HashMap, HashSet};
 use std::error::Error;
 use std::fmt::{Debug, Display};
 use std::net::{IpAddr, Ipv4Addr, Ipv6Addr};
@@ -12,6 +11,14 @@ use std::str::FromStr;
 
 fn ip(text: &str) -> IpAddr {
     text.parse().unwrap()
+}
+
+fn prefix(address: &str, len: u8) -> Prefix {
+    Prefix::new(ip(address), len).unwrap()
+}
+
+fn vrp(address: &str, len: u8, max_len: u8, asn: u32) -> Vrp {
+    Vrp::new(prefix(address, len), max_len, asn).unwrap()
 }
 
 /// Reads a text, and checks that it is also what the value prints.
@@ -25,7 +32,7 @@ where
 }
 
 /// Returns the text of the error of a text.
-fn refused<T: FromStr<Err = ParseError> + Debug>(text: &str) -> String {
+fn refused<T: FromStr<Err = ValueError> + Debug>(text: &str) -> String {
     text.parse::<T>().unwrap_err().to_string()
 }
 
@@ -33,12 +40,12 @@ fn refused<T: FromStr<Err = ParseError> + Debug>(text: &str) -> String {
 fn texts_of_prefixes() {
     let ten: Prefix = same("10.0.0.0/8");
     assert_eq!(
-        (ten.address, ten.len, ten.family()),
+        (ten.addr(), ten.prefix_len(), ten.family()),
         (ip("10.0.0.0"), 8, Family::V4)
     );
     let six: Prefix = same("2001:db8::/32");
     assert_eq!(
-        (six.address, six.len, six.family()),
+        (six.addr(), six.prefix_len(), six.family()),
         (ip("2001:db8::"), 32, Family::V6)
     );
     for text in ["0.0.0.0/0", "255.255.255.255/32", "::/0", "ffff::ffff/128"] {
@@ -94,23 +101,47 @@ fn wrong_texts_of_prefixes() {
 }
 
 #[test]
+fn texts_of_as_numbers() {
+    for (text, number) in [("AS0", 0), ("AS64496", 64496), ("AS4294967295", u32::MAX)] {
+        let asn: Asn = same(text);
+        assert_eq!((asn, asn.number()), (Asn::new(number), number));
+        assert_eq!((Asn::from(number), u32::from(asn)), (asn, number));
+        let others = [number.to_string(), format!("as{number}")];
+        assert_eq!(others.map(|it| it.parse()), [Ok(asn), Ok(asn)]);
+    }
+    assert_eq!([Asn::MIN, Asn::MAX].map(Asn::number), [0, u32::MAX]);
+    for text in [
+        "",
+        "AS",
+        "AS-1",
+        "+1",
+        " 1",
+        "AS 1",
+        "4294967296",
+        "ä1",
+        "A1",
+        "AS1.0",
+    ] {
+        let error = format!("AS number {text:?}: expected AS0 to AS4294967295");
+        assert_eq!(refused::<Asn>(text), error);
+    }
+}
+
+#[test]
 fn texts_of_vrps() {
-    let vrp: Vrp = same("10.0.0.0/8-16 AS64496");
-    assert_eq!(vrp, Vrp::new(ip("10.0.0.0"), 8, 16, 64496));
+    let found: Vrp = same("10.0.0.0/8-16 AS64496");
+    assert_eq!(found, vrp("10.0.0.0", 8, 16, 64496));
     assert_eq!(
-        format!("{vrp:?}"),
+        format!("{found:?}"),
         "Vrp { prefix: 10.0.0.0/8, max_len: 16, asn: 64496 }"
     );
-    let vrp: Vrp = same("2001:db8::/32-48 AS0");
-    assert_eq!(vrp, Vrp::new(ip("2001:db8::"), 32, 48, 0));
-    assert_eq!(vrp.prefix(), "2001:db8::/32".parse().unwrap());
-    assert_eq!(
-        (vrp.addr(), vrp.max_len(), vrp.asn()),
-        (ip("2001:db8::"), 48, 0)
-    );
+    let found: Vrp = same("2001:db8::/32-48 AS0");
+    assert_eq!(found, vrp("2001:db8::", 32, 48, 0));
+    assert_eq!(found.prefix(), "2001:db8::/32".parse().unwrap());
+    assert_eq!((found.max_len(), found.asn()), (48, Asn::MIN));
     // Without a maximum length it is the prefix length. The letters AS may be absent.
     for text in ["10.0.0.0/8 AS1", "10.0.0.0/8 1", "10.0.0.0/8-8 as1"] {
-        assert_eq!(text.parse(), Ok(Vrp::new(ip("10.0.0.0"), 8, 8, 1)));
+        assert_eq!(text.parse(), Ok(vrp("10.0.0.0", 8, 8, 1)));
     }
     same::<Vrp>("0.0.0.0/0-32 AS4294967295");
 }
@@ -177,13 +208,16 @@ fn wrong_texts_of_vrps() {
 #[test]
 fn texts_of_routes() {
     let route: Route = same("10.0.0.0/8 AS64496");
-    assert_eq!(route, Route::new(ip("10.0.0.0"), 8, 64496));
+    assert_eq!(route, Route::new(prefix("10.0.0.0", 8), 64496));
     assert_eq!(
         format!("{route:?}"),
         "Route { prefix: 10.0.0.0/8, asn: 64496 }"
     );
     assert_eq!(route.prefix(), "10.0.0.0/8".parse().unwrap());
-    assert_eq!((route.addr(), route.asn()), (ip("10.0.0.0"), 64496));
+    assert_eq!(
+        (route.prefix().addr(), route.asn()),
+        (ip("10.0.0.0"), Asn::new(64496))
+    );
     let form = r#""10.0.0.0/8": expected PREFIX ASN, for example 10.0.0.0/8 AS64496"#;
     assert_eq!(refused::<Route>("10.0.0.0/8"), form);
     let number = r#"prefix length "8-16": expected 0 to 32"#;
@@ -193,34 +227,71 @@ fn texts_of_routes() {
 #[test]
 fn checked_values() {
     let (ten, host) = (ip("10.0.0.0"), ip("10.1.0.0"));
-    assert_eq!(Vrp::try_new(ten, 8, 32, 1), Ok(Vrp::new(ten, 8, 32, 1)));
-    assert_eq!(Route::try_new(ten, 32, 1), Ok(Route::new(ten, 32, 1)));
     let bits = ValueError::HostBits {
         address: host,
         len: 8,
     };
-    let long = ValueError::PrefixLen {
-        address: ten,
-        len: 33,
-    };
-    assert_eq!(Vrp::try_new(host, 8, 8, 1), Err(bits));
-    assert_eq!(Route::try_new(host, 8, 1), Err(bits));
-    assert_eq!(Vrp::try_new(ten, 33, 33, 1), Err(long));
-    assert_eq!(Route::try_new(ten, 33, 1), Err(long));
-    let prefix = Prefix::new(ten, 8).unwrap();
-    for max_len in [7, 33] {
-        let wrong = Err(ValueError::MaxLen { prefix, max_len });
-        assert_eq!(Vrp::try_new(ten, 8, max_len, 1), wrong);
-        assert_eq!(Vrp::try_from((prefix, max_len, 1)), wrong);
+    assert_eq!(Prefix::new(host, 8), Err(bits));
+    for (address, len) in [(ten, 33), (ten, 255), (ip("::"), 129)] {
+        let long = ValueError::PrefixLen { address, len };
+        assert_eq!(Prefix::new(address, len), Err(long));
     }
-    // The fields of a prefix are public, so a prefix is checked again.
-    let wrong = Prefix {
-        address: host,
-        len: 8,
-    };
-    assert_eq!(Vrp::try_from((wrong, 8, 1)), Err(bits));
-    assert_eq!(Route::try_from((wrong, 1)), Err(bits));
-    assert_eq!(Route::try_from((prefix, 1)), Ok(Route::new(ten, 8, 1)));
+    let prefix = Prefix::new(ten, 8).unwrap();
+    for max_len in [0, 7, 33, 255] {
+        let wrong = ValueError::MaxLen { prefix, max_len };
+        assert_eq!(Vrp::new(prefix, max_len, 1), Err(wrong));
+    }
+    for max_len in 8..=32 {
+        let found = Vrp::new(prefix, max_len, Asn::new(1)).unwrap();
+        assert_eq!(
+            (found.prefix(), found.max_len(), found.asn()),
+            (prefix, max_len, Asn::new(1))
+        );
+    }
+    let six = Prefix::new(ip("2001:db8::"), 32).unwrap();
+    assert!(Vrp::new(six, 128, 1).is_ok() && Vrp::new(six, 129, 1).is_err());
+}
+
+/// Prefixes, AS numbers, VRPs and routes have an order and a hash, which agree with `==`.
+#[test]
+fn orders_of_values() {
+    let routes = [
+        "::/0 AS1",
+        "10.0.0.0/8 AS2",
+        "9.0.0.0/8 AS3",
+        "10.0.0.0/8 AS1",
+        "10.0.0.0/9 AS0",
+    ];
+    let mut routes = routes.map(|it| it.parse::<Route>().unwrap());
+    routes.sort();
+    let sorted = [
+        "9.0.0.0/8 AS3",
+        "10.0.0.0/8 AS1",
+        "10.0.0.0/8 AS2",
+        "10.0.0.0/9 AS0",
+        "::/0 AS1",
+    ];
+    assert_eq!(routes.map(|it| it.to_string()), sorted);
+    let vrps = [
+        "::/0-0 AS1",
+        "10.0.0.0/8-9 AS1",
+        "10.0.0.0/8-8 AS2",
+        "10.0.0.0/8-8 AS1",
+    ];
+    let mut vrps = vrps.map(|it| it.parse::<Vrp>().unwrap());
+    vrps.sort();
+    let sorted = [
+        "10.0.0.0/8-8 AS1",
+        "10.0.0.0/8-8 AS2",
+        "10.0.0.0/8-9 AS1",
+        "::/0-0 AS1",
+    ];
+    assert_eq!(vrps.map(|it| it.to_string()), sorted);
+    assert!(vrps[0] < vrps[1] && routes[0] < routes[1]);
+    let twice = [vrps, vrps].concat();
+    assert_eq!(twice.iter().collect::<HashSet<_>>().len(), vrps.len());
+    assert_eq!(twice.iter().collect::<BTreeSet<_>>().len(), vrps.len());
+    assert!(Asn::new(9) < Asn::new(10) && Family::V4 < Family::V6);
 }
 
 #[test]
@@ -247,33 +318,41 @@ fn std_conversions() {
     );
 }
 
-/// Compares `Prefix::containing` with a mask of each length.
+/// Compares the calls of a prefix with a mask of each length.
 #[test]
-fn first_addresses() {
+fn addresses_of_prefixes() {
     let (v4, v6) = (Ipv4Addr::from(u32::MAX), Ipv6Addr::from(u128::MAX));
     for len in 0..=32_u8 {
         let bits = (u64::MAX << (32 - len)) as u32;
-        let found = Prefix::containing(v4.into(), len).unwrap();
+        let found = Prefix::containing(v4, len).unwrap();
         assert_eq!(
-            found,
-            Prefix {
-                address: Ipv4Addr::from(bits).into(),
-                len
-            }
+            <(IpAddr, u8)>::from(found),
+            (Ipv4Addr::from(bits).into(), len)
         );
-        assert_eq!(Prefix::new(found.address, len), Ok(found));
+        assert_eq!(Prefix::new(found.addr(), len), Ok(found));
+        assert_eq!(
+            (found.network(), found.broadcast()),
+            (found.addr(), v4.into())
+        );
+        assert_eq!(found.netmask(), IpAddr::from(Ipv4Addr::from(bits)));
+        assert_eq!(found.hostmask(), IpAddr::from(Ipv4Addr::from(!bits)));
+        assert_eq!((found.prefix_len(), found.max_prefix_len()), (len, 32));
     }
     for len in 0..=128_u8 {
         let bits = (0..len).fold(0, |bits, at| bits | 1_u128 << (127 - at));
-        let found = Prefix::containing(v6.into(), len).unwrap();
+        let found = Prefix::containing(v6, len).unwrap();
         assert_eq!(
-            found,
-            Prefix {
-                address: Ipv6Addr::from(bits).into(),
-                len
-            }
+            <(IpAddr, u8)>::from(found),
+            (Ipv6Addr::from(bits).into(), len)
         );
-        assert_eq!(Prefix::new(found.address, len), Ok(found));
+        assert_eq!(Prefix::new(found.addr(), len), Ok(found));
+        assert_eq!(
+            (found.network(), found.broadcast()),
+            (found.addr(), v6.into())
+        );
+        assert_eq!(found.netmask(), IpAddr::from(Ipv6Addr::from(bits)));
+        assert_eq!(found.hostmask(), IpAddr::from(Ipv6Addr::from(!bits)));
+        assert_eq!((found.prefix_len(), found.max_prefix_len()), (len, 128));
     }
     for (address, len) in [(IpAddr::from(v4), 33), (v4.into(), 255), (v6.into(), 129)] {
         assert_eq!(
@@ -283,35 +362,65 @@ fn first_addresses() {
     }
 }
 
-/// Fields that no constructor makes are readable too.
+/// The calls that users of the crate `ipnet` know.
 #[test]
-fn unknown_families() {
-    let vrp = Vrp {
-        family: 9,
-        ..Vrp::new(ip("10.0.0.0"), 8, 8, 1)
+fn prefixes_of_prefixes() {
+    let of = |text: &str| -> Prefix { text.parse().unwrap() };
+    let ten = of("10.0.0.0/8");
+    assert!(ten.contains(ten) && ten.contains(of("10.128.0.0/9")));
+    assert!(ten.contains(ip("10.255.255.255")) && !ten.contains(ip("11.0.0.0")));
+    assert!(!ten.contains(of("10.0.0.0/7")) && !ten.contains(ip("a00::")));
+    assert!(of("0.0.0.0/0").contains(ten) && !of("::/0").contains(ten));
+    assert_eq!(of("11.0.0.0/8").supernet(), Some(of("10.0.0.0/7")));
+    assert_eq!(of("0.0.0.0/0").supernet(), None);
+    assert_eq!(of("::/1").supernet(), Some(of("::/0")));
+    assert!(ten.is_sibling(&of("11.0.0.0/8")) && !ten.is_sibling(&ten));
+    for other in ["9.0.0.0/8", "10.0.0.0/9", "::/0", "::/8"] {
+        assert!(!ten.is_sibling(&of(other)) && !of(other).is_sibling(&ten));
+    }
+    assert!(!of("::/0").is_sibling(&of("0.0.0.0/0")));
+    let texts = |text: &str, len| -> Vec<String> {
+        let subnets = of(text).subnets(len).unwrap();
+        subnets.map(|it| it.to_string()).collect()
     };
-    assert_eq!(vrp.addr(), ip("a00::"));
-    assert_eq!(
-        format!("{vrp:?}"),
-        "Vrp { family: 9, prefix: a00::/8, max_len: 8, asn: 1 }"
-    );
-    let route = Route {
-        family: 0,
-        ..Route::new(ip("10.0.0.0"), 8, 1)
-    };
-    assert_eq!(
-        format!("{route:?}"),
-        "Route { family: 0, prefix: a00::/8, asn: 1 }"
-    );
-    assert_eq!(raw::IPV4 as u8, Vrp::new(ip("10.0.0.0"), 8, 8, 1).family);
+    assert_eq!(texts("10.0.0.0/8", 8), ["10.0.0.0/8"]);
+    let quarters = [
+        "10.0.0.0/10",
+        "10.64.0.0/10",
+        "10.128.0.0/10",
+        "10.192.0.0/10",
+    ];
+    assert_eq!(texts("10.0.0.0/8", 10), quarters);
+    let last = ["255.255.255.254/32", "255.255.255.255/32"];
+    assert_eq!(texts("255.255.255.254/31", 32), last);
+    assert_eq!(texts("::/0", 1), ["::/1", "8000::/1"]);
+    assert_eq!(of("::/0").subnets(128).unwrap().nth(2), Some(of("::2/128")));
+    for (text, len, wanted) in [
+        (
+            "10.0.0.0/8",
+            7,
+            "is below prefix length 8: expected 8 to 32",
+        ),
+        ("10.0.0.0/8", 33, "is above 32: expected 8 to 32"),
+        ("::/9", 8, "is below prefix length 9: expected 9 to 128"),
+    ] {
+        let error = of(text).subnets(len).unwrap_err();
+        assert_eq!(
+            error.to_string(),
+            format!("subnet length {len} of {text} {wanted}")
+        );
+    }
 }
 
 /// DER is printed as hexadecimal digits, which the program `respath` reads.
 #[test]
 fn debug_of_der() {
     let ip = [0x30, 0x00];
-    let octets = Octets { asn: &[], ip: &ip };
-    assert_eq!(format!("{octets:?}"), "Octets { asn: -, ip: 3000 }");
+    let der = Der {
+        asn: vec![],
+        ip: ip.to_vec(),
+    };
+    assert_eq!(format!("{der:?}"), "Der { asn: -, ip: 3000 }");
     let extensions = Extensions {
         asn: None,
         ip: Some(&ip),
@@ -320,67 +429,34 @@ fn debug_of_der() {
         format!("{extensions:?}"),
         "Extensions { asn: None, ip: Some(3000) }"
     );
-    let excess = Resources {
-        asn: vec![0xff],
-        ip: Vec::new(),
-    };
-    let error = ResourceError {
-        reason: Reason::OverclaimedAs,
-        excess,
-    };
-    let text = "ResourceError { reason: OverclaimedAs, excess: Resources { asn: ff, ip: - } }";
-    assert_eq!(format!("{error:?}"), text);
+    assert_eq!(der.extensions(), extensions);
 }
 
-/// Returns the texts of the errors that an error wraps, from the outside in.
-fn sources(error: &dyn Error) -> Vec<String> {
-    let mut found = Vec::new();
-    let mut next = error.source();
-    while let Some(source) = next {
-        found.push(source.to_string());
-        next = source.source();
-    }
-    found
-}
-
+/// An error has a source only if its own text does not have the text of the source.
 #[test]
 fn wrapped_errors() {
     let address = "10.0.0/8".parse::<Prefix>().unwrap_err();
-    let invalid = "10.0.0".parse::<IpAddr>().unwrap_err().to_string();
-    assert_eq!(sources(&address), [invalid]);
-    let bits = "10.1.0.0/8".parse::<Prefix>().unwrap_err();
-    let source = bits.source().unwrap().downcast_ref::<ValueError>();
-    assert_eq!(
-        source,
-        Some(&ValueError::HostBits {
-            address: ip("10.1.0.0"),
-            len: 8
-        })
-    );
-    assert!(sources(&"x".parse::<Prefix>().unwrap_err()).is_empty());
-    let error = ResourceError {
-        reason: Reason::Absent,
-        excess: Resources::default(),
-    };
-    let path = PathError { verified: 1, error };
-    let text = Reason::Absent.to_string();
-    assert_eq!(sources(&path), [text.clone(), text]);
-    let origin = OriginError {
-        reason: Reason::BadMaxLen,
-        index: 1,
-    };
-    let source = origin.source().unwrap().downcast_ref::<Reason>();
-    assert_eq!(source, Some(&Reason::BadMaxLen));
-    assert!(sources(&Reason::Memory).is_empty());
+    let invalid = "10.0.0".parse::<IpAddr>().unwrap_err();
+    let source = address.source().unwrap();
+    assert_eq!(source.to_string(), invalid.to_string());
+    assert!(!address.to_string().contains(&source.to_string()));
+    for text in ["10.1.0.0/8", "x", "10.0.0.0/x", "10.0.0.0/33"] {
+        let error = text.parse::<Prefix>().unwrap_err();
+        assert!(error.source().is_none(), "{error}");
+    }
 }
 
 #[test]
 fn validities_are_keys() {
+    let invalid = Validity::Invalid(InvalidReason::As);
     let mut counts = HashMap::new();
-    for validity in [Validity::Valid, Validity::Invalid, Validity::Valid] {
+    for validity in [Validity::Valid, invalid, Validity::Valid] {
         *counts.entry(validity).or_insert(0) += 1;
     }
-    let counts =
-        [Validity::Valid, Validity::NotFound, Validity::Invalid].map(|it| counts.get(&it).copied());
+    let counts = [Validity::Valid, Validity::NotFound, invalid].map(|it| counts.get(&it).copied());
     assert_eq!(counts, [Some(2), None, Some(1)]);
+    // The numbers of RFC 8097, 2.
+    let length = Validity::Invalid(InvalidReason::Length);
+    let numbers = [Validity::Valid, Validity::NotFound, invalid, length].map(Validity::number);
+    assert_eq!(numbers, [0, 1, 2, 2]);
 }

@@ -4,9 +4,13 @@
 #[path = "../build.rs"]
 mod build;
 
-use build::{folder_of, metadata_of, USUAL};
+use build::{folder_of, metadata_of, packaged, LIBRARIES, USUAL};
 use std::fs;
-use std::path::PathBuf;
+use std::os::unix::fs::PermissionsExt;
+use std::path::{Path, PathBuf};
+
+const STATIC: &str = LIBRARIES[0];
+const SHARED: &str = LIBRARIES[1];
 
 /// Makes an empty folder and returns its path. The folder gets a file with the library's name if `has` is set.
 fn folder(name: &str, has: bool) -> String {
@@ -24,11 +28,15 @@ fn order_of_folders() {
     let [one, two, none] =
         [("one", true), ("two", true), ("none", false)].map(|(name, has)| folder(name, has));
     // The usual folders are searched in their order.
-    assert_eq!(folder_of("", &[&one, &two]), Ok(one.clone()));
-    assert_eq!(folder_of("", &[&two, &one]), Ok(two.clone()));
-    assert_eq!(folder_of("", &[&none, &one]), Ok(one.clone()));
+    assert_eq!(folder_of("", &[&one, &two], STATIC), Ok(one.clone()));
+    assert_eq!(folder_of("", &[&two, &one], STATIC), Ok(two.clone()));
+    assert_eq!(folder_of("", &[&none, &one], STATIC), Ok(one.clone()));
+    // The feature `dynamic` searches for the other library.
+    assert!(folder_of("", &[&one, &two], SHARED).is_err() && folder_of(&one, &[], SHARED).is_err());
+    fs::write(Path::new(&two).join("libpigyelund.so"), "").unwrap();
+    assert_eq!(folder_of("", &[&one, &two], SHARED), Ok(two.clone()));
     // The folder of PIGYELUND_LIB is searched first.
-    assert_eq!(folder_of(&two, &[&one]), Ok(two));
+    assert_eq!(folder_of(&two, &[&one], STATIC), Ok(two));
 }
 
 /// If PIGYELUND_LIB is wrong, no other folder is searched. The error has the value, and what is expected.
@@ -39,7 +47,7 @@ fn wrong_folders() {
         "libpigyelund.a is not in {none} or {none}: expected it there, or the absolute path of its folder in \
          PIGYELUND_LIB"
     );
-    assert_eq!(folder_of("", &[&none, &none]), Err(why));
+    assert_eq!(folder_of("", &[&none, &none], STATIC), Err(why));
     let file = format!("{one}/libpigyelund.a");
     let missing = format!("{none}/missing");
     let wrong = [
@@ -59,16 +67,42 @@ fn wrong_folders() {
     ];
     for (named, why) in wrong {
         let why = format!("PIGYELUND_LIB={named} {why}");
-        assert_eq!(folder_of(named, &[&one]), Err(why));
+        assert_eq!(folder_of(named, &[&one], STATIC), Err(why));
     }
 }
 
 #[test]
 fn usual_folders() {
-    // A library that an administrator installed comes before that of a package (FHS 3.0, 4.9). The second folder is
-    // that of a Debian package.
-    let wanted = ["/usr/local/lib", "/usr/lib/x86_64-linux-gnu", "/usr/lib"];
+    // A library that an administrator installed comes before that of a package (FHS 3.0, 4.9). The third folder is that
+    // of a Debian package, and the fourth that of Fedora, RHEL and SUSE.
+    let wanted = [
+        "/usr/local/lib",
+        "/usr/local/lib64",
+        "/usr/lib/x86_64-linux-gnu",
+        "/usr/lib64",
+        "/usr/lib",
+    ];
     assert_eq!(USUAL, wanted);
+}
+
+/// The folder is that of pkg-config, if it knows a version that is new enough.
+#[test]
+fn packages() {
+    let program = PathBuf::from(folder("package", false)).join("pkg-config");
+    let text = r#"#!/bin/sh
+case "$*" in
+"--atleast-version=0.2.0 pigyelund") exit 0 ;;
+"--variable=libdir pigyelund") echo "/a folder/lib" ;;
+*) exit 1 ;;
+esac
+"#;
+    fs::write(&program, text).unwrap();
+    fs::set_permissions(&program, fs::Permissions::from_mode(0o755)).unwrap();
+    let program = program.to_str().unwrap();
+    let found = packaged(program, "0.2.0");
+    assert_eq!(found.as_deref(), Some("/a folder/lib"));
+    assert_eq!(packaged(program, "0.3.0"), None);
+    assert_eq!(packaged("/no/such/program", "0.2.0"), None);
 }
 
 #[test]
@@ -80,8 +114,7 @@ fn metadata() {
         path.into_os_string().into_string().unwrap()
     });
     assert_eq!(metadata_of(&lib), [("lib", lib.clone())]);
-    let header = "#ifndef PIGYELUND_H\n#define PIGY_VERSION 4u\n";
-    fs::write(format!("{include}/pigyelund.h"), header).unwrap();
+    fs::write(format!("{include}/pigyelund.h"), "").unwrap();
     fs::write(
         format!("{package}/pigyelund.pc"),
         "Name: p\nVersion: 0.1.0\n",
@@ -91,15 +124,14 @@ fn metadata() {
         ("lib", lib.clone()),
         ("root", root),
         ("include", include),
-        ("calls", String::from("4")),
         ("version", String::from("0.1.0")),
     ];
     assert_eq!(metadata_of(&lib), wanted);
     // The folder of an architecture has a library of its own. The header is for all architectures.
     let multiarch = format!("{lib}/x86_64-linux-gnu");
     fs::create_dir_all(&multiarch).unwrap();
-    let [_, root, include, calls, _] = wanted;
-    let wanted = [("lib", multiarch.clone()), root, include, calls];
+    let [_, root, include, _] = wanted;
+    let wanted = [("lib", multiarch.clone()), root, include];
     assert_eq!(metadata_of(&multiarch), wanted);
     let below = format!("{multiarch}/below");
     assert_eq!(metadata_of(&below), [("lib", below.clone())]);

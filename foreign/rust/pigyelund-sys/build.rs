@@ -14,8 +14,8 @@
 //! The build script of a crate that depends directly on this one gets these variables:
 //!
 //! - `DEP_PIGYELUND_LIB`: the folder of the library.
-//! - `DEP_PIGYELUND_ROOT`, `DEP_PIGYELUND_INCLUDE`: the first folder above the library's folder, or the second one, that
-//!   has `include/pigyelund.h`; and the folder of this header. They are set if there is such a header.
+//! - `DEP_PIGYELUND_ROOT`, `DEP_PIGYELUND_INCLUDE`: the first folder above the library's folder, or the second one,
+//!   that has `include/pigyelund.h`; and the folder of this header. They are set if there is such a header.
 //! - `DEP_PIGYELUND_VERSION`: the version of the library. It is set if the library's folder has
 //!   `pkgconfig/pigyelund.pc`.
 use std::env::{var, VarError};

@@ -287,8 +287,8 @@ pub fn version() -> u32 {
 
 /// Returns the answer of the program `respath` to a line.
 ///
-/// `der v4 LIST` converts text to DER in hexadecimal, and `read v4 HEX` converts DER to text. The manual page respath(1)
-/// has all commands.
+/// `der v4 LIST` converts text to DER in hexadecimal, and `read v4 HEX` converts DER to text. The manual page
+/// respath(1) has all commands.
 ///
 /// # Parameters
 ///

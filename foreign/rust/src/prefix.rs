@@ -173,6 +173,7 @@ impl Prefix {
     }
 
     /// Returns whether this prefix has an address, or each address of another prefix.
+    #[must_use]
     pub fn contains(&self, other: impl Into<Prefix>) -> bool {
         let other = other.into();
         self.len <= other.len && Prefix::containing(other.address, self.len) == Ok(*self)
@@ -184,6 +185,7 @@ impl Prefix {
     }
 
     /// Returns whether this prefix and another one are the two halves of their [`Prefix::supernet`].
+    #[must_use]
     pub fn is_sibling(&self, other: &Prefix) -> bool {
         self != other
             && self.len > 0

@@ -1,7 +1,7 @@
 //! The error types of the calls. Their texts are those of `pigy_status_text`.
 use std::error::Error;
 use std::ffi::CStr;
-use std::fmt::{Display, Formatter, Result as Written};
+use std::fmt::{Debug, Display, Formatter, Result as Written};
 
 use crate::{DerFault, FileFault, Kind, Resources, TextFault, VrpFault};
 use pigyelund_sys as sys;
@@ -95,7 +95,7 @@ impl Reason {
 /// The error of the calls on sets of resources.
 ///
 /// `Display` writes the text of the status. For a path it also writes the number of verified certificates.
-#[derive(Clone, Debug, PartialEq, Eq, Hash)]
+#[derive(Clone, PartialEq, Eq, Hash)]
 pub struct ResourceError {
     pub(crate) status: u32,
     pub(crate) excess: Option<Resources>,
@@ -144,12 +144,27 @@ impl Display for ResourceError {
     }
 }
 
+/// Writes the reason, and what the error has: the overclaimed resources and the number of verified certificates.
+impl Debug for ResourceError {
+    fn fmt(&self, out: &mut Formatter<'_>) -> Written {
+        let mut out = out.debug_struct("ResourceError");
+        out.field("reason", &self.reason());
+        if let Some(excess) = &self.excess {
+            out.field("excess", excess);
+        }
+        if let Some(verified) = self.verified {
+            out.field("verified", &verified);
+        }
+        out.finish()
+    }
+}
+
 impl Error for ResourceError {}
 
 /// The error of the calls on tables and on files of VRPs.
 ///
 /// `Display` writes the position of the error, and the text of the status.
-#[derive(Clone, Copy, Debug, PartialEq, Eq, Hash)]
+#[derive(Clone, Copy, PartialEq, Eq, Hash)]
 pub struct TableError {
     pub(crate) status: u32,
     /// The index of a VRP or route, or the number of a line or item.
@@ -194,10 +209,25 @@ impl Display for TableError {
     }
 }
 
+/// Writes the reason, and the index or the line if the error has one.
+impl Debug for TableError {
+    fn fmt(&self, out: &mut Formatter<'_>) -> Written {
+        let mut out = out.debug_struct("TableError");
+        out.field("reason", &self.reason());
+        if let Some(index) = self.index() {
+            out.field("index", &index);
+        }
+        if let Some(line) = self.line() {
+            out.field("line", &line);
+        }
+        out.finish()
+    }
+}
+
 impl Error for TableError {}
 
 /// The error of [`answer`](crate::answer). `Display` writes the text of the status.
-#[derive(Clone, Copy, Debug, PartialEq, Eq, Hash)]
+#[derive(Clone, Copy, PartialEq, Eq, Hash)]
 pub struct AnswerError {
     pub(crate) status: u32,
 }
@@ -217,6 +247,15 @@ impl AnswerError {
 impl Display for AnswerError {
     fn fmt(&self, out: &mut Formatter<'_>) -> Written {
         out.write_str(status_text(self.status))
+    }
+}
+
+/// Writes the reason.
+impl Debug for AnswerError {
+    fn fmt(&self, out: &mut Formatter<'_>) -> Written {
+        out.debug_struct("AnswerError")
+            .field("reason", &self.reason())
+            .finish()
     }
 }
 

@@ -402,11 +402,13 @@ impl Resources {
     ///
     /// A VRP, and each VRP of a slice, is looked up by its prefix. The prefixes of a ROA have to be in the resources of
     /// its certificate, and the AS does not (RFC 9582, 5). The call takes no memory.
+    #[must_use]
     pub fn contains(&self, other: impl Contained) -> bool {
         other.contained_in(self)
     }
 
     /// Returns whether the set has no resources. The call takes no memory after the first one.
+    #[must_use]
     pub fn is_empty(&self) -> bool {
         self == empty()
     }

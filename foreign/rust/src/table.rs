@@ -230,6 +230,7 @@ impl Table {
     }
 
     /// Validates one route (RFC 6811, 2). The call takes no memory.
+    #[must_use]
     pub fn validate(&self, route: &Route) -> Validity {
         let (mut validity, mut reason) = (0, 0);
         // SAFETY: the table and the route live until the call returns.
@@ -310,6 +311,7 @@ impl Table {
     }
 
     /// Returns the number of VRPs, duplicates included.
+    #[must_use]
     pub fn len(&self) -> usize {
         let mut len = 0;
         // SAFETY: the table lives until the call returns.
@@ -319,6 +321,7 @@ impl Table {
     }
 
     /// Returns whether the table has no VRP.
+    #[must_use]
     pub fn is_empty(&self) -> bool {
         self.len() == 0
     }

@@ -252,7 +252,10 @@ fn errors_of_sets() {
         .unwrap_err();
     assert_eq!(error.reason(), Reason::Overclaimed(Kind::V4));
     assert_eq!(error.excess(), Some(&set("11.0.0.0/8")));
-    assert!(format!("{error:?}").contains("Resources(11.0.0.0/8)"));
+    assert_eq!(
+        format!("{error:?}"),
+        "ResourceError { reason: Overclaimed(V4), excess: Resources(11.0.0.0/8) }"
+    );
     assert_eq!(error.clone(), error);
     let absent = set("AS1").verify(Extensions::default(), Encoding::Strict, Mode::Trim);
     assert_eq!(absent.unwrap_err().reason(), Reason::Absent);

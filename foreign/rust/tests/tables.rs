@@ -136,6 +136,8 @@ fn a_table_has_copies() {
         refused.to_string(),
         "at index 0: duplicate announcement of a VRP"
     );
+    let debug = "TableError { reason: DuplicateAnnouncement, index: 0 }";
+    assert_eq!(format!("{refused:?}"), debug);
     assert!(refused.source().is_none());
     assert_eq!(table.vrps(), Ok(vec![other, twice, twice]));
     assert_eq!(

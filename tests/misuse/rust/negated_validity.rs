@@ -1,0 +1,12 @@
+// refused at compile: cannot apply unary operator `!` to type `Validity`
+use pigyelund::{Route, Table};
+
+fn main() -> Result<(), Box<dyn std::error::Error>> {
+    let table = Table::new(&["10.0.0.0/8 AS64496".parse()?])?;
+    let route: Route = "10.0.0.0/8 AS64497".parse()?;
+    // The number of a valid route is 0.
+    if !table.validate(&route) {
+        println!("accepted");
+    }
+    Ok(())
+}

@@ -324,10 +324,10 @@ says() {
 
 # Once it was built, cargo asks build.rs again where a variable that build.rs reads has changed.
 of_rust_variables() {
-    variables=$(grep -oE '"[A-Z]+(_[A-Z]+)+"' foreign/rust/build.rs | tr -d '"')
+    variables=$(grep -oE '"[A-Z]+(_[A-Z]+)+"' foreign/rust/pigyelund-sys/build.rs | tr -d '"' | grep -v 'CARGO_[FP]')
     [ -n "$variables" ] || fail "build.rs reads no variable by its name"
     for variable in $variables; do
-        grep -qx "cargo:rerun-if-env-changed=$variable" "$CARGO_TARGET_DIR"/debug/build/pigyelund-*/output ||
+        grep -qx "cargo:rerun-if-env-changed=$variable" "$CARGO_TARGET_DIR"/debug/build/pigyelund-sys-*/output ||
             fail "build.rs names $variable to cargo"
     done
     says "does not exist" "$spaced/another"
@@ -335,7 +335,7 @@ of_rust_variables() {
 
 # The documentation is built without the library, as on docs.rs, and without a warning with it.
 of_rust_docs() {
-    RUSTDOCFLAGS=-Dwarnings rust doc --no-deps || fail "cargo doc"
+    RUSTDOCFLAGS=-Dwarnings rust doc --workspace --no-deps || fail "cargo doc"
     for variable in DOCS_RS=1 RUSTFLAGS="--cfg docsrs"; do
         env "$variable" PIGYELUND_LIB="$spaced/none" RUSTDOCFLAGS="-Dwarnings --cfg docsrs" CARGO_TARGET_DIR="$out/docs" \
             cargo doc -q --offline --no-deps --manifest-path foreign/rust/Cargo.toml ||
@@ -343,74 +343,60 @@ of_rust_docs() {
     done
 }
 
-# A crate that depends on the package gets the installed header, its number, and the version of the library.
+# depends COMMAND ..: a crate that depends on the packages gets the header, the version and the folder of the library
+depends() {
+    said=$("$@" -q --offline --manifest-path foreign/rust/tests/dependent/Cargo.toml)
+    [ "$said" = "$(readlink -f "$prefix/lib") $(cat VERSION)" ] || fail "a dependent of the crates: $* $said"
+}
+
+# The library is found by its folder or by pkg-config, and is the static or the shared one.
 of_rust_dependent() {
-    mkdir -p "$out/dependent/src"
-    cat >"$out/dependent/Cargo.toml" <<END
-[package]
-name = "dependent"
-version = "0.1.0"
-edition = "2021"
-
-[dependencies]
-pigyelund = { path = "$PWD/foreign/rust" }
-END
-    cat >"$out/dependent/build.rs" <<'END'
-use std::env::var;
-
-fn main() {
-    for name in ["LIB", "ROOT", "INCLUDE", "CALLS", "VERSION"] {
-        println!("cargo:rustc-env={name}={}", var(format!("DEP_PIGYELUND_{name}")).unwrap());
-    }
-}
-END
-    cat >"$out/dependent/src/main.rs" <<'END'
-fn main() {
-    assert!(std::path::Path::new(env!("INCLUDE")).join("pigyelund.h").is_file());
-    assert_eq!(env!("CALLS"), pigyelund::version().to_string());
-    assert_eq!(env!("VERSION"), pigyelund::version_string());
-    println!("{} {} {}", env!("ROOT"), env!("LIB"), env!("VERSION"));
-}
-END
-    said=$(cargo run -q --offline --manifest-path "$out/dependent/Cargo.toml")
-    [ "$said" = "$prefix $prefix/lib $(cat VERSION)" ] || fail "a crate that depends on the package gets DEP_PIGYELUND_.."
+    depends cargo run
+    depends env LD_LIBRARY_PATH="$prefix/lib" cargo run --features shared
+    if has "Rust by pkg-config" pkg-config; then
+        depends env -u PIGYELUND_LIB PKG_CONFIG_PATH="$prefix/lib/pkgconfig" cargo run
+    fi
 }
 
-# Copies the test files that all languages share into the crate, where cargo package takes them.
-make_rust_shared() {
-    mkdir -p foreign/rust/tests/shared &&
-        cp out/foreign/*.txt foreign/rust/tests/shared
-}
-
-# The package for crates.io is made without a warning, has the files of the repository, and passes its tests alone.
+# The packages for crates.io are made without a warning, have the files of the repository, and pass their tests alone.
 of_rust_package() {
     export CARGO_TARGET_DIR="$out/packed"
-    make_rust_shared || { fail "the shared test files are copied"; return; }
-    for option in --no-verify ""; do
-        cargo package --offline --allow-dirty $option --manifest-path foreign/rust/Cargo.toml >"$out/log" 2>&1 ||
-            fail "cargo package $option"
-        ! grep '^warning' "$out/log" || fail "cargo package $option prints no warning"
-    done
-    mkdir "$out/unpacked" && tar -xzf "$out"/packed/package/pigyelund-*.crate -C "$out/unpacked" --strip-components=1 ||
-        { fail "the package is unpacked"; return; }
-    cmp LICENSE "$out/unpacked/LICENSE" || fail "the package has the licence"
+    mkdir -p foreign/rust/tests/shared && cp out/foreign/*.txt foreign/rust/tests/shared ||
+        { fail "the shared test files are copied"; return; }
+    first=1.90.0
+    printf '%s\n' "$first" "$(cargo --version | cut -d ' ' -f 2)" | sort -VC ||
+        { echo "left out: the packages of Rust need cargo $first, which packs a workspace"; return; }
+    cargo package --workspace --offline --allow-dirty --manifest-path foreign/rust/Cargo.toml >"$out/log" 2>&1 ||
+        { cat "$out/log"; fail "cargo package"; return; }
+    # The repository has no address.
+    ! grep '^warning' "$out/log" | grep -v 'no documentation, homepage or repository$' || fail "cargo package warns"
+    mkdir "$out/unpacked"
+    for crate in "$out"/packed/package/*.crate; do tar -xzf "$crate" -C "$out/unpacked" || fail "unpack $crate"; done
+    crate="$out/unpacked/pigyelund-$(cat VERSION)" sys="$out/unpacked/pigyelund-sys-$(cat VERSION)"
     for name in rows texts numbers; do
-        cmp "out/foreign/$name.txt" "$out/unpacked/tests/shared/$name.txt" || fail "the package has $name.txt"
+        cmp "out/foreign/$name.txt" "$crate/tests/shared/$name.txt" || fail "the package has $name.txt"
     done
-    cargo test -q --offline --manifest-path "$out/unpacked/Cargo.toml" >"$out/log" 2>&1 ||
-        { cat "$out/log"; fail "the test in Rust"; }
+    for folder in "$crate" "$sys"; do
+        cmp LICENSE "$folder/LICENSE" || fail "$folder has the licence"
+        cargo test -q --offline --manifest-path "$folder/Cargo.toml" \
+            --config "patch.crates-io.pigyelund-sys.path=\"$sys\"" >"$out/log" 2>&1 ||
+            { cat "$out/log"; fail "the test in Rust"; }
+    done
 }
 
 of_rust_style() {
     if cargo fmt --version >/dev/null 2>&1; then
-        cargo fmt --check --manifest-path foreign/rust/Cargo.toml || fail "cargo fmt"
+        cargo fmt --check --all --manifest-path foreign/rust/Cargo.toml || fail "cargo fmt"
     else
         echo "left out: the format of the package of Rust needs cargo fmt"
     fi
     if cargo clippy --version >/dev/null 2>&1; then
-        rust clippy --all-targets -- -D warnings || fail "cargo clippy"
+        rust clippy --workspace --all-targets -- -D warnings || fail "cargo clippy"
     else
         echo "left out: the lints of the package of Rust need cargo clippy"
+    fi
+    if has "the declarations in Rust" bindgen rustfmt; then
+        foreign/rust/bindings.sh >"$out/log" || fail "bindings.rs is not what bindgen makes of the header"
     fi
 }
 

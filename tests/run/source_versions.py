@@ -37,7 +37,7 @@ PLACES = (
     ("patch", "foreign/pigyelund.h", r"^#define PIGY_VERSION_PATCH (\d+)$"),
     ("number", "tests/run/release.sh", r"pigy_version\(void\) \{ return (\d+); \}"),
 )
-LICENSES = "foreign/python/LICENSE", "foreign/rust/LICENSE"
+LICENSES = "foreign/python/LICENSE", "foreign/rust/LICENSE", "foreign/rust/pigyelund-sys/LICENSE"
 
 
 def text_of(name: str) -> str:

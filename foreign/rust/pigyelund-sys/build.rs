@@ -19,7 +19,7 @@
 //! - `DEP_PIGYELUND_VERSION`: the version of the library. It is set if the library's folder has
 //!   `pkgconfig/pigyelund.pc`.
 use std::env::{var, VarError};
-use std::fs::read_to_string;
+use std::fs::{canonicalize, read_to_string};
 use std::path::Path;
 use std::process::Command;
 
@@ -95,8 +95,19 @@ pub(crate) fn packaged(program: &str, version: &str) -> Option<String> {
         found.ok().filter(|it| it.status.success())
     };
     ask(&format!("--atleast-version={version}"))?;
-    let folder = String::from_utf8(ask("--variable=libdir")?.stdout).ok()?;
-    Some(String::from(folder.trim())).filter(|it| !it.is_empty())
+    let text = String::from_utf8(ask("--variable=libdir")?.stdout).ok()?;
+    let folder = canonicalize(without_escapes(text.trim())).ok()?;
+    folder.into_os_string().into_string().ok()
+}
+
+/// Returns a text without the backslashes that `pkg-config` prints before spaces and other characters.
+fn without_escapes(text: &str) -> String {
+    let mut characters = text.chars();
+    let next = || match characters.next()? {
+        '\\' => characters.next(),
+        other => Some(other),
+    };
+    std::iter::from_fn(next).collect()
 }
 
 /// Returns the rest of the first line of a file that begins with `start`, without white space at its ends.

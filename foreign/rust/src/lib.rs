@@ -285,6 +285,11 @@ pub fn version() -> u32 {
     unsafe { sys::pigy_version() }
 }
 
+/// Returns the text of the octets that a call wrote.
+pub(crate) fn text_of(octets: Vec<u8>) -> String {
+    String::from_utf8(octets).expect("a text that a call writes is UTF-8")
+}
+
 /// Returns the answer of the program `respath` to a line.
 ///
 /// `der v4 LIST` converts text to DER in hexadecimal, and `read v4 HEX` converts DER to text. The manual page
@@ -316,8 +321,7 @@ pub fn answer(line: impl AsRef<[u8]>) -> Result<String, AnswerError> {
         })
     };
     let octets = found.map_err(|status| AnswerError { status })?;
-    // SAFETY: a text that a call writes is UTF-8.
-    Ok(unsafe { String::from_utf8_unchecked(octets) })
+    Ok(text_of(octets))
 }
 
 /// Tests the example of the README.

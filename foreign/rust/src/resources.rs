@@ -520,9 +520,7 @@ impl Resources {
                 sys::pigy_resources_text(self.handle(), kind as u32, out.cast(), capacity, len)
             })
         };
-        let octets = found.map_err(ResourceError::of_status)?;
-        // SAFETY: a text that a call writes is UTF-8.
-        Ok(unsafe { String::from_utf8_unchecked(octets) })
+        Ok(crate::text_of(found.map_err(ResourceError::of_status)?))
     }
 
     /// Returns the set of the elements of a list of several kinds.

@@ -85,24 +85,30 @@ fn usual_folders() {
     assert_eq!(USUAL, wanted);
 }
 
-/// The folder is that of pkg-config, if it knows a version that is new enough.
+/// The folder is that of pkg-config, if it knows a version that is new enough. It prints a backslash before a space.
 #[test]
 fn packages() {
-    let program = PathBuf::from(folder("package", false)).join("pkg-config");
-    let text = r#"#!/bin/sh
+    let lib = folder("a package/lib", true);
+    let program = PathBuf::from(folder("tools", false)).join("pkg-config");
+    let printed = format!("{lib}/../lib").replace(' ', "\\\\ ");
+    let text = format!(
+        r#"#!/bin/sh
 case "$*" in
 "--atleast-version=0.2.0 pigyelund") exit 0 ;;
-"--variable=libdir pigyelund") echo "/a folder/lib" ;;
+"--variable=libdir pigyelund") echo "{printed}" ;;
 *) exit 1 ;;
 esac
-"#;
+"#
+    );
     fs::write(&program, text).unwrap();
     fs::set_permissions(&program, fs::Permissions::from_mode(0o755)).unwrap();
     let program = program.to_str().unwrap();
-    let found = packaged(program, "0.2.0");
-    assert_eq!(found.as_deref(), Some("/a folder/lib"));
+    assert_eq!(packaged(program, "0.2.0"), Some(lib.clone()));
     assert_eq!(packaged(program, "0.3.0"), None);
     assert_eq!(packaged("/no/such/program", "0.2.0"), None);
+    // A folder that is not there is no folder of a package.
+    fs::remove_dir_all(&lib).unwrap();
+    assert_eq!(packaged(program, "0.2.0"), None);
 }
 
 #[test]

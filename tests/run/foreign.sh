@@ -413,6 +413,7 @@ of_rust() {
     of_rust_dependent
     rust run --example path | diff foreign/rust/examples/path.txt - || fail "the example path in Rust"
     on_page RUST.md "First program"
+    tests/misuse/run.py "$prefix/lib" rust || fail "wrong callers in Rust are refused"
     of_rust_package
 }
 

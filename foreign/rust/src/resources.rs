@@ -77,9 +77,10 @@ fn empty() -> &'static Resources {
     EMPTY.get_or_init(|| or_panic(Resources::read(Extensions::default(), Encoding::Strict)))
 }
 
-/// The number of prefixes or ranges, and the octets of DER and text, for which one call is enough.
-const ITEMS: usize = 64;
-const OCTETS: usize = 512;
+/// The number of prefixes or ranges, and the octets of DER and text, for which one call is enough. One range can have
+/// up to 254 prefixes.
+pub(crate) const ITEMS: usize = 1024;
+pub(crate) const OCTETS: usize = 4096;
 
 /// Returns the result of a call whose only error is `PIGY_MEMORY`. Panics with the text of the error.
 fn or_panic<T>(found: Result<T, ResourceError>) -> T {

@@ -2,6 +2,7 @@
 use std::cell::Cell;
 
 use crate::buffers::items;
+use crate::resources::{ITEMS, OCTETS};
 use crate::{answer, read_vrps, Encoding, Extensions, Family, Kind, Resources, Route, Table, Vrp};
 use pigyelund_sys::{PIGY_ABSENT, PIGY_MEMORY, PIGY_OK, PIGY_TOO_SMALL};
 
@@ -108,7 +109,7 @@ fn small_buffers_are_replaced() {
 /// A set with more DER, prefixes, ranges or text than usual needs a second call.
 #[test]
 fn calls_of_large_sets() {
-    for (count, calls) in [(1, 1), (64, 1), (65, 2), (5000, 2)] {
+    for (count, calls) in [(1, 1), (ITEMS, 1), (ITEMS + 1, 2), (5000, 2)] {
         let of = |prefix: &str| -> Resources {
             let each = (0..count).map(|at| format!("{prefix}{}", 2 * at));
             each.collect::<Vec<_>>().join(",").parse().unwrap()
@@ -117,12 +118,9 @@ fn calls_of_large_sets() {
         assert_eq!(calls_of(|| numbers.as_ranges().unwrap()), calls);
         let v6 = Family::V6;
         assert_eq!(calls_of(|| addresses.ip_ranges(v6).unwrap()), calls);
-        if calls == 1 && count > 1 {
-            continue;
-        }
         assert_eq!(calls_of(|| addresses.prefixes(v6).unwrap()), calls);
         for set in [&numbers, &addresses] {
-            let is_long = set.der().unwrap().asn.len() + set.der().unwrap().ip.len() > 512;
+            let is_long = set.der().unwrap().asn.len() + set.der().unwrap().ip.len() > OCTETS;
             assert_eq!(calls_of(|| set.der().unwrap()), 1 + usize::from(is_long));
         }
     }

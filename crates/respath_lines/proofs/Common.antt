@@ -1,7 +1,7 @@
 -- What the proofs of this crate use of std, of the crates below and of its own definitions, passed on by one name.
 pub use Rattle.std.proofs.Common.{Err, List, MatchResult, Ok, Result, [], ap, arith, codes, decimal, drop}
 pub use Rattle.std.proofs.Common.{eqb, false, get_or, inl, inr, length, lit<, map, refl, subst, suc}
-pub use Rattle.std.proofs.Common.{sym, take, zero, ℕ, ◌%◌, ◌++◌, ◌+◌, ◌/◌, ◌<◌, ◌==◌, ◌∙◌, ◌∷◌, ◌≡◌, ◌≢◌, ◌≤◌}
+pub use Rattle.std.proofs.Common.{sym, take, zero, ℕ, ◌%◌, ◌++◌, ◌+◌, ◌-◌, ◌/◌, ◌<◌, ◌==◌, ◌∙◌, ◌∷◌, ◌≡◌, ◌≢◌, ◌≤◌}
 pub use Rattle.std.proofs.Common.{◌⊎◌}
 pub use Rattle.std.proofs.lemmas.Bool.{ne_eqb}
 pub use Rattle.std.proofs.lemmas.List.{append-nil, flat_map_more, length-append, map-append}

@@ -1,4 +1,5 @@
 pub mod Common
+pub mod CommandLemmas
 pub mod CoverCommandLemmas
 pub mod DerCommandLemmas
 pub mod HexadecimalLemmas

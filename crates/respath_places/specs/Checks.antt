@@ -1,6 +1,6 @@
 -- The lines that a check looks for: the errors and the refusals.
 use Rattle.std.specs.Prelude.{◌==◌, ◌&&◌, ◌||◌, ℕ, ◌+◌, Bool, true, false, IsTrue, List, [], ◌∷◌, codes, length}
-use Rattle.std.specs.Prelude.{nat_lt, not, slice_index, if◌then◌else◌}
+use Rattle.std.specs.Prelude.{nat_lt, slice_index, if◌then◌else◌}
 use Rattle.respath_places.specs.declared.check.Seen.{Seen}
 
 -- the answer to an invalid line begins with it
@@ -29,33 +29,29 @@ HasFaultLine octets =
     || (begins_with refused_word octets || has_later refused_word octets))
 
 -- The number of octets by which a line has matched a word, after one more octet. It is one more than the length of the
--- word if the line does not begin as the word does, or goes on after the word.
+-- word if the line does not begin as the word does. It stays the length of the word after a line that begins with it.
 abbrev pub matched_with : List ℕ → ℕ → ℕ → ℕ
 matched_with word count octet =
-    if octet == 10 then 0
-    else (if nat_lt count (length word) && (slice_index word count == octet) then count + 1 else length word + 1)
+    if count == length word then count
+    else (if octet == 10 then 0
+    else (if nat_lt count (length word) && (slice_index word count == octet) then count + 1 else length word + 1))
 
 -- the state before any octet
 abbrev pub seen_nothing : Seen
-seen_nothing = record { error = 0; refused = 0; has_found = false }
-
--- the state after one more octet
-abbrev pub seen_with : Seen → ℕ → Seen
-seen_with seen octet = record {
-  error = matched_with error_word seen.error octet;
-  refused = matched_with refused_word seen.refused octet;
-  has_found =
-      seen.has_found
-      || ((matched_with error_word seen.error octet == length error_word)
-      || (matched_with refused_word seen.refused octet == length refused_word));
-}
+seen_nothing = record { error = 0; refused = 0 }
 
 -- the state after more octets
 abbrev pub seen_after : Seen → List ℕ → Seen
 seen_after seen [] = seen
-seen_after seen (octet ∷ octets) = seen_after (seen_with seen octet) octets
+seen_after seen (octet ∷ octets) =
+    seen_after
+    (record { error = matched_with error_word seen.error octet; refused = matched_with refused_word seen.refused octet })
+    octets
 
 -- whether two states are equal
 abbrev pub is_same : Seen → Seen → Bool
-is_same a b =
-    (a.error == b.error) && ((a.refused == b.refused) && (if a.has_found then b.has_found else not b.has_found))
+is_same a b = a.error == b.error && a.refused == b.refused
+
+-- whether a line has matched a word
+abbrev pub has_matched : Seen → Bool
+has_matched seen = seen.error == length error_word || seen.refused == length refused_word

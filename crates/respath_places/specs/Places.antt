@@ -1,5 +1,5 @@
 -- How a place is printed.
-use Rattle.std.specs.Prelude.{ℕ, List, [], ◌++◌, codes, decimal, encode_utf8_all, map, if◌then◌else◌}
+use Rattle.std.specs.Prelude.{ℕ, ◌+◌, List, [], ◌++◌, codes, decimal, encode_utf8_all, map, if◌then◌else◌}
 use Rattle.std.specs.Char.{is_control}
 use Rattle.std.specs.Str.{chars, trim}
 use Rattle.respath_places.specs.declared.place.InList.{InList}
@@ -23,6 +23,6 @@ list_text (Step step) = codes "step " ++ decimal step ++ codes ", "
 
 -- the text of a place
 abbrev pub place_text : Place → List ℕ
-place_text (Element list number text) =
-    list_text list ++ codes "element " ++ decimal number ++ codes ": " ++ shown_text (trim text.now)
+place_text (Element list index text) =
+    list_text list ++ codes "element " ++ decimal (index + 1) ++ codes ": " ++ shown_text (trim text.now)
 place_text (NoStep step text) = codes "step " ++ decimal step ++ codes ": " ++ shown_text (trim text.now)

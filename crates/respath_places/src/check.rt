@@ -1,6 +1,6 @@
 //! Finds errors and refusals in written answers.
 ghost use Rattle.std.specs.Prelude.{◌≡◌, ◌<◌, length};
-ghost use Rattle.respath_places.specs.Checks.{HasFaultLine, is_same, matched_with, seen_after, seen_nothing, seen_with};
+ghost use Rattle.respath_places.specs.Checks.{HasFaultLine, has_matched, is_same, matched_with, seen_after, seen_nothing};
 
 use lines_engine::watched::Watch;
 
@@ -14,12 +14,11 @@ const REFUSED: &[u8] = b"refused ";
 /// paths do. A line whose end is not written yet counts as a line.
 ///
 /// A count is that of the bytes of a word that the line has matched. It is one more than the length of the word if the
-/// line does not begin as the word does, or goes on after the word.
+/// line does not begin as the word does. It stays the length of the word after a line that begins with the word.
 #[derive(Clone, Copy, Debug)]
 pub struct Seen {
     error: usize,
     refused: usize,
-    has_found: bool,
 }
 
 /// Returns the count for a word after one more byte.
@@ -27,7 +26,9 @@ fn matched_with(word: &[u8], count: usize, byte: u8) -> usize
     requires { length word.now < 64 }
     ensures { result ≡ matched_with word.now count byte }
 {
-    if byte == b'\n' {
+    if count == word.len() {
+        count
+    } else if byte == b'\n' {
         0
     } else if count < word.len() && word[count] == byte {
         count + 1
@@ -44,22 +45,14 @@ impl Seen {
         Seen {
             error: 0,
             refused: 0,
-            has_found: false,
         }
     }
 
-    /// Returns the state after one more byte.
-    fn next(self, byte: u8) -> Seen
-        ensures { result ≡ seen_with self byte }
+    /// Returns whether a line has matched a word.
+    fn has_matched(self) -> bool
+        ensures { result ≡ has_matched self }
     {
-        let error = matched_with(ERROR, self.error, byte);
-        let refused = matched_with(REFUSED, self.refused, byte);
-        let is_found = error == ERROR.len() || refused == REFUSED.len();
-        Seen {
-            error,
-            refused,
-            has_found: self.has_found || is_found,
-        }
+        self.error == ERROR.len() || self.refused == REFUSED.len()
     }
 }
 
@@ -69,11 +62,14 @@ impl Watch for Seen {
     ghost is_found = { λ _. HasFaultLine };
 
     fn with(self, byte: u8) -> Seen {
-        self.next(byte)
+        Seen {
+            error: matched_with(ERROR, self.error, byte),
+            refused: matched_with(REFUSED, self.refused, byte),
+        }
     }
 
     #[tactic(auto, using(crate::proofs::CheckLemmas::seen_found))]
     fn has_found(self) -> bool {
-        self.has_found
+        self.has_matched()
     }
 }

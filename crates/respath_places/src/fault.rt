@@ -1,7 +1,6 @@
 //! The first wrong element of a list or a path.
 ghost use Rattle.std.specs.Prelude.{⊤, ◌↔◌, IsTrue, MatchOption};
-ghost use Rattle.respath_lines.specs.Path.{IsNoStep};
-ghost use Rattle.respath_places.specs.Faults.{IsBlockText, IsElement, IsElementAt, IsFirstWrong, IsList, IsListOfStep, IsStep, IsWrongPath};
+ghost use Rattle.respath_places.specs.Faults.{IsBlockText, IsElement, IsFirstWrong, IsList, IsStep, IsWrongList, IsWrongPath, IsWrongStep};
 
 use crate::place::{InList, Place};
 use respath_lines::kind::Kind;
@@ -31,61 +30,52 @@ fn is_element(kind: Kind, part: &str) -> bool
     element.is_empty() || is_block(kind, element)
 }
 
-/// Returns the index of the first wrong element of a list.
-pub(crate) fn wrong_element(kind: Kind, list: &str) -> Option<usize>
-    ensures { MatchOption result (IsList kind list.now) (IsFirstWrong kind list.now) }
+/// Returns the index and the text of the first wrong element of a list.
+fn first_wrong(kind: Kind, list: &str) -> Option<(usize, &str)>
+    ensures { MatchOption result (IsList kind list.now) (λ found. IsFirstWrong kind list.now found.0 found.1.now) }
 {
-    list.split(',').position(|part| !is_element(kind, part))
+    list.split(',')
+        .enumerate()
+        .find(|part| !is_element(kind, part.1))
 }
 
-/// Returns the place of the element of an index. Places count elements from 1.
-pub(crate) fn element_at<'t>(in_list: InList, list: &'t str, index: usize) -> Option<Place<'t>>
-    ensures { MatchOption result ⊤ (IsElementAt in_list list.now index) }
+/// Returns the place of the first wrong element of a list.
+pub(crate) fn wrong_in_list<'t>(kind: Kind, in_list: InList, list: &'t str) -> Option<Place<'t>>
+    ensures { MatchOption result (IsList kind list.now) (IsWrongList kind in_list list.now) }
 {
-    let number = index.checked_add(1)?;
-    let text = list.split(',').nth(index)?;
-    Some(Place::Element(in_list, number, text))
-}
-
-/// Returns the list of a step, which is empty for `inherit` and `missing`, or None if the part of a path is not a step.
-pub(crate) fn list_of_step(part: &str) -> Option<&str>
-    ensures { MatchOption result (IsNoStep part.now) (λ list. IsListOfStep part.now list.now) }
-{
-    let text = part.trim();
-    if text == "inherit" || text == "missing" {
-        return Some("");
-    }
-    let (word, list) = cut_at(text, ' ');
-    match mode_named(word) {
-        Some(_) => Some(list),
+    match first_wrong(kind, list) {
+        Some(found) => Some(Place::Element(in_list, found.0, found.1)),
         None => None,
     }
 }
 
-/// Returns whether a part of a path is a step whose list has no wrong element.
-fn is_step(kind: Kind, part: &str) -> bool
-    ensures { IsTrue result → IsStep kind part.now }
+/// Returns the place of a part of a path, which is not a step, or of the first wrong element of the list of a step.
+fn wrong_in_step<'t>(kind: Kind, step: usize, part: &'t str) -> Option<Place<'t>>
+    ensures { MatchOption result (IsStep kind part.now) (IsWrongStep kind step part.now) }
 {
-    match list_of_step(part) {
-        Some(list) => wrong_element(kind, list).is_none(),
-        None => false,
+    let text = part.trim();
+    if text == "inherit" || text == "missing" {
+        return None;
+    }
+    let (word, list) = cut_at(text, ' ');
+    match mode_named(word) {
+        Some(_) => wrong_in_list(kind, InList::Step(step), list),
+        None => Some(Place::NoStep(step, part)),
     }
 }
 
 /// Returns the place of the first wrong element of a wrong path, or of its first part that is not a step.
-///
-/// A path without a bar can be wrong only in its first list.
 pub(crate) fn wrong_in_path<'t>(kind: Kind, path: &'t str) -> Option<Place<'t>>
     ensures { MatchOption result ⊤ (IsWrongPath kind path.now) }
 {
     let (root, steps) = cut_at(path, '|');
-    if let Some(index) = wrong_element(kind, root) {
-        return element_at(InList::Root, root, index);
+    if let Some(place) = wrong_in_list(kind, InList::Root, root) {
+        return Some(place);
     }
-    let step = steps.split('|').position(|part| !is_step(kind, part))?;
-    let part = steps.split('|').nth(step)?;
-    match list_of_step(part) {
-        Some(list) => element_at(InList::Step(step), list, wrong_element(kind, list)?),
-        None => Some(Place::NoStep(step, part)),
+    for part in steps.split('|').enumerate() {
+        if let Some(place) = wrong_in_step(kind, part.0, part.1) {
+            return Some(place);
+        }
     }
+    None
 }

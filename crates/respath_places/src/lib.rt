@@ -15,7 +15,7 @@ mod fault;
 mod overclaim;
 mod place;
 
-use crate::fault::{element_at, wrong_element, wrong_in_path};
+use crate::fault::{wrong_in_list, wrong_in_path};
 use crate::overclaim::overclaimed_in_path;
 use crate::place::{InList, Place, push_place};
 use lines_engine::answers::Answers;
@@ -83,8 +83,5 @@ fn place_of<'l, A: Allocator + Copy>(
     if command == "path" {
         return Ok(wrong_in_path(kind, argument));
     }
-    match wrong_element(kind, argument) {
-        Some(index) => Ok(element_at(InList::Argument, argument, index)),
-        None => Ok(None),
-    }
+    Ok(wrong_in_list(kind, InList::Argument, argument))
 }

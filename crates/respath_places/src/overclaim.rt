@@ -1,14 +1,13 @@
 //! The overclaimed element of a refused step. No clause says which element it is.
 
-use crate::fault::{element_at, list_of_step};
 use crate::place::{InList, Place};
 use respath_lines::kind::Kind;
-use rpki_as_block::block::AsBlock;
+use rpki_as_block::list as as_list;
 use rpki_block::block::Block;
 use rpki_chain::set::BlockSet;
-use rpki_ip_block::block::IpBlock;
+use rpki_der::family::AddressFamily;
+use rpki_ip_block::list as ip_list;
 use rpki_text::cut::cut_at;
-use rpki_text::list::read_list;
 use rpki_text::memory::OrMemory;
 use std::alloc::{AllocError, Allocator};
 use std::str::FromStr;
@@ -20,66 +19,52 @@ fn refused_step(answer: &str) -> Option<(usize, &str)> {
     Some((step.parse::<usize>().ok()?, overclaimed))
 }
 
-/// Returns whether an element of a list has some of the overclaimed resources.
-fn is_overclaimed<T: Block + FromStr + Drop, A: Allocator>(
-    overclaimed: &BlockSet<T, A>,
-    element: &str,
-) -> bool
-where
-    T::Err: Drop,
-{
-    match T::from_str(element.trim()) {
-        Ok(block) => overclaimed.intersects_block(&block),
-        Err(_) => false,
-    }
-}
-
-/// Returns the index of the first element of a list that has some of the overclaimed resources.
-fn overclaimed_element<T: Block + FromStr + Drop, A: Allocator + Copy>(
+/// Returns the place of the first element of the list of a step that has some of the overclaimed blocks.
+fn overclaimed_element<'l, T: Block + FromStr + Drop, E: Drop, A: Allocator + Copy>(
     alloc: A,
-    overclaimed: &str,
-    list: &str,
-) -> Result<Option<usize>, AllocError>
+    overclaimed: Result<Vec<T, A>, OrMemory<E>>,
+    step: usize,
+    list: &'l str,
+) -> Result<Option<Place<'l>>, AllocError>
 where
     T::Err: Drop,
 {
-    let blocks = match read_list::<T, A>(alloc, overclaimed) {
-        Ok(blocks) => blocks,
+    let overclaimed = match overclaimed {
+        Ok(blocks) => BlockSet::from_vec(alloc, blocks)?,
         Err(OrMemory::Refused(_)) => return Ok(None),
         Err(OrMemory::Memory(error)) => return Err(error),
     };
-    let overclaimed = BlockSet::from_vec(alloc, blocks)?;
-    Ok(
-        list.split(',')
-            .position(|part| is_overclaimed(&overclaimed, part)),
-    )
+    let found = list.split(',').enumerate().find(|part| match T::from_str(part.1.trim()) {
+        Ok(block) => overclaimed.intersects_block(&block),
+        Err(_) => false,
+    });
+    Ok(found.map(|part| Place::Element(InList::Step(step), part.0, part.1)))
 }
 
 /// Returns the place of the first element of the refused step of a path that has some of the overclaimed resources, or
 /// None if the answer is not a refusal.
-///
-/// # Errors
-///
-/// [`AllocError`] if an allocation fails.
 pub(crate) fn overclaimed_in_path<'l, A: Allocator + Copy>(
     alloc: A,
     kind: Kind,
     path: &'l str,
     answer: &str,
 ) -> Result<Option<Place<'l>>, AllocError> {
-    let Some((step, overclaimed)) = refused_step(answer) else {
+    let Some((step, text)) = refused_step(answer) else {
         return Ok(None);
     };
-    let (_, steps) = cut_at(path, '|');
-    let Some(list) = steps.split('|').nth(step).and_then(list_of_step) else {
+    let Some(part) = cut_at(path, '|').1.split('|').nth(step) else {
         return Ok(None);
     };
-    let index = match kind {
-        Kind::As => overclaimed_element::<AsBlock, A>(alloc, overclaimed, list)?,
-        Kind::V4 | Kind::V6 => overclaimed_element::<IpBlock, A>(alloc, overclaimed, list)?,
+    let (_, list) = cut_at(part.trim(), ' ');
+    let family = match kind {
+        Kind::As => return overclaimed_element(
+            alloc,
+            as_list::read_blocks(alloc, text),
+            step,
+            list,
+        ),
+        Kind::V4 => AddressFamily::Ipv4,
+        Kind::V6 => AddressFamily::Ipv6,
     };
-    match index {
-        Some(index) => Ok(element_at(InList::Step(step), list, index)),
-        None => Ok(None),
-    }
+    overclaimed_element(alloc, ip_list::read_blocks(alloc, family, text), step, list)
 }

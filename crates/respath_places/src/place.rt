@@ -20,7 +20,7 @@ pub(crate) enum InList {
 /// The place of a fault.
 #[derive(Clone, Copy, Debug)]
 pub(crate) enum Place<'t> {
-    /// A faulty element: its list, its number in the list, from 1, and its text.
+    /// A faulty element: its list, its index in the list, from 0, and its text.
     Element(InList, usize, &'t str),
     /// A part of a path that is not a step: its number as a step, from 0, and its text.
     NoStep(usize, &'t str),
@@ -50,10 +50,7 @@ fn shown_char(c: char) -> char
 fn push_shown<A: Allocator>(text: &str, answer: &mut String<A>) -> Result<(), AllocError>
     ensures { OnOk result (string_bytes answer.new ≡ string_bytes answer.old ++ shown_text text.now) }
 {
-    for c in text.chars() {
-        answer.push(shown_char(c))?;
-    }
-    Ok(())
+    answer.extend(text.chars().map(|c| shown_char(c)))
 }
 
 /// Appends a tab and a place to an answer.
@@ -65,8 +62,8 @@ pub(crate) fn push_place<A: Allocator>(
 {
     answer.push('\t')?;
     match place {
-        Place::Element(list, number, text) => {
-            write!(answer, "{list}element {number}: ")?;
+        Place::Element(list, index, text) => {
+            write!(answer, "{list}element {}: ", index as u128 + 1)?;
             push_shown(text.trim(), answer)
         }
         Place::NoStep(step, text) => {

@@ -1,62 +1,46 @@
--- The searches are over the parts between the bars.
-use Rattle.respath_places.proofs.Common.{eqb, inr, lit<, refl, rules, sym, tests, ◌∙◌}
-use Rattle.std.proofs.lemmas.Iterator.{IsFirst-from_position}
-use Rattle.std.proofs.lemmas.Iterator.Consumers.{nth_from_yields_List}
+-- The loop is over the numbered parts between the bars.
+use Rattle.respath_places.proofs.Common.{[], eqb, inr, length, lit<, subst, sym, ℕ, ◌∙◌, ◌∷◌}
+use Rattle.std.proofs.lemmas.Iterator.Consumers.{YieldsList-at, YieldsList-from_enumerate, YieldsList-turn}
 use Rattle.std.proofs.lemmas.Iterator.Splits.{YieldsList-from_str_split}
-use Rattle.std.proofs.option.Match.{if_some}
-use Rattle.std.specs.List.{after_first}
-use Rattle.std.specs.Prelude.{⊤}
-use Rattle.respath_places.specs.Faults.{IsElementAt, IsStep, IsWrongPath}
-use Rattle.respath_places.specs.declared.place.InList.TheVariants.{Step}
-use Rattle.respath_places.proofs.PlaceLemmas.{in_step, weaker}
+use Rattle.std.proofs.lemmas.List.{length-append}
+use Rattle.std.specs.List.{AllWithin, after_first}
+use Rattle.respath_lines.specs.Path.{parts_of}
+use Rattle.respath_places.specs.Faults.{IsStep}
+use Rattle.respath_places.proofs.PlaceLemmas.{one_more, part_at}
 use Rattle.respath_places.proofs.fault.wrong_in_path.Goals as goal
 
-pub returns-in_ok-wrong_element-in-Some-list_of_step : goal.returns-in_ok-wrong_element-in-Some-list_of_step
-returns-in_ok-wrong_element-in-Some-list_of_step c =
+pub loop-part-preserved : goal.loop-part-preserved
+loop-part-preserved c =
     let rest = after_first (λ byte. eqb byte 124) c.args.path.now in
-    let behind = c.cut_at.ensures.behind (lit< tt) in
-    let root = rw (c.cut_at.ensures.before (lit< tt)) at c.in_default.ensures in
     let split = c.split.ensures in
-    let parts = YieldsList-from_str_split 124 rest (lit< tt) (split.text ∙ behind) split.has_more split.pattern in
-    let first =
-    if_some _ _ _ c.in_ok-step.was
-    (IsFirst-from_position _ _ c.position.result (λ part. ⊤) (IsStep c.args.kind) c.position.ensures.ran parts
-    (λ x q k. tt) (λ x q k. search (rules, tests))) in
-    let split2 = c.split-2.ensures in
-    let again = YieldsList-from_str_split 124 rest (lit< tt) (split2.text ∙ behind) split2.has_more split2.pattern in
-    let part = nth_from_yields_List c.nth.result _ c.in_ok-step.step c.nth.ensures.ran again in
-    let index = c.in_ok-wrong_element-in-Some-list_of_step.field-0 in
-    let list = c.in-Some-list_of_step.list.now in
-    weaker (IsElementAt (Step c.in_ok-step.step) list index) (IsWrongPath c.args.kind c.args.path.now)
-    c.element_at-in-Some-list_of_step.result
-    (λ place at.
-    let wrong =
-    in_step c.args.kind c.in_ok-step.step c.in_ok-part.part.now list index c.in-Some-list_of_step.ensures
-    c.in_ok-wrong_element-in-Some-list_of_step.ensures place at in
-    inr (root, (c.in_ok-step.step, first.2, c.in_ok-part.part.now, sym (rw c.in_ok-part.was at part), wrong)))
-    c.element_at-in-Some-list_of_step.ensures
+    let behind = split.text ∙ c.cut_at.ensures.behind (lit< tt) in
+    let parts = YieldsList-from_str_split 124 rest (lit< tt) behind split.has_more split.pattern in
+    let items = c.enumerate-part-items.ensures in
+    let numbered = YieldsList-from_enumerate (YieldsList-at items.source parts) items.count in
+    let road = YieldsList-at c.into_iter-part-iterator.ensures.into_iter_gives numbered in
+    let so_far = c.loop-part.yielded in
+    let part = c.in-Some-part.part in
+    let turn =
+    YieldsList-turn road so_far _ c.loop-part.yielded_by _ _ part c.in-Some-part.is c.next.ensures.steps in
+    let here = part_at (parts_of rest) (length so_far) (part.0, part.1.now) turn in
+    subst (λ (n : ℕ). AllWithin (IsStep c.args.kind) (parts_of rest) 0 n) (sym (length-append so_far (part ∷ [])))
+    (one_more (parts_of rest) (IsStep c.args.kind) (length so_far) (part.0, part.1.now) here c.loop-part.invariant
+    c.in_default-wrong_in_step.ensures)
 
-pub returns-in-None : goal.returns-in-None
-returns-in-None c =
+pub returns-in-Some-wrong_in_step : goal.returns-in-Some-wrong_in_step
+returns-in-Some-wrong_in_step c =
     let rest = after_first (λ byte. eqb byte 124) c.args.path.now in
-    let behind = c.cut_at.ensures.behind (lit< tt) in
-    let root = rw (c.cut_at.ensures.before (lit< tt)) at c.in_default.ensures in
     let split = c.split.ensures in
-    let parts = YieldsList-from_str_split 124 rest (lit< tt) (split.text ∙ behind) split.has_more split.pattern in
-    let first =
-    if_some _ _ _ c.in_ok-step.was
-    (IsFirst-from_position _ _ c.position.result (λ part. ⊤) (IsStep c.args.kind) c.position.ensures.ran parts
-    (λ x q k. tt) (λ x q k. search (rules, tests))) in
-    let split2 = c.split-2.ensures in
-    let again = YieldsList-from_str_split 124 rest (lit< tt) (split2.text ∙ behind) split2.has_more split2.pattern in
-    let part = nth_from_yields_List c.nth.result _ c.in_ok-step.step c.nth.ensures.ran again in
-    inr (
-      root,
-      (
-        c.in_ok-step.step,
-        first.2,
-        c.in_ok-part.part.now,
-        sym (rw c.in_ok-part.was at part),
-        (refl, refl, c.in-None.ensures),
-      ),
-    )
+    let behind = split.text ∙ c.cut_at.ensures.behind (lit< tt) in
+    let parts = YieldsList-from_str_split 124 rest (lit< tt) behind split.has_more split.pattern in
+    let items = c.enumerate-part-items.ensures in
+    let numbered = YieldsList-from_enumerate (YieldsList-at items.source parts) items.count in
+    let road = YieldsList-at c.into_iter-part-iterator.ensures.into_iter_gives numbered in
+    let so_far = c.loop-part.yielded in
+    let part = c.in-Some-part.part in
+    let turn =
+    YieldsList-turn road so_far _ c.loop-part.yielded_by _ _ part c.in-Some-part.is c.next.ensures.steps in
+    let here = part_at (parts_of rest) (length so_far) (part.0, part.1.now) turn in
+    let root = rw (c.cut_at.ensures.before (lit< tt)) at c.in_default.ensures in
+    let before = subst (λ (n : ℕ). AllWithin (IsStep c.args.kind) (parts_of rest) 0 n) here.0 c.loop-part.invariant in
+    inr (root, part.0, part.1.now, (before, here.1), c.in-Some-wrong_in_step.ensures)

@@ -1,5 +1,5 @@
 -- Results of readers, numbered parts of a text, and places.
-use Rattle.respath_places.proofs.Common.{IsTrue, List, Option, Some, ap, arith, get_or, inr, length, refl, sym, ℕ, ◌+◌, ◌<◌, ◌≡◌, ◌↔◌, ◌∙◌}
+use Rattle.respath_places.proofs.Common.{IsTrue, List, Option, Some, arith, get_or, inr, length, refl, sym, ℕ, ◌+◌, ◌<◌, ◌≡◌, ◌↔◌}
 use Rattle.std.proofs.lemmas.List.Elements.{AllWithin-more}
 use Rattle.std.proofs.lemmas.List.FromFn.{get_or-enumerate_from, length-enumerate_from}
 use Rattle.std.proofs.lemmas.Option.{get_or_from_slice_get, slice_get_read}
@@ -39,21 +39,16 @@ module _ (parts : List (List ℕ)) where
   pub part_at : (i : ℕ) (p : ℕ × List ℕ) → (i < length (enumerate_from 0 parts))
       × (p ≡ get_or (enumerate_from 0 parts) i p) → (i ≡ p.0) × (slice_get parts p.0 ≡ Some p.1)
   part_at i p at =
-      let within : i < length parts = rw (length-enumerate_from 0 parts) at at.0 in
-      let here : p ≡ (0 + i, get_or parts i p.1) = at.1 ∙ get_or-enumerate_from 0 parts i p within in
-      let number : i ≡ p.0 = omega (arith, ap (λ (q : ℕ × List ℕ). q.0) here) in (
-        number,
-        rw (← number) (slice_get_read parts (length parts) i p.1 refl within
-            (ap (λ (q : ℕ × List ℕ). q.1) here)),
-      )
+      let same = length-enumerate_from 0 parts in
+      let here = get_or-enumerate_from 0 parts i p in
+      grind (arith, slice_get_read parts (length parts) i p.1 refl)
 
   module _ (Right : List ℕ → Type 0) where
     -- one more part is right
     pub one_more : (i : ℕ) (p : ℕ × List ℕ) → (i ≡ p.0) × (slice_get parts p.0 ≡ Some p.1) → AllWithin Right parts 0 i
         → Right p.1 → AllWithin Right parts 0 (i + 1)
     one_more i p at before right =
-        AllWithin-more Right parts 0 i before
-        (λ d. rw (at.0, get_or_from_slice_get parts p.0 p.1 d at.1) right)
+        AllWithin-more Right parts 0 i before (λ d. rw (at.0, get_or_from_slice_get parts p.0 p.1 d at.1) right)
 
     right_within : (n : ℕ) → n < length parts + 1 → AllWithin (λ p. Right p.1) (enumerate_from 0 parts) 0 n
         → AllWithin Right parts 0 n

@@ -1,7 +1,8 @@
 -- What a check has found in octets, by their lines.
-use Rattle.respath_places.proofs.Common.{Bool, HasNo, IsTrue, List, [], arith, drop, eqb}
-use Rattle.respath_places.proofs.Common.{length, ltb, nat_tests, refl, rules, true, ℕ, ◌&&◌, ◌++◌, ◌+◌, ◌≡◌}
-use Rattle.respath_places.proofs.Common.{◌∷◌, ◌↔◌, ◌||◌}
+use Rattle.std.proofs.Common.{Bool, IsTrue, List, [], arith, drop, eqb, length, ltb, refl, rules, true, ℕ}
+use Rattle.std.proofs.Common.{◌&&◌, ◌++◌, ◌+◌, ◌≡◌, ◌∷◌, ◌↔◌, ◌||◌}
+use Rattle.rpki_text.specs.Cuts.{HasNo}
+use Rattle.std.proofs.lemmas.Bool.Decides.{nat_tests}
 use Rattle.std.proofs.lemmas.List.{drop_all, drop_more}
 use Rattle.respath_places.specs.Checks.{HasFaultLine, begins_with, error_word, has_later, has_matched, is_same}
 use Rattle.respath_places.specs.Checks.{matched_with, refused_word, seen_after, seen_nothing}

@@ -1,3 +1,2 @@
 pub mod CheckLemmas
-pub mod Common
 pub mod PlaceLemmas

@@ -1,5 +1,5 @@
 -- Results of readers, numbered parts of a text, and places.
-use Rattle.respath_places.proofs.Common.{IsTrue, List, Option, Some, arith, get_or, inr, length, refl, sym, ℕ, ◌+◌, ◌<◌, ◌≡◌, ◌↔◌}
+use Rattle.std.proofs.Common.{IsTrue, List, Option, Some, arith, get_or, inr, length, refl, sym, ℕ, ◌+◌, ◌<◌, ◌≡◌, ◌↔◌}
 use Rattle.std.proofs.lemmas.List.Elements.{AllWithin-more}
 use Rattle.std.proofs.lemmas.List.FromFn.{get_or-enumerate_from, length-enumerate_from}
 use Rattle.std.proofs.lemmas.Option.{get_or_from_slice_get, slice_get_read}

@@ -45,7 +45,10 @@ abbrev pub seen_after : Seen → List ℕ → Seen
 seen_after seen [] = seen
 seen_after seen (octet ∷ octets) =
     seen_after
-    (record { error = matched_with error_word seen.error octet; refused = matched_with refused_word seen.refused octet })
+    (record {
+      error = matched_with error_word seen.error octet;
+      refused = matched_with refused_word seen.refused octet;
+    })
     octets
 
 -- whether two states are equal

@@ -1,5 +1,5 @@
 -- The words of the line are those that the definitions name.
-use Rattle.respath_places.proofs.Common.{codes, inl, inr, lit<, rules, ◌≡◌}
+use Rattle.std.proofs.Common.{codes, inl, inr, lit<, rules, ◌≡◌}
 use Rattle.respath_places.specs.Answers.{IsPlace}
 use Rattle.respath_places.specs.Faults.{IsWrongList, IsWrongPath}
 use Rattle.respath_places.specs.declared.place.InList.TheVariants.{Argument}

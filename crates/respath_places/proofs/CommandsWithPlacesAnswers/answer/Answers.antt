@@ -1,5 +1,6 @@
 -- The place that is found is that of the answer.
-use Rattle.respath_places.proofs.Common.{inr, string_bytes}
+use Rattle.std.proofs.Common.{inr}
+use Rattle.std.specs.String.{string_bytes}
 use Rattle.std.proofs.lemmas.Result.{on_ok_weaker}
 use Rattle.respath_places.proofs.CommandsWithPlacesAnswers.answer.Goals as goal
 

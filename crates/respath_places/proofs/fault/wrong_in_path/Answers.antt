@@ -1,5 +1,5 @@
 -- The loop is over the numbered parts between the bars.
-use Rattle.respath_places.proofs.Common.{[], eqb, inr, length, lit<, subst, sym, ℕ, ◌∙◌, ◌∷◌}
+use Rattle.std.proofs.Common.{[], eqb, inr, length, lit<, subst, sym, ℕ, ◌∙◌, ◌∷◌}
 use Rattle.std.proofs.lemmas.Iterator.Consumers.{YieldsList-at, YieldsList-from_enumerate, YieldsList-turn}
 use Rattle.std.proofs.lemmas.Iterator.Splits.{YieldsList-from_str_split}
 use Rattle.std.proofs.lemmas.List.{length-append}

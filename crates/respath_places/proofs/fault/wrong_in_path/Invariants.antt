@@ -1,5 +1,5 @@
 -- The parts so far are steps.
-use Rattle.respath_places.proofs.Common.{eqb, length}
+use Rattle.std.proofs.Common.{eqb, length}
 use Rattle.std.specs.List.{AllWithin, after_first}
 use Rattle.respath_lines.specs.Path.{parts_of}
 use Rattle.respath_places.specs.Faults.{IsStep}

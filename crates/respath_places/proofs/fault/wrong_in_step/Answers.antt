@@ -1,5 +1,5 @@
 -- The list is that of the step.
-use Rattle.respath_places.proofs.Common.{rules, ◌≡◌}
+use Rattle.std.proofs.Common.{rules, ◌≡◌}
 use Rattle.respath_lines.specs.Path.{IsMode, list_of, word_of}
 use Rattle.respath_places.proofs.PlaceLemmas.{in_step}
 use Rattle.respath_places.proofs.fault.wrong_in_step.Goals as goal

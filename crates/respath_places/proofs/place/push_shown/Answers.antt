@@ -1,5 +1,5 @@
 -- The characters of the text are shown one by one.
-use Rattle.respath_places.proofs.Common.{rules}
+use Rattle.std.proofs.Common.{rules}
 use Rattle.std.proofs.lemmas.Iterator.{YieldsList-from_chars, YieldsList-from_map}
 use Rattle.std.proofs.lemmas.Iterator.Adapters.{items_from_extend}
 use Rattle.respath_places.specs.Places.{shown_char}

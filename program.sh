@@ -253,7 +253,7 @@ copy_input() {
 tell_said() {
     awk '
         FILENAME != "said" { names[FILENAME] = $0; next }
-        /^(checked|interpreter): |^run=/ { next }
+        /^(checked|interpreter|races): |^run=/ { next }
         {
             said = ""
             while (match($0, /try-file-[0-9]+/)) {

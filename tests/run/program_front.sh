@@ -260,7 +260,7 @@ interrupt "an interrupt of --try" INT 130 '' --try
 
 # The lines about sources that are not proved, by two runners.
 tried="respath: these answers come from sources that were not proved here"
-prover "a-kit logic 12" 'cat; echo "run=ended status=0 runners=2 proved=no" >&2'
+prover "a-kit logic 12" 'cat; printf "races: not looked for\nrun=ended status=0 runners=2 proved=no\n" >&2'
 prints "lines that come with a pause" '{ echo one; sleep 3; echo two; } | piped "$copy/respath" --try' 0 "$tried
 one
 two"

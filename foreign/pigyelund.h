@@ -68,9 +68,10 @@
  * MEMORY. Except for handles, the library keeps nothing between calls and hands out no memory. Each call frees all that
  * it takes from malloc before it returns. There is no hook for another allocator.
  *
- * - These calls take no memory: pigy_version, pigy_status_text, pigy_table_validate, pigy_table_len,
- *   pigy_resources_contains, pigy_resources_contains_asn, pigy_resources_contains_prefix, pigy_resources_equal,
- *   pigy_resources_free and pigy_table_free. Any other call may return PIGY_MEMORY.
+ * - These calls take no memory: pigy_version, pigy_status_text, pigy_table_validate, pigy_table_validate_routes,
+ *   pigy_table_revalidate, pigy_table_len, pigy_resources_contains, pigy_resources_contains_asn,
+ *   pigy_resources_contains_prefix, pigy_resources_equal, pigy_resources_free and pigy_table_free. Any other call may
+ *   return PIGY_MEMORY.
  * - A table of 500,000 VRPs takes some 42 octets for each VRP. pigy_table_new takes some 80 more for each VRP
  *   during the call.
  * - PIGY_MEMORY has three causes. malloc or realloc failed, or an array of the library would have 2^63 octets or more,
@@ -87,7 +88,6 @@
  * A DAEMON must:
  *
  * - begin with an empty table (pigy_table_new with count 0), so that its handle is never NULL;
- * - use PIGY_NOT_FOUND for routes of an array after PIGY_MEMORY, and validate them again later;
  * - exchange the handle of its table, then call pigy_table_revalidate, and then free the old table;
  * - free a handle only after all other calls with it have returned.
  *
@@ -1171,25 +1171,29 @@ pigy_status pigy_table_validate(const pigy_table *table, const pigy_route *route
 /**
  * Validates routes by a table: one octet for each route, PIGY_VALID, PIGY_NOT_FOUND or PIGY_INVALID (RFC 6811, 2).
  *
- * Many routes in one call take less time each. The call takes one octet for each route and less than 2 KiB from malloc,
- * and frees them.
+ * Many routes in one call take less time each. The call takes no memory.
  *
- * @param table     The table, which is only read. The status is PIGY_NO_HANDLE if it is NULL.
- * @param routes    Routes. May be NULL if the count is 0.
- * @param count     Number of routes.
- * @param out       Buffer for one octet a route, in the order of the routes. Owned by the caller. May be NULL if the
- *                  capacity is 0.
- * @param capacity  Capacity of `out` in octets; may be 0. The count of the routes always suffices.
- * @param len       Receives the length in octets, written or required. Not NULL.
- * @param index     Receives the index of the first invalid route, from 0; else 0. Not NULL.
+ * @param table             The table, which is only read. The status is PIGY_NO_HANDLE if it is NULL.
+ * @param routes            Routes. May be NULL if the count is 0.
+ * @param count             Number of routes.
+ * @param out               Buffer for one octet a route, in the order of the routes. Owned by the caller. May be NULL
+ *                          if the capacity is 0.
+ * @param capacity          Capacity of `out` in octets; may be 0. The count of the routes always suffices.
+ * @param reasons           Buffer for the reason of each route, as pigy_table_validate stores it: one octet a route, in
+ *                          the order of the routes. Owned by the caller. May be NULL if the capacity is 0.
+ * @param reasons_capacity  Capacity of `reasons` in octets: at least the count of the routes, or 0 for no reasons.
+ * @param len               Receives the length of both outputs in octets, written or required. Not NULL.
+ * @param index             Receives the index of the first invalid route, from 0; else 0. Not NULL.
  *
  * @return the first of these that applies:
  *   1. PIGY_NO_HANDLE.
  *   2. PIGY_SECOND + PIGY_BAD_FAMILY, PIGY_SECOND + PIGY_BAD_PREFIX: the first invalid route.
- *   3. PIGY_TOO_SMALL, then PIGY_OK.
+ *   3. PIGY_TOO_SMALL: `capacity` is below the count, or `reasons_capacity` is below the count and is not 0.
+ *   4. PIGY_OK.
  */
 pigy_status pigy_table_validate_routes(const pigy_table *table, const pigy_route *routes, size_t count, uint8_t *out,
-                                       size_t capacity, size_t *len, size_t *index) PIGY_NODISCARD PIGY_NONNULL(6, 7);
+                                       size_t capacity, uint8_t *reasons, size_t reasons_capacity, size_t *len,
+                                       size_t *index) PIGY_NODISCARD PIGY_NONNULL(8, 9);
 
 /**
  * Compares the validity of each route by two tables (RFC 6811, 4). The octet of a route is 1 if its validity differs
@@ -1199,10 +1203,10 @@ pigy_status pigy_table_validate_routes(const pigy_table *table, const pigy_route
  * you use, and validate each route again whose octet is 1. Free the old table last. If you compare first, a route that
  * the old table validates between comparison and exchange has a wrong validity.
  *
- * For the first table pass an empty table as `old`, or validate all routes instead of this call. After PIGY_MEMORY
- * validate all routes. docs/C.md, "Several caches", says what to do with several tables.
+ * For the first table pass an empty table as `old`, or validate all routes instead of this call. docs/C.md, "Several
+ * caches", says what to do with several tables.
  *
- * The call takes three octets for each route and less than 2 KiB from malloc, and frees them.
+ * The call takes no memory.
  *
  * @param old       The one table, which is only read. The status is PIGY_NO_HANDLE if it is NULL.
  * @param next      The other table, which is only read. The status is PIGY_NO_HANDLE if it is NULL. May be `old`.
@@ -1222,6 +1226,39 @@ pigy_status pigy_table_validate_routes(const pigy_table *table, const pigy_route
 pigy_status pigy_table_revalidate(const pigy_table *old, const pigy_table *next, const pigy_route *routes, size_t count,
                                   uint8_t *out, size_t capacity, size_t *len, size_t *index)
     PIGY_NODISCARD PIGY_NONNULL(7, 8);
+
+/**
+ * Lists the VRPs in which two tables differ: those that a cache announces and withdraws from one table to the next (RFC
+ * 8210, 5.6).
+ *
+ * Each VRP is listed once. A VRP that a table lists twice counts once. pigy_table_with_changes applies the changes: it
+ * makes a table with the VRPs of `next` from `old`.
+ *
+ * Both lists have one order, which is not that of pigy_table_vrps. IPv4 comes before IPv6. Then the order is by the
+ * last address of the prefix, and then by prefix length, the longer first. If two VRPs have the same prefix, the longer
+ * maximum length comes first. If they also have the same maximum length, the lesser AS number comes first.
+ *
+ * @param old                 The old table, which is only read. The status is PIGY_NO_HANDLE if it is NULL.
+ * @param next                The next table, which is only read. The status is PIGY_NO_HANDLE if it is NULL. May be
+ *                            `old`.
+ * @param announced           Buffer for the VRPs that are in `next` and not in `old`. Owned by the caller. May be NULL
+ *                            if the capacity is 0.
+ * @param announced_capacity  Capacity of `announced` in VRPs, not in octets; may be 0. The length of `next` always
+ *                            suffices.
+ * @param announced_len       Receives the number of these VRPs, written or required. Not NULL.
+ * @param withdrawn           Buffer for the VRPs that are in `old` and not in `next`. Owned by the caller. May be NULL
+ *                            if the capacity is 0.
+ * @param withdrawn_capacity  Capacity of `withdrawn` in VRPs, not in octets; may be 0. The length of `old` always
+ *                            suffices.
+ * @param withdrawn_len       Receives the number of these VRPs, written or required. Not NULL.
+ *
+ * @return the first of these that applies:
+ *   1. PIGY_NO_HANDLE.
+ *   2. PIGY_TOO_SMALL, then PIGY_OK.
+ */
+pigy_status pigy_table_changes(const pigy_table *old, const pigy_table *next, pigy_vrp *announced,
+                               size_t announced_capacity, size_t *announced_len, pigy_vrp *withdrawn,
+                               size_t withdrawn_capacity, size_t *withdrawn_len) PIGY_NODISCARD PIGY_NONNULL(5, 8);
 
 /**
  * Lists the VRPs of a table that cover a route, each with the reason why it does not match.

@@ -3,5 +3,7 @@ pub mod InterleavedLemmas
 pub mod ReasonLemmas
 pub mod RefusalLemmas
 pub mod RouteChangeLemmas
+pub mod TableChangeLemmas
+pub mod TableValidityLemmas
 pub mod ValidityArrayLemmas
 pub mod VrpArrayLemmas

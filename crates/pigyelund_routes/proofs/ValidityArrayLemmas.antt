@@ -1,12 +1,8 @@
--- One element of an array after another; and validities in a table's order.
-use Rattle.pigyelund_routes.proofs.Common.{List, [], ap, get_or, length, refl, take, ℕ, ◌++◌, ◌+◌, ◌<◌, ◌∷◌, ◌≡◌, Err}
-use Rattle.pigyelund_routes.proofs.Common.{MatchResult, Ok, Result, AreEach, IsFirstElementError}
+-- What is had of each element of an array: one element after another, and by its index.
+use Rattle.pigyelund_routes.proofs.Common.{List, [], ap, arith, get_or, length, refl, take, ℕ, ◌++◌, ◌+◌, ◌<◌, ◌∷◌, ◌≡◌}
+use Rattle.pigyelund_routes.proofs.Common.{AreEach}
+use Rattle.std.proofs.Common.{suc, zero}
 use Rattle.std.proofs.lemmas.List.{take_more}
-use Rattle.rpki_text.specs.Memory.{IfRefused}
-use Rattle.rpki_text.specs.declared.memory.OrMemory.{OrMemory}
-use Rattle.rpki_text.specs.declared.memory.OrMemory.TheVariants.{Refused, Memory}
-use Rattle.pigyelund_routes.specs.declared.origin.ElementError.{ElementError}
-use Rattle.pigyelund_routes.specs.declared.route.RouteError.{RouteError}
 
 module _ {X Y : Type 0} (R : X → Y → Type 0) where
   -- what is had of one list and of another is had of both, one after the other
@@ -26,17 +22,38 @@ module _ {X Y : Type 0} (R : X → Y → Type 0) where
   one_more xs ys all at none y small put each is =
       rw (take_more xs at none small, put) (append (take at xs) ys _ y each is)
 
--- what R says of each S says too: also of all before the first that is none
-module _ {X Y : Type 0} (R S : X → Y → Type 0) (so : (x : X) (y : Y) → R x y → S x y) where
-  all_too : (xs : List X) (ys : List Y) → AreEach R xs ys → AreEach S xs ys
-  all_too [] ys none = none
-  all_too (x ∷ xs) ys (y, is, (rest, all, each)) = (y, so x y is, (rest, all, all_too xs rest each))
+-- there are as many as there are elements
+pub as_many : {X Y : Type 0} (R : X → Y → Type 0) (xs : List X) (ys : List Y) → AreEach R xs ys → length ys ≡ length xs
+as_many R [] ys none = ap length none
+as_many R (x ∷ xs) ys (y, is, (rest, all, each)) =
+    let more = as_many R xs rest each in rw all (omega (arith, more))
 
-  pub by_another : (N : X → RouteError → Type 0) (xs : List X) {V : Type 0} (items : V → List Y)
-      (r : Result V (OrMemory ElementError))
-      → MatchResult r (λ v. AreEach R xs (items v)) (IfRefused (IsFirstElementError R N xs))
-      → MatchResult r (λ v. AreEach S xs (items v)) (IfRefused (IsFirstElementError S N xs))
-  by_another N xs items (Ok v) written = all_too xs (items v) written
-  by_another N xs items (Err (Refused first)) (x, small, here, (ys, each, none)) =
-      (x, small, here, (ys, all_too (take first.at xs) ys each, none))
-  by_another N xs items (Err (Memory error)) written = written
+-- what is had of each is had of the element at an index
+pub each_at : {X Y : Type 0} (R : X → Y → Type 0) (xs : List X) (ys : List Y) → AreEach R xs ys → (k : ℕ) (none : X)
+    → k < length xs → (y : Y) × R (get_or xs k none) y
+each_at R [] ys each k none small = absurd (omega (arith, small))
+each_at R (x ∷ xs) ys (y, is, (rest, all, each)) zero none small = (y, is)
+each_at R (x ∷ xs) ys (y, is, (rest, all, each)) (suc k) none small =
+    each_at R xs rest each k none (omega (arith, small))
+
+-- what is had of the elements at each index is had of each
+pub by_index : {X : Type 0} (R : X → ℕ → Type 0) (xs : List X) (ys : List ℕ) → length ys ≡ length xs
+    → ((k : ℕ) (none : X) → k < length ys → R (get_or xs k none) (get_or ys k 0)) → AreEach R xs ys
+by_index R [] [] same at = refl
+by_index R [] (y ∷ ys) same at = absurd (omega (arith, same))
+by_index R (x ∷ xs) [] same at = absurd (omega (arith, same))
+by_index R (x ∷ xs) (y ∷ ys) same at = (
+  y,
+  at zero x (omega arith),
+  (
+    ys,
+    refl,
+    by_index R xs ys (omega (arith, same)) (λ k none small. at (suc k) none (omega (arith, small))),
+  ),
+)
+
+-- what R says of each S says too
+pub all_too : {X Y : Type 0} (R S : X → Y → Type 0) (so : (x : X) (y : Y) → R x y → S x y) (xs : List X) (ys : List Y)
+    → AreEach R xs ys → AreEach S xs ys
+all_too R S so [] ys none = none
+all_too R S so (x ∷ xs) ys (y, is, (rest, all, each)) = (y, so x y is, (rest, all, all_too R S so xs rest each))

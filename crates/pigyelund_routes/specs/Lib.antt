@@ -6,6 +6,8 @@ pub mod Reasons
 pub mod ReturnedVrps
 pub mod RouteChanges
 pub mod Routes
+pub mod TableChanges
 pub mod Tables
+pub mod Validities
 pub mod VrpFiles
 pub mod Written

@@ -1,16 +1,13 @@
 -- The validity of routes that a caller passes, by VRPs that it passes (RFC 6811, 2).
-use Rattle.std.specs.Prelude.{◌≡◌, ◌⊎◌, ℕ, ◌+◌, ◌<◌, List, [], ◌∷◌, length, slice_index_or, take}
+use Rattle.std.specs.Prelude.{◌≡◌, ◌⊎◌, ℕ, ◌<◌, List, [], ◌∷◌, length, slice_index_or, take}
 use Rattle.rpki_prefix.specs.Values.{FamilyPrefix}
 use Rattle.roa_origin.specs.Vrps.{Vrp}
 use Rattle.roa_origin.specs.Validities.{IsValidity}
 use Rattle.roa_origin.specs.declared.validation.Validity.{Validity}
 use Rattle.roa_origin.specs.declared.validation.Validity.TheVariants.{Valid, Invalid, NotFound}
-use Rattle.pigyelund_routes.specs.Routes.{IsNoVrp, IsNoRoute, IsVrp, IsRoute, route_error_status}
+use Rattle.pigyelund_routes.specs.Routes.{IsNoRoute, IsRoute, route_error_status}
 use Rattle.pigyelund_routes.specs.Written.{AreWritten}
 use Rattle.pigyelund_routes.specs.declared.origin.ElementError.{ElementError}
-use Rattle.pigyelund_routes.specs.declared.origin.ValidationError.{ValidationError}
-use Rattle.pigyelund_routes.specs.declared.origin.ValidationError.TheVariants.{Vrp as NoVrp, Route as NoRoute}
-use Rattle.pigyelund_routes.specs.declared.route.RawVrp.{RawVrp as Handed}
 use Rattle.pigyelund_routes.specs.declared.route.Route.{Route}
 use Rattle.pigyelund_routes.specs.declared.route.RouteError.{RouteError}
 
@@ -28,6 +25,14 @@ IsFirstElementError {X} {Y} R N xs first =
     (x : X) × (first.at < length xs) × (slice_index_or xs first.at x ≡ x)
     × ((ys : List Y) × AreEach R (take first.at xs) ys × N x first.reason)
 
+-- The numbers and octets of each route are a prefix.
+abbrev pub AreRoutes : List Route → Type 0
+AreRoutes routes = (prefixes : List FamilyPrefix) × AreEach IsRoute routes prefixes
+
+-- The first invalid route.
+abbrev pub IsFirstRouteError : List Route → ElementError → Type 0
+IsFirstRouteError routes first = IsFirstElementError IsRoute IsNoRoute routes first
+
 -- ---- validities
 
 -- The number of a validity (RFC 8097, 2).
@@ -44,27 +49,15 @@ pub record IsOrigin (vrps : List Vrp) (r : Route) (octet : ℕ) : Type 0 where
   pub is_validity : IsValidity prefix r.asn vrps validity
   pub number : octet ≡ validity_number validity
 
--- The octets are the validities of all routes by all VRPs.
-abbrev pub AreOrigins : List Handed → List Route → List ℕ → Type 0
-AreOrigins handed routes octets = (vrps : List Vrp) × AreEach IsVrp handed vrps × AreEach (IsOrigin vrps) routes octets
-
--- The first invalid VRP, or if all VRPs are valid, the first invalid route.
-abbrev pub HasValidationError : List Handed → List Route → ValidationError → Type 0
-HasValidationError handed routes (NoVrp first) = IsFirstElementError IsVrp IsNoVrp handed first
-HasValidationError handed routes (NoRoute first) =
-    (vrps : List Vrp) × AreEach IsVrp handed vrps × IsFirstElementError (IsOrigin vrps) IsNoRoute routes first
-
 -- ---- statuses
 
--- The status of the reason why no validities are returned: 16777216 is added for a route.
-abbrev pub validation_error_status : ValidationError → ℕ
-validation_error_status (NoVrp first) = route_error_status first.reason
-validation_error_status (NoRoute first) = 16777216 + route_error_status first.reason
+-- The status of the first invalid element of an array of VRPs.
+abbrev pub element_error_status : ElementError → ℕ
+element_error_status first = route_error_status first.reason
 
--- The index of the invalid VRP or route.
-abbrev pub validation_error_index : ValidationError → ℕ
-validation_error_index (NoVrp first) = first.at
-validation_error_index (NoRoute first) = first.at
+-- The index of the first invalid element of an array.
+abbrev pub element_error_index : ElementError → ℕ
+element_error_index first = first.at
 
 -- Items for which P holds are returned. Otherwise the status and the index belong to a reason for which N holds, or the
 -- status is 512, and nothing is written.
@@ -74,9 +67,3 @@ IsAnsweredAt {X} R P status index_of N before after len index result =
     ((items : List X) × P items × AreWritten items before after len result × (index ≡ 0))
     ⊎ (((reason : R) × N reason × (result ≡ status reason) × (index ≡ index_of reason) × (after ≡ before) × (len ≡ 0))
     ⊎ ((result ≡ 512) × (after ≡ before) × (len ≡ 0) × (index ≡ 0)))
-
--- The validities of routes by VRPs are returned.
-abbrev pub AreOriginsReturned : List Handed → List Route → List ℕ → List ℕ → ℕ → ℕ → ℕ → Type 0
-AreOriginsReturned handed routes =
-    IsAnsweredAt ValidationError (AreOrigins handed routes) validation_error_status validation_error_index
-    (HasValidationError handed routes)

@@ -37,6 +37,10 @@ pub record IsValidated (vrps : List Vrp) (r : Route) (number why : ℕ) : Type 0
   pub is_number : number ≡ validity_number validity
   pub is_reason : IsReason prefix r.asn vrps validity why
 
+-- The octet is the reason of the validity of a route by VRPs.
+abbrev pub HasReason : List Vrp → Route → ℕ → Type 0
+HasReason vrps r why = (number : ℕ) × IsValidated vrps r number why
+
 -- The validity of a route by a table and its reason are returned. With any status but 0 they are 255 and 0.
 abbrev pub IsValidatedReturned : Ptr → List Vrp → Route → ℕ → ℕ → ℕ → Type 0
 IsValidatedReturned at table r validity reason result =

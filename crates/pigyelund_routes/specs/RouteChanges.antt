@@ -1,13 +1,13 @@
 -- The routes whose validity differs between two tables (RFC 6811, 4).
-use Rattle.std.specs.Prelude.{◌≡◌, ◌≢◌, ◌⊎◌, ℕ, List, [], ◌∷◌, ◌==◌, if◌then◌else◌}
+use Rattle.std.specs.Prelude.{◌≡◌, ◌≢◌, ◌⊎◌, ◌<◌, ℕ, List, ◌==◌, if◌then◌else◌, length}
 use Rattle.std.specs.Ptr.{Ptr}
 use Rattle.roa_origin.specs.Vrps.{Vrp}
-use Rattle.pigyelund_routes.specs.Origins.{AreEach, IsAnsweredAt, IsFirstElementError, IsOrigin, validation_error_index}
-use Rattle.pigyelund_routes.specs.Origins.{validation_error_status}
-use Rattle.pigyelund_routes.specs.Routes.{IsNoRoute, IsRoute}
+use Rattle.roa_origin.specs.Lookups.{RouteLookup}
+use Rattle.pigyelund_routes.specs.Lookups.{IsValidityFound}
+use Rattle.pigyelund_routes.specs.Origins.{AreEach, IsOrigin}
 use Rattle.pigyelund_routes.specs.Tables.{IsAsked}
-use Rattle.pigyelund_routes.specs.declared.origin.ValidationError.{ValidationError}
-use Rattle.pigyelund_routes.specs.declared.origin.ValidationError.TheVariants.{Vrp as NoVrp, Route as NoRoute}
+use Rattle.pigyelund_routes.specs.Validities.{AreRoutesAnswered}
+use Rattle.pigyelund_routes.specs.Written.{IsPutFor}
 use Rattle.pigyelund_routes.specs.declared.route.Route.{Route}
 
 -- ---- marks
@@ -16,11 +16,13 @@ use Rattle.pigyelund_routes.specs.declared.route.Route.{Route}
 abbrev pub change_mark : ℕ → ℕ → ℕ
 change_mark one other = if one == other then 0 else 1
 
--- The marks of the numbers of two lists, index by index.
-abbrev pub marks : List ℕ → List ℕ → List ℕ
-marks [] others = []
-marks (one ∷ ones) [] = []
-marks (one ∷ ones) (other ∷ others) = change_mark one other ∷ marks ones others
+-- The octet is the mark of the validities that the lookups with this number in two tables find.
+pub record IsChangeFound (befores afters : List RouteLookup) (k octet : ℕ) : Type 0 where
+  pub before : ℕ
+  pub after : ℕ
+  pub was : IsValidityFound befores k before
+  pub is : IsValidityFound afters k after
+  pub mark : octet ≡ change_mark before after
 
 -- ---- changes
 
@@ -32,19 +34,22 @@ pub record IsRouteChange (old new : List Vrp) (r : Route) (octet : ℕ) : Type 0
   pub is : IsOrigin new r after
   pub change : ((octet ≡ 0) × (before ≡ after)) ⊎ ((octet ≡ 1) × (before ≢ after))
 
--- The first invalid route.
-abbrev pub HasRouteError : List Route → ValidationError → Type 0
-HasRouteError routes (NoVrp first) = ⊥
-HasRouteError routes (NoRoute first) = IsFirstElementError IsRoute IsNoRoute routes first
-
 -- ---- returned
 
--- One octet for each route says whether its validity differs between two tables.
-abbrev pub AreRouteChangesReturned : Ptr → List Vrp → Ptr → List Vrp → List Route → List ℕ → List ℕ → ℕ → ℕ → ℕ → Type 0
+-- The status is 0 and one octet for each route says whether its validity differs between two tables. Or it is 256 and
+-- the buffer is too small, or it is that of the first invalid route. The buffer is unchanged then.
+abbrev pub AreRoutesCompared : List Vrp → List Vrp → List Route → List ℕ → List ℕ → ℕ → ℕ → ℕ → Type 0
+AreRoutesCompared old new routes before after len index result =
+    AreRoutesAnswered routes
+    (((result ≡ 0) × IsPutFor (AreEach (IsRouteChange old new) routes) before after)
+    ⊎ ((result ≡ 256) × (length before < length routes) × (after ≡ before)))
+    (after ≡ before) len index result
+
+-- The changes of routes between two tables are returned.
+abbrev pub AreRouteChangesReturned : Ptr → List Vrp → Ptr → List Vrp → List Route → List ℕ → List ℕ → ℕ → ℕ → ℕ
+    → Type 0
 AreRouteChangesReturned old_at old new_at new routes before after len index result =
     IsAsked old_at
-    (IsAsked new_at
-    (IsAnsweredAt ValidationError (AreEach (IsRouteChange old new) routes) validation_error_status
-    validation_error_index (HasRouteError routes) before after len index result)
+    (IsAsked new_at (AreRoutesCompared old new routes before after len index result)
     ((after ≡ before) × (len ≡ 0) × (index ≡ 0)) result)
     ((after ≡ before) × (len ≡ 0) × (index ≡ 0)) result

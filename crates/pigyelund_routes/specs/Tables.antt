@@ -7,13 +7,11 @@ use Rattle.roa_origin.specs.Vrps.{Vrp}
 use Rattle.roa_origin.specs.Updates.{AreUpdates, HasChangeFault, IsUpdated}
 use Rattle.roa_origin.specs.declared.updates.ChangeFault.{ChangeFault}
 use Rattle.roa_origin.specs.declared.updates.ChangeFault.TheVariants.{DuplicateAnnouncement, UnknownWithdrawal}
-use Rattle.pigyelund_routes.specs.Origins.{AreEach, IsAnsweredAt, IsFirstElementError, IsOrigin, validation_error_index}
-use Rattle.pigyelund_routes.specs.Origins.{validation_error_status}
+use Rattle.pigyelund_routes.specs.Origins.{AreEach, IsFirstElementError, element_error_index, element_error_status}
 use Rattle.pigyelund_routes.specs.Routes.{IsNoVrp, IsNoRoute, IsVrp, route_error_status}
 use Rattle.pigyelund_routes.specs.Written.{AreWritten, IsAnswered}
 use Rattle.pigyelund_routes.specs.ReturnedVrps.{AreCoveringsOf, handed_of, route_status}
-use Rattle.pigyelund_routes.specs.declared.origin.ValidationError.{ValidationError}
-use Rattle.pigyelund_routes.specs.declared.origin.ValidationError.TheVariants.{Vrp as NoVrp, Route as NoRoute}
+use Rattle.pigyelund_routes.specs.declared.origin.ElementError.{ElementError}
 use Rattle.pigyelund_routes.specs.declared.change.ChangeTableError.{ChangeTableError}
 use Rattle.pigyelund_routes.specs.declared.change.ChangeTableError.TheVariants.{Announced, Withdrawn, Fault}
 use Rattle.pigyelund_routes.specs.declared.route.Covering.{Covering}
@@ -27,11 +25,6 @@ use Rattle.pigyelund_routes.specs.declared.route.RouteError.{RouteError}
 abbrev pub IsTableOfHanded : List Handed → List Vrp → Type 0
 IsTableOfHanded handed table = (vrps : List Vrp) × AreEach IsVrp handed vrps × IsPermutation vrps table
 
--- The first invalid VRP.
-abbrev pub IsNoTable : List Handed → ValidationError → Type 0
-IsNoTable handed (NoVrp first) = IsFirstElementError IsVrp IsNoVrp handed first
-IsNoTable handed (NoRoute first) = ⊥
-
 -- The handle of a table for which P holds is returned. Otherwise the status and the index belong to a reason for which
 -- N holds, or the status is 512, and the handle is null.
 abbrev pub IsTableReturned : (R : Type 0) → (List Vrp → Type 0) → (R → ℕ) → (R → ℕ) → (R → Type 0)
@@ -44,27 +37,14 @@ IsTableReturned R P status index_of N given at index result =
 -- A table of VRPs that are passed is returned.
 abbrev pub IsMadeTableReturned : List Handed → Option (List Vrp) → Ptr → ℕ → ℕ → Type 0
 IsMadeTableReturned handed =
-    IsTableReturned ValidationError (IsTableOfHanded handed) validation_error_status validation_error_index
-    (IsNoTable handed)
+    IsTableReturned ElementError (IsTableOfHanded handed) element_error_status element_error_index
+    (IsFirstElementError IsVrp IsNoVrp handed)
 
 -- ---- read
 
 -- Either the handle is that of a table and T holds, or it is null, U holds, and the status is 1033.
 abbrev pub IsAsked : Ptr → Type 0 → Type 0 → ℕ → Type 0
 IsAsked at T U result = (InBlock at × T) ⊎ ((at ≡ null_ptr) × U × (result ≡ 1033))
-
--- The first invalid route.
-abbrev pub HasTableValidationError : List Vrp → List Route → ValidationError → Type 0
-HasTableValidationError table routes (NoVrp first) = ⊥
-HasTableValidationError table routes (NoRoute first) = IsFirstElementError (IsOrigin table) IsNoRoute routes first
-
--- The validities of routes by a table are returned.
-abbrev pub AreTableOriginsReturned : Ptr → List Vrp → List Route → List ℕ → List ℕ → ℕ → ℕ → ℕ → Type 0
-AreTableOriginsReturned at table routes before after len index result =
-    IsAsked at
-    (IsAnsweredAt ValidationError (AreEach (IsOrigin table) routes) validation_error_status validation_error_index
-    (HasTableValidationError table routes) before after len index result)
-    ((after ≡ before) × (len ≡ 0) × (index ≡ 0)) result
 
 -- The VRPs that cover a route are returned.
 abbrev pub AreCoveringsReturned : Ptr → List Vrp → Route → List Covering → List Covering → ℕ → ℕ → Type 0

@@ -16,7 +16,7 @@ use std::alloc::{AllocError, Global};
 /// # Errors
 ///
 /// [`AllocError`] if out of memory for them.
-fn raw_vrps(alloc: Global, vrps: &[Vrp]) -> Result<Vec<RawVrp, Global>, AllocError>
+pub(crate) fn raw_vrps(alloc: Global, vrps: &[Vrp]) -> Result<Vec<RawVrp, Global>, AllocError>
     ensures { IfOk result (λ list. list.items ≡ map handed_of vrps.now) }
 {
     let mut list = Vec::with_capacity(alloc, vrps.len())?;

@@ -22,6 +22,8 @@ pub mod route;
 pub mod route_changes;
 pub mod status;
 pub mod table;
+pub mod table_changes;
 pub mod table_handle;
 pub mod validate;
+pub mod validities;
 pub mod write;

@@ -1,15 +1,15 @@
-//! The routes whose validity differs between two tables (RFC 6811, 4).
-ghost use Rattle.std.specs.Prelude.{◌≡◌, IfOk, MatchResult, length};
-ghost use Rattle.rpki_text.specs.Memory.{IfRefused};
-ghost use Rattle.pigyelund_routes.specs.Origins.{AreEach, IsFirstElementError};
-ghost use Rattle.pigyelund_routes.specs.RouteChanges.{HasRouteError, IsRouteChange, change_mark, marks};
-ghost use Rattle.pigyelund_routes.specs.Routes.{IsNoRoute, IsRoute};
+//! The routes whose validity differs between two tables (RFC 6811, 4), without an allocation.
+ghost use Rattle.std.specs.Prelude.{◌≡◌, ◌+◌, ◌≤◌, length};
+ghost use Rattle.pigyelund_routes.specs.Lookups.{AreAppended};
+ghost use Rattle.pigyelund_routes.specs.Origins.{AreEach, AreRoutes};
+ghost use Rattle.pigyelund_routes.specs.RouteChanges.{AreRoutesCompared, IsChangeFound, IsRouteChange, change_mark};
 
-use crate::origin::{ElementError, ValidationError, origins_in};
+use crate::interleaved::{BESIDE, advance, begin};
+use crate::origin::{check_routes, number_of};
 use crate::route::Route;
-use roa_origin::OriginTable;
-use rpki_text::memory::{OrMemory, refused_as};
-use std::alloc::{AllocError, Global};
+use crate::status;
+use roa_origin::{Lookup, OriginTable};
+use std::alloc::Global;
 
 /// Returns 0 for equal numbers, and 1 for others.
 fn mark(one: u8, other: u8) -> u8
@@ -18,66 +18,79 @@ fn mark(one: u8, other: u8) -> u8
     if one == other { 0 } else { 1 }
 }
 
-/// Returns the marks of the numbers of two lists, index by index.
+/// Writes the marks of what the first `count` lookups in two tables find, from index `at` on.
+fn end_marks(
+    befores: &[Lookup<'_>; BESIDE],
+    afters: &[Lookup<'_>; BESIDE],
+    count: usize,
+    at: usize,
+    octets: &mut [u8],
+)
+    requires count { count ≤ BESIDE }
+    requires octets { at + count ≤ length octets.old }
+    ensures { AreAppended (IsChangeFound befores.now afters.now) at count octets.old octets.new }
+{
+    for offset in 0..count {
+        let before = befores[offset].validity();
+        let after = afters[offset].validity();
+        octets[at + offset] = mark(number_of(before), number_of(after));
+    }
+}
+
+/// Writes the mark of each route to `octets`.
 ///
 /// # Preconditions
 ///
-/// The lists have the same length.
-///
-/// # Errors
-///
-/// [`AllocError`] if out of memory for the marks.
-fn marks(alloc: Global, ones: &[u8], others: &[u8]) -> Result<Vec<u8, Global>, AllocError>
-    requires { length ones.now ≡ length others.now }
-    ensures { IfOk result (λ octets. octets.items ≡ marks ones.now others.now) }
+/// All routes are valid. `octets` has one octet for each route.
+fn write_marks(
+    old: &OriginTable<Global>,
+    next: &OriginTable<Global>,
+    routes: &[Route],
+    octets: &mut [u8],
+)
+    requires valid { AreRoutes routes.now }
+    requires octets { length octets.old ≡ length routes.now }
+    ensures { AreEach (IsRouteChange old.now next.now) routes.now octets.new }
 {
-    let mut octets = Vec::with_capacity(alloc, ones.len())?;
-    for (at, one) in ones.iter().enumerate() {
-        octets.push(mark(*one, others[at]))?;
+    let mut at = 0;
+    while at < routes.len() {
+        let count = (routes.len() - at).min(BESIDE);
+        let mut befores = begin(old, routes, at);
+        let mut afters = begin(next, routes, at);
+        advance(&mut befores, count);
+        advance(&mut afters, count);
+        end_marks(&befores, &afters, count, at, octets);
+        at += count;
     }
-    Ok(octets)
 }
 
-/// Returns the marks of the validities of each route by two tables.
+/// Writes 1 to `out` for each route whose validity differs between two tables, and 0 for each other route, and returns
+/// the status.
 ///
-/// # Errors
-///
-/// - `Refused`: the first invalid route.
-/// - `Memory`: out of memory for the marks, the validities or the lookups.
-fn marked_routes(
-    alloc: Global,
-    old: &OriginTable<Global>,
-    new: &OriginTable<Global>,
-    routes: &[Route],
-) -> Result<Vec<u8, Global>, OrMemory<ElementError>>
-    ensures { MatchResult result
-        (λ octets. AreEach (IsRouteChange old.now new.now) routes.now octets.items)
-        (IfRefused (IsFirstElementError IsRoute IsNoRoute routes.now)) }
-{
-    let before = origins_in(alloc, old, routes)?;
-    let after = origins_in(alloc, new, routes)?;
-    let octets = marks(alloc, before.as_slice(), after.as_slice())?;
-    Ok(octets)
-}
-
-/// Returns 1 for each route whose validity differs between two tables, and 0 for each other route.
-///
-/// # Errors
-///
-/// - `Refused`: the first invalid route, as [`ValidationError::Route`].
-/// - `Memory`: out of memory for the octets or the lookups.
+/// `len` receives the number of routes. If a route is invalid, the status is its own, `index` receives its index, and
+/// `len` is 0. Otherwise `index` is 0. If `out` is too short, the status is `TOO_SMALL`. `out` is unchanged with any
+/// status except `OK`.
 pub fn route_changes(
-    alloc: Global,
     old: &OriginTable<Global>,
-    new: &OriginTable<Global>,
+    next: &OriginTable<Global>,
     routes: &[Route],
-) -> Result<Vec<u8, Global>, OrMemory<ValidationError>>
-    ensures { MatchResult result
-        (λ octets. AreEach (IsRouteChange old.now new.now) routes.now octets.items)
-        (IfRefused (HasRouteError routes.now)) }
+    out: &mut [u8],
+    len: &mut usize,
+    index: &mut usize,
+) -> u32
+    ensures { AreRoutesCompared old.now next.now routes.now out.old out.new len.new index.new result }
 {
-    refused_as(
-        marked_routes(alloc, old, new, routes),
-        |first| ValidationError::Route(first),
-    )
+    *len = 0;
+    *index = 0;
+    if let Err(first) = check_routes(routes) {
+        *index = first.at;
+        return first.reason.route_status();
+    }
+    let count = routes.len();
+    *len = count;
+    if out.len() < count {
+        return status::TOO_SMALL;
+    }
+    write_marks(old, next, routes, &mut out[..count]);
+    status::OK
 }

@@ -1,62 +1,40 @@
 //! Tables that stay between calls: they are made of VRPs that a caller passes.
 //!
-//! The calls return the validity of routes, the VRPs that cover a route, and all VRPs.
+//! The calls return the VRPs that cover a route, and all VRPs. `crate::validities` returns the validity of routes.
 ghost use Rattle.std.specs.Prelude.{◌≡◌, IfOk, MatchResult, map};
 ghost use Rattle.rpki_text.specs.Memory.{IfRefused};
-ghost use Rattle.pigyelund_routes.specs.Origins.{AreEach, IsOrigin};
-ghost use Rattle.pigyelund_routes.specs.Tables.{HasTableValidationError, IsNoTable, IsTableOfHanded};
-ghost use Rattle.pigyelund_routes.specs.Routes.{IsNoRoute};
+ghost use Rattle.pigyelund_routes.specs.Origins.{IsFirstElementError};
+ghost use Rattle.pigyelund_routes.specs.Tables.{IsTableOfHanded};
+ghost use Rattle.pigyelund_routes.specs.Routes.{IsNoRoute, IsNoVrp, IsVrp};
 ghost use Rattle.pigyelund_routes.specs.ReturnedVrps.{AreCoveringsOf, AreCoveringsTo, handed_of};
 
-use crate::origin::{ValidationError, origins_in, vrps_of};
+use crate::origin::{ElementError, table_of};
 use crate::route::{Covering, RawVrp, Route, RouteError};
 use box_pointer::BoxPointer;
 use roa_origin::OriginTable;
 use rpki_base::Asn;
 use rpki_prefix::Prefix;
-use rpki_text::memory::{OrMemory, refused_as};
+use rpki_text::memory::OrMemory;
 use std::alloc::{AllocError, Global};
 
 /// Returns the boxed table of VRPs. Duplicates are kept.
 ///
 /// # Errors
 ///
-/// - `Refused`: the first invalid VRP, as [`ValidationError::Vrp`].
+/// - `Refused`: the first invalid VRP.
 /// - `Memory`: out of memory for the VRPs, the table or its box.
 pub fn made_table(
     alloc: Global,
     vrps: &[RawVrp],
-) -> Result<BoxPointer<OriginTable<Global>, Global>, OrMemory<ValidationError>>
+) -> Result<BoxPointer<OriginTable<Global>, Global>, OrMemory<ElementError>>
     ensures { MatchResult result (λ parts. IsTableOfHanded vrps.now parts.value)
-        (IfRefused (IsNoTable vrps.now)) }
+        (IfRefused (IsFirstElementError IsVrp IsNoVrp vrps.now)) }
 {
-    let read = refused_as(vrps_of(alloc, vrps), |first| ValidationError::Vrp(first))?;
-    let table = OriginTable::new(alloc, read.as_slice())?;
+    let table = table_of(alloc, vrps)?;
     match Box::new(alloc, table) {
         Ok(boxed) => Ok(BoxPointer::of(boxed)),
         Err(_) => Err(OrMemory::Memory(AllocError)),
     }
-}
-
-/// Returns the validity of each route by a table, as numbers (RFC 6811, 2; RFC 8097, 2).
-///
-/// # Errors
-///
-/// - `Refused`: the first invalid route, as [`ValidationError::Route`].
-/// - `Memory`: out of memory for the numbers or the lookups.
-pub fn table_origins(
-    alloc: Global,
-    table: &OriginTable<Global>,
-    routes: &[Route],
-) -> Result<Vec<u8, Global>, OrMemory<ValidationError>>
-    ensures { MatchResult result
-        (λ octets. AreEach (IsOrigin table.now) routes.now octets.items)
-        (IfRefused (HasTableValidationError table.now routes.now)) }
-{
-    refused_as(
-        origins_in(alloc, table, routes),
-        |first| ValidationError::Route(first),
-    )
 }
 
 /// Returns the VRPs of a table that cover the route to `route` from `asn`, each with its mismatch.

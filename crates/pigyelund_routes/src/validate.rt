@@ -22,7 +22,7 @@ pub struct Validated {
 }
 
 /// Returns the number of the reason why a route is invalid, or 0 for any other validity.
-fn reason_number(found: ValidityAndAsn) -> u8
+pub(crate) fn reason_number(found: ValidityAndAsn) -> u8
     ensures { result ≡ reason_number found.validity found.has_covering_asn }
 {
     match found.validity {

@@ -1,15 +1,19 @@
 //! The exports on tables of VRPs.
 ghost use Rattle.pigyelund_routes.specs.Reasons.{IsValidatedReturned};
 ghost use Rattle.pigyelund_routes.specs.RouteChanges.{AreRouteChangesReturned};
-ghost use Rattle.pigyelund_routes.specs.Tables.{AreCoveringsReturned, AreVrpsReturned, AreTableOriginsReturned, IsChangedTableReturned, IsCountReturned, IsMadeTableReturned};
+ghost use Rattle.pigyelund_routes.specs.TableChanges.{AreTableChangesReturned};
+ghost use Rattle.pigyelund_routes.specs.Tables.{AreCoveringsReturned, AreVrpsReturned, IsChangedTableReturned, IsCountReturned, IsMadeTableReturned};
+ghost use Rattle.pigyelund_routes.specs.Validities.{AreTableOriginsReturned};
 
 use pigyelund_routes::change::changed_table;
 use pigyelund_routes::route::{Covering, RawVrp, Route};
 use pigyelund_routes::route_changes::route_changes;
 use pigyelund_routes::status;
-use pigyelund_routes::table::{all_vrps, coverings, made_table, table_origins};
+use pigyelund_routes::table::{all_vrps, coverings, made_table};
+use pigyelund_routes::table_changes::write_changes;
 use pigyelund_routes::table_handle::{TableOutput, TableOwner, TableRef};
 use pigyelund_routes::validate::{NO_VALIDITY, validate_route};
+use pigyelund_routes::validities::validate_routes;
 use pigyelund_routes::write::write_items;
 use rpki_resources::OrMemory;
 use std::alloc::Global;
@@ -41,10 +45,10 @@ pub extern "C" fn pigy_table_new(
             *table = TableOutput::of(parts);
             status::OK
         }
-        Err(OrMemory::Refused(reason)) => {
+        Err(OrMemory::Refused(first)) => {
             *table = TableOutput::null();
-            *index = reason.index();
-            reason.status()
+            *index = first.at;
+            first.reason.status()
         }
         Err(OrMemory::Memory(_)) => {
             *table = TableOutput::null();
@@ -89,44 +93,38 @@ pub extern "C" fn pigy_table_validate(
     }
 }
 
-/// Validates routes by a table, one octet each, as `pigy_validate` does. The call makes no table.
+/// Validates routes by a table, one octet each, as `pigy_validate` does. The call makes no table and allocates nothing.
 ///
-/// `len` receives the length in octets, written or required. `index` receives the index of the first invalid route,
-/// counted from 0, and 0 otherwise.
+/// `out` receives the validity of each route. `reasons` receives the reason of each route, as `pigy_table_validate`
+/// gives it. If `reasons` is empty, the call gives no reasons. `len` receives the number of routes. `index` receives
+/// the index of the first invalid route, counted from 0, and 0 otherwise.
 ///
 /// Returns the first status that applies:
 ///
 /// - `PIGY_NO_HANDLE`.
 /// - `PIGY_SECOND` + `PIGY_BAD_FAMILY`, `PIGY_SECOND` + `PIGY_BAD_PREFIX`: the first invalid route.
-/// - `PIGY_TOO_SMALL`, then `PIGY_OK`.
+/// - `PIGY_TOO_SMALL`: `out` is too small, or `reasons` is too small and not empty.
+/// - `PIGY_OK`.
 ///
-/// The call can return `PIGY_MEMORY` instead of any status except `PIGY_NO_HANDLE`. `len` is 0 for an error other than
-/// `PIGY_TOO_SMALL`. For any error `out` is unchanged.
+/// `len` is 0 for an error other than `PIGY_TOO_SMALL`. For any error `out` and `reasons` are unchanged.
 #[unsafe(no_mangle)]
 pub extern "C" fn pigy_table_validate_routes(
-    alloc: Global,
     table: TableRef,
     routes: &[Route],
     out: &mut [u8],
+    reasons: &mut [u8],
     len: &mut usize,
     index: &mut usize,
 ) -> u32
-    ensures { AreTableOriginsReturned table.at table.vrps routes.now out.old out.new len.new
-        index.new result }
+    ensures { AreTableOriginsReturned table.at table.vrps routes.now out.old out.new reasons.old
+        reasons.new len.new index.new result }
 {
     *len = 0;
     *index = 0;
     let Some(table) = table.table() else {
         return status::NO_HANDLE;
     };
-    match table_origins(alloc, table, routes) {
-        Ok(octets) => write_items(octets.as_slice(), out, len),
-        Err(OrMemory::Refused(reason)) => {
-            *index = reason.index();
-            reason.status()
-        }
-        Err(OrMemory::Memory(_)) => status::MEMORY,
-    }
+    validate_routes(table, routes, out, reasons, len, index)
 }
 
 /// Makes the next table: `table` without the withdrawn VRPs, and then with the announced ones (RFC 8210, 5.3).
@@ -195,11 +193,9 @@ pub extern "C" fn pigy_table_with_changes(
 /// - `PIGY_SECOND` + `PIGY_BAD_FAMILY`, `PIGY_SECOND` + `PIGY_BAD_PREFIX`: the first invalid route.
 /// - `PIGY_TOO_SMALL`, then `PIGY_OK`.
 ///
-/// The call can return `PIGY_MEMORY` instead of any status except `PIGY_NO_HANDLE`. `len` is 0 for an error other than
-/// `PIGY_TOO_SMALL`. For any error `out` is unchanged.
+/// The call allocates nothing. `len` is 0 for an error other than `PIGY_TOO_SMALL`. For any error `out` is unchanged.
 #[unsafe(no_mangle)]
 pub extern "C" fn pigy_table_revalidate(
-    alloc: Global,
     old: TableRef,
     next: TableRef,
     routes: &[Route],
@@ -218,14 +214,56 @@ pub extern "C" fn pigy_table_revalidate(
     let Some(next) = next.table() else {
         return status::NO_HANDLE;
     };
-    match route_changes(alloc, old, next, routes) {
-        Ok(octets) => write_items(octets.as_slice(), out, len),
-        Err(OrMemory::Refused(reason)) => {
-            *index = reason.index();
-            reason.status()
-        }
-        Err(OrMemory::Memory(_)) => status::MEMORY,
-    }
+    route_changes(old, next, routes, out, len, index)
+}
+
+/// Lists the VRPs in which two tables differ (RFC 8210, 5.6).
+///
+/// `announced` receives the VRPs that are in `next` and not in `old`. `withdrawn` receives those that are in `old` and
+/// not in `next`. Each VRP is listed once, and duplicates in a table make no difference. The lengths receive the
+/// numbers of these VRPs, written or required.
+///
+/// IPv4 comes before IPv6. Then the order is by the last address of the prefix, and then by prefix length, the longer
+/// first. VRPs of one prefix are in descending order of maximum lengths. VRPs that also have one maximum length are in
+/// ascending order of AS numbers.
+///
+/// Returns the first status that applies:
+///
+/// - `PIGY_NO_HANDLE`: one of the two handles is null.
+/// - `PIGY_TOO_SMALL`: one of the buffers is too small. Then `PIGY_OK`.
+///
+/// The call can return `PIGY_MEMORY` instead of any status except `PIGY_NO_HANDLE`. The lengths are 0 for an error
+/// other than `PIGY_TOO_SMALL`. For any error the buffers are unchanged.
+#[unsafe(no_mangle)]
+pub extern "C" fn pigy_table_changes(
+    alloc: Global,
+    old: TableRef,
+    next: TableRef,
+    announced: &mut [RawVrp],
+    announced_len: &mut usize,
+    withdrawn: &mut [RawVrp],
+    withdrawn_len: &mut usize,
+) -> u32
+    ensures { AreTableChangesReturned old.at old.vrps next.at next.vrps announced.old announced.new
+        announced_len.new withdrawn.old withdrawn.new withdrawn_len.new result }
+{
+    *announced_len = 0;
+    *withdrawn_len = 0;
+    let Some(old) = old.table() else {
+        return status::NO_HANDLE;
+    };
+    let Some(next) = next.table() else {
+        return status::NO_HANDLE;
+    };
+    write_changes(
+        alloc,
+        old,
+        next,
+        announced,
+        announced_len,
+        withdrawn,
+        withdrawn_len,
+    )
 }
 
 /// Lists the VRPs of a table that cover a route, each with the reason why it does not match (RFC 6811, 2).

@@ -1,11 +1,8 @@
 //! The export of route origin validation.
-ghost use Rattle.pigyelund_routes.specs.Origins.{AreOriginsReturned};
+ghost use Rattle.pigyelund_routes.specs.Validities.{AreOriginsReturned};
 
-use pigyelund_routes::origin::origins;
 use pigyelund_routes::route::{RawVrp, Route};
-use pigyelund_routes::status;
-use pigyelund_routes::write::write_items;
-use rpki_resources::OrMemory;
+use pigyelund_routes::validities::validate_by_vrps;
 use std::alloc::Global;
 
 /// Validates routes by VRPs (RFC 6811, 2).
@@ -36,17 +33,5 @@ pub extern "C" fn pigy_validate(
 ) -> u32
     ensures { AreOriginsReturned vrps.now routes.now out.old out.new len.new index.new result }
 {
-    *index = 0;
-    match origins(alloc, vrps, routes) {
-        Ok(octets) => write_items(octets.as_slice(), out, len),
-        Err(OrMemory::Refused(reason)) => {
-            *len = 0;
-            *index = reason.index();
-            reason.status()
-        }
-        Err(OrMemory::Memory(_)) => {
-            *len = 0;
-            status::MEMORY
-        }
-    }
+    validate_by_vrps(alloc, vrps, routes, out, len, index)
 }

@@ -1,45 +1,48 @@
--- One route more has a lookup, or is invalid.
-use Rattle.pigyelund_routes.proofs.Common.{[], ap, arith, get_or, length, subst, sym, ◌∙◌, ◌∷◌, Route}
-use Rattle.std.proofs.lemmas.List.{get_or_default, length-append}
-use Rattle.rpki_prefix.specs.Values.{FamilyPrefix}
-use Rattle.pigyelund_routes.specs.Routes.{IsRoute}
+-- There is a lookup for each of the twelve offsets.
+use Rattle.pigyelund_routes.proofs.Common.{List, [], arith, get_or, length, subst, ℕ, ◌+◌, ◌<◌, ◌∷◌}
+use Rattle.std.proofs.Common.{zero-add}
+use Rattle.roa_origin.specs.Lookups.{RouteLookup}
 use Rattle.pigyelund_routes.specs.Lookups.{IsLookupIn}
-use Rattle.pigyelund_routes.proofs.ValidityArrayLemmas.{one_more}
+use Rattle.pigyelund_routes.specs.declared.route.Route.{Route}
+use Rattle.pigyelund_routes.proofs.InterleavedLemmas.{AreNumbered, numbered_at}
 use Rattle.pigyelund_routes.proofs.interleaved.begin.Goals as goal
 
--- what an index beyond the end would have
-abbrev nothing : Route
-nothing = record { address = []; asn = 0; family = 0; len = 0 }
-
-pub loop-route-preserved : goal.loop-route-preserved
-loop-route-preserved c =
-    let (as_many, each) = c.loop-route.invariant in
-    let route : Route = get_or c.args.routes.now c.loop-route.route-index nothing in (
-      omega (
-        arith,
-        ap length c.in_ok-push-in-Ok.ensures.items,
-        length-append c.loop-route.lookups.items
-            (c.lookup.result ∷ []),
-        as_many,
+pub returns : goal.returns
+returns c k r s small within =
+    let P : ℕ → RouteLookup → Type 0 =
+    λ offset lookup. (r : Route) → c.args.at + offset < length c.args.routes.now
+    → IsLookupIn c.args.table.now (get_or c.args.routes.now (c.args.at + offset) r) lookup in
+    let lookups : List RouteLookup =
+    c.lookup_at.result ∷ c.lookup_at-2.result ∷ c.lookup_at-3.result ∷ c.lookup_at-4.result ∷ c.lookup_at-5.result
+    ∷ c.lookup_at-6.result ∷ c.lookup_at-7.result ∷ c.lookup_at-8.result ∷ c.lookup_at-9.result
+    ∷ c.lookup_at-10.result ∷ c.lookup_at-11.result ∷ c.lookup_at-12.result ∷ [] in
+    let all : AreNumbered P 0 lookups = (
+      c.lookup_at.ensures,
+      (
+        c.lookup_at-2.ensures,
+        (
+          c.lookup_at-3.ensures,
+          (
+            c.lookup_at-4.ensures,
+            (
+              c.lookup_at-5.ensures,
+              (
+                c.lookup_at-6.ensures,
+                (
+                  c.lookup_at-7.ensures,
+                  (
+                    c.lookup_at-8.ensures,
+                    (
+                      c.lookup_at-9.ensures,
+                      (c.lookup_at-10.ensures, (c.lookup_at-11.ensures, (c.lookup_at-12.ensures, tt))),
+                    ),
+                  ),
+                ),
+              ),
+            ),
+          ),
+        ),
       ),
-      one_more (IsLookupIn c.args.table.now) c.args.routes.now c.loop-route.lookups.items _ c.loop-route.route-index
-          nothing c.lookup.result c.loop-route-test.true c.in_ok-push-in-Ok.ensures.items each
-          (record {
-            vrps_are = c.lookup.ensures.vrps;
-            is_route = subst (λ (p : FamilyPrefix). IsRoute route p) (sym c.lookup.ensures.route) c.in-Ok.ensures;
-            asn = c.lookup.ensures.asn ∙ c.from_u32.ensures;
-          }),
-    )
-
-pub returns-in-Err : goal.returns-in-Err
-returns-in-Err c =
-    let (as_many, each) = c.loop-route.invariant in
-    let route : Route = get_or c.args.routes.now c.loop-route.route-index nothing in
-    rw as_many (
-      route,
-      c.loop-route-test.true,
-      get_or_default c.args.routes.now c.loop-route.route-index route nothing
-          c.loop-route-test.true,
-      each,
-      c.in-Err.ensures,
-    )
+    ) in
+    let is : P (0 + k) (get_or lookups k s) = numbered_at P 0 lookups all k s (omega (arith, small)) in
+    subst (λ (j : ℕ). P j (get_or lookups k s)) (zero-add k) is r within

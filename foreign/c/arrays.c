@@ -68,6 +68,7 @@ PROVED(table_new);
 PROVED(table_with_changes);
 PROVED(table_validate_routes);
 PROVED(table_revalidate);
+PROVED(table_changes);
 PROVED(table_covering);
 PROVED(table_vrps);
 PROVED(answer);
@@ -207,13 +208,22 @@ pigy_status pigy_table_with_changes(const pigy_table *table, const pigy_vrp *ann
 }
 
 pigy_status pigy_table_validate_routes(const pigy_table *table, const pigy_route *routes, size_t count, uint8_t *out,
-                                       size_t capacity, size_t *len, size_t *index) {
-  return proved_table_validate_routes(table, ARRAY(routes, count), ARRAY(out, capacity), len, index);
+                                       size_t capacity, uint8_t *reasons, size_t reasons_capacity, size_t *len,
+                                       size_t *index) {
+  return proved_table_validate_routes(table, ARRAY(routes, count), ARRAY(out, capacity),
+                                      ARRAY(reasons, reasons_capacity), len, index);
 }
 
 pigy_status pigy_table_revalidate(const pigy_table *old, const pigy_table *next, const pigy_route *routes, size_t count,
                                   uint8_t *out, size_t capacity, size_t *len, size_t *index) {
   return proved_table_revalidate(old, next, ARRAY(routes, count), ARRAY(out, capacity), len, index);
+}
+
+pigy_status pigy_table_changes(const pigy_table *old, const pigy_table *next, pigy_vrp *announced,
+                               size_t announced_capacity, size_t *announced_len, pigy_vrp *withdrawn,
+                               size_t withdrawn_capacity, size_t *withdrawn_len) {
+  return proved_table_changes(old, next, ARRAY(announced, announced_capacity), announced_len,
+                              ARRAY(withdrawn, withdrawn_capacity), withdrawn_len);
 }
 
 pigy_status pigy_table_covering(const pigy_table *table, const pigy_route *route, pigy_covering *out, size_t capacity,

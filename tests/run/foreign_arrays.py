@@ -36,10 +36,11 @@ SIZES = {"len": "length", "count": "count", "capacity": "capacity"}
 ALIGNED = 8
 CC = os.environ.get("CC", "gcc")
 OPTIONS = ("-O2", "-Wall", "-Wextra", "-Werror")
-# The names of the arguments that a proved function has for a struct. NAME is the parameter's name in the header.
+# The names of the arguments that a proved function has for a struct. NAME is the parameter's name in the header. The
+# length or the capacity of an array has the name of the array and `_size`.
 MEMBERS = {
-    "pigy_set": ("NAME_as", "NAME_as_len", "NAME_ip", "NAME_ip_len"),
-    "pigy_buffers *": ("as_NAME", "as_NAME_len", "ip_NAME", "ip_NAME_len", "as_len", "ip_len"),
+    "pigy_set": ("NAME_as", "NAME_as_size", "NAME_ip", "NAME_ip_size"),
+    "pigy_buffers *": ("as_NAME", "as_NAME_size", "ip_NAME", "ip_NAME_size", "as_len", "ip_len"),
 }
 # The names of proved parameters that are not those of the header, alone or with the name of their call.
 OTHER_NAMES = {"numbers": "set_as", "addresses": "set_ip", "over_as": "as_excess", "over_ip": "ip_excess"}
@@ -115,7 +116,7 @@ def proved() -> dict[str, list[str]]:
             arguments: list[str] = []
             for own, type_ in re.findall(r"(\w+): ([^,]+)", inside):
                 known = OTHER_NAMES.get(f"{name}.{own}", OTHER_NAMES.get(own, own))
-                arguments += [known, f"{known}_len"] if "[" in type_ else [known] * (type_ != "Global")
+                arguments += [known, f"{known}_size"] if "[" in type_ else [known] * (type_ != "Global")
             found[name] = arguments
     return found
 
@@ -151,7 +152,7 @@ def arguments_of(call: Call) -> Iterator[Argument]:
             named = name.replace("NAME", it.name) if at < 4 or it.name == "out" else f"{it.name}_{name}"
             yield Argument("size_t" if at % 2 or at > 3 else "uint8_t *", named, at in (0, 2), True)
         if it.type not in MEMBERS:
-            yield Argument(it.type, f"{array}_len" if array else it.name, bool(it.size))
+            yield Argument(it.type, f"{array}_size" if array else it.name, bool(it.size))
             array = it.name if it.size else ""
 
 
@@ -228,7 +229,7 @@ def trials(number: int, call: Call) -> Iterator[Trial]:
     if "present" in usual:
         for present, absent in ((0, ("as", "ip")), (1, ("ip",)), (2, ("as",))):
             wanted = expected(usual | {"present": present})
-            wanted |= {f"cert_{it}": None for it in absent} | {f"cert_{it}_len": 0 for it in absent}
+            wanted |= {f"cert_{it}": None for it in absent} | {f"cert_{it}_size": 0 for it in absent}
             yield Trial(number, call, usual | {"present": present}, wanted)
 
 

@@ -314,6 +314,16 @@ def changed_vrps(
     return [one for one in vrps if one in left and one not in announced] + announced
 
 
+def changes_octets(old: list[prefixes.Vrp], new: list[prefixes.Vrp]) -> Octets:
+    """Returns the VRPs that only the second list has, and those that only the first has (RFC 8210, 5.6), each once.
+
+    The order is by prefix, then from the largest maximum length, then by AS number.
+    """
+    before, after = set(old), set(new)
+    parts = [sorted(it, key=lambda vrp: (vrp.prefix.key(), vrp.asn)) for it in (after - before, before - after)]
+    return b"".join(map(vrp_octets, parts[0])), b"".join(map(vrp_octets, parts[1]))
+
+
 def differ_answer(question: Question) -> Answer:
     """Returns for each route whether its validity differs between two lists of VRPs."""
     old, new = map(vrps_in, question.first)
@@ -323,11 +333,13 @@ def differ_answer(question: Question) -> Answer:
 
 
 def table_answer(question: Question) -> Answer:
-    """Returns the answer of a call on a table: the VRPs that cover a route, its VRPs, or the VRPs of the next table."""
+    """Returns the answer of a call on a table, whose output is VRPs."""
     vrps = vrps_in(question.first[0])
     match question.call:
         case "covering":
             return Answer(OK, (covering_octets(question.second[0], vrps), b""), 0)
+        case "changes":
+            return Answer(OK, changes_octets(vrps, vrps_in(question.first[1])), 0)
         case "changed":
             announced, withdrawn = vrps_in(question.second[0]), vrps_in(question.second[1], SECOND)
             vrps = changed_vrps(vrps, announced, withdrawn)
@@ -442,7 +454,7 @@ def written_by(question: Question) -> Octets:
 
 # The calls whose answer has a last word.
 ANSWERS = {"path": path_answer, "origins": origins_answer, "differ": differ_answer, "read": file_answer}
-ANSWERS |= dict.fromkeys(("covering", "vrps", "changed"), table_answer)
+ANSWERS |= dict.fromkeys(("covering", "vrps", "changed", "changes"), table_answer)
 ANSWERS |= dict.fromkeys((*TESTS, "contains_asn", "contains_prefix"), answer_of_test)
 
 

@@ -208,7 +208,7 @@ def random_routed(source: Random, is_vrp: bool) -> bytes:
 
 
 def of_origins() -> Iterator[Question]:
-    """Yields VRPs and routes, an invalid VRP or route at each index, and extreme numbers."""
+    """Yields VRPs and routes, also many routes, an invalid VRP or route at each index, and extreme numbers."""
     source = Random(6811)
 
     def asked(vrps: list[bytes], routes: list[bytes]) -> Question:
@@ -217,6 +217,11 @@ def of_origins() -> Iterator[Question]:
     for count in (0, 1, 2, 3, 5, 9, 40) * 10:
         vrps = [random_routed(source, True) for _ in range(count)]
         yield asked(vrps, [random_routed(source, False) for _ in range(source.randrange(12))])
+    for count in (11, 12, 13, 24, 25, 40) * 3:
+        yield asked(
+            [random_routed(source, True) for _ in range(source.choice((9, 40)))],
+            [random_routed(source, False) for _ in range(count)],
+        )
     good = routed(V4, 10 << 24, 8, 64496, 24)
     fine = routed(V4, 10 << 24, 24, 64496)
     ends = [routed(V4, 0, 0, 1, 32), routed(V6, 0, 0, 2**32 - 1, 128), routed(V6, 2**128 - 1, 128, 7, 128)]
@@ -232,6 +237,8 @@ def of_origins() -> Iterator[Question]:
             yield asked(vrps[:place] + [bad] + vrps[place:], routes)
             yield asked(vrps, routes[:place] + [bad[:22]] + routes[place:])
             yield asked([bad, *vrps], [bad[:22]])
+        for place in (11, 12, 13, 24):
+            yield asked([good], [fine] * place + [bad[:22]] + [fine] * (25 - place))
 
 
 def of_tables() -> Iterator[Question]:
@@ -452,6 +459,39 @@ def of_differences() -> Iterator[Question]:
                 yield asked([good], [], routes[:place] + [bad] + routes[place:])
 
 
+def of_changes() -> Iterator[Question]:
+    """Yields pairs of tables with few, many, the same or no VRPs, with duplicates, and with VRPs that differ little."""
+    source = Random(8210_5)
+
+    def asked(old: list[bytes], new: list[bytes]) -> Question:
+        return Question("changes", (), (b"".join(old), b"".join(new)))
+
+    def zeroed(vrp: bytes) -> bytes:
+        """Returns the same VRP, with zeros after an IPv4 address."""
+        return vrp[:4] + bytes(12) + vrp[16:] if vrp[20] == V4 else vrp
+
+    for count in (0, 1, 2, 3, 9, 40) * 4:
+        old = [random_routed(source, True) for _ in range(count)]
+        kept = source.sample(old, source.randrange(count + 1))
+        new = kept + [random_routed(source, True) for _ in range(source.choice((0, 1, 4, 20)))]
+        yield asked(old, new)
+        yield asked(new, old)
+        yield asked(old, [*map(zeroed, old[::-1])])
+        yield asked(old + kept, kept + kept + new[:2])
+    ten = 10 << 24
+    places = [(V4, 0, 0), (V4, ten, 8), (V4, ten, 9), (V4, ten + (1 << 23), 9), (V4, ten + 0xFFFFFF, 32), (V4, ten, 32)]
+    places += [(V6, 0, 0), (V6, ten << 96, 8), (V6, 2**128 - 1, 128), (V6, 0, 128), (V4, 2**32 - 1, 32)]
+    near = []
+    for family, address, length in places:
+        for most in sorted({length, length + 1, 32 if family == V4 else 128} - {33, 129}):
+            near += [routed(family, address, length, number, most) for number in (0, 1, 255, 256, 2**31, 2**32 - 1)]
+    for _ in range(6):
+        yield asked(source.sample(near, 60), source.sample(near, 60))
+    for at, vrp in enumerate(near):
+        yield asked([vrp], [zeroed(near[at - 1])])
+    yield asked([], source.sample(near, len(near)))
+
+
 def of_lines() -> Iterator[Question]:
     """Yields valid and damaged lines of each command, and lines without a known command."""
     for line in (b"", b" ", b"\xff", b"norm", b"norm v5 0.0.0.0", b"cover as AS1", b"NORM as AS1", b"der as inherit\0"):
@@ -489,6 +529,6 @@ def of_sets() -> Iterator[Question]:
 
 def questions() -> Iterator[Question]:
     """Yields all questions."""
-    parts = of_certificates, of_absence, of_paths, of_sets, of_covers, of_origins, of_tables, of_differences, of_lines
-    for part in (*parts, of_files, of_texts, of_ranges, of_contents):
+    parts = of_certificates, of_absence, of_paths, of_sets, of_covers, of_origins, of_tables, of_differences, of_changes
+    for part in (*parts, of_lines, of_files, of_texts, of_ranges, of_contents):
         yield from part()

@@ -33,6 +33,8 @@ The input and the output depend on the call:
 * `changed`: the VRPs of a table, the announced VRPs and the withdrawn VRPs. The output is all VRPs of the next table.
 * `differ`: the VRPs of two tables, and routes. The output is 1 for each route whose validity differs, and 0 for any
   other route.
+* `changes`: the VRPs of two tables. The output is the VRPs that only the second table has, and those that only the
+  first has.
 * `read`: a file of VRPs. The output is its VRPs. The last word is the number of the first line or item that is invalid.
 * `text`: a list of resources as text. The output is a set.
 * `answer`: a line for `respath`. The output is the line that it prints, unless this is an error.

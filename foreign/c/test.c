@@ -111,7 +111,7 @@ typedef struct {
 
 typedef enum {
   VERIFY, PATH, MAKE, TEST, TEXT, COVER, AS_RANGES, IP_RANGES, HAS_ASN, HAS_PREFIX, PRINT, ANSWER, READ, ORIGINS,
-  COVERING, VRPS, CHANGED, DIFFER
+  COVERING, VRPS, CHANGED, DIFFER, CHANGES
 } kind;
 
 /* The calls of an operation on two sets, or of a test of two sets: by DER, if there is such a call, and by handles. */
@@ -124,8 +124,8 @@ typedef struct {
 
 /* One row: the call, its numbers (encoding, extensions or family or kind, mode), its inputs, and the expected outputs.
  * The member last is the expected number of verified certificates, the expected index of an error, the expected number
- * of a line, or the expected answer. For DIFFER `announced` has the VRPs of the second table. If has_null is 1, arrays
- * of length 0 and buffers of capacity 0 are NULL. The member reason is that of a route. */
+ * of a line, or the expected answer. For DIFFER and CHANGES `announced` has the VRPs of the second table. If has_null
+ * is 1, arrays of length 0 and buffers of capacity 0 are NULL. The member reason is that of a route. */
 typedef struct {
   unsigned row;
   kind call;
@@ -246,9 +246,9 @@ static void name_call(question *q, const char *call) {
     pair of;
   } names[] = {{"verify", VERIFY, {0}}, {"path", PATH, {0}}, {"cover", COVER, {0}}, {"answer", ANSWER, {0}},
                {"origins", ORIGINS, {0}}, {"covering", COVERING, {0}}, {"vrps", VRPS, {0}}, {"changed", CHANGED, {0}},
-               {"differ", DIFFER, {0}}, {"read", READ, {0}}, {"text", TEXT, {0}}, {"as_ranges", AS_RANGES, {0}},
-               {"ip_ranges", IP_RANGES, {0}}, {"contains_asn", HAS_ASN, {0}}, {"contains_prefix", HAS_PREFIX, {0}},
-               {"print", PRINT, {0}},
+               {"differ", DIFFER, {0}}, {"changes", CHANGES, {0}}, {"read", READ, {0}}, {"text", TEXT, {0}},
+               {"as_ranges", AS_RANGES, {0}}, {"ip_ranges", IP_RANGES, {0}}, {"contains_asn", HAS_ASN, {0}},
+               {"contains_prefix", HAS_PREFIX, {0}}, {"print", PRINT, {0}},
                {"union", MAKE, {pigy_union, pigy_resources_union, 0, 0}},
                {"intersection", MAKE, {pigy_intersection, pigy_resources_intersection, 0, 0}},
                {"difference", MAKE, {pigy_difference, pigy_resources_difference, 0, 0}},
@@ -271,8 +271,8 @@ typedef struct {
   const question *q;
   const pigy_resources *a, *b;
   const pigy_table *table, *next;
-  void *list;
-  size_t capacity, len, index;
+  void *list, *second;
+  size_t capacity, second_capacity, len, second_len, index;
   uint8_t answer, reason;
   pigy_buffers out, excess;
   pigy_resources *set, *over;
@@ -280,9 +280,10 @@ typedef struct {
 } attempt;
 
 /* What a call stores: a list and its length, a text and its length, an index, an answer, a reason, a set in buffers,
- * overclaimed resources in buffers, and handles. Or the call takes no memory. */
+ * overclaimed resources in buffers, and handles. WITHDRAWN is a second list and its length. REASONS is a second list
+ * of the same length, which the call does not store if its capacity is 0. Or the call takes no memory. */
 enum { LEN = 1, IS_TEXT = 2, INDEX = 4, ANSWERS = 8, REASON = 16, OUT = 32, EXCESS = 64, SET = 128, OVER = 256,
-       TABLE = 512, NO_MEMORY = 1024 };
+       TABLE = 512, NO_MEMORY = 1024, WITHDRAWN = 2048, REASONS = 4096, SECOND = WITHDRAWN | REASONS };
 
 typedef struct {
   pigy_status (*make)(attempt *);
@@ -430,12 +431,17 @@ static pigy_status validate_one(attempt *a) {
 
 static pigy_status validate_all(attempt *a) {
   return pigy_table_validate_routes(a->table, a->q->routes, a->q->route_count, (uint8_t *)a->list, a->capacity,
-                                    &a->len, &a->index);
+                                    (uint8_t *)a->second, a->second_capacity, &a->len, &a->index);
 }
 
 static pigy_status revalidate(attempt *a) {
   return pigy_table_revalidate(a->table, a->next, a->q->routes, a->q->route_count, (uint8_t *)a->list, a->capacity,
                                &a->len, &a->index);
+}
+
+static pigy_status list_changes(attempt *a) {
+  return pigy_table_changes(a->table, a->next, (pigy_vrp *)a->list, a->capacity, &a->len, (pigy_vrp *)a->second,
+                            a->second_capacity, &a->second_len);
 }
 
 static pigy_status list_covering(attempt *a) {
@@ -457,18 +463,19 @@ static const form of_verify = {make_verify, OUT | EXCESS}, of_path = {make_path,
                   of_path_by = {path_by, SET | OVER | INDEX}, of_list_by = {list_of_set, LEN},
                   of_print = {print_set, LEN | IS_TEXT}, of_table = {make_table, TABLE | INDEX},
                   of_change = {change_table, TABLE | INDEX}, of_one = {validate_one, ANSWERS | REASON | NO_MEMORY},
-                  of_all = {validate_all, LEN | INDEX}, of_revalidate = {revalidate, LEN | INDEX},
+                  of_all = {validate_all, LEN | REASONS | INDEX | NO_MEMORY},
+                  of_revalidate = {revalidate, LEN | INDEX | NO_MEMORY}, of_changes = {list_changes, LEN | WITHDRAWN},
                   of_covering = {list_covering, LEN}, of_vrps = {list_vrps, LEN};
 
 /* ---- what a call stores */
 
-/* The octets of an element of the list that the call of a row stores. */
+/* The octets of an element of the lists that the call of a row stores. */
 static size_t size_of(const question *q) {
   switch (q->call) {
     case COVER: return sizeof(pigy_prefix);
     case AS_RANGES: return sizeof(pigy_as_range);
     case IP_RANGES: return sizeof(pigy_ip_range);
-    case READ: case VRPS: return sizeof(pigy_vrp);
+    case READ: case VRPS: case CHANGES: return sizeof(pigy_vrp);
     case COVERING: return sizeof(pigy_covering);
     default: return 1;
   }
@@ -478,7 +485,7 @@ static size_t size_of(const question *q) {
 static size_t size_in_row(const question *q) {
   switch (q->call) {
     case COVER: return q->numbers[1] == PIGY_IPV4 ? 5 : 17;
-    case READ: case VRPS: return 23;
+    case READ: case VRPS: case CHANGES: return 23;
     case COVERING: return 24;
     default: return size_of(q);
   }
@@ -513,7 +520,7 @@ static void put(const question *q, const void *list, size_t at, uint8_t *to) {
       put_asn(to, range->min);
       put_asn(to + 4, range->max);
       return;
-    case READ: case VRPS: put_vrp(to, (const pigy_vrp *)list + at); return;
+    case READ: case VRPS: case CHANGES: put_vrp(to, (const pigy_vrp *)list + at); return;
     case COVERING:
       put_vrp(to, &((const pigy_covering *)list)[at].vrp);
       to[23] = (uint8_t)((const pigy_covering *)list)[at].mismatch;
@@ -522,19 +529,27 @@ static void put(const question *q, const void *list, size_t at, uint8_t *to) {
   }
 }
 
-/* Checks the list that a call stored, or that it stored none. */
-static void expect_list(const form *f, const attempt *a, int fits) {
-  const question *q = a->q;
-  size_t size = size_of(q), octets = size_in_row(q), wanted = q->expected[0].length / octets;
-  size_t nul = (f->stores & IS_TEXT) && q->status == PIGY_OK && a->capacity > wanted;
+/* Checks a list that a call stored. The call stored none if `expected` is null. A text has a NUL if `nul` is 1. */
+static void expect_list(const question *q, const void *list, size_t capacity, const run *expected, size_t nul) {
+  size_t octets = size_in_row(q), wanted = expected ? expected->length / octets : 0, end = wanted * size_of(q);
   uint8_t *found = block(wanted * octets);
-  const uint8_t *list = (const uint8_t *)a->list;
-  expect(a->len == wanted, q->row, "another length");
-  for (size_t i = 0; fits && i < wanted; i++) put(q, list, i, found + i * octets);
-  expect(!fits || is_same(found, q->expected), q->row, "another list");
-  expect(!nul || !list[wanted], q->row, "no NUL behind a text");
-  expect(is_marked(list, fits ? wanted * size + nul : 0, a->capacity * size), q->row, "octets behind a list");
+  for (size_t i = 0; i < wanted; i++) put(q, list, i, found + i * octets);
+  expect(!expected || is_same(found, expected), q->row, "another list");
+  expect(!nul || !((const uint8_t *)list)[end], q->row, "no NUL behind a text");
+  expect(is_marked((const uint8_t *)list, end + nul, capacity * size_of(q)), q->row, "octets behind a list");
   free(found);
+}
+
+/* Checks the lists and the lengths that a call stored. If `fits` is 0, a buffer was too small. */
+static void expect_lists(const form *f, const attempt *a, int fits) {
+  const question *q = a->q;
+  const run *first = q->expected, *second = q->expected + 1;
+  size_t octets = size_in_row(q), wanted = first->length / octets;
+  size_t nul = fits && (f->stores & IS_TEXT) && q->status == PIGY_OK && a->capacity > wanted;
+  expect(a->len == wanted, q->row, "another length");
+  expect_list(q, a->list, a->capacity, fits ? first : 0, nul);
+  expect(a->second_len == (f->stores & WITHDRAWN ? second->length / octets : ANY), q->row, "another second length");
+  if (f->stores & SECOND) expect_list(q, a->second, a->second_capacity, fits && a->second_capacity ? second : 0, 0);
 }
 
 /* Checks buffers of a set. If `stores` is 0, the call stored no set in them. Frees them. */
@@ -561,8 +576,10 @@ static pigy_buffers buffers_of(const question *q, size_t as_capacity, size_t ip_
 /* Prepares all that a call stores. The handles are addresses that the library did not make. */
 static void prepare(const form *f, attempt *a, size_t first, size_t second) {
   a->list = f->stores & LEN ? buffer(a->q, first * size_of(a->q)) : 0;
+  a->second = f->stores & SECOND ? buffer(a->q, second * size_of(a->q)) : 0;
   a->capacity = first;
-  a->len = a->index = ANY;
+  a->second_capacity = second;
+  a->len = a->second_len = a->index = ANY;
   a->answer = a->reason = MARK;
   if (f->stores & OUT) a->out = buffers_of(a->q, first, second);
   if (f->stores & EXCESS) a->excess = buffers_of(a->q, first, second);
@@ -584,8 +601,8 @@ static void expect_stored(const form *f, const attempt *a, size_t last, uint8_t 
          "another table");
 }
 
-/* Makes a call with buffers of these capacities, and checks all that it stores. A list has the first capacity, in
- * elements. The caller frees the handles of the result. */
+/* Makes a call with buffers of these capacities, and checks all that it stores. The first list has the first capacity,
+ * in elements, and a second list the second one. The caller frees the handles of the result. */
 static attempt ask(const form *f, const attempt *base, size_t first, size_t second) {
   attempt a = *base;
   const question *q = a.q;
@@ -593,16 +610,19 @@ static attempt ask(const form *f, const attempt *base, size_t first, size_t seco
   pigy_status found;
   prepare(f, &a, first, second);
   if (f->stores & LEN) fits = q->expected[0].length / size_in_row(q) <= first;
+  if (f->stores & SECOND && (second || f->stores & WITHDRAWN))
+    fits = fits && q->expected[1].length / size_in_row(q) <= second;
   if (f->stores & OUT) fits = q->expected[0].length <= first && q->expected[1].length <= second;
   found = f->make(&a);
   calls++;
   expect(found == (fits ? q->status : PIGY_TOO_SMALL), q->row, "another status");
   expect_stored(f, &a, q->last, q->reason, found == PIGY_OK, is_over);
-  if (f->stores & LEN) expect_list(f, &a, fits);
+  if (f->stores & LEN) expect_lists(f, &a, fits);
   if (f->stores & OUT) end_buffers(q, &a.out, !is_over, fits);
   if (f->stores & EXCESS) end_buffers(q, &a.excess, is_over, fits);
   free(a.list);
-  a.list = 0;
+  free(a.second);
+  a.list = a.second = 0;
   if (!(f->stores & SET)) a.set = 0;
   if (!(f->stores & OVER)) a.over = 0;
   if (!(f->stores & TABLE)) a.made = 0;
@@ -628,14 +648,15 @@ static int is_refused(void) {
 void *__wrap_malloc(size_t length) { return is_refused() ? 0 : __real_malloc(length); }
 void *__wrap_realloc(void *at, size_t length) { return is_refused() ? 0 : __real_realloc(at, length); }
 
-/* Checks that a call without memory stored no result. Frees the buffers. */
-static void expect_refused(const form *f, attempt *a, size_t first) {
+/* Checks that a call without memory stored no result. Frees the buffers of sets. */
+static void expect_refused(const form *f, attempt *a) {
   const question *q = a->q;
   expect_stored(f, a, 0, 0, 0, 0);
   if (f->stores & LEN) {
-    expect(!a->len, q->row, "a length where memory is refused");
-    expect(is_marked((const uint8_t *)a->list, 0, first * size_of(q)), q->row, "octets where memory is refused");
+    expect(!a->len && (!a->second_len || !(f->stores & WITHDRAWN)), q->row, "a length where memory is refused");
+    expect_list(q, a->list, a->capacity, 0, 0);
   }
+  if (f->stores & SECOND) expect_list(q, a->second, a->second_capacity, 0, 0);
   if (f->stores & OUT) end_buffers(q, &a->out, 0, 1);
   if (f->stores & EXCESS) end_buffers(q, &a->excess, 0, 1);
 }
@@ -658,7 +679,7 @@ static void ask_refused(const form *f, const attempt *base, size_t first, size_t
     expect(!is_refused_now || !(f->stores & NO_MEMORY), base->q->row, "memory by a call that takes none");
     expect((found == PIGY_MEMORY) == is_refused_now, base->q->row, "another status where memory is refused");
     if (is_refused_now) {
-      expect_refused(f, &a, first);
+      expect_refused(f, &a);
     } else {
       if (f->stores & OUT) free(a.out.as), free(a.out.ip);
       if (f->stores & EXCESS) free(a.excess.as), free(a.excess.ip);
@@ -667,6 +688,7 @@ static void ask_refused(const form *f, const attempt *base, size_t first, size_t
       if (f->stores & TABLE) pigy_table_free(a.made);
     }
     free(a.list);
+    free(a.second);
   }
 }
 
@@ -676,15 +698,29 @@ static void ask_refused(const form *f, const attempt *base, size_t first, size_t
  * required capacity alone. */
 typedef enum { ALL, WITH_NULL, ONCE } extent;
 
-/* Makes a call that stores a list, with buffers of several capacities. */
+/* Returns the least capacity, above 0, that a test asks for a list. If the list is long, only every eighth row has each
+ * capacity. */
+static size_t least_of(const question *q, size_t wanted) { return wanted > SMALL && q->row % 8 ? wanted - 1 : 1; }
+
+/* Makes a call that stores one list or two, with buffers of several capacities. With an error of a route the buffers
+ * are also large enough for all routes. */
 static void ask_list(const form *f, const attempt *a, extent how) {
-  size_t wanted = a->q->expected[0].length / size_in_row(a->q);
-  ask(f, a, wanted, 0);
+  const question *q = a->q;
+  size_t has_second = f->stores & SECOND ? 1 : 0;
+  size_t first = q->expected[0].length / size_in_row(q), second = has_second * q->expected[1].length / size_in_row(q);
+  ask(f, a, first, second);
   if (how == ONCE) return;
   ask(f, a, 0, 0);
-  ask(f, a, wanted + 1, 0);
-  for (size_t n = wanted > SMALL && a->q->row % 8 ? wanted - 1 : 1; n < wanted; n++) ask(f, a, n, 0);
-  if (how == ALL) ask_refused(f, a, wanted, 0);
+  ask(f, a, first + 1, second + has_second);
+  if (q->status != PIGY_OK && q->route_count) ask(f, a, q->route_count, has_second * q->route_count);
+  for (size_t n = least_of(q, first); n < first; n++) ask(f, a, n, second);
+  if (has_second) {
+    ask(f, a, first, 0);
+    ask(f, a, 0, second);
+    ask(f, a, first, second + 1);
+    for (size_t n = least_of(q, second); n < second; n++) ask(f, a, first, n);
+  }
+  if (how == ALL) ask_refused(f, a, first, second);
 }
 
 /* Makes a call that stores a set in buffers, with buffers of several capacities. If the outputs are long, only every
@@ -881,14 +917,42 @@ static void ask_changed(const question *q, const pigy_table *table, extent how) 
   pigy_table_free(made.made);
 }
 
-/* Makes both tables of a row, and compares the validities of its routes. */
-static void ask_differ(const question *q, attempt tables, extent how) {
+/* Lists the VRPs in which the tables of a row differ, also with the tables exchanged, and with one table as both. The
+ * VRPs of the row, as changes of the first table, make a table with the VRPs of the second one. */
+static void ask_changes(const question *q, const attempt *tables, extent how) {
+  question back = *q, none = *q;
+  attempt a = {.q = &back, .table = tables->next, .next = tables->table};
+  size_t announced_count, withdrawn_count, index;
+  pigy_vrp *announced = read_vrps(q->expected, &announced_count);
+  pigy_vrp *withdrawn = read_vrps(q->expected + 1, &withdrawn_count);
+  pigy_table *made = 0;
+  ask_list(&of_changes, tables, how);
+  back.expected[0] = q->expected[1];
+  back.expected[1] = q->expected[0];
+  ask_list(&of_changes, &a, how);
+  none.expected[0].length = none.expected[1].length = 0;
+  a = (attempt){.q = &none, .table = tables->table, .next = tables->table};
+  ask_list(&of_changes, &a, how);
+  expect(pigy_table_with_changes(tables->table, announced, announced_count, withdrawn, withdrawn_count, &made,
+                                 &index) == PIGY_OK, q->row, "changes that do not fit the table");
+  a = (attempt){.q = &none, .table = made, .next = tables->next};
+  if (made) ask_list(&of_changes, &a, how);
+  pigy_table_free(made);
+  free(announced);
+  free(withdrawn);
+}
+
+/* Makes both tables of a row. Compares the validities of its routes, or the VRPs of the tables. */
+static void ask_two(const question *q, attempt tables, extent how) {
   pigy_table *next = 0;
   size_t index;
   expect(pigy_table_new(q->announced, q->announced_count, &next, &index) == PIGY_OK, q->row, "no second table");
   tables.next = next;
-  if (next) ask_list(&of_revalidate, &tables, how);
-  if (next) ask_each_twice(q, &tables);
+  if (next && q->call == DIFFER) {
+    ask_list(&of_revalidate, &tables, how);
+    ask_each_twice(q, &tables);
+  }
+  if (next && q->call == CHANGES) ask_changes(q, &tables, how);
   pigy_table_free(next);
 }
 
@@ -910,7 +974,7 @@ static void ask_table(const question *q, extent how) {
   if (a.table && q->call == COVERING) ask_list(&of_covering, &a, how);
   if (a.table && q->call == VRPS) ask_vrps(q, a.table, how);
   if (a.table && q->call == CHANGED) ask_changed(q, a.table, how);
-  if (a.table && q->call == DIFFER) ask_differ(q, a, how);
+  if (a.table && (q->call == DIFFER || q->call == CHANGES)) ask_two(q, a, how);
   pigy_table_free(made.made);
 }
 
@@ -999,13 +1063,16 @@ static void ask_null_sets(void) {
 static void ask_null_tables(void) {
   const pigy_status none = PIGY_NO_HANDLE;
   uint8_t octet = MARK, validity = MARK, reason = MARK;
-  pigy_vrp vrp = {{10}, 1, PIGY_IPV4, 8, 8};
+  pigy_vrp vrp = {{10}, 1, PIGY_IPV4, 8, 8}, same;
   pigy_covering covering;
   pigy_route route = {{0}, 0, 0, 0};
   pigy_table *table = 0, *next = (pigy_table *)(void *)&octet;
   size_t len = ANY, index = ANY;
+  memcpy(&same, &vrp, sizeof vrp);
   pigy_table_free(0);
-  EXPECT_NONE(pigy_table_validate_routes(0, &route, 1, &octet, 1, &len, &index), none, len, index, "routes of null");
+  EXPECT_NONE(pigy_table_validate_routes(0, &route, 1, &octet, 1, &reason, 1, &len, &index), none, len, index,
+              "routes of null");
+  expect(reason == MARK, 0, "reasons of null");
   expect(pigy_table_validate(0, &route, &validity, &reason) == none, 0, "a route of null");
   expect(validity == PIGY_NO_VALIDITY && !reason, 0, "a validity of null");
   len = ANY;
@@ -1021,9 +1088,11 @@ static void ask_null_tables(void) {
     const pigy_table *old = i == 1 ? table : 0, *other = i == 2 ? table : 0;
     len = index = ANY;
     EXPECT_NONE(pigy_table_revalidate(old, other, &route, 1, &octet, 1, &len, &index), none, len, index,
-                "changes of null");
+                "changed routes of null");
+    len = index = ANY;
+    EXPECT_NONE(pigy_table_changes(old, other, &vrp, 1, &len, &vrp, 1, &index), none, len, index, "changes of null");
   }
-  expect(octet == MARK, 0, "an octet of null");
+  expect(octet == MARK && !memcmp(&vrp, &same, sizeof vrp), 0, "an octet of null");
   pigy_table_free(table);
 }
 
@@ -1042,11 +1111,13 @@ static void ask_empty_table(void) {
   index = ANY;
   EXPECT_NONE(pigy_table_with_changes(table, 0, 0, 0, 0, &next, &index), PIGY_OK, index, !next, "no changes");
   index = ANY;
-  EXPECT_NONE(pigy_table_validate_routes(table, 0, 0, 0, 0, &len, &index), PIGY_OK, len, index, "no routes");
+  EXPECT_NONE(pigy_table_validate_routes(table, 0, 0, 0, 0, 0, 0, &len, &index), PIGY_OK, len, index, "no routes");
   expect(pigy_table_validate(table, &route, &validity, &reason) == PIGY_OK, 0, "a route by no VRPs");
   expect(validity == PIGY_NOT_FOUND && !reason, 0, "a validity by no VRPs");
   len = index = ANY;
   EXPECT_NONE(pigy_table_revalidate(table, next, 0, 0, 0, 0, &len, &index), PIGY_OK, len, index, "no changed routes");
+  len = index = ANY;
+  EXPECT_NONE(pigy_table_changes(table, next, 0, 0, &len, 0, 0, &index), PIGY_OK, len, index, "no changed VRPs");
   len = ANY;
   EXPECT_NONE(pigy_table_covering(table, &route, 0, 0, &len), PIGY_OK, len, 0, "no VRPs that cover a route");
   len = ANY;
@@ -1124,26 +1195,48 @@ static void ask_empty(void) {
 
 /* ---- large inputs */
 
-/* Validates many routes. Each has the prefix of a VRP, and half of the routes have its AS. */
+/* Validates each route by a table in a call of its own. Returns whether the call returns the expected validity and the
+ * expected reason. */
+static int is_each(const pigy_table *table, const pigy_route *routes, const uint8_t *out, const uint8_t *reasons) {
+  int is_so = 1;
+  for (uint32_t i = 0; i < MANY; i++) {
+    uint8_t validity = MARK, reason = MARK;
+    is_so = is_so && pigy_table_validate(table, routes + i, &validity, &reason) == PIGY_OK && validity == out[i] &&
+            reason == reasons[i];
+  }
+  return is_so;
+}
+
+/* Validates many routes by VRPs, by a table, and one by one. Each route has the prefix of a VRP or a prefix of 32 bits
+ * in it. Every second route has the AS of that VRP. */
 static void ask_many(void) {
   pigy_vrp *vrps = (pigy_vrp *)(void *)block(MANY * sizeof *vrps);
   pigy_route *routes = (pigy_route *)(void *)block(MANY * sizeof *routes);
-  uint8_t *out = block(MANY);
+  uint8_t *out = block(MANY), *by_table = block(MANY), *reasons = block(MANY);
+  pigy_table *table = 0;
   size_t len = ANY, index = ANY;
   int is_so = 1;
   for (uint32_t i = 0; i < MANY; i++) {
-    pigy_vrp vrp = {{10, (uint8_t)(i >> 16), (uint8_t)(i >> 8), (uint8_t)i}, i + 1, PIGY_IPV4, 32, 32};
-    pigy_route route = {{10, (uint8_t)(i >> 16), (uint8_t)(i >> 8), (uint8_t)i}, i % 2 ? i + 1 : i + 2, PIGY_IPV4, 32};
+    uint8_t length = i % 3 ? 31 : 32, last = (uint8_t)(i << 1);
+    pigy_vrp vrp = {{10, (uint8_t)(i >> 15), (uint8_t)(i >> 7), last}, i + 1, PIGY_IPV4, 31, 31};
+    pigy_route route = {{10, (uint8_t)(i >> 15), (uint8_t)(i >> 7), last}, i % 2 ? i + 1 : i + 2, PIGY_IPV4, length};
     vrps[i] = vrp;
     routes[i] = route;
   }
   expect(pigy_validate(vrps, MANY, routes, MANY, out, MANY, &len, &index) == PIGY_OK, 0, "many routes");
-  for (uint32_t i = 0; i < MANY; i++) is_so = is_so && out[i] == (i % 2 ? PIGY_VALID : PIGY_INVALID);
+  for (uint32_t i = 0; i < MANY; i++) is_so = is_so && out[i] == (i % 2 && i % 3 ? PIGY_VALID : PIGY_INVALID);
   expect(is_so && len == MANY && index == 0, 0, "validities of many routes");
-  calls++;
-  free(vrps);
-  free(routes);
-  free(out);
+  len = index = ANY;
+  expect(pigy_table_new(vrps, MANY, &table, &index) == PIGY_OK, 0, "a table of many VRPs");
+  expect(pigy_table_validate_routes(table, routes, MANY, by_table, MANY, reasons, MANY, &len, &index) == PIGY_OK, 0,
+         "many routes by a table");
+  for (uint32_t i = 0; i < MANY; i++)
+    is_so = is_so && reasons[i] == (i % 2 == 0 ? PIGY_INVALID_AS : i % 3 ? 0 : PIGY_INVALID_LENGTH);
+  expect(is_so && len == MANY && index == 0 && !memcmp(out, by_table, MANY), 0, "reasons of many routes");
+  expect(is_each(table, routes, out, reasons), 0, "validities and reasons one by one");
+  calls += MANY + 3;
+  pigy_table_free(table);
+  free(vrps), free(routes), free(out), free(by_table), free(reasons);
 }
 
 /* Returns a set of the odd AS numbers below 2 * ODD. */
@@ -1198,7 +1291,7 @@ static question question_of(unsigned row, char **words) {
   if (q.call >= ORIGINS) {
     q.vrps = read_vrps(q.in, &q.count);
     if (q.call == CHANGED) q.announced = read_vrps(q.in + 2, &q.announced_count);
-    if (q.call == DIFFER) q.announced = read_vrps(q.in + 1, &q.announced_count);
+    if (q.call == DIFFER || q.call == CHANGES) q.announced = read_vrps(q.in + 1, &q.announced_count);
     if (q.call == CHANGED) q.withdrawn = read_vrps(q.in + 3, &q.withdrawn_count);
     if (q.call != CHANGED) q.routes = read_routes(q.in + 2, &q.route_count);
   }
@@ -1258,10 +1351,10 @@ typedef struct {
 static void use_shared(const shared *of) {
   pigy_resources *one = 0, *joined = 0;
   pigy_table *next = 0;
-  pigy_vrp fresh = {{11}, of->number, PIGY_IPV4, 8, 8};
+  pigy_vrp fresh = {{11}, of->number, PIGY_IPV4, 8, 8}, announced;
   pigy_route ten = {{10}, 1, PIGY_IPV4, 8}, eleven = {{11}, of->number, PIGY_IPV4, 8};
   uint8_t answer = MARK, reason = MARK;
-  size_t index;
+  size_t index, len, withdrawn_len;
   ask_odd(of->odd);
   expect(pigy_resources_from_text("AS2", 3, PIGY_ASN, &one) == PIGY_OK, 0, "a set of a thread");
   expect(pigy_resources_union(of->odd, one, &joined) == PIGY_OK, 0, "a union of a thread");
@@ -1274,6 +1367,8 @@ static void use_shared(const shared *of) {
   expect(pigy_table_validate(next, &eleven, &answer, &reason) == PIGY_OK && answer == PIGY_VALID, 0, "its own VRP");
   expect(pigy_table_validate(of->table, &eleven, &answer, &reason) == PIGY_OK && answer == PIGY_NOT_FOUND, 0,
          "no VRP of another thread");
+  expect(pigy_table_changes(of->table, next, &announced, 1, &len, 0, 0, &withdrawn_len) == PIGY_OK && len == 1 &&
+         withdrawn_len == 0 && announced.asn == of->number, 0, "the changes of a thread");
   pigy_table_free(next);
 }
 

@@ -1207,6 +1207,24 @@ static int is_each(const pigy_table *table, const pigy_route *routes, const uint
   return is_so;
 }
 
+/* Lists the VRPs in which a table of many VRPs and one of no VRPs differ. `vrps` has them in the order of a list. */
+static void ask_many_changes(const pigy_table *table, const pigy_vrp *vrps) {
+  pigy_vrp *list = (pigy_vrp *)(void *)block(MANY * sizeof *list);
+  pigy_table *none = 0;
+  size_t len = ANY, other = ANY;
+  int is_so = 1;
+  expect(pigy_table_new(0, 0, &none, &other) == PIGY_OK, 0, "a table of no VRPs");
+  EXPECT_NONE(pigy_table_changes(table, none, 0, 0, &other, list, MANY, &len), PIGY_OK, other, len != MANY,
+              "many withdrawn VRPs");
+  for (uint32_t i = 0; i < MANY; i++)
+    is_so = is_so && !memcmp(list[i].address, vrps[i].address, 16) && list[i].asn == vrps[i].asn;
+  expect(is_so, 0, "another list of many VRPs");
+  EXPECT_NONE(pigy_table_changes(none, table, list, MANY - 1, &len, 0, 0, &other), PIGY_TOO_SMALL, other, len != MANY,
+              "many announced VRPs");
+  pigy_table_free(none);
+  free(list);
+}
+
 /* Validates many routes by VRPs, by a table, and one by one. Each route has the prefix of a VRP or a prefix of 32 bits
  * in it. Every second route has the AS of that VRP. */
 static void ask_many(void) {
@@ -1234,6 +1252,7 @@ static void ask_many(void) {
     is_so = is_so && reasons[i] == (i % 2 == 0 ? PIGY_INVALID_AS : i % 3 ? 0 : PIGY_INVALID_LENGTH);
   expect(is_so && len == MANY && index == 0 && !memcmp(out, by_table, MANY), 0, "reasons of many routes");
   expect(is_each(table, routes, out, reasons), 0, "validities and reasons one by one");
+  ask_many_changes(table, vrps);
   calls += MANY + 3;
   pigy_table_free(table);
   free(vrps), free(routes), free(out), free(by_table), free(reasons);

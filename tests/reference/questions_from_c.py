@@ -489,7 +489,9 @@ def of_changes() -> Iterator[Question]:
         yield asked(source.sample(near, 60), source.sample(near, 60))
     for at, vrp in enumerate(near):
         yield asked([vrp], [zeroed(near[at - 1])])
-    yield asked([], source.sample(near, len(near)))
+    mixed = source.sample(near, len(near))
+    yield asked(mixed[:70], mixed[70:])
+    yield asked([], mixed)
 
 
 def of_lines() -> Iterator[Question]:

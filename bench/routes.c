@@ -1,7 +1,7 @@
 /* routes HOW VRPS ROUTES: makes a table of VRPS VRPs, and validates ROUTES routes by it.
  *
- * HOW is `together` (all routes in one call), `alone` (one route a call, without memory) or `changed` (all routes in one
- * call, by a table after changes). The program prints the number of valid routes. Most VRPs have 24 bits, and half of
+ * HOW is `together` (all routes in one call), `alone` (one route a call) or `changed` (all routes in one call, by a
+ * table after changes). The program prints the number of valid routes. Most VRPs have 24 bits, and half of
  * the routes are VRPs. The status is 0 if each call succeeded. */
 #include "../foreign/pigyelund.h"
 #include <stdio.h>
@@ -66,7 +66,7 @@ int main(int count, char **words) {
   if (!strcmp(words[1], "alone")) {
     for (size_t i = 0; i < route_count; i++)
       if (pigy_table_validate(table, routes + i, out + i, &reason) != PIGY_OK) return 5;
-  } else if (pigy_table_validate_routes(table, routes, route_count, out, route_count, &len, &index) != PIGY_OK) {
+  } else if (pigy_table_validate_routes(table, routes, route_count, out, route_count, 0, 0, &len, &index) != PIGY_OK) {
     return 5;
   }
   for (size_t i = 0; i < route_count; i++) valid += out[i] == PIGY_VALID;

@@ -97,7 +97,7 @@ int main(int count, char **words) {
     }
     times[1] = now() - at;
     at = now();
-    if (pigy_table_validate_routes(table, asked, routes, ours, routes, &len, &index) != PIGY_OK) return 2;
+    if (pigy_table_validate_routes(table, asked, routes, ours, routes, 0, 0, &len, &index) != PIGY_OK) return 2;
     times[2] = now() - at;
     at = now();
     for (size_t i = 0; i < routes; i++) {

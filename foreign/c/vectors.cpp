@@ -11,10 +11,12 @@ static bool tables() {
   std::vector<pigy_vrp> vrps;
   std::vector<pigy_route> routes;
   pigy_table *table;
-  size_t len, index;
+  size_t len, index, other;
   if (pigy_table_new(vrps.data(), vrps.size(), &table, &index) != PIGY_OK) return false;
-  bool is_so = pigy_table_validate_routes(table, routes.data(), routes.size(), octets.data(), octets.size(), &len,
-                                          &index) == PIGY_OK && len == 0;
+  bool is_so = pigy_table_validate_routes(table, routes.data(), routes.size(), octets.data(), octets.size(),
+                                          octets.data(), octets.size(), &len, &index) == PIGY_OK && len == 0;
+  is_so = is_so && pigy_table_changes(table, table, vrps.data(), vrps.size(), &len, vrps.data(), vrps.size(),
+                                      &other) == PIGY_OK && len == 0 && other == 0;
   is_so = is_so && pigy_table_vrps(table, vrps.data(), vrps.size(), &len) == PIGY_OK && len == 0;
   pigy_table_free(table);
   return is_so;

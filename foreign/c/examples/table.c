@@ -1,5 +1,5 @@
 /* Reads a validator's file of VRPs from the standard input, and makes a table. Prints why a route is invalid, makes the
- * next table, and compares the validity of the route by both tables. */
+ * next table, and compares the validity of the route by both tables. Prints the VRPs in which the tables differ. */
 #include <arpa/inet.h>
 #include <pigyelund.h>
 #include <stdio.h>
@@ -42,21 +42,49 @@ static pigy_vrp *read_vrps(FILE *file, size_t *count) {
   return vrps;
 }
 
+static void print_vrp(const pigy_vrp *vrp) {
+  char address[INET6_ADDRSTRLEN];
+  inet_ntop(vrp->family == PIGY_IPV4 ? AF_INET : AF_INET6, vrp->address, address, sizeof address);
+  printf("%s/%u-%u AS%u", address, vrp->len, vrp->max_len, vrp->asn);
+}
+
 /* Prints the VRPs that cover a route. Enlarges the buffer if it is too small. */
 static void print_covering(const pigy_table *table, const pigy_route *route) {
   size_t capacity = 1, len;
   pigy_covering *why = resize(0, capacity, sizeof *why);
   pigy_status status;
-  char address[INET6_ADDRSTRLEN];
   while ((status = pigy_table_covering(table, route, why, capacity, &len)) == PIGY_TOO_SMALL)
     why = resize(why, capacity = len, sizeof *why);
   check(status, 0);
-  for (size_t i = 0; i < len; i++)
-    printf("%s/%u-%u AS%u%s%s\n",
-           inet_ntop(why[i].vrp.family == PIGY_IPV4 ? AF_INET : AF_INET6, why[i].vrp.address, address, sizeof address),
-           why[i].vrp.len, why[i].vrp.max_len, why[i].vrp.asn, why[i].mismatch & PIGY_OTHER_AS ? ", another AS" : "",
+  for (size_t i = 0; i < len; i++) {
+    print_vrp(&why[i].vrp);
+    printf("%s%s\n", why[i].mismatch & PIGY_OTHER_AS ? ", another AS" : "",
            why[i].mismatch & PIGY_TOO_LONG ? ", too long" : "");
+  }
   free(why);
+}
+
+static void print_lines(char sign, const pigy_vrp *vrps, size_t count) {
+  for (size_t i = 0; i < count; i++) {
+    printf("%c ", sign);
+    print_vrp(&vrps[i]);
+    puts("");
+  }
+}
+
+/* Prints the VRPs in which two tables differ. Each buffer has space for a whole table, so one call suffices. */
+static void print_changes(const pigy_table *old, const pigy_table *next) {
+  size_t announced_len = 0, withdrawn_len = 0;
+  check(pigy_table_len(next, &announced_len), 0);
+  check(pigy_table_len(old, &withdrawn_len), 0);
+  pigy_vrp *announced = resize(0, announced_len, sizeof *announced);
+  pigy_vrp *withdrawn = resize(0, withdrawn_len, sizeof *withdrawn);
+  check(pigy_table_changes(old, next, announced, announced_len, &announced_len, withdrawn, withdrawn_len,
+                           &withdrawn_len), 0);
+  print_lines('+', announced, announced_len);
+  print_lines('-', withdrawn, withdrawn_len);
+  free(announced);
+  free(withdrawn);
 }
 
 int main(void) {
@@ -85,6 +113,7 @@ int main(void) {
   /* the validity of the route differs between the tables */
   check(pigy_table_revalidate(table, next, &route, 1, &differs, 1, &len, &index), &index);
   puts(differs ? "differs" : "stays");
+  print_changes(table, next);
   pigy_table_free(table);
   pigy_table_free(next);
   return 0;

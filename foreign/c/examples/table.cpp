@@ -1,4 +1,4 @@
-/* Does the same as table.c with std::vector, and prints no covering VRPs. */
+/* Does the same as table.c with std::vector, and prints no VRPs. */
 #include <iostream>
 #include <iterator>
 #include <memory>
@@ -41,15 +41,18 @@ static Table change(const Table &table, const std::vector<pigy_vrp> &announced,
   return Table(next);
 }
 
-/* Returns one octet for each route. */
-static std::vector<uint8_t> validate(const Table &table, const std::vector<pigy_route> &routes) {
+/* Returns the validity of each route, and stores why it is invalid. */
+static std::vector<uint8_t> validate(const Table &table, const std::vector<pigy_route> &routes,
+                                     std::vector<uint8_t> &reasons) {
   std::vector<uint8_t> found(routes.size());
   size_t len, index;
-  check(pigy_table_validate_routes(table.get(), routes.data(), routes.size(), found.data(), found.size(), &len,
-                                   &index));
+  reasons.resize(routes.size());
+  check(pigy_table_validate_routes(table.get(), routes.data(), routes.size(), found.data(), found.size(),
+                                   reasons.data(), reasons.size(), &len, &index));
   return found;
 }
 
+/* Returns 1 for each route whose validity differs between two tables, and 0 for any other route. */
 static std::vector<uint8_t> revalidate(const Table &old, const Table &next, const std::vector<pigy_route> &routes) {
   std::vector<uint8_t> found(routes.size());
   size_t len, index;
@@ -65,10 +68,12 @@ int main() try {
   /* 10.1.2.0/24 from AS64497; a VRP of 10.1.0.0/16 with maximum length 24 and AS64497 */
   std::vector<pigy_route> routes{{{10, 1, 2}, 64497, PIGY_IPV4, 24}};
   const pigy_vrp fresh{{10, 1}, 64497, PIGY_IPV4, 16, 24};
+  std::vector<uint8_t> reasons;
   Table table = make_table(vrps);
-  std::cout << (validate(table, routes)[0] == PIGY_INVALID ? "invalid" : "otherwise") << std::endl;
+  std::cout << (validate(table, routes, reasons)[0] == PIGY_INVALID ? "invalid: " : "otherwise: ")
+            << (reasons[0] == PIGY_INVALID_LENGTH ? "too long" : "another AS") << std::endl;
   Table next = change(change(table, {fresh}, {}), {}, {vrps[0]});
-  std::cout << (validate(next, routes)[0] == PIGY_VALID ? "valid" : "otherwise") << std::endl;
+  std::cout << (validate(next, routes, reasons)[0] == PIGY_VALID ? "valid" : "otherwise") << std::endl;
   std::cout << (revalidate(table, next, routes)[0] ? "differs" : "stays") << std::endl;
 } catch (const std::exception &error) {
   std::cerr << error.what() << std::endl;

@@ -71,9 +71,10 @@ static void replace(pigy_table *next) {
   pigy_table *old = current;
   current = next;
   pthread_rwlock_unlock(&lock);
+  /* It takes no memory, and `differs` is large enough. It can fail only for a NULL table or an invalid route. */
   pigy_status status = pigy_table_revalidate(old, next, routes, COUNT, differs, COUNT, &len, &index);
   for (size_t at = 0; at < COUNT; at++)
-    if (status != PIGY_OK || differs[at]) validate(at); /* after PIGY_MEMORY: all routes */
+    if (status != PIGY_OK || differs[at]) validate(at);
   pigy_table_free(old);
 }
 

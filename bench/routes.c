@@ -1,8 +1,8 @@
 /* routes HOW VRPS ROUTES: makes a table of VRPS VRPs, and validates ROUTES routes by it.
  *
  * HOW is `together` (all routes in one call), `alone` (one route a call) or `changed` (all routes in one call, by a
- * table after changes). The program prints the number of valid routes. Most VRPs have 24 bits, and half of
- * the routes are VRPs. The status is 0 if each call succeeded. */
+ * table after changes). The program prints the number of valid routes. Most VRPs have 24 bits, and half of the routes
+ * are VRPs. The status is 0 if each call succeeded. */
 #include "../foreign/pigyelund.h"
 #include <stdio.h>
 #include <stdlib.h>

@@ -1063,12 +1063,12 @@ static void ask_null_sets(void) {
 static void ask_null_tables(void) {
   const pigy_status none = PIGY_NO_HANDLE;
   uint8_t octet = MARK, validity = MARK, reason = MARK;
-  pigy_vrp vrp = {{10}, 1, PIGY_IPV4, 8, 8}, same;
+  pigy_vrp vrp = {{10}, 1, PIGY_IPV4, 8, 8}, marked;
   pigy_covering covering;
   pigy_route route = {{0}, 0, 0, 0};
   pigy_table *table = 0, *next = (pigy_table *)(void *)&octet;
   size_t len = ANY, index = ANY;
-  memcpy(&same, &vrp, sizeof vrp);
+  memset(&marked, MARK, sizeof marked);
   pigy_table_free(0);
   EXPECT_NONE(pigy_table_validate_routes(0, &route, 1, &octet, 1, &reason, 1, &len, &index), none, len, index,
               "routes of null");
@@ -1090,9 +1090,10 @@ static void ask_null_tables(void) {
     EXPECT_NONE(pigy_table_revalidate(old, other, &route, 1, &octet, 1, &len, &index), none, len, index,
                 "changed routes of null");
     len = index = ANY;
-    EXPECT_NONE(pigy_table_changes(old, other, &vrp, 1, &len, &vrp, 1, &index), none, len, index, "changes of null");
+    EXPECT_NONE(pigy_table_changes(old, other, &marked, 1, &len, &marked, 1, &index), none, len, index,
+                "changes of null");
   }
-  expect(octet == MARK && !memcmp(&vrp, &same, sizeof vrp), 0, "an octet of null");
+  expect(octet == MARK && is_marked((const uint8_t *)&marked, 0, sizeof marked), 0, "an octet of null");
   pigy_table_free(table);
 }
 

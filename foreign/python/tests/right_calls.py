@@ -98,6 +98,9 @@ with Table(vrps) as table:
     found: list[Validity] = table.validate_routes(routes)
     found += table.validate_routes(iter(routes)) + table.validate_routes(octets)
     results: bytes = table.validate_octets(routes) + table.validate_octets(memoryview(octets), allow_malformed=True)
+    numbers_and_reasons: tuple[bytes, bytes] = table.validate_octets(octets, allow_malformed=True, reasons=True)
+    found_and_reasons: tuple[list[Validity], list[Reason | None]] = table.validate_routes(routes, reasons=True)
+    results += table.validate_octets(routes, reasons=False) + numbers_and_reasons[0]
     covering: list[Covering] = table.covering(route)
     is_too_long: bool = Mismatch.TOO_LONG in covering[0].mismatch
     held: list[Vrp] = [*table] + [it.vrp for it in covering] + read_vrps(b"")
@@ -109,6 +112,7 @@ with Table(vrps) as table:
     is_in: bool = vrp in table and len(table) == 1
     table.with_changes(announced=changes.announced, withdrawn=changes.withdrawn).close()
     arrays.validate(table, arrays.routes(["10.0.0.0/8"], [1]))
+    validities, reasons = arrays.validate(table, arrays.routes(["10.0.0.0/8"], [1]), reasons=True)
 
 issuer: Resources = Resources([network, ip_address("10.0.0.1"), number])
 issuer = Resources(summarize_address_range(IPv4Address("10.0.0.0"), IPv4Address("10.0.0.9")))

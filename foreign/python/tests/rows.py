@@ -7,6 +7,7 @@ makes the call, if its types can express the arguments.
 import ctypes
 from collections.abc import Callable, Iterator
 from ctypes import byref, c_size_t, c_uint8, c_void_p
+from itertools import product
 from typing import Any
 
 from pigyelund import (
@@ -413,29 +414,50 @@ def are_origins(row: Row) -> bool:
 
         def made() -> Pair:
             held.append(Table(given))
-            return held[0].validate_octets(routes), row.expected[1]
+            return held[0].validate_octets(routes, reasons=True)
 
         if not row.is_by_package(made):
             return False
         for table in held:
-            if row.status == Status.OK and not are_of_table(table, row):
+            if not are_in_buffers(table, row) or row.status == Status.OK and not are_of_table(table, row):
                 return False
-            each = [one_octet(table, routes[at : at + 24]) for at in range(0, len(routes), 24)]
-            if bytes(each) != table.validate_octets(routes, allow_malformed=True):
+            each = [octets_of_route(table, routes[at : at + 24]) for at in range(0, len(routes), 24)]
+            found = b"".join(it[0] for it in each), b"".join(it[1] for it in each)
+            if found != table.validate_octets(routes, allow_malformed=True, reasons=True):
                 return False
-            if row.status == Status.OK and bytes(each) != row.expected[0]:
+            if found[0] != table.validate_octets(routes, allow_malformed=True):
                 return False
-            if row.status >= Status.SECOND and each.index(NO_VALIDITY) != row.number:
+            if row.status == Status.OK and found != row.expected:
+                return False
+            if row.status >= Status.SECOND and found[0].index(NO_VALIDITY) != row.number:
                 return False
     return True
 
 
-def one_octet(table: Table, route: bytes) -> int:
-    """Returns the octet of one route, or `NO_VALIDITY` if it is malformed."""
+def octets_of_route(table: Table, route: bytes) -> Pair:
+    """Returns the octets of the validity and of the reason of one route: `NO_VALIDITY` and 0 if it is malformed."""
     try:
-        return table.validate_octets(route)[0]
+        return table.validate_octets(route, reasons=True)
     except PigyelundError:
-        return NO_VALIDITY
+        return bytes([NO_VALIDITY]), b"\0"
+
+
+def are_in_buffers(table: Table, row: Row) -> bool:
+    """Returns whether the call for routes has the expected result, with buffers of each capacity for both outputs."""
+    routes, count = structs(row.second[0], 22), len(row.expected[0])
+    size = len(routes) // 24
+    array = (c.Route * size).from_buffer_copy(routes)
+    for capacities in product((count + 3, count, 0), (count + 3, count, 1, 0)):
+        runs, length, at = [(c_uint8 * it)() for it in capacities], c_size_t(7), c_size_t(7)
+        words = [it for run in runs for it in (run if len(run) else None, len(run))] + [byref(length), byref(at)]
+        status = table._status(lambda handle: library().pigy_table_validate_routes(handle, array, size, *words))
+        fits = count <= capacities[0] and (count <= capacities[1] or not capacities[1])
+        if (status, length.value, at.value) != (row.status if fits else Status.TOO_SMALL, count, row.number):
+            return False
+        wanted = [it[: len(run)].ljust(len(run), b"\0") for it, run in zip(row.expected, runs)]
+        if [*map(bytes, runs)] != (wanted if fits else [bytes(it) for it in capacities]):
+            return False
+    return True
 
 
 def are_of_table(table: Table, row: Row) -> bool:
@@ -445,6 +467,9 @@ def are_of_table(table: Table, row: Row) -> bool:
     if bytes(validities) != row.expected[0] or bytes(it.value if it else 0 for it in reasons) != row.expected[1]:
         return False
     found = [[it.value for it in table.validate_routes(given)] for given in givens(Route, row.second[0])]
+    both = [table.validate_routes(given, reasons=True) for given in givens(Route, row.second[0])]
+    if not all(([it.value for it in one], other) == (found[0], reasons) for one, other in both):
+        return False
     return all(bytes(it) == row.expected[0] for it in found)
 
 

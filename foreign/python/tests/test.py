@@ -225,6 +225,10 @@ def defaults(_: Path) -> Iterator[str]:
     with Table(iter([Vrp(TEN, 1, 9)])) as table:
         if table.validate_routes(iter(routes)) != named or [table.reason(it) for it in routes] != reasons:
             yield "validities"
+        if table.validate_routes(iter(routes), reasons=True) != (named, reasons):
+            yield "validities with reasons"
+        if table.validate_routes([], reasons=True) != ([], []) or table.validate_octets([], reasons=True) != (b"", b""):
+            yield "no validities with reasons"
     words = [str(it) for it in (*Validity, *Reason)]
     if words != ["valid", "not-found", "invalid", "invalid-as", "invalid-length"]:
         yield f"words {words}"
@@ -344,6 +348,8 @@ def tables(_: Path) -> Iterator[str]:
         lambda: table.validate_routes([]),
         lambda: table.validate(Route(TEN, 1)),
         lambda: table.reason(Route(TEN, 1)),
+        lambda: table.validate_octets([], reasons=True),
+        lambda: table.changes(Table()),
         lambda: table.with_changes(),
         lambda: next(iter(table)),
         lambda: vrps[0] in table,

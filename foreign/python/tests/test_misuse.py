@@ -379,15 +379,22 @@ def arrays_of_numpy(_: Path) -> Iterator[str]:
         if made.octets() != wanted.octets() or arrays.vrps(made).tobytes() != made.octets():
             yield f"{[*made]} of an array"
         codes = [0, 255, 2, 1, 0] + [255] * 10
+        reasons = [0, 0, 1] + [0] * 12
         if arrays.validate(made, routes).tolist() != codes:
             yield f"{arrays.validate(made, routes).tolist()} in place of {codes}"
+        both = arrays.validate(made, routes, reasons=True)
+        if [it.tolist() for it in both] != [codes, reasons] or {it.dtype.str for it in both} != {"|u1"}:
+            yield f"{both} in place of {codes} and {reasons}"
+        long = arrays.routes(["10.0.0.0/24", "10.0.0.0/24", "2001:db8::/64"], [1, 9, 4])
+        if [it.tolist() for it in arrays.validate(made, long, reasons=True)] != [[2, 2, 2], [2, 1, 2]]:
+            yield "reasons of an array"
         fine = routes[[at for at, code in enumerate(codes) if code != 255]]
         if [it.value for it in made.validate_routes(fine)] != [it for it in codes if it != 255]:
             yield "routes of an array"
         if arrays.validate(made, routes[::-1]).tolist() != codes[::-1] or arrays.validate(made, routes[:0]).size:
             yield "a view of an array"
         many = numpy.tile(routes, 1000)
-        if arrays.validate(made, many).tolist() != codes * 1000:
+        if [it.tolist() for it in arrays.validate(made, many, reasons=True)] != [codes * 1000, reasons * 1000]:
             yield "many routes"
         packed = numpy.dtype([(name, arrays.ROUTE[name]) for name in arrays.ROUTE.names])
         wide = arrays.ROUTE.newbyteorder()

@@ -192,6 +192,7 @@ class Paused(Counted):
 ROUTE = Route(TEN, 1)
 ON_TABLES: list[Callable[[Table], object]] = [
     lambda table: table.validate_routes([ROUTE]) == [Validity.VALID],
+    lambda table: table.validate_routes([ROUTE], reasons=True) == ([Validity.VALID], [None]),
     lambda table: table.validate(ROUTE) == Validity.VALID,
     lambda table: len(table.covering(ROUTE)) == 1,
     lambda table: table.revalidate(table, [ROUTE]) == [],

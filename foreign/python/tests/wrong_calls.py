@@ -93,8 +93,11 @@ Table.read("vrps.csv")  # refused
 table.validate_routes([vrp])  # refused
 table.validate_routes(7)  # refused
 table.validate_routes(route)  # refused
+table.validate_routes([route], True)  # refused
+table.validate_routes([route], reasons=[])  # refused
 table.validate_octets("10.0.0.0/8")  # refused
 table.validate_octets([route], True)  # refused
+table.validate_octets([route], reasons=1)  # refused
 table.validate(vrp)  # refused
 table.validate(network)  # refused
 table.validate([route])  # refused
@@ -113,6 +116,8 @@ text: str = table.validate(route)  # refused
 number: int = table.validate(route)  # refused
 prefix: int = table.covering(route)[0].vrp.prefix  # refused
 octets: bytes = issuer.verify(extensions)  # refused
+octets = table.validate_octets([route], reasons=True)  # refused
+validities: list[Validity] = table.validate_routes([route], reasons=True)  # refused
 name: str = vrp.asn  # refused
 family: Family = 4  # refused
 print([*vrp])  # refused

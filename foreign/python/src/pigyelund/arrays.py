@@ -3,8 +3,12 @@
     >>> from pigyelund import Table
     >>> from pigyelund.arrays import routes, validate, vrps
     >>> table = Table(vrps(b"ASN,IP Prefix,Max Length\\nAS64496,10.0.0.0/8,16\\n"))
-    >>> validate(table, routes(["10.0.0.0/16", "10.0.0.1/8"], [64496, 64496])).tolist()
-    [0, 255]
+    >>> asked = routes(["10.0.0.0/16", "10.0.0.0/24", "10.0.0.1/8"], [64496, 64496, 64496])
+    >>> validate(table, asked).tolist()
+    [0, 2, 255]
+    >>> validities, reasons = validate(table, asked, reasons=True)
+    >>> reasons.tolist()
+    [0, 2, 0]
 
 `VRP` and `ROUTE` are the dtypes of the structs `pigy_vrp` and `pigy_route` of `pigyelund.h`. Their fields are `address`
 (16 octets in network byte order; an IPv4 address is the first four), `asn`, `family` (4 or 6), `len`, and for a VRP
@@ -54,7 +58,7 @@ def routes(prefixes: Iterable[str], asns: Iterable[int]) -> Array:
     return numpy.array(rows, "V24").view(ROUTE) if rows else numpy.empty(0, ROUTE)
 
 
-def validate(table: Table, asked: Array) -> Array:
+def validate(table: Table, asked: Array, *, reasons: bool = False) -> Array:
     """Validates routes, and returns an octet for each: the number of a `Validity`, or `NO_VALIDITY` (255).
 
     A malformed row has no validity, so its octet is `NO_VALIDITY`.
@@ -62,12 +66,20 @@ def validate(table: Table, asked: Array) -> Array:
     Args:
         table: The table.
         asked: An array of `ROUTE`.
+        reasons: Whether to return the reasons too.
+
+    Returns:
+        An array of `uint8`. With `reasons` a tuple of two such arrays: the validities, and for each route the number of
+        the `Reason` why it is invalid. This number is 0 for a malformed row and for a route that is not invalid.
 
     Raises:
         TypeError: The array has another dtype.
         ValueError: The table is closed.
     """
-    return numpy.frombuffer(table.validate_octets(asked, allow_malformed=True), "u1")
+    if not reasons:
+        return numpy.frombuffer(table.validate_octets(asked, allow_malformed=True), "u1")
+    found = table.validate_octets(asked, allow_malformed=True, reasons=True)
+    return tuple(numpy.frombuffer(it, "u1") for it in found)
 
 
 def row(prefix: object, asn: object) -> bytes:

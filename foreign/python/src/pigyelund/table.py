@@ -7,7 +7,7 @@ from ctypes import POINTER, byref, c_size_t, c_uint8, c_void_p
 from dataclasses import dataclass
 from enum import Enum
 from struct import iter_unpack
-from typing import TYPE_CHECKING, Any, NoReturn, TypeAlias, TypeVar
+from typing import TYPE_CHECKING, Any, Literal, NoReturn, TypeAlias, TypeVar, overload
 
 from . import _bindings
 from ._bindings import NO_VALIDITY, Status
@@ -136,7 +136,7 @@ def item_at(array: Array, at: int) -> bytes | None:
 
 def items_from(array: Array, at: int) -> Any:
     """Returns a pointer to an item of an array."""
-    return ctypes.cast(byref(array, at * SIZE), POINTER(array._type_))
+    return ctypes.cast(byref(array, at * ctypes.sizeof(array._type_)), POINTER(array._type_))
 
 
 def vrps_of(octets: bytes) -> list[Vrp]:
@@ -345,14 +345,31 @@ class Table:
             raise error_for_status(status)
         return Validity(validity.value), Reason(reason.value) if reason.value else None
 
-    def validate_routes(self, routes: Routes) -> list[Validity]:
+    @overload
+    def validate_routes(self, routes: Routes, *, reasons: Literal[False] = False) -> list[Validity]: ...
+
+    @overload
+    def validate_routes(
+        self, routes: Routes, *, reasons: Literal[True]
+    ) -> tuple[list[Validity], list[Reason | None]]: ...
+
+    def validate_routes(
+        self, routes: Routes, *, reasons: bool = False
+    ) -> list[Validity] | tuple[list[Validity], list[Reason | None]]:
         """Validates routes (RFC 6811, 2).
+
+            >>> with Table([Vrp("10.0.0.0/8-16 AS64496")]) as table:
+            ...     validities, reasons = table.validate_routes([Route("10.0.0.0/24 AS64496")], reasons=True)
+            >>> validities, reasons
+            ([<Validity.INVALID: 2>], [<Reason.INVALID_LENGTH: 2>])
 
         Args:
             routes: The routes: an iterable of `Route`, or a buffer of C structs.
+            reasons: Whether to return the reasons too.
 
         Returns:
-            The validity of each route, in the order of `routes`.
+            The validity of each route, in the order of `routes`. With `reasons` a tuple of two lists: the validities,
+            and for each route the `Reason` why it is invalid, or None if it is not invalid.
 
         Raises:
             OriginError: A struct of a buffer is malformed. The attribute `index` is the index, from 0, of the first
@@ -360,9 +377,24 @@ class Table:
             TypeError: `routes` is neither an iterable nor a buffer, or an item of it is no `Route`.
             ValueError: The table is closed, or the length of the buffer is no multiple of 24 octets.
         """
-        return [_VALIDITIES[octet] for octet in self.validate_octets(routes)]
+        if not reasons:
+            return [_VALIDITIES[octet] for octet in self.validate_octets(routes)]
+        validities, found = self.validate_octets(routes, reasons=True)
+        return [_VALIDITIES[octet] for octet in validities], [_REASONS.get(octet) for octet in found]
 
-    def validate_octets(self, routes: Routes, *, allow_malformed: bool = False) -> bytes:
+    @overload
+    def validate_octets(
+        self, routes: Routes, *, allow_malformed: bool = False, reasons: Literal[False] = False
+    ) -> bytes: ...
+
+    @overload
+    def validate_octets(
+        self, routes: Routes, *, allow_malformed: bool = False, reasons: Literal[True]
+    ) -> tuple[bytes, bytes]: ...
+
+    def validate_octets(
+        self, routes: Routes, *, allow_malformed: bool = False, reasons: bool = False
+    ) -> bytes | tuple[bytes, bytes]:
         """Validates routes like `validate_routes`, and returns one octet for each route. Use it for millions of routes.
 
         The call copies your buffer. During the call the copies take up to 60 octets for each route.
@@ -371,10 +403,13 @@ class Table:
             routes: The routes: a buffer of C structs, or an iterable of `Route`.
             allow_malformed: Whether a malformed struct gets an octet of its own, `NO_VALIDITY`, in place of an
                 `OriginError`.
+            reasons: Whether to return the reasons too.
 
         Returns:
             The numbers of `Validity`, one octet each: 0 for VALID, 1 for NOT_FOUND, 2 for INVALID. With
-            `allow_malformed` also 255 (`NO_VALIDITY`) for a malformed struct, which has no validity.
+            `allow_malformed` also 255 (`NO_VALIDITY`) for a malformed struct, which has no validity. With `reasons` a
+            tuple of two `bytes`: these numbers, and the numbers of `Reason`, one octet each. These are 1 for INVALID_AS
+            and 2 for INVALID_LENGTH. They are 0 for a malformed struct and for a route that is not invalid.
 
         Raises:
             OriginError: A struct is malformed, and `allow_malformed` is False. The attribute `index` is the index, from
@@ -384,21 +419,21 @@ class Table:
         """
         asked = array_of(_bindings.Route, Route, routes)
         out = (c_uint8 * len(asked)).from_buffer_copy(bytes([NO_VALIDITY]) * len(asked))
+        found = (c_uint8 * len(asked))() if reasons else None
 
         def ask(at: int, count: int) -> tuple[int, int]:
             """Validates some routes. Returns the status, and the index of the first malformed one in these routes."""
             length, index = c_size_t(), c_size_t()
-            words = items_from(asked, at), count, ctypes.cast(byref(out, at), POINTER(c_uint8)), count
-            status = self._status(
-                lambda handle: library().pigy_table_validate_routes(handle, *words, byref(length), byref(index))
-            )
+            buffer = (items_from(found, at), count) if found is not None else (None, 0)
+            words = items_from(asked, at), count, items_from(out, at), count, *buffer, byref(length), byref(index)
+            status = self._status(lambda handle: library().pigy_table_validate_routes(handle, *words))
             return status, index.value
 
         if allow_malformed:
             validate_parts(ask, len(asked), out)
         else:
             refuse_failed(*ask(0, len(asked)), asked)
-        return bytes(out)
+        return bytes(out) if found is None else (bytes(out), bytes(found))
 
     def revalidate(self, following: "Table", routes: Routes) -> list[int]:
         """Returns the indices of the routes whose validity differs between this table and another one (RFC 6811, 4).
@@ -578,6 +613,7 @@ class Table:
 
 
 _VALIDITIES = {it.value: it for it in Validity}
+_REASONS = {it.value: it for it in Reason}
 _COVERING_FORMAT = f"@{SIZE}sI"
 
 

@@ -449,7 +449,7 @@ def are_in_buffers(table: Table, row: Row) -> bool:
     array = (c.Route * size).from_buffer_copy(routes)
     for capacities in product((count + 3, count, 0), (count + 3, count, 1, 0)):
         runs, length, at = [(c_uint8 * it)() for it in capacities], c_size_t(7), c_size_t(7)
-        words = [it for run in runs for it in (run if len(run) else None, len(run))] + [byref(length), byref(at)]
+        words = [it for run in runs for it in (run or None, len(run))] + [byref(length), byref(at)]
         status = table._status(lambda handle: library().pigy_table_validate_routes(handle, array, size, *words))
         fits = count <= capacities[0] and (count <= capacities[1] or not capacities[1])
         if (status, length.value, at.value) != (row.status if fits else Status.TOO_SMALL, count, row.number):
@@ -535,6 +535,30 @@ def are_differences(row: Row) -> bool:
     return all(row.is_by_package(lambda: differ(given)) for given in givens(Route, row.second[0]))
 
 
+def are_changes(row: Row) -> bool:
+    """Returns whether the row of the changes between tables has its expected result, with buffers of each capacity."""
+    vrps = [[it[:23] for it in cut(structs(half, 23), 24)] for half in row.expected]
+    counts = [len(it) for it in vrps]
+    with Table(structs(row.first[0], 23)) as old, Table(structs(row.first[1], 23)) as new:
+        for capacities in product(*((count + 3, count, 0) for count in counts)):
+            runs, lengths = [(c.Vrp * it)() for it in capacities], [c_size_t(7), c_size_t(7)]
+            words = [it for run, length in zip(runs, lengths) for it in (run or None, len(run), byref(length))]
+            status = old._status(lambda one: new._status(lambda it: library().pigy_table_changes(one, it, *words)))
+            fits = counts[0] <= capacities[0] and counts[1] <= capacities[1]
+            if (status, [it.value for it in lengths]) != (row.status if fits else Status.TOO_SMALL, counts):
+                return False
+            found = [[bytes(it)[:23] for it in run] for run in runs]
+            written = vrps if fits else [[], []]
+            if found != [it + [bytes(23)] * (size - len(it)) for it, size in zip(written, capacities)]:
+                return False
+
+        def by_package() -> Pair:
+            found = old.changes(new)
+            return vrp_octets(found.announced), vrp_octets(found.withdrawn)
+
+        return row.is_by_package(by_package)
+
+
 def is_line(row: Row) -> bool:
     """Returns whether the row of a line has its expected result."""
     line, count = row.first[0], len(row.expected[0])
@@ -593,7 +617,7 @@ ASKED |= dict.fromkeys(("cover", "as_ranges", "ip_ranges"), is_listed)
 ASKED |= dict.fromkeys(OPERATORS, is_operation)
 ASKED |= dict.fromkeys(("contains", "equal"), is_test)
 ASKED |= {"contains_asn": has_asn, "contains_prefix": has_prefix}
-ASKED |= {"differ": are_differences, "read": is_read, "text": is_text, "print": is_printed}
+ASKED |= {"differ": are_differences, "changes": are_changes, "read": is_read, "text": is_text, "print": is_printed}
 
 
 def faults(lines: list[str]) -> Iterator[str]:

@@ -20,6 +20,7 @@ from pigyelund import (
     Asn,
     Certificate,
     ChangeError,
+    Changes,
     Covering,
     DerError,
     Encoding,
@@ -460,6 +461,10 @@ def changes_by_sets(_: Path) -> Iterator[str]:
             with table.with_changes(announced=announced, withdrawn=withdrawn) as following:
                 if list(following) != list(wanted) or len(following) != len(new):
                     yield f"{list(following)} after changes"
+    many = [Vrp(IPv4Network((at << 8, 24)), 1) for at in range(10000)]
+    with Table(many[:8000]) as table, Table(many[5000:] * 2) as following:
+        if table.changes(following) != Changes(announced=many[8000:], withdrawn=many[:5000]):
+            yield "many changes"
 
 
 def copies(_: Path) -> Iterator[str]:

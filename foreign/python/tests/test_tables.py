@@ -19,6 +19,7 @@ from typing import Any
 from pigyelund import (
     Certificate,
     ChangeError,
+    Changes,
     Extensions,
     OriginError,
     OverclaimedError,
@@ -196,7 +197,9 @@ ON_TABLES: list[Callable[[Table], object]] = [
     lambda table: table.validate(ROUTE) == Validity.VALID,
     lambda table: len(table.covering(ROUTE)) == 1,
     lambda table: table.revalidate(table, [ROUTE]) == [],
+    lambda table: table.changes(table) == Changes([], []),
     lambda table: len(table) == 1,
+    lambda table: table.octets() == bytes(Vrp(TEN, 1)),
     lambda table: table.with_changes().close() is None,
 ]
 

@@ -222,7 +222,10 @@ class Table:
     The address is in network byte order, and an IPv4 address is its first four octets. The AS is in the byte order of
     the processor. The family is the number of a `Family`: 4 or 6. Lengths are in bits.
 
-    Each call except `close` and `len` may raise `OutOfMemoryError`. This error says nothing about the input.
+    Memory errors. These calls may raise `OutOfMemoryError`: `Table`, `read`, `with_changes`, `changes`, `covering`,
+    `octets`, `in` and iteration. This error says nothing about the input. The library takes no memory for the other
+    calls, such as `validate_octets`. Python takes memory for the arguments and the result of each call. If this memory
+    is missing, Python raises `MemoryError`.
 
     Args:
         vrps: The VRPs, in any order. The table copies them, and keeps duplicates.
@@ -447,7 +450,7 @@ class Table:
             routes: The routes: an iterable of `Route`, or a buffer of C structs.
 
         Returns:
-            The indices in `routes`, from 0, ascending.
+            The indices in `routes`, from 0, ascending. The reason why a route is invalid is not compared.
 
         Raises:
             OriginError: A struct is malformed. The attribute `index` is the index, from 0, of the first one.
@@ -540,7 +543,7 @@ class Table:
         return self._of(owner)
 
     def changes(self, following: "Table") -> Changes:
-        """Returns what differs between this table and another one. Copies of a VRP count as one.
+        """Returns the VRPs in which this table and another one differ (RFC 8210, 5.6). Copies of a VRP count as one.
 
             >>> with Table([Vrp("10.0.0.0/8 AS1")]) as old, Table([Vrp("10.0.0.0/8 AS2")]) as new:
             ...     found = old.changes(new)
@@ -553,15 +556,16 @@ class Table:
             following: The other table.
 
         Returns:
-            The changes, each list in the order of its table.
+            The changes, each VRP once. IPv4 comes before IPv6. Each family is in the order of the last addresses of the
+            prefixes, and prefixes with the same last address come by descending length. VRPs of the same prefix come by
+            descending maximum length, and then by ascending AS number. The iterator of a table has another order.
 
         Raises:
             TypeError: `following` is no table.
             ValueError: A table is closed.
         """
         check("following", following, Table)
-        old, new = dict.fromkeys(self), dict.fromkeys(following)
-        return Changes([it for it in new if it not in old], [it for it in old if it not in new])
+        return self._with_handle(lambda old: following._with_handle(lambda new: changes_between(old, new)))
 
     def octets(self) -> bytes:
         """Returns all VRPs as structs `pigy_vrp` of `pigyelund.h`, 24 octets each, in the order of the iterator.
@@ -569,10 +573,9 @@ class Table:
         Raises:
             ValueError: The table is closed.
         """
-        count = len(self)
         status, octets = self._with_handle(
             lambda handle: listed(
-                _bindings.Vrp, lambda *out: int(library().pigy_table_vrps(handle, *out)), count
+                _bindings.Vrp, lambda *out: int(library().pigy_table_vrps(handle, *out)), length_of(handle)
             )
         )
         if status != Status.OK:
@@ -581,9 +584,7 @@ class Table:
 
     def __len__(self) -> int:
         """Returns the number of VRPs, duplicates included. Raises `ValueError` if the table is closed."""
-        length = c_size_t()
-        self._status(lambda handle: library().pigy_table_len(handle, byref(length)))
-        return length.value
+        return self._with_handle(length_of)
 
     def __bool__(self) -> bool:
         """Returns True, also for a table without VRPs. Raises `ValueError` if the table is closed."""
@@ -615,6 +616,30 @@ class Table:
 _VALIDITIES = {it.value: it for it in Validity}
 _REASONS = {it.value: it for it in Reason}
 _COVERING_FORMAT = f"@{SIZE}sI"
+
+
+def length_of(handle: c_void_p) -> int:
+    """Returns the number of VRPs of the table that has a handle."""
+    length = c_size_t()
+    library().pigy_table_len(handle, byref(length))
+    return length.value
+
+
+def changes_between(old: c_void_p, new: c_void_p) -> Changes:
+    """Returns the changes from the table with one handle to the table with another.
+
+    Raises:
+        OutOfMemoryError: Out of memory.
+    """
+    # No more VRPs are announced than the new table has, and no more are withdrawn than the old one has.
+    announced, withdrawn = ((_bindings.Vrp * length_of(handle))() for handle in (new, old))
+    counts = c_size_t(), c_size_t()
+    words = announced, len(announced), byref(counts[0]), withdrawn, len(withdrawn), byref(counts[1])
+    status = int(library().pigy_table_changes(old, new, *words))
+    if status != Status.OK:
+        raise error_for_status(status)
+    octets = [ctypes.string_at(it, count.value * SIZE) for it, count in zip((announced, withdrawn), counts)]
+    return Changes(announced=vrps_of(octets[0]), withdrawn=vrps_of(octets[1]))
 
 
 def one_route(route: object) -> _bindings.Route:

@@ -14,6 +14,13 @@ pub fn status_text(status: u32) -> &'static str {
     text.to_str().unwrap_or("unknown status")
 }
 
+/// Panics with the text of a status that is not `PIGY_OK`. This is for calls that cannot fail for the values of this
+/// crate.
+#[track_caller]
+pub(crate) fn assert_ok(status: u32) {
+    assert_eq!(status, sys::PIGY_OK, "{}", status_text(status));
+}
+
 /// The reason why a call fails.
 #[non_exhaustive]
 #[derive(Clone, Copy, Debug, PartialEq, Eq, Hash)]

@@ -8,12 +8,13 @@ use std::ptr::null_mut;
 use std::str::FromStr;
 use std::sync::{Arc, OnceLock};
 
-use crate::buffers::items;
+use crate::buffers::{items, outputs};
 use crate::prefix::address_in;
+use crate::reason::assert_ok;
 use crate::{Asn, Certificate, Der, Encoding, Extensions, Family, Kind, Mode, Prefix, Vrp};
 use crate::{DerFault, ResourceError};
 use pigyelund_sys as sys;
-use sys::{PIGY_OK, PIGY_TOO_SMALL};
+use sys::PIGY_OK;
 
 /// Frees a set of the library.
 struct Handle(*mut sys::pigy_resources);
@@ -472,41 +473,24 @@ impl Resources {
     ///
     /// [`Reason::Memory`](crate::Reason::Memory) only.
     pub fn der(&self) -> Result<Der, ResourceError> {
-        let mut der = Der {
-            asn: Vec::with_capacity(OCTETS),
-            ip: Vec::with_capacity(OCTETS),
+        // SAFETY: the call writes the octets, if it returns PIGY_OK. The set lives until the call returns.
+        let found = unsafe {
+            outputs([OCTETS; 2], |[asn, ip]| {
+                let mut out = sys::pigy_buffers {
+                    as_: asn.start,
+                    as_capacity: asn.capacity,
+                    as_len: 0,
+                    ip: ip.start,
+                    ip_capacity: ip.capacity,
+                    ip_len: 0,
+                };
+                let status = sys::pigy_resources_der(self.handle(), &mut out);
+                (asn.len, ip.len) = (out.as_len, out.ip_len);
+                status
+            })
         };
-        loop {
-            let mut out = sys::pigy_buffers {
-                as_: der.asn.as_mut_ptr(),
-                as_capacity: der.asn.capacity(),
-                as_len: 0,
-                ip: der.ip.as_mut_ptr(),
-                ip_capacity: der.ip.capacity(),
-                ip_len: 0,
-            };
-            // SAFETY: the pointers and capacities are those of the vectors. The set lives until the call returns.
-            let status = unsafe { sys::pigy_resources_der(self.handle(), &mut out) };
-            #[cfg(test)]
-            crate::tests::count_call();
-            match status {
-                PIGY_OK => {
-                    // SAFETY: the call wrote the octets, whose numbers it stored. They fit the buffers.
-                    unsafe {
-                        der.asn.set_len(out.as_len);
-                        der.ip.set_len(out.ip_len);
-                    }
-                    der.asn.shrink_to_fit();
-                    der.ip.shrink_to_fit();
-                    return Ok(der);
-                }
-                PIGY_TOO_SMALL => {
-                    der.asn.reserve_exact(out.as_len);
-                    der.ip.reserve_exact(out.ip_len);
-                }
-                status => return Err(ResourceError::of_status(status)),
-            }
-        }
+        let [asn, ip] = found.map_err(ResourceError::of_status)?;
+        Ok(Der { asn, ip })
     }
 
     /// Returns the text of one kind of resources. [`Resources::from_text`] reads it as the same resources.
@@ -701,8 +685,7 @@ operators! {
 /// Returns the answer of a call that cannot fail for the values of this crate.
 fn answered(call: impl FnOnce(&mut u8) -> u32) -> bool {
     let mut answer = 0;
-    let status = call(&mut answer);
-    assert_eq!(status, PIGY_OK, "{}", crate::status_text(status));
+    assert_ok(call(&mut answer));
     answer == 1
 }
 

@@ -1,10 +1,10 @@
 //! A table of VRPs that is built once and queried many times.
-use std::cmp::Reverse;
 use std::fmt::{Debug, Display, Formatter, Result as Written};
 use std::ptr::null_mut;
 
-use crate::buffers::items;
-use crate::{Asn, InvalidReason, Prefix, Route, TableError, Validity, Vrp};
+use crate::buffers::{items, outputs};
+use crate::reason::assert_ok;
+use crate::{InvalidReason, Route, TableError, Validity, Vrp};
 use pigyelund_sys as sys;
 use sys::PIGY_OK;
 
@@ -213,19 +213,52 @@ impl Table {
         }
     }
 
-    /// Returns the changes from this table to another one. [`Table::with_changes`] applies them.
+    /// Returns the changes from this table to another one (RFC 8210, 5.6). [`Table::with_changes`] applies them.
     ///
-    /// A VRP is announced if only `next` has it, and withdrawn if only this table has it. Each is listed once, in the
-    /// order of [`Table::vrps`].
+    /// A VRP is announced if only `next` has it, and withdrawn if only this table has it. Each is listed once. A VRP
+    /// that a table has twice counts once.
+    ///
+    /// IPv4 comes before IPv6. Each family is in the order of the last addresses, the longer prefix first. VRPs of the
+    /// same prefix come by descending maximum length. VRPs of the same prefix and maximum length come by ascending AS
+    /// number. [`Table::vrps`] has another order.
     ///
     /// # Errors
     ///
     /// [`Reason::Memory`](crate::Reason::Memory) only.
+    ///
+    /// # Example
+    ///
+    /// ```
+    /// use pigyelund::{Table, Vrp};
+    ///
+    /// let [one, two, three]: [Vrp; 3] =
+    ///     ["10.0.0.0/8 AS1", "10.0.0.0/8 AS2", "::/0 AS1"].map(|it| it.parse().unwrap());
+    /// let (old, new) = (Table::new(&[one, two]).unwrap(), Table::new(&[two, three]).unwrap());
+    /// let changes = old.changes(&new).unwrap();
+    /// assert_eq!((changes.announced, changes.withdrawn), (vec![three], vec![one]));
+    /// ```
     pub fn changes(&self, next: &Table) -> Result<Changes, TableError> {
-        let (old, new) = (self.vrps()?, next.vrps()?);
+        // The buffers suffice for all VRPs of the tables.
+        let capacities = [next.len(), self.len()];
+        // SAFETY: the call writes the VRPs, if it returns PIGY_OK. Both tables live until the call returns.
+        let found = unsafe {
+            outputs::<Vrp, 2>(capacities, |[announced, withdrawn]| {
+                sys::pigy_table_changes(
+                    self.0,
+                    next.0,
+                    announced.start.cast(),
+                    announced.capacity,
+                    &mut announced.len,
+                    withdrawn.start.cast(),
+                    withdrawn.capacity,
+                    &mut withdrawn.len,
+                )
+            })
+        };
+        let [announced, withdrawn] = found.map_err(without_position)?;
         Ok(Changes {
-            announced: without(&new, &old),
-            withdrawn: without(&old, &new),
+            announced,
+            withdrawn,
         })
     }
 
@@ -234,35 +267,48 @@ impl Table {
     pub fn validate(&self, route: &Route) -> Validity {
         let (mut validity, mut reason) = (0, 0);
         // SAFETY: the table and the route live until the call returns.
-        let status =
-            unsafe { sys::pigy_table_validate(self.0, &route.0, &mut validity, &mut reason) };
-        assert_eq!(status, PIGY_OK, "{}", crate::status_text(status));
+        assert_ok(unsafe {
+            sys::pigy_table_validate(self.0, &route.0, &mut validity, &mut reason)
+        });
         Validity::of(validity, reason)
     }
 
     /// Validates routes (RFC 6811, 2). Returns the validity of each route, in the order of `routes`.
     ///
-    /// Many routes in one call take less time each. A route that is invalid takes the time of [`Table::validate`] too.
+    /// Many routes in one call take less time each.
     ///
-    /// # Errors
+    /// # Example
     ///
-    /// [`Reason::Memory`](crate::Reason::Memory) only.
-    pub fn validate_routes(&self, routes: &[Route]) -> Result<Vec<Validity>, TableError> {
-        // SAFETY: the call writes an octet for each route, if it returns PIGY_OK. The table and the slice live until
-        // the call returns.
-        let octets = unsafe {
-            items(routes.len(), |out, capacity, len| {
-                let (start, count, mut at) = (routes_of(routes), routes.len(), 0);
-                sys::pigy_table_validate_routes(self.0, start, count, out, capacity, len, &mut at)
-            })
-        };
-        let octets = octets.map_err(without_position)?;
-        // The call has no reasons.
-        let validity = |(octet, route): (&u8, &Route)| match u32::from(*octet) {
-            sys::PIGY_INVALID => self.validate(route),
-            _ => Validity::of(*octet, 0),
-        };
-        Ok(octets.iter().zip(routes).map(validity).collect())
+    /// ```
+    /// use pigyelund::{InvalidReason, Table, Validity};
+    ///
+    /// let table = Table::new(&["10.0.0.0/8-16 AS64496".parse().unwrap()]).unwrap();
+    /// let routes = ["10.0.0.0/16 AS64496", "10.0.0.0/24 AS64496"].map(|it| it.parse().unwrap());
+    /// let wanted = [Validity::Valid, Validity::Invalid(InvalidReason::Length)];
+    /// assert_eq!(table.validate_routes(&routes), wanted);
+    /// ```
+    #[must_use]
+    pub fn validate_routes(&self, routes: &[Route]) -> Vec<Validity> {
+        let [mut octets, mut reasons] = [vec![0; routes.len()], vec![0; routes.len()]];
+        let (mut len, mut at) = (0, 0);
+        // SAFETY: the pointers and lengths are those of the slice and of the vectors. The table lives until the call
+        // returns.
+        assert_ok(unsafe {
+            sys::pigy_table_validate_routes(
+                self.0,
+                routes_of(routes),
+                routes.len(),
+                octets.as_mut_ptr(),
+                octets.len(),
+                reasons.as_mut_ptr(),
+                reasons.len(),
+                &mut len,
+                &mut at,
+            )
+        });
+        let each = octets.into_iter().zip(reasons);
+        each.map(|(octet, reason)| Validity::of(octet, reason))
+            .collect()
     }
 
     /// Returns the indices of the routes whose validity differs between this table and `next` (RFC 6811, 4).
@@ -273,23 +319,25 @@ impl Table {
     ///
     /// - `next`: the other table, for example one that [`Table::with_changes`] made.
     /// - `routes`: the routes.
-    ///
-    /// # Errors
-    ///
-    /// [`Reason::Memory`](crate::Reason::Memory) only.
-    pub fn revalidate(&self, next: &Table, routes: &[Route]) -> Result<Vec<usize>, TableError> {
+    #[must_use]
+    pub fn revalidate(&self, next: &Table, routes: &[Route]) -> Vec<usize> {
+        let mut octets = vec![0; routes.len()];
+        let (mut len, mut at) = (0, 0);
         // SAFETY: as in `validate_routes`.
-        let octets = unsafe {
-            items(routes.len(), |out: *mut u8, capacity, len| {
-                let (start, count, mut at) = (routes_of(routes), routes.len(), 0);
-                sys::pigy_table_revalidate(
-                    self.0, next.0, start, count, out, capacity, len, &mut at,
-                )
-            })
-        };
-        let octets = octets.map_err(without_position)?;
+        assert_ok(unsafe {
+            sys::pigy_table_revalidate(
+                self.0,
+                next.0,
+                routes_of(routes),
+                routes.len(),
+                octets.as_mut_ptr(),
+                octets.len(),
+                &mut len,
+                &mut at,
+            )
+        });
         let marked = octets.iter().enumerate().filter(|(_, octet)| **octet != 0);
-        Ok(marked.map(|(at, _)| at).collect())
+        marked.map(|(at, _)| at).collect()
     }
 
     /// Returns the VRPs that cover a route. They explain its validity: the route is valid if one of them matches.
@@ -315,8 +363,7 @@ impl Table {
     pub fn len(&self) -> usize {
         let mut len = 0;
         // SAFETY: the table lives until the call returns.
-        let status = unsafe { sys::pigy_table_len(self.0, &mut len) };
-        assert_eq!(status, PIGY_OK, "{}", crate::status_text(status));
+        assert_ok(unsafe { sys::pigy_table_len(self.0, &mut len) });
         len
     }
 
@@ -344,24 +391,6 @@ impl Table {
         };
         found.map_err(without_position)
     }
-}
-
-/// Returns what the order of a table compares.
-fn place(vrp: &Vrp) -> (Prefix, Reverse<Asn>, u8) {
-    (vrp.prefix(), Reverse(vrp.asn()), vrp.max_len())
-}
-
-/// Returns the VRPs of one list that the other does not have, each once. Both lists are in the order of a table.
-fn without(one: &[Vrp], other: &[Vrp]) -> Vec<Vrp> {
-    let mut others = other.iter().peekable();
-    let mut found = Vec::new();
-    for vrp in one {
-        while others.next_if(|it| place(it) < place(vrp)).is_some() {}
-        if others.peek() != Some(&vrp) && found.last() != Some(vrp) {
-            found.push(*vrp);
-        }
-    }
-    found
 }
 
 /// The changes from one table to another: what [`Table::changes`] returns.

@@ -126,7 +126,7 @@ fn calls_of_large_sets() {
     }
 }
 
-/// A table knows the number of its VRPs. A route with more covering VRPs than usual needs a second call.
+/// Tables know the numbers of their VRPs. A route with more covering VRPs than usual needs a second call.
 #[test]
 fn calls_of_tables() {
     let vrps = |count: u32| -> Vec<Vrp> {
@@ -140,5 +140,8 @@ fn calls_of_tables() {
         let table = Table::new(&vrps(count)).unwrap();
         assert_eq!(calls_of(|| table.vrps().unwrap()), 1);
         assert_eq!(calls_of(|| table.covering(&route).unwrap()), covering);
+        let none = Table::new(&[]).unwrap();
+        assert_eq!(calls_of(|| table.changes(&none).unwrap()), 1);
+        assert_eq!(calls_of(|| none.changes(&table).unwrap()), 1);
     }
 }

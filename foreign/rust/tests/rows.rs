@@ -607,7 +607,7 @@ impl Row<'_> {
         let Some(routes) = self.values(2, 22, true, route) else {
             return;
         };
-        let found = table.validate_routes(&routes).unwrap();
+        let found = table.validate_routes(&routes);
         let numbers: Vec<u8> = found.iter().map(|it| it.number()).collect();
         let reason = |it: &Validity| match it {
             Validity::Invalid(InvalidReason::As) => 1,
@@ -696,17 +696,36 @@ impl Row<'_> {
         assert_eq!(table_octets(&table), before, "{}", self.text);
     }
 
+    /// Compares the VRPs in which two tables differ with those of the golden test. They turn the one table into the
+    /// other.
+    fn ask_changes(&self) {
+        let [old, new] = [0, 1].map(|at| self.table(at).unwrap());
+        let octets = |vrps: &[Vrp]| -> Vec<u8> { vrps.iter().flat_map(vrp_octets).collect() };
+        let (there, back) = (old.changes(&new).unwrap(), new.changes(&old).unwrap());
+        let found = (octets(&there.announced), octets(&there.withdrawn));
+        assert_eq!(
+            (self.status, &found),
+            (PIGY_OK, &self.expected),
+            "{}",
+            self.text
+        );
+        let found = (octets(&back.withdrawn), octets(&back.announced));
+        assert_eq!(found, self.expected, "{}", self.text);
+        let again = old.with_changes(&there.announced, &there.withdrawn);
+        assert_eq!(distinct(&again.unwrap()), distinct(&new), "{}", self.text);
+    }
+
     /// Compares the routes whose validity differs between two tables with those of the golden test.
     fn ask_differ(&self) {
         let [old, new] = [0, 1].map(|at| self.table(at).unwrap());
         let Some(routes) = self.values(2, 22, true, route) else {
             return;
         };
-        let found = old.revalidate(&new, &routes).unwrap();
+        let found = old.revalidate(&new, &routes);
         let marks = self.expected.0.iter().enumerate();
         let marked: Vec<usize> = marks.filter(|it| *it.1 == 1).map(|it| it.0).collect();
         assert_eq!((PIGY_OK, found), (self.status, marked), "{}", self.text);
-        assert_eq!(new.revalidate(&new, &routes), Ok(vec![]));
+        assert!(new.revalidate(&new, &routes).is_empty());
     }
 
     fn ask_answer(&self) {
@@ -755,6 +774,7 @@ impl Row<'_> {
             "origins" => self.ask_origins(),
             "covering" => self.ask_covering(),
             "vrps" | "changed" => self.ask_vrps(),
+            "changes" => self.ask_changes(),
             "answer" => self.ask_answer(),
             "differ" => self.ask_differ(),
             "read" => self.ask_read(),
@@ -911,14 +931,36 @@ fn null_handles_are_refused() {
     let route = c_route(&[0; 22]);
     let (mut out, mut octet, mut len, mut index) = (null_mut(), [0], 0, 0);
     let (mut sets, mut yes) = (null_mut(), UNTOUCHED);
+    let mut lens = [usize::MAX; 2];
     let found = unsafe {
         sys::pigy_table_free(null_mut());
         sys::pigy_resources_free(null_mut());
         let octets = octet.as_mut_ptr();
+        let [announced, withdrawn] = &mut lens;
         [
             sys::pigy_table_validate(table, &route, &mut octet[0], &mut 0),
-            sys::pigy_table_validate_routes(table, &route, 1, octets, 1, &mut len, &mut index),
+            sys::pigy_table_validate_routes(
+                table,
+                &route,
+                1,
+                octets,
+                1,
+                null_mut(),
+                0,
+                &mut len,
+                &mut index,
+            ),
             sys::pigy_table_revalidate(table, table, &route, 1, octets, 1, &mut len, &mut index),
+            sys::pigy_table_changes(
+                table,
+                table,
+                null_mut(),
+                0,
+                announced,
+                null_mut(),
+                0,
+                withdrawn,
+            ),
             sys::pigy_table_covering(table, &route, null_mut(), 0, &mut len),
             sys::pigy_table_len(table, &mut len),
             sys::pigy_table_vrps(table, null_mut(), 0, &mut len),
@@ -928,9 +970,9 @@ fn null_handles_are_refused() {
             sys::pigy_resources_equal(set, set, &mut yes),
         ]
     };
-    assert_eq!(found, [sys::PIGY_NO_HANDLE; 10]);
+    assert_eq!(found, [sys::PIGY_NO_HANDLE; 11]);
     assert_eq!(
-        (out, sets, len, index, yes),
-        (null_mut(), null_mut(), 0, 0, 0)
+        (out, sets, len, index, yes, lens),
+        (null_mut(), null_mut(), 0, 0, 0, [0, 0])
     );
 }

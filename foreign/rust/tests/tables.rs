@@ -40,7 +40,7 @@ fn a_table_is_asked_on_threads() {
                 assert_eq!(next.len(), vrps.len() - 1);
                 let gone = Route::new(net(turn, 24), 7);
                 assert_eq!(next.validate(&gone), Validity::NotFound);
-                assert_eq!(table.revalidate(&next, &[gone]), Ok(vec![0]));
+                assert_eq!(table.revalidate(&next, &[gone]), [0]);
             });
         }
     });
@@ -71,11 +71,6 @@ fn changes_are_applied() {
     );
     let again = table.with_changes(&changes.announced, &changes.withdrawn);
     assert_eq!(again.unwrap().vrps(), wanted.vrps());
-    // The order of the lists is that of a table, which is another one than that of VRPs.
-    assert_eq!(
-        Table::new(&changes.announced).unwrap().vrps(),
-        Ok(changes.announced)
-    );
     let routes = [9, 9, 10].map(|len| Route::new(net(0xa000, len), 3));
     assert_eq!(HashSet::from(routes).len(), 2);
     let covering = routes.map(|route| HashSet::<_>::from_iter(wanted.covering(&route).unwrap()));
@@ -100,6 +95,40 @@ fn changes_have_no_copies() {
     let none = new.changes(&new).unwrap();
     assert!(none.announced.is_empty() && none.withdrawn.is_empty());
     assert_eq!(none.clone(), none);
+}
+
+/// The order is that of `pigy_table_changes` in `pigyelund.h`, also for VRPs that come in another order.
+#[test]
+fn changes_have_an_order() {
+    let wanted = [
+        "10.0.0.0/9 AS1",
+        "10.128.0.0/9 AS1",
+        "10.0.0.0/8-16 AS1",
+        "10.0.0.0/8-16 AS2",
+        "10.0.0.0/8-8 AS1",
+        "11.0.0.0/8 AS0",
+        "0.0.0.0/0 AS1",
+        "::/128 AS1",
+        "::/0 AS1",
+    ]
+    .map(vrp);
+    let none = Table::new(&[]).unwrap();
+    let mut given = wanted;
+    given.reverse();
+    for _ in 0..given.len() {
+        given.rotate_left(1);
+        let table = Table::new(&given).unwrap();
+        let changes = none.changes(&table).unwrap();
+        assert_eq!(
+            (&changes.announced[..], changes.withdrawn),
+            (&wanted[..], vec![])
+        );
+        let changes = table.changes(&none).unwrap();
+        assert_eq!(
+            (changes.announced, &changes.withdrawn[..]),
+            (vec![], &wanted[..])
+        );
+    }
 }
 
 /// A VRP that is passed twice is returned twice. A single withdrawal removes both copies.
@@ -179,7 +208,7 @@ fn validities_have_reasons() {
         ("2001:db8::/31 AS64496", Validity::NotFound, "not-found"),
     ];
     let routes: Vec<Route> = wanted.iter().map(|it| route(it.0)).collect();
-    let found = table.validate_routes(&routes).unwrap();
+    let found = table.validate_routes(&routes);
     for ((route, found), (_, validity, text)) in routes.iter().zip(found).zip(wanted) {
         assert_eq!(
             (found, table.validate(route)),
@@ -188,7 +217,9 @@ fn validities_have_reasons() {
         );
         assert_eq!(found.to_string(), text);
     }
-    assert_eq!(table.validate_routes(&[]), Ok(vec![]));
+    assert!(table.validate_routes(&[]).is_empty() && table.revalidate(&table, &[]).is_empty());
+    let none = Table::new(&[]).unwrap();
+    assert_eq!(table.revalidate(&none, &routes), [0, 1, 2, 3, 4]);
 }
 
 #[test]

@@ -1,4 +1,4 @@
-// refused at compile: expected `bool`, found `Result<Vec<Validity>, TableError>`
+// refused at compile: expected `bool`, found `Vec<Validity>`
 use pigyelund::{Route, Table};
 
 fn main() -> Result<(), Box<dyn std::error::Error>> {

@@ -1169,6 +1169,8 @@ extern "C" {
         count: usize,
         out: *mut u8,
         capacity: usize,
+        reasons: *mut u8,
+        reasons_capacity: usize,
         len: *mut usize,
         index: *mut usize,
     ) -> pigy_status;
@@ -1183,6 +1185,18 @@ extern "C" {
         capacity: usize,
         len: *mut usize,
         index: *mut usize,
+    ) -> pigy_status;
+}
+extern "C" {
+    pub fn pigy_table_changes(
+        old: *const pigy_table,
+        next: *const pigy_table,
+        announced: *mut pigy_vrp,
+        announced_capacity: usize,
+        announced_len: *mut usize,
+        withdrawn: *mut pigy_vrp,
+        withdrawn_capacity: usize,
+        withdrawn_len: *mut usize,
     ) -> pigy_status;
 }
 extern "C" {

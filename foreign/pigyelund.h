@@ -45,7 +45,7 @@
  * calls return them in `excess`, and never in `out`.
  *
  * HANDLES. A handle is a pointer to a set of resources (pigy_resources) or to a table of VRPs (pigy_table). The caller
- * owns it until it is passed to pigy_resources_free or pigy_table_free. What it points to never changes. A call on
+ * owns it until it is passed to pigy_resources_free or pigy_table_free. The set or table never changes. A call on
  * handles reads no DER again. Each call returns PIGY_NO_HANDLE for NULL, and the two calls that free do nothing.
  *
  * BUFFERS. The caller owns all inputs and all output buffers. For each output the caller passes a buffer, its capacity,

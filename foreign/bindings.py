@@ -119,9 +119,9 @@ def made() -> str:
     text = HEADER.read_text()
     TYPES.update({it: "c_uint32" for it in re.findall(r"^typedef uint32_t (pigy_\w+);", text, re.MULTILINE)})
     statuses, *others = enumerations(text)
-    version = re.findall(r"^#define PIGY_VERSION_NUMBER (\d+)u$", text, re.MULTILINE)[0]
+    macros = re.findall(r"^#define PIGY_(VERSION_NUMBER|\w+_MAX) (\d+)u$", text, re.MULTILINE)
     structs = re.findall(r"^typedef struct \{\n(.*?)^\} (pigy_\w+);", text, re.MULTILINE | re.DOTALL)
-    parts = [HEAD, f"VERSION_NUMBER = {version}"]
+    parts = [HEAD, *(f"{name} = {number}" for name, number in macros)]
     parts += [f"{name} = {number}" for group in others for name, number, _ in group]
     for lines in (status_class(statuses), *(struct_class(*it) for it in structs), calls(text)):
         parts += ["", "", *lines]

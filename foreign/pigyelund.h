@@ -6,7 +6,8 @@
  * - Resource sets. The calls pigy_resources_... use a handle of a set that is read once. The other calls on sets take
  *   DER: pigy_union, pigy_contains, pigy_prefixes and more.
  * - Route origins. The calls pigy_table_... use a handle of a table of VRPs (validated ROA payloads). pigy_vrps_read
- *   reads the VRPs of a validator's file. pigy_validate validates routes by VRPs without a handle.
+ *   reads the VRPs of a validator's file, and pigy_routes_read the routes of lines. pigy_validate validates routes by
+ *   VRPs without a handle.
  *
  * Example: does a certificate claim more than its issuer has?
  *
@@ -30,7 +31,8 @@
  * - 0 in an answer, an index and a length. A length is not 0 after PIGY_TOO_SMALL and for overclaimed resources. An
  *   index is that of the item at fault if the comment of the call says so;
  * - PIGY_NO_VALIDITY in a single validity;
- * - NULL in a handle. The handle of overclaimed resources is not NULL if the status is one of PIGY_OVERCLAIM.
+ * - NULL in a handle. The handle of overclaimed resources is not NULL if the status is one of PIGY_OVERCLAIM;
+ * - 0 in each member of a VRP or a route that is read from its text.
  *
  * Buffers stay unchanged then. A buffer for overclaimed resources is written if the status is one of PIGY_OVERCLAIM.
  *
@@ -70,8 +72,8 @@
  *
  * - These calls take no memory: pigy_version, pigy_status_text, pigy_table_validate, pigy_table_validate_routes,
  *   pigy_table_revalidate, pigy_table_len, pigy_resources_contains, pigy_resources_contains_asn,
- *   pigy_resources_contains_prefix, pigy_resources_equal, pigy_resources_free and pigy_table_free. Any other call may
- *   return PIGY_MEMORY.
+ *   pigy_resources_contains_prefix, pigy_resources_equal, pigy_resources_free, pigy_table_free, pigy_vrp_from_text,
+ *   pigy_vrp_text, pigy_route_from_text and pigy_route_text. Any other call may return PIGY_MEMORY.
  * - A table of 500,000 VRPs takes some 42 octets for each VRP. pigy_table_new takes some 80 more for each VRP
  *   during the call.
  * - PIGY_MEMORY has three causes. malloc or realloc failed, or an array of the library would have 2^63 octets or more,
@@ -197,11 +199,14 @@ PIGY_ENUM {
   PIGY_BAD_CHANGE = 0x10000, /* A change is impossible for the table. Its code of RFC 8210, 12 is added. */
   PIGY_UNKNOWN_WITHDRAWAL = 0x10006,     /* A withdrawn VRP is not in the table, or is listed twice. */
   PIGY_DUPLICATE_ANNOUNCEMENT = 0x10007, /* An announced VRP is in the table and not withdrawn, or is listed twice. */
-  PIGY_BAD_LINE = 0x20000,   /* A line of CSV is invalid. The number of its first error is added. */
+  PIGY_BAD_LINE = 0x20000,   /* A line of CSV, or the text of a VRP, is invalid. The number of its first error is
+                              * added. */
   PIGY_BAD_ITEM = 0x40000,   /* An item of JSON is invalid. The number of its first error is added. */
   PIGY_BAD_FILE = 0x80000,   /* A file as a whole is invalid. The number of the error is added. */
   PIGY_BAD_TEXT = 0x100000,  /* The text of a set is invalid. The number of the first error is added. */
   PIGY_BAD_QUERY = 0x200000, /* The line that is passed to pigy_answer is invalid. */
+  PIGY_BAD_ROUTE = 0x800000, /* A line with a route, or the text of a route, is invalid. The number of its first error
+                              * is added. */
   /* PIGY_SECOND is added to PIGY_BAD_AS + n, PIGY_BAD_IP + n, PIGY_INHERITED, PIGY_BAD_FAMILY, PIGY_BAD_PREFIX and
    * PIGY_BAD_MAX_LEN, and to no other status. For these six it says which argument has the error:
    *
@@ -210,7 +215,7 @@ PIGY_ENUM {
    *   the calls with two sets of DER        the second set          the first set
    *   pigy_validate                         a route                 a VRP
    *   pigy_table_with_changes               a withdrawn VRP         an announced VRP
-   *   the other calls with routes           a route */
+   *   the other calls of tables and routes  a route */
   PIGY_SECOND = 0x1000000
 };
 
@@ -236,7 +241,8 @@ PIGY_ENUM {
  * - 13: There is no address family (RFC 6487, 4.8.10).
  * - 14: The encoding is not canonical. Only PIGY_STRICT returns this.
  *
- * PIGY_BAD_LINE + n with n from 1 to 7, PIGY_BAD_ITEM + n with n from 4 to 16:
+ * PIGY_BAD_LINE + n with n from 1 to 7, PIGY_BAD_ITEM + n with n from 4 to 16. The text of a VRP has no number of
+ * fields, so n is 1 or from 4 to 7:
  *
  * - 1: The line is not UTF-8.
  * - 2: The line has more fields than the line that names the columns.
@@ -266,7 +272,16 @@ PIGY_ENUM {
  * - 4: An address is invalid.
  * - 5: A prefix length is not a number, or is above 32 (IPv4) or 128 (IPv6).
  * - 6: An element is of the other family: it has a colon in a list of IPv4, or a dot and no colon in a list of IPv6.
- * - 7: The first address of a range is above the second. */
+ * - 7: The first address of a range is above the second.
+ *
+ * PIGY_BAD_ROUTE + n. For the text of a route n is never 2:
+ *
+ * - 1: The line is not UTF-8.
+ * - 2: The line is of bgpdump -m, and has no field for the prefix or for the path.
+ * - 3: The line has no space, and would have a route if its first comma were a space.
+ * - 4: The first word is no prefix. It has a tab, or it is an AS number.
+ * - 5: The prefix is invalid.
+ * - 6: The AS number is invalid. */
 #define PIGY_FAULT(s) ((uint32_t)(s) & 0xffu)
 
 /* ---- Numbers of arguments and results ----
@@ -323,6 +338,10 @@ PIGY_ENUM {
   PIGY_OTHER_AS = 1, /* The AS of the VRP is not the route's, or is AS 0. */
   PIGY_TOO_LONG = 2  /* The route's prefix is longer than the maximum length of the VRP. */
 };
+
+/* The capacities in octets that always suffice for the text of a VRP and of a route, with the NUL after it. */
+#define PIGY_VRP_TEXT_MAX 62u
+#define PIGY_ROUTE_TEXT_MAX 58u
 
 /* ---- Structs and handles ---- */
 
@@ -1093,6 +1112,92 @@ pigy_status pigy_validate(const pigy_vrp *vrps, size_t vrp_count, const pigy_rou
  */
 pigy_status pigy_vrps_read(const uint8_t *file, size_t file_len, pigy_vrp *out, size_t capacity, size_t *len,
                            size_t *line) PIGY_NODISCARD PIGY_NONNULL(5, 6);
+
+/**
+ * Reads the routes of lines, as the program origins reads them. They are in the order of the lines.
+ *
+ * A line has one of two forms:
+ *
+ * - A prefix, a space and an AS number, as pigy_route_from_text reads them.
+ * - A line of bgpdump -m: a route of a table (TABLE_DUMP, TABLE_DUMP2), or an update (BGP4MP). The last word of the
+ *   path is the AS. If it is an AS_SET or ends a confederation segment, or if the path is empty, the AS is AS 0. A line
+ *   that withdraws a route, or that has the state of a session, has no route and is skipped.
+ *
+ * The octet 0a ends a line. The last line may lack it. A route that the lines repeat is listed again. One invalid line
+ * makes the whole text invalid, also a blank line.
+ *
+ * @param text      The lines, in UTF-8. May be NULL if the length is 0.
+ * @param text_len  Length in octets; may be 0. A text of length 0 has no routes.
+ * @param out       Buffer for the routes. Owned by the caller. May be NULL if the capacity is 0.
+ * @param capacity  Capacity of `out` in routes, not in octets; may be 0. text_len / 7 + 1 always suffices.
+ * @param len       Receives the number of routes, written or required. Not NULL.
+ * @param line      Receives the number of the first invalid line, from 1; else 0. Not NULL.
+ *
+ * @return the first of these that applies:
+ *   1. PIGY_BAD_ROUTE + n: the first invalid line.
+ *   2. PIGY_TOO_SMALL, then PIGY_OK.
+ */
+pigy_status pigy_routes_read(const char *text, size_t text_len, pigy_route *out, size_t capacity, size_t *len,
+                             size_t *line) PIGY_NODISCARD PIGY_NONNULL(5, 6);
+
+/**
+ * Reads the text of a VRP: 10.0.0.0/8-16 AS64496.
+ *
+ * The first word is a prefix, a dash and a maximum length. Without a dash the maximum length is the prefix length (RFC
+ * 9582, 4.3.2). The second word is an AS number. The letters AS may be absent, and may be small letters. A number may
+ * have leading zeros, and a plus sign before it. White space around a word is ignored.
+ *
+ * @param text      The text, in UTF-8. May be NULL if the length is 0.
+ * @param text_len  Length in octets; may be 0.
+ * @param out       Receives the VRP; 0 in each member with an error. Not NULL.
+ *
+ * @return PIGY_BAD_LINE + n if the text is invalid, otherwise PIGY_OK. The AS number is checked before the prefix, and
+ *   the prefix before the maximum length.
+ */
+pigy_status pigy_vrp_from_text(const char *text, size_t text_len, pigy_vrp *out) PIGY_NODISCARD PIGY_NONNULL(3);
+
+/**
+ * Writes the text of a VRP: 10.0.0.0/8-16 AS64496. It always has the maximum length. IPv6 addresses have the form of
+ * RFC 5952. pigy_vrp_from_text reads this text as the same VRP.
+ *
+ * @param vrp       One VRP. Not NULL.
+ * @param out       Buffer for the text. Owned by the caller. May be NULL if the capacity is 0.
+ * @param capacity  Capacity of `out` in octets; may be 0. PIGY_VRP_TEXT_MAX always suffices.
+ * @param len       Receives the length in octets, written or required. Not NULL.
+ *
+ * @return the first of these that applies:
+ *   1. PIGY_BAD_FAMILY, PIGY_BAD_PREFIX, PIGY_BAD_MAX_LEN: the VRP is invalid.
+ *   2. PIGY_TOO_SMALL, then PIGY_OK.
+ */
+pigy_status pigy_vrp_text(const pigy_vrp *vrp, char *out, size_t capacity, size_t *len)
+    PIGY_NODISCARD PIGY_NONNULL(1, 4);
+
+/**
+ * Reads the text of a route: 10.0.0.0/8 AS64496. pigy_vrp_from_text describes the two words. pigy_routes_read reads
+ * lines of bgpdump -m too.
+ *
+ * @param text      The text, in UTF-8. May be NULL if the length is 0.
+ * @param text_len  Length in octets; may be 0.
+ * @param out       Receives the route; 0 in each member with an error. Not NULL.
+ *
+ * @return PIGY_BAD_ROUTE + n if the text is invalid, otherwise PIGY_OK. The prefix is checked before the AS number.
+ */
+pigy_status pigy_route_from_text(const char *text, size_t text_len, pigy_route *out) PIGY_NODISCARD PIGY_NONNULL(3);
+
+/**
+ * Writes the text of a route: 10.0.0.0/8 AS64496. pigy_route_from_text reads this text as the same route.
+ *
+ * @param route     One route. Not NULL.
+ * @param out       Buffer for the text. Owned by the caller. May be NULL if the capacity is 0.
+ * @param capacity  Capacity of `out` in octets; may be 0. PIGY_ROUTE_TEXT_MAX always suffices.
+ * @param len       Receives the length in octets, written or required. Not NULL.
+ *
+ * @return the first of these that applies:
+ *   1. PIGY_BAD_FAMILY, PIGY_BAD_PREFIX: the route is invalid.
+ *   2. PIGY_TOO_SMALL, then PIGY_OK.
+ */
+pigy_status pigy_route_text(const pigy_route *route, char *out, size_t capacity, size_t *len)
+    PIGY_NODISCARD PIGY_NONNULL(1, 4);
 
 /**
  * Makes a table of VRPs.

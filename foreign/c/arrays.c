@@ -64,6 +64,11 @@ PROVED(as_ranges);
 PROVED(ip_ranges);
 PROVED(validate);
 PROVED(vrps_read);
+PROVED(routes_read);
+PROVED(vrp_from_text);
+PROVED(vrp_text);
+PROVED(route_from_text);
+PROVED(route_text);
 PROVED(table_new);
 PROVED(table_with_changes);
 PROVED(table_validate_routes);
@@ -194,6 +199,27 @@ pigy_status pigy_validate(const pigy_vrp *vrps, size_t vrp_count, const pigy_rou
 pigy_status pigy_vrps_read(const uint8_t *file, size_t file_len, pigy_vrp *out, size_t capacity, size_t *len,
                            size_t *line) {
   return proved_vrps_read(ARRAY(file, file_len), ARRAY(out, capacity), len, line);
+}
+
+pigy_status pigy_routes_read(const char *text, size_t text_len, pigy_route *out, size_t capacity, size_t *len,
+                             size_t *line) {
+  return proved_routes_read(ARRAY(text, text_len), ARRAY(out, capacity), len, line);
+}
+
+pigy_status pigy_vrp_from_text(const char *text, size_t text_len, pigy_vrp *out) {
+  return proved_vrp_from_text(ARRAY(text, text_len), out);
+}
+
+pigy_status pigy_vrp_text(const pigy_vrp *vrp, char *out, size_t capacity, size_t *len) {
+  return ended(proved_vrp_text(vrp, ARRAY(out, capacity), len), out, capacity, len);
+}
+
+pigy_status pigy_route_from_text(const char *text, size_t text_len, pigy_route *out) {
+  return proved_route_from_text(ARRAY(text, text_len), out);
+}
+
+pigy_status pigy_route_text(const pigy_route *route, char *out, size_t capacity, size_t *len) {
+  return ended(proved_route_text(route, ARRAY(out, capacity), len), out, capacity, len);
 }
 
 pigy_status pigy_table_new(const pigy_vrp *vrps, size_t count, pigy_table **out, size_t *index) {

@@ -27,11 +27,11 @@ pub use Rattle.origins_lines.specs.Explanations.{IsNextText, IsReason, is_first,
 pub use Rattle.origins_lines.specs.JsonAnswers.{IsErrorObject, IsJsonAnswer, IsJsonRouteAnswer, IsLineValue}
 pub use Rattle.origins_lines.specs.JsonAnswers.{IsVrpsMember, object_head}
 pub use Rattle.origins_lines.specs.Outcomes.{IsOutcomeOf, asked_asn, outcome_text}
-pub use Rattle.origins_lines.specs.Routes.{AreRouteWords, HasDumpFault, HasFaultBy, HasLineFault, HasReadFault}
-pub use Rattle.origins_lines.specs.Routes.{HasRouteFault, HasWordFault, HaveWordsFault, IsAsnOrigin, IsDumpRoute}
-pub use Rattle.origins_lines.specs.Routes.{IsFieldAt, IsLineOf, IsNoAsnText, IsNoFieldAt, IsPathPlace, IsReadLine}
-pub use Rattle.origins_lines.specs.Routes.{IsReadOf, IsRouteBy, IsRouteLine, IsSkippedLine, IsWordOrigin, fields_of}
-pub use Rattle.origins_lines.specs.Routes.{is_bar, last_word, origin_word, prefix_word, route_fault_text}
+pub use Rattle.roa_routes.specs.Routes.{AreRouteWords, HasDumpFault, HasFaultBy, HasLineFault, HasReadFault}
+pub use Rattle.roa_routes.specs.Routes.{HasRouteFault, HasWordFault, HaveWordsFault, IsAsnOrigin, IsDumpRoute}
+pub use Rattle.roa_routes.specs.Routes.{IsFieldAt, IsLineOf, IsNoAsnText, IsNoFieldAt, IsPathPlace, IsReadLine}
+pub use Rattle.roa_routes.specs.Routes.{IsReadOf, IsRouteBy, IsRouteLine, IsSkippedLine, IsWordOrigin, fields_of}
+pub use Rattle.roa_routes.specs.Routes.{is_bar, last_word, origin_word, prefix_word, route_fault_text}
 pub use Rattle.origins_lines.specs.Runs.{ByFile, WritesBetween, change_lines, vrp_line, vrp_lines}
 pub use Rattle.origins_lines.specs.Words.{fault_line, skipped_text}
 pub use Rattle.origins_lines.specs.declared.begun.AskedRoute.{AskedRoute}
@@ -39,4 +39,4 @@ pub use Rattle.origins_lines.specs.declared.begun.BegunRoute.{BegunRoute}
 pub use Rattle.origins_lines.specs.declared.explanation.Form.{Form}
 pub use Rattle.origins_lines.specs.declared.explanation.Reason.{Reason}
 pub use Rattle.origins_lines.specs.declared.outcome.Outcome.{Outcome}
-pub use Rattle.origins_lines.specs.declared.route.Route.{Route}
+pub use Rattle.roa_routes.specs.declared.route.Route.{Route}

@@ -4,7 +4,7 @@ use Rattle.origins_lines.proofs.Common.{BegunRoute, IsBegun, IsErrorObject, IsJs
 use Rattle.json.specs.Print.{print, print_from, quoted}
 use Rattle.json.specs.Token.{string}
 use Rattle.origins_lines.specs.declared.begun.BegunRoute.TheVariants.{Asked, Wrong}
-use Rattle.origins_lines.specs.declared.fault.RouteFault.{RouteFault}
+use Rattle.roa_routes.specs.declared.fault.RouteFault.{RouteFault}
 
 -- a writer prints one string as the string between quotes
 pub printed_string : (said : List ℕ) → print (string said ∷ []) ≡ quoted said

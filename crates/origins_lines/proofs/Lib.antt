@@ -2,16 +2,12 @@
 pub mod AnswerLemmas
 pub mod CheckLemmas
 pub mod Common
-pub mod FieldLemmas
 pub mod InputLemmas
 pub mod JsonLemmas
-pub mod KindLemmas
 pub mod LineLemmas
 pub mod Members
 pub mod OrderLemmas
 pub mod RouteAnswerLemmas
-pub mod RouteLineLemmas
 pub mod StateLemmas
-pub mod UsualRouteLemmas
 pub mod VrpTextLemmas
 pub mod WhyLemmas

@@ -15,9 +15,9 @@ use Rattle.roa_origin.proofs.ListMembers.{same_list}
 use Rattle.roa_origin.proofs.ChangedRoutes.{one_validity}
 use Rattle.roa_origin.proofs.ValidityScans.{same_validity}
 use Rattle.origins_lines.specs.declared.explanation.Form.TheVariants.{Json, Words}
-use Rattle.origins_lines.specs.declared.fault.RouteFault.{RouteFault}
+use Rattle.roa_routes.specs.declared.fault.RouteFault.{RouteFault}
 use Rattle.origins_lines.specs.declared.outcome.Outcome.TheVariants.{InvalidAs}
-use Rattle.origins_lines.proofs.RouteLineLemmas.{route_decided}
+use Rattle.roa_routes.proofs.RouteLineLemmas.{route_decided}
 use Rattle.origins_lines.proofs.WhyLemmas.{not_back}
 
 -- ---- VRPs in another order

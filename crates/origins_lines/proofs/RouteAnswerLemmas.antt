@@ -2,7 +2,7 @@
 use Rattle.origins_lines.proofs.Common.{Bool, List, inl, inr, ℕ, ◌≡◌, Vrp, AskedRoute, BegunRoute, IsBegun}
 use Rattle.origins_lines.proofs.Common.{IsOriginAnswer, IsRouteAnswer, fault_line, route_fault_text}
 use Rattle.origins_lines.specs.declared.begun.BegunRoute.TheVariants.{Asked, Wrong}
-use Rattle.origins_lines.specs.declared.fault.RouteFault.{RouteFault}
+use Rattle.roa_routes.specs.declared.fault.RouteFault.{RouteFault}
 
 module _ (why : Bool) (vrps : List Vrp) (line text : List ℕ) (begun : BegunRoute) (known : IsBegun vrps begun line)
   where

@@ -10,7 +10,7 @@ use Rattle.roa_origin.specs.declared.validation.Validity.TheVariants as Validity
 use Rattle.roa_origin.proofs.ChangedRoutes.{one_validity}
 use Rattle.origins_lines.specs.Checks.{IsFaultyLine}
 use Rattle.origins_lines.specs.declared.outcome.Outcome.TheVariants.{InvalidAs, InvalidLength, NotFound, Valid}
-use Rattle.origins_lines.proofs.RouteLineLemmas.{route_decided}
+use Rattle.roa_routes.proofs.RouteLineLemmas.{route_decided}
 
 -- the outcome is that of an invalid route
 abbrev IsInvalid : Outcome → Type 0

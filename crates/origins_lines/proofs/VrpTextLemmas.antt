@@ -19,7 +19,7 @@ use Rattle.roa_origin.specs.Vrps.{longest}
 use Rattle.std.specs.Str.{chars, is_utf8}
 use Rattle.origins_lines.specs.Explanations.{asn_key, max_length_key, prefix_key, reason_and_vrp_text, reason_key}
 use Rattle.origins_lines.specs.Explanations.{reason_text, vrp_back, vrp_front, vrp_object}
-use Rattle.origins_lines.specs.Runs.{vrp_text}
+use Rattle.roa_routes.specs.Texts.{vrp_text}
 use Rattle.origins_lines.specs.declared.explanation.Reason.TheVariants.{Match, Length, As}
 
 -- a constant text and a text behind it

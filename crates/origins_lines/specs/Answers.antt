@@ -5,11 +5,11 @@ use Rattle.rpki_prefix.specs.Values.{FamilyPrefix}
 use Rattle.roa_origin.specs.Vrps.{Vrp}
 use Rattle.origins_lines.specs.Explanations.{IsExplanationText}
 use Rattle.origins_lines.specs.Outcomes.{IsOutcomeOf, asked_asn, outcome_text}
-use Rattle.origins_lines.specs.Routes.{IsRouteLine, IsSkippedLine, HasRouteFault, route_fault_text}
+use Rattle.roa_routes.specs.Routes.{IsRouteLine, IsSkippedLine, HasRouteFault, route_fault_text}
 use Rattle.origins_lines.specs.declared.explanation.Form.TheVariants.{Words}
-use Rattle.origins_lines.specs.declared.fault.RouteFault.{RouteFault}
+use Rattle.roa_routes.specs.declared.fault.RouteFault.{RouteFault}
 use Rattle.origins_lines.specs.declared.outcome.Outcome.{Outcome}
-use Rattle.origins_lines.specs.declared.route.Route.{Route}
+use Rattle.roa_routes.specs.declared.route.Route.{Route}
 
 -- the text is the explanation of a route if it is requested, and otherwise empty
 abbrev pub IsExplanationIf : Bool → List Vrp → FamilyPrefix → ℕ → List ℕ → Type 0

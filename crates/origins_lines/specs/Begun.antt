@@ -2,7 +2,7 @@
 use Rattle.std.specs.Prelude.{◌≡◌, ℕ, List}
 use Rattle.roa_origin.specs.Vrps.{Vrp}
 use Rattle.origins_lines.specs.Outcomes.{asked_asn}
-use Rattle.origins_lines.specs.Routes.{IsRouteLine, IsSkippedLine, HasRouteFault}
+use Rattle.roa_routes.specs.Routes.{IsRouteLine, IsSkippedLine, HasRouteFault}
 use Rattle.origins_lines.specs.declared.begun.AskedRoute.{AskedRoute}
 use Rattle.origins_lines.specs.declared.begun.BegunRoute.{BegunRoute}
 use Rattle.origins_lines.specs.declared.begun.BegunRoute.TheVariants.{Asked, Skipped, Wrong}

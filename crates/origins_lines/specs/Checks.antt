@@ -5,10 +5,10 @@ use Rattle.roa_origin.specs.Validities.{IsValidity}
 use Rattle.roa_origin.specs.Vrps.{Vrp}
 use Rattle.roa_origin.specs.declared.validation.Validity.TheVariants.{Invalid}
 use Rattle.origins_lines.specs.Outcomes.{asked_asn}
-use Rattle.origins_lines.specs.Routes.{HasRouteFault, IsRouteLine}
+use Rattle.roa_routes.specs.Routes.{HasRouteFault, IsRouteLine}
 use Rattle.origins_lines.specs.declared.check.Seen.{Seen}
-use Rattle.origins_lines.specs.declared.fault.RouteFault.{RouteFault}
-use Rattle.origins_lines.specs.declared.route.Route.{Route}
+use Rattle.roa_routes.specs.declared.fault.RouteFault.{RouteFault}
+use Rattle.roa_routes.specs.declared.route.Route.{Route}
 
 -- the number of octets after the last 0a; the number before the first octet is `column`
 abbrev pub column_after : ℕ → List ℕ → ℕ

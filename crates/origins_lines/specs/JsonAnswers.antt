@@ -9,9 +9,9 @@ use Rattle.roa_origin.specs.Vrps.{Vrp}
 use Rattle.origins_lines.specs.Answers.{IsAnswerBy}
 use Rattle.origins_lines.specs.Explanations.{IsExplanationText}
 use Rattle.origins_lines.specs.Outcomes.{IsOutcomeOf, asked_asn}
-use Rattle.origins_lines.specs.Routes.{route_fault_text}
+use Rattle.roa_routes.specs.Routes.{route_fault_text}
 use Rattle.origins_lines.specs.declared.explanation.Form.TheVariants.{Json}
-use Rattle.origins_lines.specs.declared.fault.RouteFault.{RouteFault}
+use Rattle.roa_routes.specs.declared.fault.RouteFault.{RouteFault}
 use Rattle.origins_lines.specs.declared.outcome.Outcome.{Outcome}
 use Rattle.origins_lines.specs.declared.outcome.Outcome.TheVariants.{Valid, InvalidLength, InvalidAs, NotFound}
 

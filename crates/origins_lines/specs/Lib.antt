@@ -9,7 +9,5 @@ pub mod Forms
 pub mod Inputs
 pub mod JsonAnswers
 pub mod Outcomes
-pub mod Routes
 pub mod Runs
-pub mod UsualRoutes
 pub mod Words

@@ -1,22 +1,17 @@
 -- The bytes that runs leave in a writer, by the octets of VRP files.
-use Rattle.std.specs.Prelude.{◌++◌, ◌∷◌, ℕ, Bool, true, List, [], Option, None, Some, codes, if◌then◌else◌, ◌==◌}
+use Rattle.std.specs.Prelude.{◌++◌, ℕ, Bool, true, List, [], Option, None, Some, codes, if◌then◌else◌, ◌==◌}
 use Rattle.std.specs.List.{flat_map}
 use Rattle.lines_engine.specs.Run.{HasWritten, as_line}
 use Rattle.roa_vrps.specs.Files.{IsVrpFile}
 use Rattle.roa_origin.specs.Vrps.{Vrp}
 use Rattle.roa_origin.specs.Tables.{IsTableOf, IsWithout}
-use Rattle.rpki_base.specs.AsnText.{asn_text}
-use Rattle.rpki_prefix.specs.MaxLen.{max_len_text}
+use Rattle.roa_routes.specs.Texts.{vrp_text}
 
 -- the text is a VRP file, and P holds for its VRPs
 pub record ByFile (P : List Vrp → Type 0) (text : List ℕ) : Type 0 where
   pub listed : List Vrp
   pub file_is : IsVrpFile text listed
   pub holds : P listed
-
--- a VRP as it is printed: its prefix with its maximum length, a space, and its AS
-abbrev pub vrp_text : Vrp → List ℕ
-vrp_text vrp = max_len_text vrp.0 ++ 32 ∷ asn_text vrp.1
 
 -- whether a VRP has the requested AS, or no AS is requested
 abbrev pub is_of : Option ℕ → Vrp → Bool

@@ -1,8 +1,8 @@
 //! Holds what is known about the answer to a line of routes, while its route is looked up.
 ghost use Rattle.origins_lines.specs.Begun.{IsBegun};
 
-use crate::fault::RouteFault;
-use crate::route::{Route, read_route_matched};
+use roa_routes::fault::RouteFault;
+use roa_routes::route::{Route, read_route_matched};
 use roa_origin::{Lookup, OriginTable};
 use rpki_base::Asn;
 use std::alloc::Allocator;

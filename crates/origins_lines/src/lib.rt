@@ -8,26 +8,21 @@
 
 pub mod answers;
 pub mod begun;
-mod buffer;
 pub mod check;
 pub mod error;
 pub mod explanation;
-pub mod fault;
 pub mod file;
 pub mod inputs;
 mod json_answers;
 pub mod laws;
 pub mod lines;
 pub mod outcome;
-pub mod route;
 pub mod routes;
 pub mod tables;
 pub mod text;
-mod usual;
 
 pub use answers::Routes;
 pub use begun::{AskedRoute, BegunRoute};
 pub use explanation::Reason;
-pub use fault::RouteFault;
 pub use outcome::{Outcome, asked_asn, outcome_of};
-pub use route::{Route, read_route};
+pub use roa_routes::{Route, RouteFault, read_route};

@@ -2,13 +2,14 @@
 ghost use Rattle.std.specs.Prelude.{◌≡◌, ◌≤◌, ◌++◌, List, ℕ, [], true, false, IfOk, OnOk, OnErr, IsErrOf, length, take};
 ghost use Rattle.std.specs.String.{string_bytes};
 ghost use Rattle.lines_engine.specs.Run.{HasWritten, as_line};
-ghost use Rattle.origins_lines.specs.Runs.{change_lines, is_of, vrp_line, vrp_lines, vrp_text};
+ghost use Rattle.roa_routes.specs.Texts.{vrp_text};
+ghost use Rattle.origins_lines.specs.Runs.{change_lines, is_of, vrp_line, vrp_lines};
 
-use crate::buffer::{MAX_ASN, MAX_PREFIX, push_before, put_asn, put_max_len_prefix};
 use lines_engine::device::{DeviceFault, Sink};
 use lines_engine::engine::write_all;
 use lines_engine::error::RunError;
 use roa_origin::{Vrp, VrpTable};
+use roa_routes::buffer::{MAX_VRP, push_before, put_vrp};
 use rpki_addr::addr::print::put;
 use rpki_base::Asn;
 use std::alloc::{AllocError, Allocator};
@@ -144,15 +145,14 @@ fn write_vrp<A: Allocator + Copy, W: Sink>(
     }
 }
 
-/// The maximum number of bytes of a VRP and the end of its line: a prefix, a dash, a length of three digits, a space
-/// and an AS number.
-const MAX_VRP: usize = MAX_PREFIX + 1 + 3 + 1 + MAX_ASN + 1;
+/// The maximum number of bytes of a VRP and the end of its line.
+const MAX_LINE: usize = MAX_VRP + 1;
 
 /// Returns the line of a VRP.
 fn line_of<A: Allocator>(alloc: A, word: &str, vrp: &Vrp) -> Result<String<A>, AllocError>
     ensures { IfOk result (λ line. string_bytes line ≡ as_line (word.now ++ vrp_text vrp.now)) }
 {
-    let mut line = String::with_capacity(alloc, word.len() + MAX_VRP)?;
+    let mut line = String::with_capacity(alloc, word.len() + MAX_LINE)?;
     line.push_str(word)?;
     push_vrp(&mut line, vrp)?;
     Ok(line)
@@ -165,20 +165,18 @@ fn push_vrp<A: Allocator>(text: &mut String<A>, vrp: &Vrp) -> Result<(), AllocEr
 {
     vrp.0.recall_invariant();
     vrp.1.recall_invariant();
-    let mut out = [0; MAX_VRP];
-    let end = put_vrp(&mut out, vrp);
+    let mut out = [0; MAX_LINE];
+    let end = put_line(&mut out, vrp);
     push_before(text, &out, end)
 }
 
 /// Writes a VRP and the end of its line at the front of a buffer, and returns the end index.
-fn put_vrp(out: &mut [u8], vrp: &Vrp) -> usize
+fn put_line(out: &mut [u8], vrp: &Vrp) -> usize
     requires { 62 ≤ length out.old }
     ensures text { take result out.new ≡ as_line (vrp_text vrp.now) }
     ensures end { result ≤ 62 }
 {
-    let end = put_max_len_prefix(out, 0, vrp.0);
-    let end = put(out, end, b' ');
-    let end = put_asn(out, end, vrp.1);
+    let end = put_vrp(out, 0, vrp);
     put(out, end, b'\n')
 }
 

@@ -1,5 +1,6 @@
 pub mod Common
 pub mod InterleavedLemmas
+pub mod LineRouteLemmas
 pub mod ReasonLemmas
 pub mod RefusalLemmas
 pub mod RouteChangeLemmas

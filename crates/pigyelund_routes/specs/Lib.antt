@@ -5,6 +5,7 @@ pub mod Origins
 pub mod Reasons
 pub mod ReturnedVrps
 pub mod RouteChanges
+pub mod RouteTexts
 pub mod Routes
 pub mod TableChanges
 pub mod Tables

@@ -26,7 +26,7 @@ AreFileVrps file list = (vrps : List Vrp) × IsVrpFile file vrps × (list ≡ ma
 
 -- ---- faults
 
--- The number of the fault of a line, or of the VRP of an item.
+-- The number of the fault of a line, of the text of a VRP, or of the VRP of an item.
 abbrev pub vrp_fault_number : VrpFault → ℕ
 vrp_fault_number NotUtf8 = 1
 vrp_fault_number (TooManyFields found named) = 2

@@ -5,8 +5,8 @@ ghost use Rattle.pigyelund_routes.specs.VrpFiles.{file_fault_line, file_fault_st
 use crate::status;
 use roa_vrps::{FileFault, ItemFault, Member, MemberFault, VrpFault};
 
-/// Returns the number of the fault of a line, or of the VRP of an item.
-fn vrp_fault_number(fault: VrpFault) -> u32
+/// Returns the number of the fault of a line, of the text of a VRP, or of the VRP of an item.
+pub(crate) fn vrp_fault_number(fault: VrpFault) -> u32
     ensures { result ≡ vrp_fault_number fault }
 {
     match fault {

@@ -2,6 +2,7 @@
 ghost use Rattle.std.specs.Prelude.{◌≡◌, slice_range, MatchResult};
 ghost use Rattle.std.specs.Int.{from_be_bytes, w32};
 ghost use Rattle.pigyelund_routes.specs.Routes.{IsNoPrefixPassed, IsNoVrp, IsNoRoute, IsPrefixPassed, IsVrp, IsRoute, HasNoPrefix, HasPrefix, address_in, route_error_status};
+ghost use Rattle.pigyelund_routes.specs.RouteTexts.{passed_of};
 ghost use Rattle.pigyelund_routes.specs.ReturnedVrps.{IsCovering, IsMismatch, address_family, address_octets, handed_of, route_status};
 
 use crate::family::family_of;
@@ -75,7 +76,7 @@ pub struct RawPrefix {
 
 /// A route: its prefix, and the AS that originates it.
 ///
-/// This is a struct for C, with numbers that are not checked yet. `origins_lines::Route` is a route in a line of text.
+/// This is a struct for C, with numbers that are not checked yet. `roa_routes::Route` is a route in a line of text.
 #[repr(C)]
 #[derive(Clone, Copy)]
 pub struct Route {
@@ -186,6 +187,15 @@ impl RawPrefix {
 }
 
 impl RawVrp {
+    /// The VRP whose members are 0. It is invalid.
+    pub const NONE: RawVrp = RawVrp {
+        address: [0; 16],
+        asn: 0,
+        family: 0,
+        len: 0,
+        max_len: 0,
+    };
+
     /// Returns the VRP in the form for C. `max_len` is the length of the prefix if the VRP has no maximum length.
     pub fn of(vrp: &Vrp) -> RawVrp
         ensures { result ≡ handed_of vrp.now }
@@ -217,6 +227,26 @@ impl RawVrp {
 }
 
 impl Route {
+    /// The route whose members are 0. It is invalid.
+    pub const NONE: Route = Route {
+        address: [0; 16],
+        asn: 0,
+        family: 0,
+        len: 0,
+    };
+
+    /// Returns the route of a line in the form for C. If its origin is unknown, the AS is AS0, which no VRP matches.
+    pub fn of(route: &roa_routes::Route) -> Route
+        ensures { result ≡ passed_of route.now }
+    {
+        Route {
+            address: octets_of(route.prefix.addr()),
+            asn: route.origin.unwrap_or(Asn::MIN).into_u32(),
+            family: family_number(route.prefix.addr()),
+            len: route.prefix.len(),
+        }
+    }
+
     /// Returns the prefix of the route.
     ///
     /// # Errors

@@ -47,7 +47,7 @@ pub const OVERCLAIM_V6: u32 = 32774;
 pub const UNKNOWN_WITHDRAWAL: u32 = 65542;
 /// An announced VRP is in the table and not withdrawn, or is announced twice (RFC 8210, 12: error 7).
 pub const DUPLICATE_ANNOUNCEMENT: u32 = 65543;
-/// A line of a VRP file is invalid. The number of its first fault is added.
+/// A line of a VRP file, or the text of a VRP, is invalid. The number of its first fault is added.
 pub const BAD_LINE: u32 = 131072;
 /// An item of a VRP file is invalid. The number of its first fault is added.
 pub const BAD_ITEM: u32 = 262144;
@@ -57,5 +57,7 @@ pub const BAD_FILE: u32 = 524288;
 pub const BAD_TEXT: u32 = 1048576;
 /// A line for `respath` is invalid.
 pub const BAD_QUERY: u32 = 2097152;
+/// A line with a route, or the text of a route, is invalid. The number of its first fault is added.
+pub const BAD_ROUTE: u32 = 8388608;
 /// Added to a status if the error is in the second set, a certificate, a route or a withdrawn VRP.
 pub const SECOND: u32 = 16777216;

@@ -1,9 +1,11 @@
-//! The export of the VRPs of a validator's file.
+//! The exports of the VRPs of a validator's file, and of the routes of lines.
+ghost use Rattle.pigyelund_routes.specs.RouteTexts.{AreLineRoutesReturned};
 ghost use Rattle.pigyelund_routes.specs.VrpFiles.{AreFileVrpsReturned};
 
 use pigyelund_routes::file::file_vrps;
 use pigyelund_routes::file_fault::{file_fault_line, file_fault_status};
-use pigyelund_routes::route::RawVrp;
+use pigyelund_routes::lines::line_routes;
+use pigyelund_routes::route::{RawVrp, Route};
 use pigyelund_routes::status;
 use pigyelund_routes::write::write_items;
 use rpki_resources::OrMemory;
@@ -41,6 +43,42 @@ pub extern "C" fn pigy_vrps_read(
         Err(OrMemory::Refused(fault)) => {
             *line = file_fault_line(fault);
             file_fault_status(fault)
+        }
+        Err(OrMemory::Memory(_)) => status::MEMORY,
+    }
+}
+
+/// Lists the routes of lines, in the order of the lines. A route that the lines repeat is listed again.
+///
+/// `text` has the lines that the program `origins` reads, as `roa_routes::read_route` reads each. A line of `bgpdump -m`
+/// that announces no route has none. If the origin of a route is unknown, its AS is AS0. `len` receives the length,
+/// written or required, in routes. `line` receives the number of the first invalid line, counted from 1, and 0
+/// otherwise.
+///
+/// Returns the first status that applies:
+///
+/// - `PIGY_BAD_ROUTE` + n: the first invalid line.
+/// - `PIGY_TOO_SMALL`, then `PIGY_OK`.
+///
+/// The call can return `PIGY_MEMORY` instead of any other status. `len` is 0 for an error other than `PIGY_TOO_SMALL`.
+/// For any error `out` is unchanged.
+#[unsafe(no_mangle)]
+pub extern "C" fn pigy_routes_read(
+    alloc: Global,
+    text: &[u8],
+    out: &mut [Route],
+    len: &mut usize,
+    line: &mut usize,
+) -> u32
+    ensures { AreLineRoutesReturned text.now out.old out.new len.new line.new result }
+{
+    *len = 0;
+    *line = 0;
+    match line_routes(alloc, text) {
+        Ok(list) => write_items(list.as_slice(), out, len),
+        Err(OrMemory::Refused(first)) => {
+            *line = first.number;
+            first.status()
         }
         Err(OrMemory::Memory(_)) => status::MEMORY,
     }

@@ -4,6 +4,8 @@ from ctypes import POINTER, Array, Structure, c_char_p, c_size_t, c_uint8, c_uin
 from enum import IntEnum
 
 VERSION_NUMBER = 2000
+VRP_TEXT_MAX = 62
+ROUTE_TEXT_MAX = 58
 HAS_AS = 1
 HAS_IP = 2
 HAS_BOTH = 3
@@ -52,11 +54,12 @@ class Status(IntEnum):
         BAD_CHANGE: A change is impossible for the table. Its code of RFC 8210, 12 is added.
         UNKNOWN_WITHDRAWAL: A withdrawn VRP is not in the table, or is listed twice.
         DUPLICATE_ANNOUNCEMENT: An announced VRP is in the table and not withdrawn, or is listed twice.
-        BAD_LINE: A line of CSV is invalid. The number of its first error is added.
+        BAD_LINE: A line of CSV, or the text of a VRP, is invalid. The number of its first error is added.
         BAD_ITEM: An item of JSON is invalid. The number of its first error is added.
         BAD_FILE: A file as a whole is invalid. The number of the error is added.
         BAD_TEXT: The text of a set is invalid. The number of the first error is added.
         BAD_QUERY: The line that is passed to pigy_answer is invalid.
+        BAD_ROUTE: A line with a route, or the text of a route, is invalid. The number of its first error is added.
         SECOND: SECOND is added to BAD_AS + n, BAD_IP + n, INHERITED, BAD_FAMILY, BAD_PREFIX and BAD_MAX_LEN, and to no
             other status. For these six it says which argument has the error.
     """
@@ -90,6 +93,7 @@ class Status(IntEnum):
     BAD_FILE = 0x80000
     BAD_TEXT = 0x100000
     BAD_QUERY = 0x200000
+    BAD_ROUTE = 0x800000
     SECOND = 0x1000000
 
 
@@ -264,6 +268,12 @@ CALLS: dict[str, tuple[type | None, list[type]]] = {
     "pigy_validate": (c_uint32, [POINTER(Vrp), c_size_t, POINTER(Route), c_size_t, POINTER(c_uint8), c_size_t,
         POINTER(c_size_t), POINTER(c_size_t)]),
     "pigy_vrps_read": (c_uint32, [c_char_p, c_size_t, POINTER(Vrp), c_size_t, POINTER(c_size_t), POINTER(c_size_t)]),
+    "pigy_routes_read": (c_uint32, [c_char_p, c_size_t, POINTER(Route), c_size_t, POINTER(c_size_t),
+        POINTER(c_size_t)]),
+    "pigy_vrp_from_text": (c_uint32, [c_char_p, c_size_t, POINTER(Vrp)]),
+    "pigy_vrp_text": (c_uint32, [POINTER(Vrp), c_char_p, c_size_t, POINTER(c_size_t)]),
+    "pigy_route_from_text": (c_uint32, [c_char_p, c_size_t, POINTER(Route)]),
+    "pigy_route_text": (c_uint32, [POINTER(Route), c_char_p, c_size_t, POINTER(c_size_t)]),
     "pigy_table_new": (c_uint32, [POINTER(Vrp), c_size_t, POINTER(c_void_p), POINTER(c_size_t)]),
     "pigy_table_with_changes": (c_uint32, [c_void_p, POINTER(Vrp), c_size_t, POINTER(Vrp), c_size_t, POINTER(c_void_p),
         POINTER(c_size_t)]),

@@ -6,6 +6,8 @@ pub const PIGY_VERSION_MAJOR: u32 = 0;
 pub const PIGY_VERSION_MINOR: u32 = 2;
 pub const PIGY_VERSION_PATCH: u32 = 0;
 pub const PIGY_VERSION_NUMBER: u32 = 2000;
+pub const PIGY_VRP_TEXT_MAX: u32 = 62;
+pub const PIGY_ROUTE_TEXT_MAX: u32 = 58;
 pub type __uint8_t = ::core::ffi::c_uchar;
 pub type __uint32_t = ::core::ffi::c_uint;
 pub type pigy_status = u32;
@@ -43,6 +45,7 @@ pub const PIGY_BAD_ITEM: _bindgen_ty_1 = 262144;
 pub const PIGY_BAD_FILE: _bindgen_ty_1 = 524288;
 pub const PIGY_BAD_TEXT: _bindgen_ty_1 = 1048576;
 pub const PIGY_BAD_QUERY: _bindgen_ty_1 = 2097152;
+pub const PIGY_BAD_ROUTE: _bindgen_ty_1 = 8388608;
 pub const PIGY_SECOND: _bindgen_ty_1 = 16777216;
 pub type _bindgen_ty_1 = ::core::ffi::c_uint;
 pub const PIGY_HAS_AS: _bindgen_ty_2 = 1;
@@ -1133,6 +1136,46 @@ extern "C" {
         capacity: usize,
         len: *mut usize,
         line: *mut usize,
+    ) -> pigy_status;
+}
+extern "C" {
+    pub fn pigy_routes_read(
+        text: *const ::core::ffi::c_char,
+        text_len: usize,
+        out: *mut pigy_route,
+        capacity: usize,
+        len: *mut usize,
+        line: *mut usize,
+    ) -> pigy_status;
+}
+extern "C" {
+    pub fn pigy_vrp_from_text(
+        text: *const ::core::ffi::c_char,
+        text_len: usize,
+        out: *mut pigy_vrp,
+    ) -> pigy_status;
+}
+extern "C" {
+    pub fn pigy_vrp_text(
+        vrp: *const pigy_vrp,
+        out: *mut ::core::ffi::c_char,
+        capacity: usize,
+        len: *mut usize,
+    ) -> pigy_status;
+}
+extern "C" {
+    pub fn pigy_route_from_text(
+        text: *const ::core::ffi::c_char,
+        text_len: usize,
+        out: *mut pigy_route,
+    ) -> pigy_status;
+}
+extern "C" {
+    pub fn pigy_route_text(
+        route: *const pigy_route,
+        out: *mut ::core::ffi::c_char,
+        capacity: usize,
+        len: *mut usize,
     ) -> pigy_status;
 }
 extern "C" {

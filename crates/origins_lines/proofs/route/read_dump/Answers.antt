@@ -1,9 +1,0 @@
-use Rattle.origins_lines.proofs.Common.{ap, ◌∙◌, after_last, is_space}
-use Rattle.origins_lines.proofs.RouteLineLemmas.{dump_found}
-use Rattle.origins_lines.proofs.route.read_dump.Goals as goal
-
-pub returns : goal.returns
-returns c =
-    dump_found c.args.path_place c.args.line.now c.in-Some.prefix.now c.in-Some-field_at.path.now
-    c.last_word.result.now c.read_fields.result c.in-Some.ensures c.in-Some-field_at.ensures
-    (c.last_word.ensures ∙ ap (after_last is_space) c.trim.ensures.trim) c.read_fields.ensures

@@ -1,0 +1,81 @@
+-- How a dump's line is cut: at each bar, and its path at the last space.
+use Rattle.roa_routes.proofs.Common.{List, None, Some, [], ap, arith, drop, eq-eqb, get_or, get_or-drop, inl, inr}
+use Rattle.roa_routes.proofs.Common.{length, sym}
+use Rattle.roa_routes.proofs.Common.{length-drop, ne_eqb, not, ℕ, ◌-◌, ◌<◌, ◌∙◌, ◌∷◌, ◌≡◌, ◌≢◌, ◌≤◌, ◌⊎◌}
+use Rattle.roa_routes.proofs.Common.{after_first}
+use Rattle.roa_routes.proofs.Common.{after_last, before_first, position_or_len, suffix_len, slice_get, fields_of}
+use Rattle.roa_routes.proofs.Common.{IsFieldAt, is_bar, is_space}
+use Rattle.std.specs.Str.Pattern.{RFindsChar, SplitsAroundMatch}
+use Rattle.std.proofs.lemmas.Bool.{cases_lt}
+use Rattle.std.proofs.lemmas.List.Sums.{fails_before_first, prefix_len-le-length, suffix_len_is}
+use Rattle.std.proofs.lemmas.List.{take_all}
+use Rattle.std.proofs.lemmas.List.Splits.{slice_split_first, slice_split_none}
+use Rattle.std.proofs.lemmas.Str.{len_utf8_ascii}
+use Rattle.std.proofs.lemmas.Str.Pattern.{NoCharPasses-char}
+
+-- a text with a bar is a field and the fields behind it
+pub cut_some : (text field behind : List ℕ) → position_or_len is_bar text < length text
+    → field ≡ before_first is_bar text → behind ≡ after_first is_bar text → fields_of text ≡ field ∷ fields_of behind
+cut_some text field behind some one more = grind (arith, slice_split_first)
+
+-- and one without is one field
+pub cut_none : (text : List ℕ) → position_or_len is_bar text ≡ length text → fields_of text ≡ text ∷ []
+cut_none text none = grind (arith, fails_before_first, slice_split_none)
+
+-- the first field ends at the first bar, or with the text
+pub first_field : (text field : List ℕ) → (124 < 128 → field ≡ before_first is_bar text) → IsFieldAt 0 text field
+first_field text field ascii = by (cases_lt (position_or_len is_bar text) (length text))
+  where
+    is : field ≡ before_first is_bar text
+    is = ascii (omega arith)
+
+    by : (position_or_len is_bar text < length text) ⊎ (length text ≤ position_or_len is_bar text)
+        → slice_get (fields_of text) 0 ≡ Some field
+    by (inl some) = ap (λ all. slice_get all 0) (slice_split_first is_bar text 0 some) ∙ ap Some (sym is)
+    by (inr none) =
+        let all : position_or_len is_bar text ≡ length text =
+        grind (arith, none, prefix_len-le-length (λ b. not (is_bar b)) text) in
+        let whole : before_first is_bar text ≡ text = grind (arith, all, take_all) in
+        ap (λ fields. slice_get fields 0) (cut_none text all) ∙ ap Some (sym whole ∙ sym is)
+
+-- the fields behind the first one
+pub field_next : (text field behind : List ℕ) (n : ℕ) → fields_of text ≡ field ∷ fields_of behind → 0 < n
+    → slice_get (fields_of text) n ≡ slice_get (fields_of behind) (n - 1)
+field_next text field behind n cut some = grind (arith)
+
+-- there is none behind the only one
+pub field_none : (text : List ℕ) (n : ℕ) → fields_of text ≡ text ∷ [] → 0 < n → slice_get (fields_of text) n ≡ None
+field_none text n cut some = grind (arith)
+
+pub field_first : (text field : List ℕ) (fields : List (List ℕ)) → fields_of text ≡ field ∷ fields
+    → slice_get (fields_of text) 0 ≡ Some field
+field_first text field fields cut = ap (λ all. slice_get all 0) cut
+
+-- ---- the last word of a path
+
+-- it begins behind the last space, or where the text does
+last_from : (text : List ℕ) (n : ℕ) → n ≤ length text
+    → ((k : ℕ) → n ≤ k → k < length text → get_or text k 0 ≢ 32) → (0 < n → get_or text (n - 1) 0 ≡ 32)
+    → drop n text ≡ after_last is_space text
+last_from text n within later at =
+    let behind : suffix_len (λ b. not (is_space b)) text ≡ length text - n =
+    suffix_len_is (λ b. not (is_space b)) text n 0 within
+    (λ k from small. ap not (ne_eqb (get_or text k 0) 32 (later k from small)))
+    (λ some. ap not (eq-eqb _ 32 (at some))) in
+    let all : n ≡ length text - suffix_len (λ b. not (is_space b)) text = omega (arith, behind) in
+    ap (λ m. drop m text) all
+
+pub last_some : (text front word : List ℕ) → SplitsAroundMatch (RFindsChar 32) text front word
+    → word ≡ after_last is_space text
+last_some text front word (i, j, found, _, is, _, _, long) =
+    let low : 32 < 128 = omega arith in
+    let later : (k : ℕ) → j ≤ k → k < length text → get_or text k 0 ≢ 32 = λ k from small e.
+    let other = NoCharPasses-char 32 (drop j text) (k - j) found.0 low in
+    grind (arith, other, get_or-drop j text (k - j) 0, length-drop) in
+    let gap : get_or text (j - 1) 0 ≡ 32 = grind (arith, found.1.ends, found.1.byte low, len_utf8_ascii 32 low) in
+    is ∙ last_from text j (omega (arith, long)) later (λ some. gap)
+
+pub last_none : (text : List ℕ) → RFindsChar 32 text None → text ≡ after_last is_space text
+last_none text none =
+    last_from text 0 (omega arith) (λ k from small. NoCharPasses-char 32 text k none (omega arith) small)
+    (λ some. absurd (omega (arith, some)))

@@ -1,0 +1,6 @@
+-- Lemmas on the lines of routes.
+pub mod Common
+pub mod FieldLemmas
+pub mod KindLemmas
+pub mod RouteLineLemmas
+pub mod UsualRouteLemmas

@@ -53,6 +53,7 @@ IS_STATUS(PIGY_BAD_ITEM + 16u, PIGY_BAD_ITEM, 16u);
 IS_STATUS(PIGY_BAD_FILE + 3u, PIGY_BAD_FILE, 3u);
 IS_STATUS(PIGY_BAD_TEXT + 5u, PIGY_BAD_TEXT, 5u);
 IS_STATUS(PIGY_BAD_QUERY, PIGY_BAD_QUERY, 0u);
+IS_STATUS(PIGY_BAD_ROUTE + 6u, PIGY_BAD_ROUTE, 6u);
 
 /* The layouts on x86-64. A change of one needs another number of the ABI. */
 #define IS_SIZE(type, size) _Static_assert(sizeof(type) == size, #type)
@@ -110,8 +111,8 @@ typedef struct {
 } run;
 
 typedef enum {
-  VERIFY, PATH, MAKE, TEST, TEXT, COVER, AS_RANGES, IP_RANGES, HAS_ASN, HAS_PREFIX, PRINT, ANSWER, READ, ORIGINS,
-  COVERING, VRPS, CHANGED, DIFFER, CHANGES
+  VERIFY, PATH, MAKE, TEST, TEXT, COVER, AS_RANGES, IP_RANGES, HAS_ASN, HAS_PREFIX, PRINT, ANSWER, READ, ROUTES,
+  READ_VRP, READ_ROUTE, PRINT_VRP, PRINT_ROUTE, ORIGINS, COVERING, VRPS, CHANGED, DIFFER, CHANGES
 } kind;
 
 /* The calls of an operation on two sets, or of a test of two sets: by DER, if there is such a call, and by handles. */
@@ -249,6 +250,8 @@ static void name_call(question *q, const char *call) {
                {"differ", DIFFER, {0}}, {"changes", CHANGES, {0}}, {"read", READ, {0}}, {"text", TEXT, {0}},
                {"as_ranges", AS_RANGES, {0}}, {"ip_ranges", IP_RANGES, {0}}, {"contains_asn", HAS_ASN, {0}},
                {"contains_prefix", HAS_PREFIX, {0}}, {"print", PRINT, {0}},
+               {"routes", ROUTES, {0}}, {"vrp_from_text", READ_VRP, {0}}, {"route_from_text", READ_ROUTE, {0}},
+               {"vrp_text", PRINT_VRP, {0}}, {"route_text", PRINT_ROUTE, {0}},
                {"union", MAKE, {pigy_union, pigy_resources_union, 0, 0}},
                {"intersection", MAKE, {pigy_intersection, pigy_resources_intersection, 0, 0}},
                {"difference", MAKE, {pigy_difference, pigy_resources_difference, 0, 0}},
@@ -367,6 +370,17 @@ static pigy_status make_vrps_of_file(attempt *a) {
   return pigy_vrps_read(a->q->in[0].octets, a->q->in[0].length, (pigy_vrp *)a->list, a->capacity, &a->len, &a->index);
 }
 
+static pigy_status make_routes_of_lines(attempt *a) {
+  const run *in = a->q->in;
+  return pigy_routes_read(text_in(in), in->length, (pigy_route *)a->list, a->capacity, &a->len, &a->index);
+}
+
+static pigy_status print_value(attempt *a) {
+  const question *q = a->q;
+  if (q->call == PRINT_VRP) return pigy_vrp_text(q->vrps, (char *)a->list, a->capacity, &a->len);
+  return pigy_route_text(q->routes, (char *)a->list, a->capacity, &a->len);
+}
+
 static pigy_status make_origins(attempt *a) {
   const question *q = a->q;
   return pigy_validate(q->vrps, q->count, q->routes, q->route_count, (uint8_t *)a->list, a->capacity, &a->len,
@@ -456,6 +470,7 @@ static const form of_verify = {make_verify, OUT | EXCESS}, of_path = {make_path,
                   of_pair = {make_pair, OUT}, of_test = {make_test, ANSWERS}, of_text = {make_text, OUT},
                   of_list = {make_list, LEN}, of_answer = {make_answer, LEN | IS_TEXT},
                   of_file = {make_vrps_of_file, LEN | INDEX}, of_origins = {make_origins, LEN | INDEX},
+                  of_lines = {make_routes_of_lines, LEN | INDEX}, of_value = {print_value, LEN | IS_TEXT | NO_MEMORY},
                   of_first = {read_first, SET}, of_second = {read_second, SET}, of_der = {write_der, OUT},
                   of_combine = {combine, SET}, of_compare = {compare, ANSWERS | NO_MEMORY},
                   of_asn = {has_asn, ANSWERS | NO_MEMORY}, of_prefix = {has_prefix, ANSWERS | NO_MEMORY},
@@ -476,6 +491,7 @@ static size_t size_of(const question *q) {
     case AS_RANGES: return sizeof(pigy_as_range);
     case IP_RANGES: return sizeof(pigy_ip_range);
     case READ: case VRPS: case CHANGES: return sizeof(pigy_vrp);
+    case ROUTES: return sizeof(pigy_route);
     case COVERING: return sizeof(pigy_covering);
     default: return 1;
   }
@@ -486,6 +502,7 @@ static size_t size_in_row(const question *q) {
   switch (q->call) {
     case COVER: return q->numbers[1] == PIGY_IPV4 ? 5 : 17;
     case READ: case VRPS: case CHANGES: return 23;
+    case ROUTES: return 22;
     case COVERING: return 24;
     default: return size_of(q);
   }
@@ -501,6 +518,13 @@ static void put_vrp(uint8_t *to, const pigy_vrp *vrp) {
   to[20] = vrp->family;
   to[21] = vrp->len;
   to[22] = vrp->max_len;
+}
+
+static void put_route(uint8_t *to, const pigy_route *route) {
+  memcpy(to, route->address, 16);
+  put_asn(to + 16, route->asn);
+  to[20] = route->family;
+  to[21] = route->len;
 }
 
 /* Writes an element of a list in the form of a row. */
@@ -521,6 +545,7 @@ static void put(const question *q, const void *list, size_t at, uint8_t *to) {
       put_asn(to + 4, range->max);
       return;
     case READ: case VRPS: case CHANGES: put_vrp(to, (const pigy_vrp *)list + at); return;
+    case ROUTES: put_route(to, (const pigy_route *)list + at); return;
     case COVERING:
       put_vrp(to, &((const pigy_covering *)list)[at].vrp);
       to[23] = (uint8_t)((const pigy_covering *)list)[at].mismatch;
@@ -760,6 +785,32 @@ static void ask_answer(const form *f, const attempt *a, extent how) {
   if (how == ALL) ask_refused(f, a, 0, 0);
 }
 
+/* Reads the text of a VRP or of a route, also while all memory is refused. With an error all members are 0. */
+static void ask_value(const question *q) {
+  static const uint8_t none[23];
+  size_t octets = q->call == READ_VRP ? 23 : 22;
+  for (int refuses = 0; refuses < 2; refuses++) {
+    pigy_vrp *vrp = (pigy_vrp *)(void *)block(sizeof *vrp);
+    pigy_route *route = (pigy_route *)(void *)block(sizeof *route);
+    uint8_t found[23];
+    pigy_status status;
+    was_refused = 0;
+    granted = 0;
+    counts = refuses;
+    status = q->call == READ_VRP ? pigy_vrp_from_text(text_in(q->in), q->in->length, vrp)
+                                 : pigy_route_from_text(text_in(q->in), q->in->length, route);
+    counts = 0;
+    calls++;
+    if (q->call == READ_VRP) put_vrp(found, vrp);
+    if (q->call == READ_ROUTE) put_route(found, route);
+    expect(!was_refused, q->row, "memory by a call that takes none");
+    expect(status == q->status, q->row, "another status of a text");
+    expect(!memcmp(found, status == PIGY_OK ? q->expected->octets : none, octets), q->row, "another value of a text");
+    free(vrp);
+    free(route);
+  }
+}
+
 /* Checks that the capacities suffice of which the header says so. */
 static void expect_capacities(const question *q) {
   size_t as = 3 * (q->in[0].length + q->in[2].length) + 64, ip = 3 * (q->in[1].length + q->in[3].length) + 64;
@@ -770,6 +821,10 @@ static void expect_capacities(const question *q) {
     expect(expected[0].length + expected[1].length <= 8 * q->in[0].length + 64, q->row, "a longer set of a text");
   if (q->call == READ)
     expect(expected[0].length / 23 <= q->in[0].length / 8 + 1, q->row, "more VRPs of a file");
+  if (q->call == ROUTES)
+    expect(expected[0].length / 22 <= q->in[0].length / 7 + 1, q->row, "more routes of lines");
+  if (q->call == PRINT_VRP) expect(expected[0].length < PIGY_VRP_TEXT_MAX, q->row, "a longer text of a VRP");
+  if (q->call == PRINT_ROUTE) expect(expected[0].length < PIGY_ROUTE_TEXT_MAX, q->row, "a longer text of a route");
 }
 
 /* Makes the call of a row, which does not read handles. */
@@ -786,6 +841,9 @@ static void ask_by_der(const question *q, extent how) {
     case COVER: case AS_RANGES: case IP_RANGES: ask_list(&of_list, &a, how); return;
     case ANSWER: ask_list(&of_answer, &a, how); return;
     case READ: ask_list(&of_file, &a, how); return;
+    case ROUTES: ask_list(&of_lines, &a, how); return;
+    case READ_VRP: case READ_ROUTE: ask_value(q); return;
+    case PRINT_VRP: case PRINT_ROUTE: ask_list(&of_value, &a, how); return;
     case ORIGINS: ask_list(&of_origins, &a, how); return;
     default: return;
   }
@@ -1158,6 +1216,8 @@ static void ask_empty(void) {
   const pigy_set empty = {0, ANY, 0, ANY};
   const pigy_buffers none = {0, ANY, ANY, 0, ANY, ANY};
   pigy_buffers out = none, excess = none;
+  pigy_vrp vrp = {{1}, 1, 1, 1, 1};
+  pigy_route route = {{1}, 1, 1, 1};
   size_t len = ANY, index = ANY;
   for (pigy_present present = 0; present <= PIGY_HAS_BOTH; present++) {
     uint32_t status = !present ? PIGY_ABSENT : PIGY_SECOND + (present == PIGY_HAS_IP ? PIGY_BAD_IP : PIGY_BAD_AS) + 1u;
@@ -1188,6 +1248,14 @@ static void ask_empty(void) {
   EXPECT_NONE(pigy_validate(0, 0, 0, 0, 0, 0, &len, &index), PIGY_OK, len, index, "no VRPs and no routes");
   len = index = ANY;
   EXPECT_NONE(pigy_vrps_read(0, 0, 0, 0, &len, &index), PIGY_BAD_FILE + 6u, len, index, "an empty file");
+  len = index = ANY;
+  EXPECT_NONE(pigy_routes_read(0, 0, 0, 0, &len, &index), PIGY_OK, len, index, "no lines");
+  EXPECT_NONE(pigy_vrp_from_text(0, 0, &vrp), PIGY_BAD_LINE + 4u, vrp.family, vrp.asn, "an empty VRP");
+  EXPECT_NONE(pigy_route_from_text(0, 0, &route), PIGY_BAD_ROUTE + 5u, route.family, route.asn, "an empty route");
+  len = ANY;
+  EXPECT_NONE(pigy_vrp_text(&vrp, 0, 0, &len), PIGY_BAD_FAMILY, len, 0, "the text of no VRP");
+  len = ANY;
+  EXPECT_NONE(pigy_route_text(&route, 0, 0, &len), PIGY_BAD_FAMILY, len, 0, "the text of no route");
   len = ANY;
   EXPECT_NONE(pigy_answer(0, 0, 0, 0, &len), PIGY_BAD_QUERY, len, 0, "an empty line");
   ask_empty_set(empty, &out);
@@ -1308,6 +1376,8 @@ static question question_of(unsigned row, char **words) {
   read_numbers(&q, words[1]);
   for (int i = 0; i < 4; i++) q.in[i] = read_run(q.call == PATH && i == 3 ? "-" : words[2 + i]);
   read_certificates(&q, q.call == PATH ? words[5] : "-");
+  if (q.call == PRINT_VRP) q.vrps = read_vrps(q.in, &q.count);
+  if (q.call == PRINT_ROUTE) q.routes = read_routes(q.in, &q.route_count);
   if (q.call >= ORIGINS) {
     q.vrps = read_vrps(q.in, &q.count);
     if (q.call == CHANGED) q.announced = read_vrps(q.in + 2, &q.announced_count);

@@ -7,7 +7,7 @@ from operator import eq
 from re import fullmatch
 from typing import NamedTuple
 
-from . import asn, ip, lines, paths, prefixes, resources, vrp_files
+from . import asn, ip, lines, paths, prefixes, resources, route_lines, texts, vrp_files
 from .addresses import Family
 from .faults import BAD_AS_NUMBER, BAD_AS_RANGE, BAD_RANGE, FAMILY_MISMATCH, DerFault, Fault
 from .paths import Refused, Step
@@ -22,6 +22,7 @@ BAD_ENCODING, BAD_MODE, BAD_PRESENT, BAD_FAMILY, BAD_KIND, BAD_PREFIX, BAD_MAX_L
 BAD_AS, BAD_IP, INHERITED, ABSENT, OVERCLAIM = 0x800, 0x1000, 0x2000, 0x4000, 0x8000
 UNKNOWN_WITHDRAWAL, DUPLICATE_ANNOUNCEMENT = 0x10006, 0x10007
 BAD_LINE, BAD_ITEM, BAD_FILE, BAD_TEXT, BAD_QUERY = 0x20000, 0x40000, 0x80000, 0x100000, 0x200000
+BAD_ROUTE = 0x800000
 SECOND = 0x1000000
 INVALID_AS, INVALID_LENGTH = 1, 2
 OTHER_AS, TOO_LONG = 1, 2
@@ -237,8 +238,8 @@ def prefix_of(octets: bytes, base: int, place: int | None) -> prefixes.Prefix:
     return prefixes.Prefix(family, address, length)
 
 
-def vrp_of(octets: bytes, base: int = 0, place: int = 0) -> prefixes.Vrp:
-    """Reads a VRP, which is at an index."""
+def vrp_of(octets: bytes, base: int = 0, place: int | None = 0) -> prefixes.Vrp:
+    """Reads a VRP. It may be at an index."""
     prefix = prefix_of(octets[:22], base, place)
     if not prefix.length <= octets[22] <= prefix.family.bits:
         raise Status(base + BAD_MAX_LEN, place=place)
@@ -377,6 +378,73 @@ def file_answer(question: Question) -> Answer:
     return Answer(OK, (b"".join(map(vrp_octets, vrps)), b""), 0)
 
 
+def vrp_of_text(octets: bytes) -> prefixes.Vrp:
+    """Reads the text of a VRP."""
+    number = 1
+    try:
+        prefix, owner = map(texts.trim, texts.cut(texts.trim(octets.decode("utf-8")), " "))
+        number = 4
+        found = asn.read_asn(owner)
+        number = 5
+        return prefixes.Vrp(prefixes.read_max_len(prefix), found)
+    except UnicodeDecodeError:
+        raise Status(BAD_LINE + number) from None
+    except Fault as fault:
+        raise Status(BAD_LINE + (number if number == 4 else MAX_LEN_FAULTS.get(str(fault)[:10], number))) from None
+
+
+# How the text of the fault of a maximum length begins, and its number.
+MAX_LEN_FAULTS = {"invalid ma": 6, "max-length": 7}
+# How the text of the fault of a line with a route begins, and its number. Any other text is that of a wrong AS number.
+ROUTE_FAULTS = {"too few fields": 2, "a comma where a space is expected": 3, "expected: PREFIX AS": 4}
+ROUTE_FAULTS |= {"invalid prefix: ": 5}
+
+
+def route_of(octets: bytes, is_line: bool) -> route_lines.Route | None:
+    """Reads a line with a route, or the text of a route. A line may have none."""
+    try:
+        text = octets.decode("utf-8")
+        return route_lines.read_route(text) if is_line else route_lines.read_words(text)
+    except UnicodeDecodeError:
+        raise Status(BAD_ROUTE + 1) from None
+    except Fault as fault:
+        number = next((number for begin, number in ROUTE_FAULTS.items() if str(fault).startswith(begin)), 6)
+        raise Status(BAD_ROUTE + number) from None
+
+
+def route_octets(route: route_lines.Route) -> bytes:
+    """Returns the octets of a route. If its origin is unknown, its AS is AS 0."""
+    return vrp_octets(prefixes.Vrp(prefixes.MaxLenPrefix(route.prefix, None), route.origin or 0))[:22]
+
+
+def lines_answer(question: Question) -> Answer:
+    """Returns the routes of lines, or the status and the number of the first line that is invalid."""
+    found, parts = b"", question.first[0].split(b"\n")
+    for number, line in enumerate(parts if parts[-1] else parts[:-1], 1):
+        try:
+            route = route_of(line, True)
+        except Status as fault:
+            return Answer(fault.number, (b"", b""), number)
+        found += b"" if route is None else route_octets(route)
+    return Answer(OK, (found, b""), 0)
+
+
+def value_octets(question: Question) -> bytes:
+    """Returns a VRP or a route that is read from its text, or its text."""
+    octets = question.first[0]
+    match question.call:
+        case "vrp_from_text":
+            return vrp_octets(vrp_of_text(octets))
+        case "route_from_text":
+            route = route_of(octets, False)
+            return route_octets(route) if route else b""
+        case "vrp_text":
+            vrp = vrp_of(octets, 0, None)
+            return f"{vrp.prefix.text()} AS{vrp.asn}".encode()
+    prefix = prefix_of(octets, 0, None)
+    return f"{prefix.text()} AS{int.from_bytes(octets[16:20], 'big')}".encode()
+
+
 def cut(octets: bytes, length: int) -> list[bytes]:
     """Splits octets into parts of a length."""
     return [octets[at : at + length] for at in range(0, len(octets), length)]
@@ -449,11 +517,14 @@ def written_by(question: Question) -> Octets:
             return line_octets(question), b""
         case "print":
             return text_octets(question), b""
+        case "vrp_from_text" | "vrp_text" | "route_from_text" | "route_text":
+            return value_octets(question), b""
     return written(combined(question))
 
 
 # The calls whose answer has a last word.
 ANSWERS = {"path": path_answer, "origins": origins_answer, "differ": differ_answer, "read": file_answer}
+ANSWERS |= {"routes": lines_answer}
 ANSWERS |= dict.fromkeys(("covering", "vrps", "changed", "changes"), table_answer)
 ANSWERS |= dict.fromkeys((*TESTS, "contains_asn", "contains_prefix"), answer_of_test)
 

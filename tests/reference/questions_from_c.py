@@ -438,6 +438,69 @@ def of_files() -> Iterator[Question]:
         yield asked(of_json([it.encode() for it in items]))
 
 
+# Lines with routes, and lines of bgpdump -m. The last three have no route.
+ROUTE_LINES = [
+    *(b"10.0.0.0/8 AS64496\n", b" 2001:db8::/32  64497\t\r\n", b"0.0.0.0/0 as0\n", b"::/0 0\n"),
+    b"TABLE_DUMP2|1732600000|B|192.0.2.1|64500|10.9.0.0/16|64500 64496|IGP|192.0.2.1|0|0||NAG||\n",
+    b"TABLE_DUMP2_AP|1|B|192.0.2.1|64500|10.9.0.0/16|7|64500 {64496,64497}|IGP\n",
+    b"BGP4MP_ET|1.5|A|192.0.2.1|64500|2001:db8::/32|64500 (64512 64513)|IGP\n",
+    *(b"BGP4MP|1|A|192.0.2.1|64500|10.0.0.0/9||IGP\n", b"BGP4MP|1|W|192.0.2.1|64500|10.9.0.0/16\n"),
+    *(b"BGP4MP|1|STATE|192.0.2.1|64500|1|2\n", b"BGP4MP_LOCAL_AP|1|W|\n"),
+]
+# Invalid lines, each with another fault.
+WRONG_ROUTE_LINES = [
+    *(b"\xff\n", b"\n", b"TABLE_DUMP2|1|B|192.0.2.1|64500|10.9.0.0/16\n", b"10.0.0.0/8,AS64496\n"),
+    *(b"10.0.0.0/8\tAS64496\n", b"AS64496 10.0.0.0/8\n", b"10.0.0.1/8 AS1\n", b"10.0.0.0 AS1\n", b"10.0.0.0/8 ASX\n"),
+    *(b"10.0.0.0/8\n", b"10.0.0.0/33 AS1\n", b"10.0.0.0/8 4294967296\n", b"10.0.0.0/8 AS1 AS2\n"),
+    *(b"BGP4MP|1|A|192.0.2.1|64500|10.0.0.0/9|x|IGP\n", b"BGP4MP|1|X|192.0.2.1|64500|10.0.0.0/9|1|IGP\n"),
+]
+# Texts of VRPs, with numbers in each form, and with each fault.
+VRP_TEXTS = [
+    *(b"10.0.0.0/8-16 AS64496", b"10.0.0.0/8 AS64496", b" 10.0.0.0/8-16 \t 64496\n", b"0.0.0.0/0-32 as0"),
+    *(b"::/0-128 AS4294967295", b"2001:db8::/32-48 aS1", b"10.0.0.0/+8-016 +7", b"10.0.0.0/8-8 AS1"),
+    *(b"", b" ", b"\xff", b"10.0.0.0/8-16", b"10.0.0.0/8-16 ", b"AS64496", b"10.0.0.0/8-16 ASX", b"10.0.0.0/8-16,AS1"),
+    *(b"10.0.0.0-16 AS1", b"10.0.0.1/8-16 AS1", b"10.0.0.0/33-33 AS1", b"10.0.0/8-16 AS1", b"10.0.0.0/x-16 AS1"),
+    *(b"10.0.0.0/8- AS1", b"10.0.0.0/8-x AS1", b"10.0.0.0/8-256 AS1", b"10.0.0.0/8-9-9 AS1", b"10.0.0.0/8--9 AS1"),
+    *(b"10.0.0.0/8-7 AS1", b"10.0.0.0/8-33 AS1", b"::/128-127 AS1", b"::/0-129 AS1", b"10.0.0.0/8-16 4294967296"),
+    *(b"10.0.0.0/8-16 AS1 AS2", b"10.0.0.0/8 -16 AS1", b"10.0.0.1/8-7 ASX", b"10.0.0.1/8-7 AS1", b"10.0.0.0/8-16 -1"),
+    "10.0.0.0/8-16\u2003AS1".encode(),
+    "\u200310.0.0.0/8-16 AS1\u00a0".encode(),
+]
+
+
+def of_route_texts() -> Iterator[Question]:
+    """Yields lines with routes, the texts of VRPs and routes, and VRPs and routes that are printed. Some are wrong."""
+    source = Random(5952)
+
+    def asked(call: str, octets: bytes) -> Question:
+        return Question(call, (), (octets, b""))
+
+    yield from (asked("routes", b"".join(it)) for it in (ROUTE_LINES, ROUTE_LINES[8:], (), (ROUTE_LINES[0][:-1],)))
+    for line in (*ROUTE_LINES, *WRONG_ROUTE_LINES):
+        yield asked("routes", line)
+        yield asked("route_from_text", line)
+        yield asked("route_from_text", line.strip())
+    for wrong in WRONG_ROUTE_LINES:
+        for place in (0, 1, 5, len(ROUTE_LINES)):
+            yield asked("routes", b"".join([*ROUTE_LINES[:place], wrong, *ROUTE_LINES[place:], wrong]))
+    for text in VRP_TEXTS:
+        yield asked("vrp_from_text", text)
+        yield asked("route_from_text", text)
+    ends = [(V4, 0, 0), (V4, 2**32 - 1, 32), (V6, 0, 0), (V6, 2**128 - 1, 128), (V6, 0xFFFF << 32 | 10 << 24, 128)]
+    ends += [(V6, 0x2001_0DB8 << 96, 32), (V6, 1 << 112, 128), (V6, (1 << 96) + 1, 128), (V6, 1, 128)]
+    wrong = [(0, 0, 0), (ASN, 0, 0), (255, 0, 0), (V4, 10 << 24, 33), (V4, 1, 31), (V6, 1, 127), (V6, 0, 129)]
+    values = [routed(*it, number, most) for it in (*ends, *wrong) for number in (0, 2**32 - 1) for most in (it[2], 255)]
+    values += [routed(*it, 64496, 32 if it[0] == V4 else 128) for it in ends]
+    for octets in (*values, *(random_routed(source, True) for _ in range(60))):
+        yield asked("vrp_text", octets)
+        yield asked("route_text", octets[:22])
+        for call in ("vrp_text", "route_text"):
+            found = answer(asked(call, octets if call == "vrp_text" else octets[:22]))
+            if not found.status:
+                yield asked(call.replace("_", "_from_"), found.written[0])
+                yield asked("routes", found.written[0])
+
+
 def of_differences() -> Iterator[Question]:
     """Yields routes under two tables with few, many, the same or no VRPs, and an invalid route at several indexes."""
     source = Random(6811_4)
@@ -532,5 +595,5 @@ def of_sets() -> Iterator[Question]:
 def questions() -> Iterator[Question]:
     """Yields all questions."""
     parts = of_certificates, of_absence, of_paths, of_sets, of_covers, of_origins, of_tables, of_differences, of_changes
-    for part in (*parts, of_lines, of_files, of_texts, of_ranges, of_contents):
+    for part in (*parts, of_lines, of_files, of_texts, of_ranges, of_contents, of_route_texts):
         yield from part()

@@ -79,6 +79,16 @@ def _path_place(fields: list[str]) -> int | None:
     return PATHS.get(fields[0])
 
 
+def read_words(text: str) -> Route:
+    """Reads the route of a text: a prefix, a space and an AS number."""
+    line = texts.trim(text)
+    if _is_route_with_comma(line):
+        raise Fault("a comma where a space is expected")
+    if _has_other_word(line):
+        raise Fault("expected: PREFIX AS")
+    return _words(line, " ")
+
+
 def read_route(line: str) -> Route | None:
     """Reads the route of a line. Returns None for a line of a dump without a route."""
     line = texts.trim(line)
@@ -90,11 +100,7 @@ def read_route(line: str) -> Route | None:
         if len(fields) <= place:
             raise Fault("too few fields")
         return Route(read_prefix(fields[PREFIX_PLACE]), _origin_of(fields[place]))
-    if _is_route_with_comma(line):
-        raise Fault("a comma where a space is expected")
-    if _has_other_word(line):
-        raise Fault("expected: PREFIX AS")
-    return _words(line, " ")
+    return read_words(line)
 
 
 def _reason(route: Route, vrp: Vrp) -> str:

@@ -37,6 +37,9 @@ The input and the output depend on the call:
   first has.
 * `read`: a file of VRPs. The output is its VRPs. The last word is the number of the first line or item that is invalid.
 * `text`: a list of resources as text. The output is a set.
+* `routes`: lines with routes. The output is the routes. The last word is the number of the first line that is invalid.
+* `vrp_from_text` and `route_from_text`: a text. The output is the VRP or the route.
+* `vrp_text` and `route_text`: a VRP or a route. The output is its text.
 * `answer`: a line for `respath`. The output is the line that it prints, unless this is an error.
 """
 

@@ -22,11 +22,14 @@ from pigyelund import (
     PigyelundError,
     Resources,
     Route,
+    RouteTextError,
     Status,
     Table,
     Vrp,
     VrpFileError,
     answer,
+    read_route_octets,
+    read_routes,
     read_vrps,
 )
 from pigyelund import _bindings as c
@@ -599,6 +602,65 @@ def is_read(row: Row) -> bool:
         return (reason.status, reason.line, reason.index) == (row.status, row.number, None)
 
 
+def route_octets(routes: list[Route]) -> bytes:
+    """Returns routes as a row has them."""
+    return b"".join(bytes(it)[:16] + bytes(it)[16:20][::-1] + bytes(it)[20:22] for it in routes)
+
+
+def are_routes(row: Row) -> bool:
+    """Returns whether the row of lines with routes has its expected result."""
+    lines, expected = row.first[0], cut(structs(row.expected[0], 22), 24)
+    count = len(expected)
+    for capacity in (count + 3, count, 0):
+        array, length, line = (c.Route * capacity)(), c_size_t(7), c_size_t(7)
+        status = library().pigy_routes_read(lines, len(lines), array, capacity, byref(length), byref(line))
+        fits = count <= capacity
+        if (status, length.value, line.value) != (row.status if fits else Status.TOO_SMALL, count, row.number):
+            return False
+        if [bytes(it)[:22] for it in array] != [it[:22] for it in expected if fits] + [bytes(22)] * (
+            capacity - count * fits
+        ):
+            return False
+    try:
+        found = read_routes(lines)
+    except RouteTextError as reason:
+        return (reason.status, reason.line, reason.item) == (row.status, row.number, None)
+    is_same = [bytes(it)[:22] for it in found] == [it[:22] for it in cut(read_route_octets(lines), 24)]
+    return is_same and route_octets(found) == row.expected[0] and row.status == Status.OK
+
+
+def is_value(row: Row) -> bool:
+    """Returns whether the row of the text of a VRP or of a route has its expected result."""
+    is_vrp, given = row.call.startswith("vrp"), row.first[0]
+    kind, struct, size = (Vrp, c.Vrp, 23) if is_vrp else (Route, c.Route, 22)
+    call = getattr(library(), f"pigy_{row.call}")
+    if row.call.endswith("_from_text"):
+        made = struct.from_buffer_copy(b"\xa5" * 24)
+        status = call(given, len(given), byref(made))
+        wanted = structs(row.expected[0], size)[:size] if row.status == Status.OK else bytes(size)
+        if (status, bytes(made)[:size]) != (row.status, wanted):
+            return False
+        try:
+            found = bytes(kind(given.decode("utf-8")))
+        except UnicodeDecodeError:
+            return row.status & 0xFF == 1
+        except RouteTextError as reason:
+            return (reason.status, reason.item) == (row.status, given.decode("utf-8"))
+        return (row.status, found) == (Status.OK, wanted.ljust(24, b"\0"))
+    value, count = struct.from_buffer_copy(struct_of(given)), len(row.expected[0])
+    for capacity in (count + 3, count, 0):
+        buffer, length = ctypes.create_string_buffer(max(capacity, 1)), c_size_t(7)
+        status, fits = call(byref(value), buffer, capacity, byref(length)), count <= capacity
+        if (status, length.value) != (row.status if fits else Status.TOO_SMALL, count):
+            return False
+        if buffer.raw[:capacity] != (row.expected[0].ljust(capacity, b"\0") if fits else bytes(capacity)):
+            return False
+    values = values_of(kind, given)
+    if values is None or row.status != Status.OK:
+        return values is None and row.status != Status.OK
+    return str(values[0]).encode() == row.expected[0] and kind(str(values[0])) == values[0]
+
+
 def is_text(row: Row) -> bool:
     """Returns whether the row of the text of a set has its expected result."""
     (kind,), text = row.numbers, row.first[0]
@@ -617,6 +679,8 @@ ASKED |= dict.fromkeys(("cover", "as_ranges", "ip_ranges"), is_listed)
 ASKED |= dict.fromkeys(OPERATORS, is_operation)
 ASKED |= dict.fromkeys(("contains", "equal"), is_test)
 ASKED |= {"contains_asn": has_asn, "contains_prefix": has_prefix}
+ASKED |= {"routes": are_routes}
+ASKED |= dict.fromkeys(("vrp_from_text", "vrp_text", "route_from_text", "route_text"), is_value)
 ASKED |= {"differ": are_differences, "changes": are_changes, "read": is_read, "text": is_text, "print": is_printed}
 
 

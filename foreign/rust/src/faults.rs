@@ -78,9 +78,28 @@ faults! {
 }
 
 faults! {
-    /// The first error of a line or of an item of a VRP file.
+    /// The first error of a line with a route, or of the text of a [`Route`](crate::Route).
+    RouteFault {
+        /// The line is not UTF-8. No `str` has this error.
+        NotUtf8 = 1,
+        /// The line is of `bgpdump -m`, and has no field for the prefix or for the path. No text of a route has this
+        /// error.
+        TooFewFields = 2,
+        /// The line has no space, and would have a route if its first comma were a space.
+        CommaForSpace = 3,
+        /// The first word is no prefix. It has a tab, or it is an AS number.
+        OtherWord = 4,
+        /// The prefix is invalid.
+        Prefix = 5,
+        /// The AS number is invalid.
+        Asn = 6,
+    }
+}
+
+faults! {
+    /// The first error of a line or of an item of a VRP file, or of the text of a [`Vrp`](crate::Vrp).
     ///
-    /// The error of a line of CSV has a number from 1 to 7, and that of an item of JSON a number from 4 to 16.
+    /// A line of CSV has an error with a number from 1 to 7, an item of JSON from 4 to 16, and a text from 4 to 7.
     VrpFault {
         /// The line is not UTF-8.
         NotUtf8 = 1,

@@ -4,7 +4,7 @@ use std::fmt::{Display, Formatter, Result as Written};
 use std::net::{AddrParseError, IpAddr, Ipv4Addr, Ipv6Addr};
 use std::str::FromStr;
 
-use crate::Family;
+use crate::{status_text, Family, RouteFault, VrpFault};
 use pigyelund_sys as sys;
 
 /// An address prefix. No host bits are set.
@@ -330,19 +330,6 @@ impl FromStr for Prefix {
     }
 }
 
-/// Reads the maximum length of a VRP with this prefix.
-pub(crate) fn read_max_len(prefix: Prefix, text: &str) -> Result<u8, ValueError> {
-    let Some(max_len) = number_of(text) else {
-        return Err(ValueError::MaxLenText {
-            text: text.into(),
-            min: prefix.len,
-            max: prefix.max_prefix_len(),
-        });
-    };
-    check_max_len(prefix, max_len)?;
-    Ok(max_len)
-}
-
 /// The error of values and texts that are not an AS number, a prefix, a VRP or a route.
 ///
 /// `Display` writes the wrong value or the wrong part of the text, and what is expected.
@@ -377,7 +364,7 @@ pub enum ValueError {
         /// The length of the subnets in bits.
         len: u8,
     },
-    /// The text does not have the parts of a prefix, of a VRP or of a route.
+    /// The text does not have the parts of a prefix.
     Form {
         /// The text.
         text: String,
@@ -399,15 +386,19 @@ pub enum ValueError {
         /// The greatest prefix length of the family, in bits.
         max: u8,
     },
-    /// The maximum length is not a decimal number from 0 to 255. A number up to 255 that does not fit the prefix is
-    /// [`ValueError::MaxLen`].
-    MaxLenText {
-        /// The part of the text that should be a maximum length.
+    /// The text is not that of a VRP.
+    VrpText {
+        /// The text.
         text: String,
-        /// The prefix length in bits. This is the least maximum length.
-        min: u8,
-        /// The greatest prefix length of the family, in bits.
-        max: u8,
+        /// Its first error.
+        fault: VrpFault,
+    },
+    /// The text is not that of a route.
+    RouteText {
+        /// The text.
+        text: String,
+        /// Its first error.
+        fault: RouteFault,
     },
     /// The AS number is not a decimal number from 0 to 4294967295, with or without `AS` before it.
     Asn {
@@ -456,8 +447,15 @@ impl Display for ValueError {
             ValueError::PrefixLenText { text, max } => {
                 write!(out, "prefix length {text:?}: expected 0 to {max}")
             }
-            ValueError::MaxLenText { text, min, max } => {
-                write!(out, "max length {text:?}: expected {min} to {max}")
+            ValueError::VrpText { text, fault } => {
+                let what = status_text(sys::PIGY_BAD_LINE + *fault as u32);
+                let expected = "PREFIX-MAXLEN ASN, for example 10.0.0.0/8-16 AS64496";
+                write!(out, "{what}: {text:?}: expected {expected}")
+            }
+            ValueError::RouteText { text, fault } => {
+                let what = status_text(sys::PIGY_BAD_ROUTE + *fault as u32);
+                let expected = "PREFIX ASN, for example 10.0.0.0/8 AS64496";
+                write!(out, "{what}: {text:?}: expected {expected}")
             }
             ValueError::Asn { text } => {
                 write!(out, "AS number {text:?}: expected AS0 to AS{}", u32::MAX)

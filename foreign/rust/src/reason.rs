@@ -3,7 +3,7 @@ use std::error::Error;
 use std::ffi::CStr;
 use std::fmt::{Debug, Display, Formatter, Result as Written};
 
-use crate::{DerFault, FileFault, Kind, Resources, TextFault, VrpFault};
+use crate::{DerFault, FileFault, Kind, Resources, RouteFault, TextFault, VrpFault};
 use pigyelund_sys as sys;
 
 /// Returns the text of a status of `pigyelund.h`. The text of any other number is `unknown status`.
@@ -51,6 +51,8 @@ pub enum Reason {
     DuplicateAnnouncement,
     /// The line is none that the program `respath` knows.
     BadQuery,
+    /// A line with a route is invalid.
+    BadRoute(RouteFault),
     /// Any other status. No call of this crate returns such a status.
     Other(u32),
 }
@@ -83,6 +85,7 @@ impl Reason {
             sys::PIGY_MEMORY if fault == 0 => Some(Reason::Memory),
             sys::PIGY_ABSENT if fault == 0 => Some(Reason::Absent),
             sys::PIGY_BAD_QUERY if fault == 0 => Some(Reason::BadQuery),
+            sys::PIGY_BAD_ROUTE => RouteFault::of_number(fault).map(Reason::BadRoute),
             sys::PIGY_OVERCLAIM => Kind::of_number(fault).map(Reason::Overclaimed),
             sys::PIGY_BAD_TEXT => TextFault::of_number(fault).map(Reason::BadText),
             sys::PIGY_BAD_LINE if is_line => VrpFault::of_number(fault).map(Reason::BadLine),
@@ -168,7 +171,7 @@ impl Debug for ResourceError {
 
 impl Error for ResourceError {}
 
-/// The error of the calls on tables and on files of VRPs.
+/// The error of the calls on tables, on files of VRPs and on lines with routes.
 ///
 /// `Display` writes the position of the error, and the text of the status.
 #[derive(Clone, Copy, PartialEq, Eq, Hash)]
@@ -196,10 +199,13 @@ impl TableError {
         is_change.then_some(self.at)
     }
 
-    /// Returns the number, from 1, of the first invalid line of CSV ([`Reason::BadLine`]) or item of JSON
-    /// ([`Reason::BadItem`]). Returns `None` for any other reason.
+    /// Returns the number, from 1, of the first invalid line ([`Reason::BadLine`], [`Reason::BadRoute`]) or item of
+    /// JSON ([`Reason::BadItem`]). Returns `None` for any other reason.
     pub fn line(&self) -> Option<usize> {
-        let is_line = matches!(self.reason(), Reason::BadLine(_) | Reason::BadItem(_));
+        let is_line = matches!(
+            self.reason(),
+            Reason::BadLine(_) | Reason::BadItem(_) | Reason::BadRoute(_)
+        );
         is_line.then_some(self.at)
     }
 }
@@ -207,7 +213,7 @@ impl TableError {
 impl Display for TableError {
     fn fmt(&self, out: &mut Formatter<'_>) -> Written {
         match self.reason() {
-            Reason::BadLine(_) => write!(out, "at line {}: ", self.at)?,
+            Reason::BadLine(_) | Reason::BadRoute(_) => write!(out, "at line {}: ", self.at)?,
             Reason::BadItem(_) => write!(out, "at item {}: ", self.at)?,
             _ if self.index().is_some() => write!(out, "at index {}: ", self.at)?,
             _ => {}

@@ -131,6 +131,38 @@ pub fn read_vrps(file: &[u8]) -> Result<Vec<Vrp>, TableError> {
     found.map_err(|status| TableError { status, at })
 }
 
+/// Reads the routes of lines, as the program `origins` does: a prefix and an AS number, or a line of `bgpdump -m`.
+///
+/// The routes are in the order of the lines. A line of `bgpdump -m` that announces no route is skipped. If the origin
+/// of a route is unknown, its AS is AS 0, which no VRP matches. `pigy_routes_read` in `pigyelund.h` has the details.
+///
+/// # Errors
+///
+/// - [`Reason::BadRoute`](crate::Reason::BadRoute): a line is invalid. [`TableError::line`] is the number of the first
+///   one, from 1.
+/// - [`Reason::Memory`](crate::Reason::Memory).
+///
+/// # Example
+///
+/// ```
+/// let routes = pigyelund::read_routes(b"10.0.0.0/8 AS64496\n2001:db8::/32 64497\n").unwrap();
+/// assert_eq!(routes[1].to_string(), "2001:db8::/32 AS64497");
+/// let refused = pigyelund::read_routes(b"10.0.0.0/8 AS64496\n10.0.0.1/8 AS64496\n").unwrap_err();
+/// assert_eq!(refused.line(), Some(2));
+/// ```
+pub fn read_routes(lines: &[u8]) -> Result<Vec<Route>, TableError> {
+    let mut at = 0;
+    // Most lines have at least 16 octets, and those of `bgpdump -m` have more.
+    // SAFETY: the call writes the routes, if it returns PIGY_OK. The pointer and the length are those of the slice.
+    let found = unsafe {
+        items(lines.len() / 16 + 1, |out: *mut Route, capacity, len| {
+            let start = lines.as_ptr().cast();
+            sys::pigy_routes_read(start, lines.len(), out.cast(), capacity, len, &mut at)
+        })
+    };
+    found.map_err(|status| TableError { status, at })
+}
+
 impl Table {
     /// Returns the table of a handle, or the error of a status.
     ///

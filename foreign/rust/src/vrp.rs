@@ -2,10 +2,12 @@
 use std::cmp::Ordering;
 use std::fmt::{Debug, Display, Formatter, Result as Written};
 use std::hash::{Hash, Hasher};
-use std::str::FromStr;
+use std::os::raw::c_char;
+use std::str::{from_utf8, FromStr};
 
-use crate::prefix::{check_max_len, read_max_len};
-use crate::{Asn, Prefix, ValueError};
+use crate::prefix::check_max_len;
+use crate::reason::assert_ok;
+use crate::{Asn, Prefix, RouteFault, ValueError, VrpFault};
 use pigyelund_sys as sys;
 
 /// A VRP (validated ROA payload, RFC 6811, 2): a prefix, its maximum length, and the AS that may originate it.
@@ -161,82 +163,90 @@ impl Debug for Route {
     }
 }
 
+/// Writes the text that a call of the library writes to a buffer of `N` octets, which always suffice.
+fn write_text<const N: usize>(
+    out: &mut Formatter<'_>,
+    call: impl FnOnce(*mut c_char, usize, &mut usize) -> u32,
+) -> Written {
+    let (mut text, mut len) = ([0_u8; N], 0);
+    assert_ok(call(text.as_mut_ptr().cast(), N, &mut len));
+    out.write_str(from_utf8(&text[..len]).expect("a text that a call writes is UTF-8"))
+}
+
 /// Writes prefix, maximum length and AS, for example `10.0.0.0/8-16 AS64496`.
 impl Display for Vrp {
     fn fmt(&self, out: &mut Formatter<'_>) -> Written {
-        write!(out, "{}-{} {}", self.prefix(), self.max_len(), self.asn())
+        const MAX: usize = sys::PIGY_VRP_TEXT_MAX as usize;
+        // SAFETY: the VRP and the buffer live until the call returns. The length is that of the buffer.
+        write_text::<MAX>(out, |text, capacity, len| unsafe {
+            sys::pigy_vrp_text(&self.0, text, capacity, len)
+        })
     }
 }
 
 /// Writes prefix and AS, for example `10.0.0.0/8 AS64496`.
 impl Display for Route {
     fn fmt(&self, out: &mut Formatter<'_>) -> Written {
-        write!(out, "{} {}", self.prefix(), self.asn())
+        const MAX: usize = sys::PIGY_ROUTE_TEXT_MAX as usize;
+        // SAFETY: the route and the buffer live until the call returns. The length is that of the buffer.
+        write_text::<MAX>(out, |text, capacity, len| unsafe {
+            sys::pigy_route_text(&self.0, text, capacity, len)
+        })
     }
-}
-
-/// Splits a text at its first space into a prefix, perhaps with a maximum length, and an AS number.
-fn split<'a>(text: &'a str, expected: &'static str) -> Result<(&'a str, Asn), ValueError> {
-    let Some((prefix, asn)) = text.split_once(' ') else {
-        return Err(ValueError::Form {
-            text: text.into(),
-            expected,
-        });
-    };
-    Ok((prefix, asn.parse()?))
 }
 
 /// Reads `PREFIX-MAXLEN ASN`, for example `10.0.0.0/8-16 AS64496`.
 ///
 /// Without `-MAXLEN` the maximum length is the prefix length (RFC 9582, 4.3.2). The letters `AS` may be absent, and may
-/// be in lower case. The AS number follows after one space.
+/// be in lower case. White space around the two words is ignored.
 ///
 /// # Errors
 ///
-/// The text is split at its first space. The AS number after the space is checked before the prefix:
-///
-/// - [`ValueError::Form`]: the text has no space, or its prefix has no `/`.
-/// - [`ValueError::Asn`]: the AS number is no decimal number from 0 to 4294967295.
-/// - [`ValueError::Address`]: the address is neither an IPv4 address nor an IPv6 address.
-/// - [`ValueError::PrefixLenText`], [`ValueError::MaxLenText`]: this length is no decimal number, or is above 255.
-/// - The errors of [`Prefix::new`] and [`Vrp::new`].
+/// [`ValueError::VrpText`]: the AS number is checked first, then the prefix, and then the maximum length.
 impl FromStr for Vrp {
     type Err = ValueError;
 
     fn from_str(text: &str) -> Result<Vrp, ValueError> {
-        let expected = "PREFIX-MAXLEN ASN, for example 10.0.0.0/8-16 AS64496";
-        let (lengths, asn) = split(text, expected)?;
-        let (prefix, max_len) = match lengths.split_once('-') {
-            Some((prefix, max_len)) => (prefix, Some(max_len)),
-            None => (lengths, None),
-        };
-        let prefix: Prefix = prefix.parse()?;
-        let max_len = match max_len {
-            Some(max_len) => read_max_len(prefix, max_len)?,
-            None => prefix.prefix_len(),
-        };
-        Vrp::new(prefix, max_len, asn)
+        let mut vrp = sys::pigy_vrp::default();
+        // SAFETY: the pointer and the length are those of the text.
+        let status = unsafe { sys::pigy_vrp_from_text(text.as_ptr().cast(), text.len(), &mut vrp) };
+        match VrpFault::of_number(sys::PIGY_FAULT(status)) {
+            Some(fault) => Err(ValueError::VrpText {
+                text: text.into(),
+                fault,
+            }),
+            None => {
+                assert_ok(status);
+                Ok(Vrp(vrp))
+            }
+        }
     }
 }
 
 /// Reads `PREFIX ASN`, for example `10.0.0.0/8 AS64496`.
 ///
-/// The letters `AS` may be absent, and may be in lower case. The AS number follows after one space.
+/// The letters `AS` may be absent, and may be in lower case. White space around the two words is ignored.
 ///
 /// # Errors
 ///
-/// The text is split at its first space. The AS number after the space is checked before the prefix:
-///
-/// - [`ValueError::Form`]: the text has no space, or its prefix has no `/`.
-/// - [`ValueError::Asn`]: the AS number is no decimal number from 0 to 4294967295.
-/// - [`ValueError::Address`]: the address is neither an IPv4 address nor an IPv6 address.
-/// - [`ValueError::PrefixLenText`]: the prefix length is no decimal number, or is above 255.
-/// - The errors of [`Prefix::new`].
+/// [`ValueError::RouteText`]: the prefix is checked first, and then the AS number.
 impl FromStr for Route {
     type Err = ValueError;
 
     fn from_str(text: &str) -> Result<Route, ValueError> {
-        let (prefix, asn) = split(text, "PREFIX ASN, for example 10.0.0.0/8 AS64496")?;
-        Ok(Route::new(prefix.parse()?, asn))
+        let mut route = sys::pigy_route::default();
+        let (start, len) = (text.as_ptr().cast(), text.len());
+        // SAFETY: the pointer and the length are those of the text.
+        let status = unsafe { sys::pigy_route_from_text(start, len, &mut route) };
+        match RouteFault::of_number(sys::PIGY_FAULT(status)) {
+            Some(fault) => Err(ValueError::RouteText {
+                text: text.into(),
+                fault,
+            }),
+            None => {
+                assert_ok(status);
+                Ok(Route(route))
+            }
+        }
     }
 }

@@ -4,9 +4,9 @@
 //! A golden test is a line with a call, its arguments, and the stored result. The tests in C and Python read the same
 //! file. The calls of C are made with buffers of each length up to the needed one, and the calls of the crate once.
 use pigyelund::{
-    answer, read_vrps, status_text, version, Asn, Certificate, Encoding, Extensions, Family,
-    InvalidReason, Kind, Mode, Prefix, Reason, ResourceError, Resources, Route, Table, TableError,
-    Validity, Vrp,
+    answer, read_routes, read_vrps, status_text, version, Asn, Certificate, Encoding, Extensions,
+    Family, InvalidReason, Kind, Mode, Prefix, Reason, ResourceError, Resources, Route, Table,
+    TableError, Validity, ValueError, Vrp,
 };
 use pigyelund_sys as sys;
 use pigyelund_sys::{PIGY_KIND, PIGY_OK, PIGY_SECOND, PIGY_TOO_SMALL};
@@ -185,6 +185,34 @@ fn vrp_octets(vrp: &Vrp) -> Vec<u8> {
     octets.extend(vrp.asn().number().to_be_bytes());
     octets.extend([prefix.family() as u8, prefix.prefix_len(), vrp.max_len()]);
     octets
+}
+
+/// Returns the octets that `rows.txt` has for a VRP of C.
+fn c_vrp_octets(it: &sys::pigy_vrp) -> Vec<u8> {
+    let last = [it.family, it.len, it.max_len];
+    [&it.address[..], &it.asn.to_be_bytes(), &last].concat()
+}
+
+/// Returns the octets that `rows.txt` has for a route of C.
+fn c_route_octets(it: &sys::pigy_route) -> Vec<u8> {
+    [&it.address[..], &it.asn.to_be_bytes(), &[it.family, it.len]].concat()
+}
+
+/// Returns the octets that `rows.txt` has for a route.
+fn route_octets(route: &Route) -> Vec<u8> {
+    let prefix = route.prefix();
+    let last = [prefix.family() as u8, prefix.prefix_len()];
+    let number = route.asn().number().to_be_bytes();
+    [padded(prefix.addr()), number.to_vec(), last.to_vec()].concat()
+}
+
+/// Returns the status of the error of a text.
+fn status_of(error: ValueError) -> u32 {
+    match error {
+        ValueError::VrpText { fault, .. } => sys::PIGY_BAD_LINE + fault as u32,
+        ValueError::RouteText { fault, .. } => sys::PIGY_BAD_ROUTE + fault as u32,
+        other => panic!("{other}"),
+    }
 }
 
 /// Returns the octets that `rows.txt` has for all VRPs of a table.
@@ -741,12 +769,7 @@ impl Row<'_> {
     /// Reads the file of a golden test, with buffers of each length up to the needed one and with one more.
     fn ask_read(&self) {
         let file = &self.runs[0];
-        let octets = |it: &sys::pigy_vrp| {
-            let number = it.asn.to_be_bytes();
-            let last = [it.family, it.len, it.max_len];
-            [&it.address[..], &number[..], &last[..]].concat()
-        };
-        self.ask_items(23, octets, |out, capacity, len| {
+        self.ask_items(23, c_vrp_octets, |out, capacity, len| {
             let mut line = usize::MAX;
             let (start, file) = (file.as_ptr(), file.len());
             let status = unsafe { sys::pigy_vrps_read(start, file, out, capacity, len, &mut line) };
@@ -766,6 +789,87 @@ impl Row<'_> {
         }
     }
 
+    /// Reads the lines of a golden test, with buffers of each length up to the needed one and with one more.
+    fn ask_routes(&self) {
+        let lines = &self.runs[0];
+        let (start, size) = (lines.as_ptr().cast(), lines.len());
+        self.ask_items(22, c_route_octets, |out, capacity, len| {
+            let mut at = usize::MAX;
+            let status = unsafe { sys::pigy_routes_read(start, size, out, capacity, len, &mut at) };
+            assert_eq!(Some(at), self.last, "{}", self.text);
+            status
+        });
+        match read_routes(lines) {
+            Ok(routes) => self.expect_octets(Ok(routes.iter().flat_map(route_octets).collect())),
+            Err(error) => {
+                let found = (error.status(), error.line());
+                assert_eq!(found, (self.status, self.last), "{}", self.text);
+            }
+        }
+    }
+
+    /// Reads the text of a VRP. With an error all members are 0.
+    fn ask_vrp_from_text(&self) {
+        let (text, mut out) = (&self.runs[0], c_vrp(&[UNTOUCHED; 23]));
+        let (start, len) = (text.as_ptr().cast(), text.len());
+        let status = unsafe { sys::pigy_vrp_from_text(start, len, &mut out) };
+        let is_ok = status == PIGY_OK;
+        let wanted = if is_ok {
+            &self.expected.0[..]
+        } else {
+            &[0; 23]
+        };
+        let found = (status, c_vrp_octets(&out));
+        assert_eq!(found, (self.status, wanted.to_vec()), "{}", self.text);
+        if let Ok(text) = std::str::from_utf8(text) {
+            let found = text.parse().map(|it: Vrp| vrp_octets(&it));
+            self.expect_octets(found.map_err(status_of));
+        }
+    }
+
+    /// Reads the text of a route. With an error all members are 0.
+    fn ask_route_from_text(&self) {
+        let (text, mut out) = (&self.runs[0], c_route(&[UNTOUCHED; 22]));
+        let (start, len) = (text.as_ptr().cast(), text.len());
+        let status = unsafe { sys::pigy_route_from_text(start, len, &mut out) };
+        let is_ok = status == PIGY_OK;
+        let wanted = if is_ok {
+            &self.expected.0[..]
+        } else {
+            &[0; 22]
+        };
+        let found = (status, c_route_octets(&out));
+        assert_eq!(found, (self.status, wanted.to_vec()), "{}", self.text);
+        if let Ok(text) = std::str::from_utf8(text) {
+            let found = text.parse().map(|it: Route| route_octets(&it));
+            self.expect_octets(found.map_err(status_of));
+        }
+    }
+
+    /// Writes the text of a VRP, and reads it back.
+    fn ask_vrp_text(&self) {
+        let given = c_vrp(&self.runs[0]);
+        self.ask_octets(|out, capacity, len| unsafe {
+            sys::pigy_vrp_text(&given, out.cast(), capacity, len)
+        });
+        if let Some(vrp) = vrp(&self.runs[0]) {
+            self.expect_octets(Ok(vrp.to_string().into_bytes()));
+            assert_eq!(vrp.to_string().parse(), Ok(vrp));
+        }
+    }
+
+    /// Writes the text of a route, and reads it back.
+    fn ask_route_text(&self) {
+        let given = c_route(&self.runs[0]);
+        self.ask_octets(|out, capacity, len| unsafe {
+            sys::pigy_route_text(&given, out.cast(), capacity, len)
+        });
+        if let Some(route) = route(&self.runs[0]) {
+            self.expect_octets(Ok(route.to_string().into_bytes()));
+            assert_eq!(route.to_string().parse(), Ok(route));
+        }
+    }
+
     fn ask(&self) {
         match self.call {
             "verify" => self.ask_verify(),
@@ -778,6 +882,11 @@ impl Row<'_> {
             "answer" => self.ask_answer(),
             "differ" => self.ask_differ(),
             "read" => self.ask_read(),
+            "routes" => self.ask_routes(),
+            "vrp_from_text" => self.ask_vrp_from_text(),
+            "route_from_text" => self.ask_route_from_text(),
+            "vrp_text" => self.ask_vrp_text(),
+            "route_text" => self.ask_route_text(),
             "text" => self.ask_text(),
             "print" => self.ask_print(),
             "as_ranges" => self.ask_as_ranges(),

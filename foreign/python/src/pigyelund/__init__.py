@@ -5,7 +5,7 @@ validate route origins (RFC 6811). It calls the proved shared library through ct
 proved. `docs/PYTHON.md` in the repository is the guide: installation, pandas, Dask, threads.
 
 Route origins: a `Table` of VRPs (validated ROA payloads) validates routes. `Table.read` makes one of a validator's
-file, and `read_vrps` lists the VRPs of such a file.
+file, and `read_vrps` lists the VRPs of such a file. `read_routes` lists the routes of lines.
 
     >>> from pigyelund import Route, Table, Vrp
     >>> table = Table([Vrp("10.0.0.0/8-16 AS64496")])
@@ -46,11 +46,22 @@ from .errors import (
     OverclaimedError,
     PigyelundError,
     QueryError,
+    RouteTextError,
     SetTextError,
     VrpFileError,
 )
 from .resources import Certificate, Encoding, Extensions, Mode, Resources
-from .table import Changes, Reason, Table, Validity, answer, read_octets, read_vrps
+from .table import (
+    Changes,
+    Reason,
+    Table,
+    Validity,
+    answer,
+    read_octets,
+    read_route_octets,
+    read_routes,
+    read_vrps,
+)
 from .values import Asn, Covering, Family, Mismatch, Route, Vrp
 
 __all__ = [
@@ -76,6 +87,7 @@ __all__ = [
     "Reason",
     "Resources",
     "Route",
+    "RouteTextError",
     "SetTextError",
     "Status",
     "Table",
@@ -86,6 +98,8 @@ __all__ = [
     "library_version",
     "load",
     "read_octets",
+    "read_route_octets",
+    "read_routes",
     "read_vrps",
     "status_text",
 ]

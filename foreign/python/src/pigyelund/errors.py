@@ -24,8 +24,9 @@ class PigyelundError(Exception):
             the refused certificate. It is None in an `OutOfMemoryError`.
         index: For calls with VRPs or routes the index, from 0, of the refused one. It is None in an `OutOfMemoryError`.
         line: In a `VrpFileError` the number, from 1, of the first invalid line or item, or 0 if the file is invalid as
-            a whole.
-        item: In a `ChangeError` the refused `Vrp`. In any other `OriginError` the octets of the malformed struct.
+            a whole. For `read_routes` the number, from 1, of the first invalid line.
+        item: In a `ChangeError` the refused `Vrp`. In any other `OriginError` the octets of the malformed struct. In a
+            `RouteTextError` the text.
     """
 
     def __init__(
@@ -34,7 +35,7 @@ class PigyelundError(Exception):
         excess: "Resources | None" = None,
         verified: int | None = None,
         index: int | None = None,
-        item: "Vrp | bytes | None" = None,
+        item: "Vrp | bytes | str | None" = None,
         line: int | None = None,
     ) -> None:
         super().__init__(status, excess, verified, index, item, line)
@@ -50,7 +51,9 @@ class PigyelundError(Exception):
         if self.verified is not None:
             return f"after {self.verified} certificates: {text}"
         if self.line:
-            return f"at {'line' if self.status & KIND == Status.BAD_LINE else 'item'} {self.line}: {text}"
+            return f"at {'item' if self.status & KIND == Status.BAD_ITEM else 'line'} {self.line}: {text}"
+        if isinstance(self.item, str):
+            return f"{text}: {self.item!r}"
         if self.index is None:
             return text
         item = self.item.hex() if isinstance(self.item, bytes) else str(self.item)
@@ -126,6 +129,14 @@ class VrpFileError(PigyelundError, ValueError):
     line: int
 
 
+class RouteTextError(PigyelundError, ValueError):
+    """A text is not that of a `Vrp` or of a `Route`, or a line with a route is invalid.
+
+    The attribute `item` is the text. For `read_routes` it is None, and `line` is the number, from 1, of the first
+    invalid line.
+    """
+
+
 class SetTextError(PigyelundError, ValueError):
     """A text is not an AS number, or not a list of AS numbers, or of addresses of one family.
 
@@ -160,12 +171,14 @@ def error_for_status(
     """Returns the exception for the status of a call that failed.
 
     An `OutOfMemoryError` has neither `verified` nor `index`: it says nothing about the input. Only an `OriginError` has
-    the `item`, and only a `VrpFileError` the `line`.
+    the `item`, and only a `VrpFileError` and a `RouteTextError` the `line`.
     """
     kind = status & KIND
     if kind == Status.MEMORY:
         return OutOfMemoryError(status)
     if kind in (Status.BAD_LINE, Status.BAD_ITEM, Status.BAD_FILE):
         return VrpFileError(status, line=line or 0)
+    if kind == Status.BAD_ROUTE:
+        return RouteTextError(status, line=line)
     found = ERROR_CLASSES.get(kind, PigyelundError if index is None else OriginError)
     return found(status, excess, verified, index, item if issubclass(found, OriginError) else None)

@@ -194,6 +194,54 @@ def read_vrps(file: bytes) -> list[Vrp]:
     return vrps_of(read_octets(file))
 
 
+def read_route_octets(lines: bytes) -> bytes:
+    """Reads the routes of lines into structs, as `read_routes` does into objects.
+
+    Returns:
+        The structs `pigy_route` of `pigyelund.h`, 24 octets each. `Table.validate_octets` takes them.
+
+    Raises:
+        RouteTextError, TypeError: As in `read_routes`.
+    """
+    if not isinstance(lines, bytes):
+        kind = type(lines).__name__
+        raise TypeError(f"lines: a {kind} is no bytes; for the name of a file pass Path(name).read_bytes()")
+    line, length = c_size_t(), bytes.__len__(lines)
+    status, octets = listed(
+        _bindings.Route,
+        lambda out, capacity, count: int(
+            library().pigy_routes_read(lines, length, out, capacity, count, byref(line))
+        ),
+        length // 16 + 1,
+    )
+    if status != Status.OK:
+        raise error_for_status(status, line=line.value)
+    return octets
+
+
+def read_routes(lines: bytes) -> list[Route]:
+    """Reads the routes of lines, as the program `origins` does: a prefix and an AS number, or a line of `bgpdump -m`.
+
+        >>> read_routes(b"10.0.0.0/8 AS64496\\n2001:db8::/32 64497\\n")
+        [Route('10.0.0.0/8 AS64496'), Route('2001:db8::/32 AS64497')]
+
+    A line of `bgpdump -m` that announces no route is skipped. If the origin of a route is unknown, its AS is AS 0,
+    which no VRP matches. `pigy_routes_read` in `pigyelund.h` has the details.
+
+    Args:
+        lines: The octets of all lines. The last line may lack its end.
+
+    Returns:
+        The routes in the order of the lines.
+
+    Raises:
+        RouteTextError: A line is invalid. The attribute `line` is the number, from 1, of the first one.
+        TypeError: `lines` is no `bytes`, for example the name of a file.
+    """
+    octets = read_route_octets(lines)
+    return [Route._of_struct(octets[at : at + SIZE]) for at in range(0, len(octets), SIZE)]
+
+
 class Table:
     """A table of VRPs (validated ROA payloads) for route origin validation (RFC 6811, 2).
 

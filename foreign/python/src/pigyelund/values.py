@@ -2,23 +2,24 @@
 
 import struct
 from collections.abc import Callable
-from ctypes import byref, c_size_t
+from ctypes import Structure, byref, c_size_t
 from dataclasses import dataclass
 from enum import Enum, Flag
 from functools import total_ordering
 from ipaddress import IPv4Address, IPv4Interface, IPv4Network, IPv6Address, IPv6Interface, IPv6Network, ip_network
 from operator import index
-from typing import NoReturn, SupportsIndex, TypeAlias, cast, overload
+from typing import NoReturn, SupportsIndex, TypeAlias, TypeVar, cast, overload
 
 from . import _bindings
 from ._bindings import Status
-from ._library import Handle, library
-from .errors import error_for_status
+from ._library import Handle, library, texted
+from .errors import RouteTextError, error_for_status
 
 Network: TypeAlias = IPv4Network | IPv6Network
 Address: TypeAlias = IPv4Address | IPv6Address
 VRP, ROUTE = struct.Struct(_bindings.VRP_FORMAT), struct.Struct(_bindings.ROUTE_FORMAT)
 LAST_AS = 2**32 - 1
+Struct = TypeVar("Struct", bound=Structure)
 
 
 class Family(Enum):
@@ -191,12 +192,22 @@ def network_in(address: bytes, family: int, length: int) -> Network:
     return IPv4Network((address[:4], length)) if family == _bindings.IPV4 else IPv6Network((address, length))
 
 
-def split(text: str, expected: str) -> tuple[str, str]:
-    """Splits the text of a VRP or a route at its first space. The library has no call that reads such a text."""
-    prefix, space, asn = text.partition(" ")
-    if not space:
-        raise ValueError(f"{text!r}: expected {expected}")
-    return prefix, asn
+def read_text(call: str, kind: type[Struct], text: str) -> bytes:
+    """Returns the struct of a VRP or a route that a call of the library reads from a text."""
+    octets, found = text.encode("utf-8"), kind()
+    status = getattr(library(), call)(octets, len(octets), byref(found))
+    if status != Status.OK:
+        raise RouteTextError(status, item=text)
+    return bytes(found)
+
+
+def text_of(call: str, kind: type[Struct], octets: bytes, capacity: int) -> str:
+    """Returns the text that a call of the library writes for the struct of a VRP or a route."""
+    value = kind.from_buffer_copy(octets)
+    status, text = texted(lambda *words: int(getattr(library(), call)(byref(value), *words)), capacity)
+    if status != Status.OK:
+        raise error_for_status(status)
+    return text
 
 
 @total_ordering
@@ -211,14 +222,16 @@ class Vrp(Packed):
     prefix length, AS number and maximum length. `str` returns the text that `Vrp` reads.
 
     Args:
-        prefix: The whole VRP as a text, with or without a maximum length: `10.0.0.0/8-16 AS64496`. Or the prefix: a
-            network of `ipaddress`, an address, which is a prefix of 32 or 128 bits, or a text such as `10.0.0.0/8`.
+        prefix: The whole VRP as a text, with or without a maximum length: `10.0.0.0/8-16 AS64496`. The library reads
+            it. Or the prefix: a network of `ipaddress`, an address, which is a prefix of 32 or 128 bits, or a text such
+            as `10.0.0.0/8`.
         asn: The AS that may originate the prefix: an `Asn`, an integer or a text. Required, except for a whole VRP.
         max_len: The maximum length (maxLength, RFC 9582, 4.3.2) in bits: from the prefix length to 32 for IPv4, and to
             128 for IPv6. None means the prefix length.
 
     Raises:
         TypeError: An argument is of a wrong type or is missing.
+        RouteTextError: The text of a whole VRP is invalid. It is a `ValueError` too.
         ValueError: A text is invalid, a number is out of its range, or the prefix has host bits or a scope.
     """
 
@@ -236,11 +249,9 @@ class Vrp(Packed):
         if asn is None:
             if not isinstance(prefix, str) or max_len is not None:
                 raise TypeError("asn is missing; a Vrp is a text such as '10.0.0.0/8-16 AS64496', or has an asn")
-            words, asn = split(prefix, "PREFIX-MAXLEN ASN, for example 10.0.0.0/8-16 AS64496")
-            prefix, dash, length = words.partition("-")
-            if dash and not (length.isascii() and length.isdigit()):
-                raise ValueError(f"max_len: {length!r} is no number")
-            max_len = int(length) if dash else None
+            octets = read_text("pigy_vrp_from_text", _bindings.Vrp, prefix)
+            object.__setattr__(self, "_octets", octets[:23] + b"\0")
+            return
         network, number = network_of(prefix), number_of(asn)
         most = network.prefixlen if max_len is None else integer_of(max_len)
         if most is None:
@@ -283,7 +294,7 @@ class Vrp(Packed):
         return self._octets[22]
 
     def __str__(self) -> str:
-        return f"{self.prefix}-{self.max_len} {self.asn}"
+        return text_of("pigy_vrp_text", _bindings.Vrp, self._octets, _bindings.VRP_TEXT_MAX)
 
     def __repr__(self) -> str:
         return f"Vrp('{self}')"
@@ -304,11 +315,12 @@ class Route(Packed):
     confederation segment, it is the router's own AS (RFC 6811, 2). Routes are compared as VRPs are.
 
     Args:
-        prefix: The whole route as a text: `10.0.0.0/16 AS64496`. Or the prefix, as in a `Vrp`.
+        prefix: The whole route as a text: `10.0.0.0/16 AS64496`. The library reads it. Or the prefix, as in a `Vrp`.
         asn: The AS that originates the route: an `Asn`, an integer or a text. Required, except for a whole route.
 
     Raises:
         TypeError: An argument is of a wrong type or is missing.
+        RouteTextError: The text of a whole route is invalid. It is a `ValueError` too.
         ValueError: A text is invalid, a number is out of its range, or the prefix has host bits or a scope.
     """
 
@@ -324,10 +336,19 @@ class Route(Packed):
         if asn is None:
             if not isinstance(prefix, str):
                 raise TypeError("asn is missing; a Route is a text such as '10.0.0.0/16 AS64496', or has an asn")
-            prefix, asn = split(prefix, "PREFIX ASN, for example 10.0.0.0/16 AS64496")
+            octets = read_text("pigy_route_from_text", _bindings.Route, prefix)
+            object.__setattr__(self, "_octets", octets[:22] + b"\0\0")
+            return
         network, number = network_of(prefix), number_of(asn)
         address, family = network.network_address.packed, family_of(network).value
         object.__setattr__(self, "_octets", ROUTE.pack(address, number, family, network.prefixlen))
+
+    @classmethod
+    def _of_struct(cls, octets: bytes) -> "Route":
+        """Returns the route of a struct that the library wrote. The last two octets are padding."""
+        route = cls.__new__(cls)
+        object.__setattr__(route, "_octets", octets[:22] + b"\0\0")
+        return route
 
     def _key(self) -> tuple[int, bytes, int, int]:
         address, asn, family, length = ROUTE.unpack(self._octets)
@@ -350,7 +371,7 @@ class Route(Packed):
         return Asn(ROUTE.unpack(self._octets)[1])
 
     def __str__(self) -> str:
-        return f"{self.prefix} {self.asn}"
+        return text_of("pigy_route_text", _bindings.Route, self._octets, _bindings.ROUTE_TEXT_MAX)
 
     def __repr__(self) -> str:
         return f"Route('{self}')"

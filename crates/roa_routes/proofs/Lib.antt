@@ -3,4 +3,5 @@ pub mod Common
 pub mod FieldLemmas
 pub mod KindLemmas
 pub mod RouteLineLemmas
+pub mod TextLemmas
 pub mod UsualRouteLemmas

@@ -1,6 +1,7 @@
 //! Reads the texts of VRPs.
 ghost use Rattle.std.specs.Prelude.{MatchResult};
-ghost use Rattle.roa_routes.specs.Texts.{AreVrpWords, HasVrpTextFault, HaveVrpWordsFault, IsMaxLenFault, IsVrpText};
+ghost use Rattle.roa_routes.specs.Routes.{origin_word, prefix_word};
+ghost use Rattle.roa_routes.specs.Texts.{AreVrpWords, HasVrpTextFault, HaveVrpWordsFault, IsVrpText};
 
 use roa_vrps::{Vrp, VrpFault};
 use rpki_base::Asn;
@@ -16,6 +17,7 @@ use std::str::FromStr;
 ///
 /// The first fault of the text, in the order of [`VrpFault`]. It is never one of the numbers of fields. The AS number of
 /// a text without a space is empty, so it is invalid.
+#[tactic(auto, using(crate::proofs::TextLemmas::vrp_text_found))]
 pub fn read_vrp_text(text: &[u8]) -> Result<Vrp, VrpFault>
     ensures { MatchResult result (IsVrpText text.now) (HasVrpTextFault text.now) }
 {
@@ -27,23 +29,25 @@ pub fn read_vrp_text(text: &[u8]) -> Result<Vrp, VrpFault>
 
 /// Returns the VRP of a text without white space at its ends, or its first fault.
 fn read_line(text: &str) -> Result<Vrp, VrpFault>
-    ensures { MatchResult result (AreVrpWords text.now) (HaveVrpWordsFault text.now) }
+    ensures { MatchResult result (AreVrpWords (prefix_word text.now) (origin_word text.now))
+        (HaveVrpWordsFault (prefix_word text.now) (origin_word text.now)) }
 {
+    // If the text has no space, the second word is empty, which is no AS number.
     let (prefix, asn) = cut_at(text, ' ');
-    let asn = Asn::from_str(asn.trim())?;
-    match MaxLenPrefix::from_str(prefix.trim()) {
-        Ok(prefix) => Ok((prefix, asn)),
-        Err(fault) => Err(fault_of(fault)),
-    }
+    vrp_of(prefix.trim(), asn.trim())
 }
 
-/// Returns the fault of a VRP whose prefix or maximum length has this fault.
-fn fault_of(fault: ParseMaxLenPrefixError) -> VrpFault
-    ensures { IsMaxLenFault fault result }
+/// Returns the VRP of a prefix with its maximum length and of an AS number, or the first fault.
+fn vrp_of(prefix: &str, asn: &str) -> Result<Vrp, VrpFault>
+    ensures { MatchResult result (AreVrpWords prefix.now asn.now) (HaveVrpWordsFault prefix.now asn.now) }
 {
-    match fault {
-        ParseMaxLenPrefixError::InvalidPrefix(fault) => VrpFault::Prefix(fault),
-        ParseMaxLenPrefixError::InvalidMaxLenFormat(fault) => VrpFault::MaxLenFormat(fault),
-        ParseMaxLenPrefixError::InvalidMaxLenValue(fault) => VrpFault::MaxLen(fault),
+    let asn = Asn::from_str(asn)?;
+    match MaxLenPrefix::from_str(prefix) {
+        Ok(prefix) => Ok((prefix, asn)),
+        Err(fault) => match fault {
+            ParseMaxLenPrefixError::InvalidPrefix(fault) => Err(VrpFault::Prefix(fault)),
+            ParseMaxLenPrefixError::InvalidMaxLenFormat(fault) => Err(VrpFault::MaxLenFormat(fault)),
+            ParseMaxLenPrefixError::InvalidMaxLenValue(fault) => Err(VrpFault::MaxLen(fault)),
+        },
     }
 }

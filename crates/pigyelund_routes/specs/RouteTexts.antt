@@ -95,8 +95,8 @@ routes_of (Some route) = passed_of route ∷ []
 abbrev pub AreLineRoutes : List (List ℕ) → List Route → Type 0
 AreLineRoutes [] routes = routes ≡ []
 AreLineRoutes (line ∷ lines) routes =
-    (read : Option LineRoute) × IsReadLine line read
-    × ((more : List Route) × (routes ≡ routes_of read ++ more) × AreLineRoutes lines more)
+    (read : Option LineRoute) × IsReadLine line read × (more : List Route) × (routes ≡ routes_of read ++ more)
+    × AreLineRoutes lines more
 
 -- The first invalid line and its fault. The first line has the given number.
 abbrev pub HaveFirstFault : ℕ → List (List ℕ) → LineFault → Type 0

@@ -39,7 +39,7 @@ impl LineFault {
 ///
 /// - `Refused`: the first invalid line.
 /// - `Memory`: out of memory for the routes.
-#[tactic(auto, using(crate::proofs::LineRouteLemmas::read_none, crate::proofs::LineRouteLemmas::read_more, crate::proofs::LineRouteLemmas::read_wrong, crate::proofs::LineRouteLemmas::read_all))]
+#[tactic(auto, using(crate::proofs::LineRouteLemmas::read_none, crate::proofs::LineRouteLemmas::read_more, crate::proofs::LineRouteLemmas::read_wrong))]
 pub fn line_routes(alloc: Global, text: &[u8]) -> Result<Vec<Route, Global>, OrMemory<LineFault>>
     ensures { MatchResult result (λ list. AreLineRoutes (lines_of text.now) list.items)
         (IfRefused (HaveFirstFault 1 (lines_of text.now))) }

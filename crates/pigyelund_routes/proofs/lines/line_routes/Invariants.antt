@@ -1,5 +1,6 @@
 -- The lines before the rest are read, and there are no more of them than octets.
-use Rattle.pigyelund_routes.proofs.Common.{length, ◌+◌, ◌≤◌}
+use Rattle.pigyelund_routes.proofs.Common.{length, ◌+◌}
+use Rattle.std.proofs.Common.{◌≤◌}
 use Rattle.pigyelund_routes.proofs.LineRouteLemmas.{AreReadSo}
 use Rattle.pigyelund_routes.proofs.lines.line_routes.Given as goal
 

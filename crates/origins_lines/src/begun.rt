@@ -1,9 +1,9 @@
 //! Holds what is known about the answer to a line of routes, while its route is looked up.
 ghost use Rattle.origins_lines.specs.Begun.{IsBegun};
 
-use roa_routes::fault::RouteFault;
-use roa_routes::route::{Route, read_route_matched};
 use roa_origin::{Lookup, OriginTable};
+use roa_routes::route::read_route_matched;
+use roa_routes::{Route, RouteFault};
 use rpki_base::Asn;
 use std::alloc::Allocator;
 

@@ -7,10 +7,10 @@ ghost use Rattle.origins_lines.specs.Begun.{IsLookedUp};
 ghost use Rattle.origins_lines.specs.Explanations.{IsReason, IsNextText, IsExplanationText, asn_key, max_length_key, prefix_key, reason_and_vrp_text, reason_key, reason_text, vrp_back, vrp_front, vrp_object};
 
 use crate::begun::AskedRoute;
+use roa_origin::Vrp;
 use roa_routes::buffer::{
     MAX_ASN, MAX_PREFIX, push_before, put_all, put_asn, put_dash_and_len, put_prefix,
 };
-use roa_origin::Vrp;
 use rpki_addr::addr::print::{put, put_octet};
 use rpki_base::Asn;
 use rpki_prefix::Prefix;

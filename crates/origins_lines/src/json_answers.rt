@@ -7,10 +7,9 @@ ghost use Rattle.origins_lines.specs.Begun.{IsLookedUp};
 
 use crate::begun::AskedRoute;
 use crate::explanation::{Form, push_why};
-use roa_routes::fault::RouteFault;
 use crate::outcome::{Outcome, outcome_of};
-use roa_routes::route::Route;
 use json::Writer;
+use roa_routes::{Route, RouteFault};
 use rpki_base::Asn;
 use std::alloc::{AllocError, Allocator};
 

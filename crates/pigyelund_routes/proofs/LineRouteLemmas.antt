@@ -7,8 +7,8 @@ use Rattle.roa_routes.specs.declared.route.Route.{Route as LineRoute}
 use Rattle.pigyelund_routes.specs.RouteTexts.{AreLineRoutes, HaveFirstFault, routes_of}
 use Rattle.pigyelund_routes.specs.declared.lines.LineFault.{LineFault}
 
--- The lines before the rest are read, and have these routes: together with those of the rest they are those of the text.
--- The first invalid line of the rest is that of the text.
+-- The lines before the rest are read, and have these routes. These routes and then those of the rest are those of the
+-- text. The first invalid line of the rest is that of the text.
 pub record AreReadSo (text rest : List ℕ) (number : ℕ) (routes : List Route) : Type 0 where
   pub values : (more : List Route) → AreLineRoutes (lines_of rest) more → AreLineRoutes (lines_of text) (routes ++ more)
   pub faults : (first : LineFault) → HaveFirstFault (number + 1) (lines_of rest) first

@@ -33,7 +33,8 @@ impl LineFault {
     }
 }
 
-/// Returns the routes of the lines of a text in the form for C, in their order. A line that announces no route has none.
+/// Returns the routes of the lines of a text in the form for C, in their order. A line that announces no route has
+/// none.
 ///
 /// # Errors
 ///

@@ -44,8 +44,8 @@ pub fn read_vrp(text: &[u8], out: &mut RawVrp) -> u32
 
 /// Writes the text of a VRP to `out` if the VRP is valid and the text fits, and returns the status.
 ///
-/// `len` receives the length in octets, written or required, at most 61. It is 0 for an invalid VRP. With any status but
-/// `OK` the buffer is unchanged.
+/// `len` receives the length in octets, written or required, at most 61. It is 0 for an invalid VRP. With any status
+/// but `OK` the buffer is unchanged.
 pub fn write_vrp(vrp: &RawVrp, out: &mut [u8], len: &mut usize) -> u32
     ensures { IsVrpTextWritten vrp.now out.old out.new len.new result }
 {

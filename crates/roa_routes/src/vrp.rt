@@ -15,8 +15,8 @@ use std::str::FromStr;
 ///
 /// # Errors
 ///
-/// The first fault of the text, in the order of [`VrpFault`]. It is never one of the numbers of fields. The AS number of
-/// a text without a space is empty, so it is invalid.
+/// The first fault of the text, in the order of [`VrpFault`]. It is never one of the numbers of fields. The AS number
+/// of a text without a space is empty, so it is invalid.
 #[tactic(auto, using(crate::proofs::TextLemmas::vrp_text_found))]
 pub fn read_vrp_text(text: &[u8]) -> Result<Vrp, VrpFault>
     ensures { MatchResult result (IsVrpText text.now) (HasVrpTextFault text.now) }
@@ -46,7 +46,9 @@ fn vrp_of(prefix: &str, asn: &str) -> Result<Vrp, VrpFault>
         Ok(prefix) => Ok((prefix, asn)),
         Err(fault) => match fault {
             ParseMaxLenPrefixError::InvalidPrefix(fault) => Err(VrpFault::Prefix(fault)),
-            ParseMaxLenPrefixError::InvalidMaxLenFormat(fault) => Err(VrpFault::MaxLenFormat(fault)),
+            ParseMaxLenPrefixError::InvalidMaxLenFormat(fault) => Err(VrpFault::MaxLenFormat(
+                fault,
+            )),
             ParseMaxLenPrefixError::InvalidMaxLenValue(fault) => Err(VrpFault::MaxLen(fault)),
         },
     }

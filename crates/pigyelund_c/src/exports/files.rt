@@ -50,10 +50,10 @@ pub extern "C" fn pigy_vrps_read(
 
 /// Lists the routes of lines, in the order of the lines. A route that the lines repeat is listed again.
 ///
-/// `text` has the lines that the program `origins` reads, as `roa_routes::read_route` reads each. A line of `bgpdump -m`
-/// that announces no route has none. If the origin of a route is unknown, its AS is AS0. `len` receives the length,
-/// written or required, in routes. `line` receives the number of the first invalid line, counted from 1, and 0
-/// otherwise.
+/// `text` has the lines that the program `origins` reads, as `roa_routes::read_route` reads each. A line of
+/// `bgpdump -m` that announces no route has none. If the origin of a route is unknown, its AS is AS0. `len` receives
+/// the length, written or required, in routes. `line` receives the number of the first invalid line, counted from 1,
+/// and 0 otherwise.
 ///
 /// Returns the first status that applies:
 ///

@@ -51,8 +51,8 @@ pub extern "C" fn pigy_set_from_text(
 
 /// Reads the text of a VRP: a prefix, perhaps a dash and a maximum length, a space and an AS number.
 ///
-/// White space may precede or follow the two words. Without a maximum length it is the prefix length. `out` receives the
-/// VRP. For any error all its members are 0.
+/// White space may precede or follow the two words. Without a maximum length it is the prefix length. `out` receives
+/// the VRP. For any error all its members are 0.
 ///
 /// Returns `PIGY_BAD_LINE` + n for the first fault of an invalid text, and otherwise `PIGY_OK`. The call allocates
 /// nothing.

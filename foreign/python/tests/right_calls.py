@@ -43,6 +43,8 @@ from pigyelund import (
     library_version,
     load,
     read_octets,
+    read_route_octets,
+    read_routes,
     read_vrps,
     status_text,
 )
@@ -92,6 +94,8 @@ for given in (vrps, tuple(vrps), set(vrps), frozenset(vrps), each(), {vrp: 1}):
     Table(given)
 Table(octets), Table(bytearray(octets)), Table(memoryview(octets)), Table(vrps=[])
 Table(array("B", octets)), Table(()), Table(), Table.read(b""), Table(read_octets(b""))
+read: list[Route] = [*read_routes(b""), Route("10.0.0.0/8 AS1")]
+packed: bytes = read_route_octets(b"")
 with Table(vrps) as table:
     following: Table = table.with_changes(announced=set(vrps) - {vrp}, withdrawn=octets)
     table.with_changes(), table.with_changes(withdrawn=[vrp]), table.with_changes(announced=each())
@@ -132,7 +136,7 @@ line: str = answer("norm as 1") + library_version() + status_text(Status.OK) + s
 try:
     Table(vrps)
 except ChangeError as change:
-    refused: Vrp | bytes | None = change.item
+    refused: Vrp | bytes | str | None = change.item
 except OriginError as origin:
     index: int | None = origin.index
 except OverclaimedError as overclaimed:

@@ -38,6 +38,7 @@ from pigyelund import (
     Reason,
     Resources,
     Route,
+    RouteTextError,
     SetTextError,
     Status,
     Table,
@@ -48,6 +49,7 @@ from pigyelund import (
     answer,
     library_version,
     load,
+    read_routes,
     read_vrps,
     status_text,
 )
@@ -310,12 +312,15 @@ def reasons(folder: Path) -> Iterator[str]:
             (lambda: read_vrps(b'{"roas": [{"prefix": "10.0.0.0/8", "maxLength": 8}]}'), VrpFileError,
              Status.BAD_ITEM + 8, "at item 1: ", None),
             (lambda: read_vrps(b""), VrpFileError, Status.BAD_FILE + 6, "", None),
+            (lambda: read_routes(b"::/0 1\n10.0.0.1/8 1\n"), RouteTextError, Status.BAD_ROUTE + 5, "at line 2: ", None),
+            (lambda: Route("10.0.0.0/8,AS1"), RouteTextError, Status.BAD_ROUTE + 3, "", "10.0.0.0/8,AS1"),
+            (lambda: Vrp("10.0.0.0/8-7 AS1"), RouteTextError, Status.BAD_LINE + 7, "", "10.0.0.0/8-7 AS1"),
         ]
         for at, (call, kind, status, begin, item) in enumerate(asked):
             try:
                 yield f"error {at} is {call()}"
             except PigyelundError as reason:
-                shown = item.hex() if isinstance(item, bytes) else item
+                shown = item.hex() if isinstance(item, bytes) else repr(item) if isinstance(item, str) else item
                 text = begin + status_text(status) + (f": {shown}" if item else "")
                 if (type(reason), reason.status, str(reason), reason.item) != (kind, status, text, item):
                     yield f"{reason!r} in place of {text}"

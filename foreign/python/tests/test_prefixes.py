@@ -28,6 +28,7 @@ from pigyelund import (
     Table,
     Validity,
     Vrp,
+    read_routes,
     read_vrps,
 )
 from pigyelund.values import Address, Network
@@ -149,6 +150,8 @@ def wrong_texts(_: Path) -> Iterator[str]:
     text = "file: a str is no bytes; for the name of a file pass Path(name).read_bytes()"
     yield from refuses(lambda: read_vrps("vrps.csv"), TypeError, text)  # type: ignore[arg-type]
     yield from refuses(lambda: Table.read("vrps.csv"), TypeError, text)  # type: ignore[arg-type]
+    text = "lines: a str is no bytes; for the name of a file pass Path(name).read_bytes()"
+    yield from refuses(lambda: read_routes("routes"), TypeError, text)  # type: ignore[arg-type]
 
 
 def refused_items(_: Path) -> Iterator[str]:

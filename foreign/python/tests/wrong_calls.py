@@ -7,7 +7,7 @@ import socket
 from ipaddress import ip_network
 
 from pigyelund import Asn, Certificate, Encoding, Extensions, Family, Mode, Resources, Route, Table, Validity, Vrp
-from pigyelund import answer, load, read_vrps
+from pigyelund import answer, load, read_routes, read_vrps
 
 network = ip_network("10.0.0.0/8")
 issuer, extensions = Resources(), Extensions(ip=b"")
@@ -83,6 +83,7 @@ issuer.prefixes(socket.AF_INET)  # refused
 issuer.ranges(Encoding.STRICT)  # refused
 answer(b"norm as 1")  # refused
 read_vrps("vrps.csv")  # refused
+read_routes("10.0.0.0/8 AS1")  # refused
 
 Table([route])  # refused
 Table(None)  # refused

@@ -63,6 +63,9 @@ def of_library() -> dict[str, int]:
     found |= {name: int(choices[of]) for name, of in CHOICES.items()} | MISMATCHES | KINDS
     none = re.search(r"NO_VALIDITY: u8 = (\d+);", (ROUTES / "src" / "validate.rt").read_text())
     found |= {"NO_VALIDITY": int(none[1])} if none else {}
+    texts = (ROUTES / "specs" / "RouteTexts.antt").read_text()
+    limits = re.findall(r"^Is(Vrp|Route)TextWritten .* (\d+) \(IsNo", texts, re.MULTILINE)
+    found |= {f"{name.upper()}_TEXT_MAX": int(limit) + 1 for name, limit in limits}  # with the NUL
     calls = (CRATE / "src" / "exports" / "verify.rt").read_text()
     version = re.search(r"fn pigy_version\(\) -> u32\s+ensures \{ result ≡ (\d+) \}", calls)
     return found | {"VERSION_NUMBER": int(version[1])} if version else found

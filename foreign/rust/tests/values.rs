@@ -1,7 +1,7 @@
 //! Tests AS numbers, prefixes, VRPs and routes: texts, checked constructors, conversions, accessors, orders and errors.
 //! No test calls the library.
 use pigyelund::{
-    Asn, Der, Extensions, Family, InvalidReason, Prefix, Route, Validity, ValueError, Vrp,
+    Asn, Der, Extensions, Family, InvalidReason, Prefix, Route, Validity, ValueError, Vrp, VrpFault,
 };
 use std::collections::{BTreeSet, HashMap, HashSet};
 use std::error::Error;
@@ -148,61 +148,37 @@ fn texts_of_vrps() {
 
 #[test]
 fn wrong_texts_of_vrps() {
-    let form = "expected PREFIX-MAXLEN ASN, for example 10.0.0.0/8-16 AS64496";
-    assert_eq!(
-        refused::<Vrp>("10.0.0.0/8-16"),
-        format!(r#""10.0.0.0/8-16": {form}"#)
+    let (asn, prefix) = ("bad AS number", "bad prefix");
+    let (format, most) = (
+        "maximum length is no number from 0 to 255",
+        "bad maximum length of the prefix",
     );
     let wrong = [
-        (
-            "10.0.0.0/8-16 ",
-            r#"AS number "": expected AS0 to AS4294967295"#,
-        ),
-        (
-            "10.0.0.0/8 AS",
-            r#"AS number "AS": expected AS0 to AS4294967295"#,
-        ),
-        (
-            "10.0.0.0/8 AS-1",
-            r#"AS number "AS-1": expected AS0 to AS4294967295"#,
-        ),
-        (
-            "10.0.0.0/8 AS4294967296",
-            r#"AS number "AS4294967296": expected AS0 to AS4294967295"#,
-        ),
-        (
-            "10.0.0.0/8 ä1",
-            r#"AS number "ä1": expected AS0 to AS4294967295"#,
-        ),
-        ("10.0.0.0/16-x AS1", r#"max length "x": expected 16 to 32"#),
-        (
-            "10.0.0.0/16-256 AS1",
-            r#"max length "256": expected 16 to 32"#,
-        ),
-        (
-            "10.0.0.0/16-8 AS1",
-            "max length 8 of 10.0.0.0/16 is below prefix length 16: expected 16 to 32",
-        ),
-        (
-            "10.0.0.0/16-33 AS1",
-            "max length 33 of 10.0.0.0/16 is above 32: expected 16 to 32",
-        ),
-        (
-            "::/16-129 AS1",
-            "max length 129 of ::/16 is above 128: expected 16 to 128",
-        ),
-        (
-            "10.0.0.0 AS1",
-            r#""10.0.0.0": expected ADDRESS/LENGTH, for example 10.0.0.0/8"#,
-        ),
-        (
-            "10.1.0.0/8 AS1",
-            "prefix 10.1.0.0/8 has host bits set: expected 10.0.0.0/8",
-        ),
+        ("10.0.0.0/8-16", asn),
+        ("10.0.0.0/8-16 ", asn),
+        ("10.0.0.0/8 AS", asn),
+        ("10.0.0.0/8 AS-1", asn),
+        ("10.0.0.0/8 AS4294967296", asn),
+        ("10.0.0.0/8 ä1", asn),
+        ("10.0.0.0/16-x AS1", format),
+        ("10.0.0.0/16-256 AS1", format),
+        ("10.0.0.0/16-8 AS1", most),
+        ("10.0.0.0/16-33 AS1", most),
+        ("::/16-129 AS1", most),
+        ("10.0.0.0 AS1", prefix),
+        ("10.1.0.0/8 AS1", prefix),
     ];
-    for (text, error) in wrong {
+    for (text, why) in wrong {
+        let form = "expected PREFIX-MAXLEN ASN, for example 10.0.0.0/8-16 AS64496";
+        let error = format!("VRP: {why}: {text:?}: {form}");
         assert_eq!(refused::<Vrp>(text), error);
     }
+    let fault = VrpFault::MaxLen;
+    let text = "10.0.0.0/8-7 AS1".to_string();
+    assert_eq!(
+        text.parse::<Vrp>(),
+        Err(ValueError::VrpText { text, fault })
+    );
 }
 
 #[test]
@@ -218,10 +194,17 @@ fn texts_of_routes() {
         (route.prefix().addr(), route.asn()),
         (ip("10.0.0.0"), Asn::new(64496))
     );
-    let form = r#""10.0.0.0/8": expected PREFIX ASN, for example 10.0.0.0/8 AS64496"#;
-    assert_eq!(refused::<Route>("10.0.0.0/8"), form);
-    let number = r#"prefix length "8-16": expected 0 to 32"#;
-    assert_eq!(refused::<Route>("10.0.0.0/8-16 AS1"), number);
+    let wrong = [
+        ("10.0.0.0/8", "bad AS number"),
+        ("10.0.0.0/8-16 AS1", "bad prefix"),
+        ("10.0.0.0/8,AS1", "a comma where a space is expected"),
+        ("AS1 10.0.0.0/8", "the first word is no prefix"),
+    ];
+    for (text, why) in wrong {
+        let form = "expected PREFIX ASN, for example 10.0.0.0/8 AS64496";
+        let error = format!("route: {why}: {text:?}: {form}");
+        assert_eq!(refused::<Route>(text), error);
+    }
 }
 
 #[test]

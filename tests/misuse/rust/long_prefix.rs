@@ -1,4 +1,4 @@
-// refused at run: PrefixLen
+// refused at run: fault: Prefix
 use pigyelund::Route;
 
 fn main() -> Result<(), Box<dyn std::error::Error>> {

@@ -4,7 +4,6 @@
  * response is complete, the main thread makes the next table from these reports. It prints a line for each announced
  * (+) or withdrawn (-) VRP, and the number of VRPs in the table. The program runs until it is ended. */
 #define _DEFAULT_SOURCE
-#include <arpa/inet.h>
 #include <pigyelund.h>
 #include <pthread.h>
 #include <rtrlib/rtrlib.h>
@@ -64,9 +63,11 @@ static int order_of_reports(const void *left, const void *right) {
 }
 
 static void print(char sign, const pigy_vrp *vrp) {
-  char text[INET6_ADDRSTRLEN];
-  inet_ntop(vrp->family == PIGY_IPV4 ? AF_INET : AF_INET6, vrp->address, text, sizeof text);
-  printf("%c %s/%u-%u AS%u\n", sign, text, vrp->len, vrp->max_len, vrp->asn);
+  char text[PIGY_VRP_TEXT_MAX];
+  size_t len;
+  pigy_status status = pigy_vrp_text(vrp, text, sizeof text, &len);
+  if (status != PIGY_OK) stop(pigy_status_text(status));
+  printf("%c %s\n", sign, text);
 }
 
 /* Returns the next table, and frees the old one. A VRP that was added and removed between two tables is in no list. */

@@ -1,6 +1,5 @@
 /* Reads a validator's file of VRPs from the standard input, and makes a table. Prints why a route is invalid, makes the
  * next table, and compares the validity of the route by both tables. Prints the VRPs in which the tables differ. */
-#include <arpa/inet.h>
 #include <pigyelund.h>
 #include <stdio.h>
 #include <stdlib.h>
@@ -43,9 +42,10 @@ static pigy_vrp *read_vrps(FILE *file, size_t *count) {
 }
 
 static void print_vrp(const pigy_vrp *vrp) {
-  char address[INET6_ADDRSTRLEN];
-  inet_ntop(vrp->family == PIGY_IPV4 ? AF_INET : AF_INET6, vrp->address, address, sizeof address);
-  printf("%s/%u-%u AS%u", address, vrp->len, vrp->max_len, vrp->asn);
+  char text[PIGY_VRP_TEXT_MAX];
+  size_t len;
+  check(pigy_vrp_text(vrp, text, sizeof text, &len), 0);
+  printf("%s", text);
 }
 
 /* Prints the VRPs that cover a route. Enlarges the buffer if it is too small. */

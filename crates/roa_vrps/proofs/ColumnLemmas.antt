@@ -1,6 +1,6 @@
 -- The columns that a line names.
-use Rattle.roa_vrps.proofs.Common.{List, Option, [], arith, suc, ℕ, ◌+◌, ◌-◌, ◌<◌, ◌≡◌}
-use Rattle.roa_vrps.proofs.Common.{after_first, IsColumn, IsHeader, Names, field, is_comma, Columns}
+use Rattle.roa_vrps.proofs.Common.{List, Option, [], arith, suc, ℕ, ◌+◌, ◌-◌, ◌<◌, ◌≡◌, after_first, IsColumn, IsHeader}
+use Rattle.roa_vrps.proofs.Common.{Names, field, is_comma, Columns}
 use borrow.Author.Tests.{ltb-true, ltb-false}
 use Rattle.roa_vrps.specs.Columns.{IsExpiresColumn, IsNeeded}
 use Rattle.roa_vrps.specs.declared.columns.Column.{Column}

@@ -2,9 +2,9 @@
 pub use Rattle.std.proofs.Common.{Err, IfOk, IsTrue, List, MatchResult, None, Ok, Option, Result, Some, Vec, [], ap}
 pub use Rattle.std.proofs.Common.{append-nil, append_assoc, arith, drop, false, if◌then◌else◌, inl, inr, length, lit≤}
 pub use Rattle.std.proofs.Common.{not, refl, suc, sym, take, true, zero, ℕ, ◌++◌, ◌+◌, ◌-◌, ◌<◌, ◌^◌, ◌∙◌, ◌∷◌, ◌≡◌}
-pub use Rattle.std.proofs.Common.{◌≢◌, ◌≤◌, ◌↔◌, ◌⊎◌}
+pub use Rattle.std.proofs.Common.{◌≢◌, ◌≤◌, ◌↔◌, ◌⊎◌, get_or}
 pub use Rattle.std.proofs.lemmas.Bool.{eqb-false, eqb-true}
-pub use Rattle.std.proofs.lemmas.List.{length-append, length-take, nil_from_length, take_more}
+pub use Rattle.std.proofs.lemmas.List.{length-append, length-take, nil_from_length, take_more, map-append}
 pub use Rattle.std.proofs.lemmas.List.Elements.{All-append, All-cons, All-weaker}
 pub use Rattle.std.specs.Int.{IsInRange}
 pub use Rattle.std.specs.Option.{option_and_then}
@@ -31,7 +31,8 @@ pub use Rattle.roa_vrps.specs.Items.{AreItems, HasItemFault, HasTexts, HaveWrong
 pub use Rattle.roa_vrps.specs.JsonFiles.{HasJsonFault, IsJsonFile, IsRoasResult, roas}
 pub use Rattle.roa_vrps.specs.Members.{AreWrong, HasMemberFault, HasText, IsFound, values_in}
 pub use Rattle.roa_vrps.specs.Rows.{AreVrpTexts, HasRowFault, HaveFault, IsBody, IsRow}
-pub use Rattle.roa_vrps.specs.UsualRows.{AreFurther, AreShown, EndsField, IsUsualLine}
+pub use Rattle.roa_vrps.specs.UsualRows.{AreFurther, AreShown, EndsField, IsUsualLine, IsDigitText, IsFirstField}
+pub use Rattle.roa_vrps.specs.UsualRows.{IsVrpOf}
 pub use Rattle.roa_vrps.specs.declared.columns.Columns.{Columns}
 pub use Rattle.roa_vrps.specs.declared.fault.FileFault.{FileFault}
 pub use Rattle.roa_vrps.specs.declared.fault.FileFault.TheVariants.{Item, Line, NoVrp, Roas}
@@ -40,3 +41,17 @@ pub use Rattle.roa_vrps.specs.declared.fault.MemberFault.TheVariants.{Kind, Miss
 pub use Rattle.roa_vrps.specs.declared.fault.VrpFault.{VrpFault}
 pub use Rattle.roa_vrps.specs.declared.row.Row.{Row}
 pub use Rattle.roa_vrps.specs.declared.row.Row.TheVariants.{Blank, Header, Vrp}
+pub use Rattle.roa_vrps.specs.Asking.{MayWantMemory}
+pub use Rattle.roa_vrps.specs.Entries.{AreRead, Entry, IsFoundIn, item_entry, line_entry, vrp_of, vrps_of}
+pub use Rattle.roa_vrps.specs.Expiries.{IsTimeText, unexpired_of}
+pub use Rattle.roa_vrps.specs.Files.{AreFileEntries}
+pub use Rattle.roa_vrps.specs.declared.fault.ExpiryFault.{ExpiryFault}
+pub use Rattle.roa_vrps.specs.declared.found.Found.{Found}
+pub use Rattle.rpki_addr.specs.AddressFronts.{IsAtFront}
+pub use Rattle.rpki_addr.specs.declared.addr.IpAddr.{IpAddr}
+pub use Rattle.rpki_base.specs.AsnText.{IsAsnText}
+pub use Rattle.rpki_prefix.specs.PrefixText.{HasParts}
+pub use Rattle.rpki_text.proofs.NumberTexts.{IsNumberText-one}
+pub use Rattle.rpki_text.proofs.PrintedListLemmas.{trim_shown}
+pub use Rattle.std.specs.Prelude.{Bool}
+pub use Rattle.std.specs.Str.Parse.{digits_value}

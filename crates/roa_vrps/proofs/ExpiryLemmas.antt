@@ -1,8 +1,8 @@
 -- The time that a text gives, and the VRPs of the rest of a list that have not expired.
-use Rattle.roa_vrps.proofs.Common.{List, Option, arith, drop, sym, ℕ, ◌^◌, ◌<◌, ◌≡◌}
-use Rattle.roa_vrps.specs.Expiries.{IsTimeText, unexpired_of}
-use Rattle.roa_vrps.proofs.ItemLemmas.{Vrps}
-use Rattle.std.specs.Str.Parse.{IsNumeral, digits_value, without_leading_plus}
+use Rattle.roa_vrps.proofs.Common.{List, Option, arith, drop, sym, ℕ, ◌^◌, ◌<◌, ◌≡◌, IsTimeText, unexpired_of}
+use Rattle.roa_vrps.proofs.Common.{digits_value}
+use Rattle.roa_vrps.proofs.EntryLemmas.{Vrps}
+use Rattle.std.specs.Str.Parse.{IsNumeral, without_leading_plus}
 
 -- a numeral of 64 bits, perhaps after a plus
 abbrev pub IsNumeral64 : List ℕ → Type 0

@@ -1,9 +1,8 @@
 -- Fields of a line, one after another.
 use Rattle.roa_vrps.proofs.Common.{List, [], ap, arith, refl, suc, zero, ℕ, ◌-◌, ◌<◌, ◌≤◌, ◌∙◌, ◌≡◌, length}
-use Rattle.roa_vrps.proofs.Common.{after_first, before_first, trim, after_commas, field, is_comma, unquoted}
-use Rattle.std.specs.List.{count_by}
+use Rattle.roa_vrps.proofs.Common.{after_first, before_first, trim, after_commas, field, is_comma, unquoted, count_by}
+use Rattle.roa_vrps.proofs.Common.{trim_shown}
 use Rattle.std.proofs.lemmas.List.Sums.{count_by-le-length}
-use Rattle.rpki_text.proofs.PrintedListLemmas.{trim_shown}
 
 -- behind one comma more
 pub after_commas_next : (n : ℕ) (line : List ℕ) → 0 < n

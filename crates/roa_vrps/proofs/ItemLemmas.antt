@@ -1,14 +1,12 @@
--- Items one after another; an item writes one VRP, or has one fault, and so do the items of an array.
-use Rattle.roa_vrps.proofs.Common.{List, arith, inl, inr, refl, sym, ℕ, ◌+◌, ◌∙◌, ◌≡◌, Items, Json, item, no_items}
-use Rattle.roa_vrps.proofs.Common.{MaxLenValue, AreItems, HasItemFault, HasTexts, HaveWrongItem, IsItem, HasText}
-use Rattle.roa_vrps.proofs.Common.{HaveFault, FileFault, ItemFault, VrpFault}
+-- Items one after another; an item writes one VRP, or has one fault, and items have one list of entries, or one fault.
+use Rattle.roa_vrps.proofs.Common.{List, arith, ℕ, ◌+◌, ◌∷◌, ◌≡◌, Items, ItemFault, Json, item, no_items, MaxLenValue}
+use Rattle.roa_vrps.proofs.Common.{AreItems, HasItemFault, HasTexts, HaveWrongItem, IsItem, HasText, HaveFault}
+use Rattle.roa_vrps.proofs.Common.{VrpFault, Item, item_entry}
 use Rattle.roa_vrps.specs.declared.member.Member.TheVariants.{Asn, MaxLength, Prefix}
 use Rattle.roa_vrps.specs.declared.fault.ItemFault.TheVariants.{Member, Vrp}
 use Rattle.roa_vrps.proofs.MemberLemmas.{member_fault_one, text_apart, text_one}
+use Rattle.roa_vrps.proofs.Outcomes.{IsExact, exact_fault, exact_map, exact_none, exact_with}
 use Rattle.roa_vrps.proofs.RowLemmas.{fields_apart, have_one, vrp_one}
-
-abbrev pub Vrps : Type 0
-Vrps = List (MaxLenValue × ℕ)
 
 module _ (value : Json) where
   pub texts_fail : (a p m : List ℕ) (f : VrpFault) → HasText Asn value a → HasText Prefix value p
@@ -33,30 +31,12 @@ module _ (value : Json) where
   item_fault_one : (d e : ItemFault) → HasItemFault value d → HasItemFault value e → d ≡ e
   item_fault_one d e h k = grind (arith, have_one, member_fault_one, same_texts, text_apart)
 
--- items write one list of VRPs
-pub items_one : (items : Items) (a b : Vrps) → AreItems items a → AreItems items b → a ≡ b
-items_one no_items a b h k = h ∙ sym k
-items_one (item value items) a b (x, is, more, a_is, rest) (y, iz, others, b_is, last) =
-    rw (a_is, b_is, item_one value x y is iz, items_one items more others rest last) refl
+  item_exact : IsExact (IsItem value) (HasItemFault value)
+  item_exact = record { one = item_one; apart = item_apart; fault_one = item_fault_one }
 
--- and then have no fault
-pub items_apart : (place : ℕ) (items : Items) (a : Vrps) (fault : FileFault) → AreItems items a
-    → HaveWrongItem place items fault → ⊥
-items_apart place no_items a fault h wrong = wrong
-items_apart place (item value items) a fault (x, is, more, _, rest) (inl (wrong, has, _)) =
-    item_apart value x wrong is has
-items_apart place (item value items) a fault (x, is, more, _, rest) (inr (_, _, later)) =
-    items_apart (place + 1) items more fault rest later
-
--- they have one first fault
-pub wrong_item_one : (place : ℕ) (items : Items) (d e : FileFault) → HaveWrongItem place items d
-    → HaveWrongItem place items e → d ≡ e
-wrong_item_one place no_items d e h k = absurd h
-wrong_item_one place (item value items) d e (inl (wrong, has, d_is)) (inl (other, haz, e_is)) =
-    rw (d_is, e_is, item_fault_one value wrong other has haz) refl
-wrong_item_one place (item value items) d e (inl (wrong, has, _)) (inr (x, is, _)) =
-    absurd (item_apart value x wrong is has)
-wrong_item_one place (item value items) d e (inr (x, is, _)) (inl (wrong, has, _)) =
-    absurd (item_apart value x wrong is has)
-wrong_item_one place (item value items) d e (inr (_, _, later)) (inr (_, _, last)) =
-    wrong_item_one (place + 1) items d e later last
+pub items_exact : (place : ℕ) (items : Items) → IsExact (AreItems place items) (HaveWrongItem place items)
+items_exact place no_items = exact_none
+items_exact place (item value items) =
+    let later =
+    λ (vrp : MaxLenValue × ℕ). exact_map (λ more. item_entry vrp place value ∷ more) (items_exact (place + 1) items) in
+    let all = exact_with (exact_fault (Item place) (item_exact value)) later in all

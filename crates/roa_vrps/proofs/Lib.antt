@@ -11,6 +11,7 @@ pub mod GrammarLemmas
 pub mod ItemLemmas
 pub mod JsonLemmas
 pub mod MemberLemmas
+pub mod Outcomes
 pub mod RoasLemmas
 pub mod RowLemmas
 pub mod UsualFieldLemmas

@@ -1,9 +1,8 @@
 -- Members of an object, one after another; an item's member has one text, or one fault.
 use Rattle.roa_vrps.proofs.Common.{List, [], append-nil, arith, false, if◌then◌else◌, length, not, refl, true, ℕ, ◌++◌}
 use Rattle.roa_vrps.proofs.Common.{◌<◌, ◌∷◌, ◌≡◌, length-append, bytes_eq, Json, members_view, value_view, AreWrong}
-use Rattle.roa_vrps.proofs.Common.{HasMemberFault, HasText, values_in, Missing, take, take_more, ◌+◌}
+use Rattle.roa_vrps.proofs.Common.{HasMemberFault, HasText, values_in, Missing, take, take_more, ◌+◌, get_or}
 use Rattle.std.specs.Borrow.{Bor}
-use Rattle.std.proofs.Common.{get_or}
 use Rattle.json.specs.declared.value.Value.{Value}
 use Rattle.roa_vrps.specs.declared.fault.MemberFault.{MemberFault}
 use Rattle.roa_vrps.specs.declared.member.Member.{Member}

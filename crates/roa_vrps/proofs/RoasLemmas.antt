@@ -5,30 +5,27 @@ use Rattle.roa_vrps.proofs.Common.{◌∙◌, ◌∷◌, ◌≡◌, ◌↔◌, l
 use Rattle.roa_vrps.proofs.Common.{members_end, value-begin_array, value-begin_object, Items, Json, Members, array}
 use Rattle.roa_vrps.proofs.Common.{item, member, no_items, no_members, parse_map, Token, MaxLenValue, AreItems}
 use Rattle.roa_vrps.proofs.Common.{HasItemFault, HaveWrongItem, IsItem, IsRoasResult, roas, values_in, FileFault, Item}
-use Rattle.roa_vrps.proofs.Common.{Roas, ItemFault, Kind, Missing, Repeated}
-use Rattle.std.specs.Prelude.{Bool, Option}
-use Rattle.roa_vrps.specs.Entries.{AreRead, Entry, item_entries, item_entry}
-use Rattle.roa_vrps.specs.declared.fault.ExpiryFault.{ExpiryFault}
-use Rattle.roa_vrps.specs.declared.found.Found.{Found}
+use Rattle.roa_vrps.proofs.Common.{Roas, ItemFault, Kind, Missing, Repeated, Bool, Option, AreRead, Entry, item_entry}
+use Rattle.roa_vrps.proofs.Common.{vrp_of, vrps_of, map-append, ExpiryFault, Found}
+use Rattle.roa_vrps.specs.JsonFiles.{WriteRoas}
 use Rattle.roa_vrps.proofs.GrammarLemmas.{a_member, an_item, items_in, members_in}
-use Rattle.roa_vrps.proofs.ItemLemmas.{Vrps}
+use Rattle.roa_vrps.proofs.EntryLemmas.{Vrps}
 use Rattle.json.specs.Json as json
 
--- The items of an array were read from `first` up to `now`. The VRPs read, and then the VRPs of the items from `now`
--- on, are the VRPs of all items. The first fault of the items from `now` on is the first fault of all items. The
--- entries read, and then the entries of the items from `now` on, are the entries of all items. `expiries` are the
--- expiries of the entries read.
+-- The items of an array were read from `first` up to `now`. The entries read, and then the entries of the items from
+-- `now` on, are the entries of all items. The first fault of the items from `now` on is the first fault of all items.
+-- `vrps` and `expiries` are those of the entries read.
 pub record AreReadSo {A : Type 0} (asked : Bool) (depth : ℕ) (first now : List Token) (vrps : Vrps)
     (expiries : Result (Vec (Option ℕ) A) ExpiryFault)
     : Type 0 where
   pub entries : List Entry
+  pub vrps_are : vrps ≡ vrps_of entries
   pub read : AreRead asked entries expiries
   pub fails : items_in depth now ≡ None → items_in depth first ≡ None
   pub reads : (items : Items) (rest : List Token) → items_in depth now ≡ Some (items, rest)
       → (all : Items) × (items_in depth first ≡ Some (all, rest))
-      × ((more : Vrps) → AreItems items more → AreItems all (vrps ++ more))
+      × ((more : List Entry) → AreItems (length vrps + 1) items more → AreItems 1 all (entries ++ more))
       × ((fault : FileFault) → HaveWrongItem (length vrps + 1) items fault → HaveWrongItem 1 all fault)
-      × (item_entries 1 all ≡ entries ++ item_entries (length vrps + 1) items)
 
 -- nothing is read yet
 pub read_none : {A : Type 0} (asked : Bool) (depth : ℕ) (first : List Token) (vrps : Vrps) (found : Vec (Option ℕ) A)
@@ -44,20 +41,20 @@ module _ {A : Type 0} (asked : Bool) (depth : ℕ) (first now taken r : List Tok
 
   -- one more item is read
   pub read_more : (vrp : MaxLenValue × ℕ) (all : Result (Vec (Option ℕ) A) ExpiryFault) → IsItem value vrp
-      → AreRead asked (had.entries ++ item_entry (length vrps + 1) value ∷ []) all
+      → AreRead asked (had.entries ++ item_entry vrp (length vrps + 1) value ∷ []) all
       → AreReadSo asked depth first r (vrps ++ vrp ∷ []) all
   read_more vrp all is read = record {
-    entries = had.entries ++ item_entry (length vrps + 1) value ∷ [];
+    entries = had.entries ++ item_entry vrp (length vrps + 1) value ∷ [];
+    vrps_are = rw (map-append vrp_of had.entries (item_entry vrp (length vrps + 1) value ∷ []), had.vrps_are) refl;
     read = read;
     fails = λ none. had.fails (one_more ∙ ap (parse_map (item value)) none);
     reads = λ items rest these.
-        let (all, whole, are, wrong, entries) =
+        let (all, whole, are, wrong) =
         had.reads (item value items) rest (one_more ∙ ap (parse_map (item value)) these) in (
           all,
           whole,
-          λ more these. rw append_assoc (are (vrp ∷ more) (vrp, is, more, refl, these)),
+          λ more these. rw append_assoc (are (_ ∷ more) (vrp, is, (more, rw length-append at these, refl))),
           λ fault later. wrong fault (inr (vrp, is, rw length-append at later)),
-          rw (length-append, append_assoc) entries,
         );
   }
 
@@ -77,10 +74,10 @@ pub read_all : {A : Type 0} (asked : Bool) (depth : ℕ) (first now rest : List 
     → AreReadSo asked depth first now found.vrps.items found.expiries → json.after_end_array now ≡ Some rest
     → (js : Items) × IsRoasResult {A = A} asked (array js ∷ []) (Ok found) × (items_in depth first ≡ Some (js, rest))
 read_all asked depth first now rest found had end =
-    let (all, whole, are, _, entries) =
+    let (all, whole, are, _) =
     had.reads no_items rest (items_end (json.value depth) (length now) now rest (omega arith) end) in
-    let same : item_entries 1 all ≡ had.entries ++ [] = entries in
-    (all, (all, refl, rw append-nil at (are [] refl), rw (same, append-nil) had.read), whole)
+    let entries : WriteRoas (array all ∷ []) had.entries = (all, refl, rw append-nil at (are [] refl)) in
+    (all, record { entries = had.entries; entries_are = entries; vrps_are = had.vrps_are; read = had.read }, whole)
 
 -- The members of an object were read from `first` up to `now`. `values` are the values of `roas` among them, and
 -- `outcome` is the result of these values. All values of `roas` are these and those of the members from `now` on.

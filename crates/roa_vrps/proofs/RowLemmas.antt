@@ -1,14 +1,13 @@
 -- A line writes one thing alone, or has one fault.
-use Rattle.roa_vrps.proofs.Common.{List, MatchResult, Result, Some, [], ap, arith, inl, inr, ℕ, ◌-◌, ◌^◌}
-use Rattle.roa_vrps.proofs.Common.{◌≡◌, ◌≢◌, ◌⊎◌, IsUtf8, trim, HasMaxLenError, IsMaxLenOf, MaxLenValue, IsHeader}
-use Rattle.roa_vrps.proofs.Common.{AreVrpTexts, HasRowFault, HaveFault, IsBody, IsRow, Columns, VrpFault, Row, Vrp}
+use Rattle.roa_vrps.proofs.Common.{List, MatchResult, Result, Some, [], ap, arith, inl, inr, ℕ, ◌-◌, ◌^◌, ◌≡◌, ◌≢◌, ◌⊎◌}
+use Rattle.roa_vrps.proofs.Common.{IsUtf8, trim, HasMaxLenError, IsMaxLenOf, MaxLenValue, IsHeader, AreVrpTexts}
+use Rattle.roa_vrps.proofs.Common.{HasRowFault, HaveFault, IsBody, IsRow, Columns, VrpFault, Row, Vrp, IsNumberText-one}
 use Rattle.roa_vrps.specs.Rows.{AreFieldTexts, ArePairTexts, FitsColumns, HasCountFault, HaveColumnsFault}
 use Rattle.roa_vrps.specs.Rows.{HaveFieldsFault, WritesPrefix}
 use Rattle.rpki_text.specs.declared.number.ParseIntError.TheVariants.{Empty}
 use Rattle.rpki_prefix.specs.PrefixText.{HasPrefixTextFault}
 use Rattle.rpki_prefix.specs.declared.error.ParsePrefixError.{ParsePrefixError}
 use Rattle.rpki_base.proofs.AsnLemmas.{IsAsnText-one}
-use Rattle.rpki_text.proofs.NumberTexts.{IsNumberText-one}
 use Rattle.rpki_prefix.specs.Values.{FamilyPrefix}
 use Rattle.rpki_prefix.specs.declared.error.MaxLenError.{MaxLenError}
 use Rattle.rpki_prefix.proofs.PrefixTextLemmas.{IsPrefixText-one, IsPrefixText-no_fault, HasPrefixTextFault-one}
@@ -16,6 +15,7 @@ use Rattle.rpki_prefix.proofs.PrefixTextLemmas.{number_apart, same_number_fault}
 use Rattle.roa_vrps.specs.declared.fault.VrpFault.TheVariants.{NotUtf8, TooManyFields, TooFewFields, Asn, Prefix}
 use Rattle.roa_vrps.specs.declared.fault.VrpFault.TheVariants.{MaxLenFormat, MaxLen}
 use Rattle.roa_vrps.proofs.ColumnLemmas.{header_one}
+use Rattle.roa_vrps.proofs.Outcomes.{IsExact}
 
 -- a number is a maximum length of a prefix, or has one error
 pub max_apart : (p : FamilyPrefix) (n : ℕ) (f : MaxLenError) → IsMaxLenOf p (Some n) → HasMaxLenError p (Some n) f → ⊥
@@ -122,10 +122,7 @@ module _ (columns : Columns) (line : List ℕ) where
   count_one : (d e : VrpFault) → HasCountFault columns line d → HasCountFault columns line e → d ≡ e
   count_one d e h k = grind (arith)
 
-  fails_one : (d e : VrpFault) → Fails d → Fails e → d ≡ e
-  fails_one d e h k = grind (arith, count_apart, count_one, have_one)
-
-  pub row_one : (x y : Row) → IsRow columns line x → IsRow columns line y → x ≡ y
+  row_one : (x y : Row) → IsRow columns line x → IsRow columns line y → x ≡ y
   row_one (Vrp p) (Vrp q) (_, _, h) (_, _, k) = ap Vrp (fields_one _ _ _ p q h k)
   row_one x y h k = grind (arith, header_one)
 
@@ -134,9 +131,12 @@ module _ (columns : Columns) (line : List ℕ) where
       grind (arith, count_apart f fits, field_texts_apart _ _ _ p f h)
   body_apart x f h body wrong = grind (arith)
 
-  pub row_apart : (x : Row) (f : VrpFault) → IsRow columns line x → HasRowFault columns line f → ⊥
+  row_apart : (x : Row) (f : VrpFault) → IsRow columns line x → HasRowFault columns line f → ⊥
   row_apart x f h (inl (_, none)) = grind (arith)
   row_apart x f h (inr (body, wrong)) = body_apart x f h body wrong
 
-  pub row_fault_one : (d e : VrpFault) → HasRowFault columns line d → HasRowFault columns line e → d ≡ e
+  row_fault_one : (d e : VrpFault) → HasRowFault columns line d → HasRowFault columns line e → d ≡ e
   row_fault_one d e h k = grind (arith, count_apart, count_one, have_one)
+
+  pub row_exact : IsExact (IsRow columns line) (HasRowFault columns line)
+  row_exact = record { one = row_one; apart = row_apart; fault_one = row_fault_one }

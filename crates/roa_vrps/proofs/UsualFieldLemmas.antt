@@ -1,32 +1,26 @@
 -- Fields of the usual form, and the line that they begin.
 use Rattle.roa_vrps.proofs.Common.{List, append_assoc, arith, drop, length, lit≤, refl, take, ℕ, ◌++◌, ◌-◌, ◌<◌, ◌^◌}
 use Rattle.roa_vrps.proofs.Common.{◌∷◌, ◌≡◌, ◌≢◌, ◌≤◌, length-take, All-append, All-cons, All-weaker, IsInRange, All}
-use Rattle.roa_vrps.proofs.Common.{MaxLenValue, comma, AreFurther, AreShown, EndsField, IsUsualLine}
+use Rattle.roa_vrps.proofs.Common.{MaxLenValue, comma, AreFurther, AreShown, EndsField, IsUsualLine, digits_value}
+use Rattle.roa_vrps.proofs.Common.{IsAtFront, IpAddr, IsAsnText, HasParts, IsDigitText, IsFirstField, IsVrpOf}
 use Rattle.std.proofs.Common.{length-drop}
 use Rattle.std.proofs.lemmas.List.{take-append-drop, take_rest}
 use Rattle.std.proofs.lemmas.List.Elements.{All-from_recursion}
 use Rattle.std.proofs.lemmas.Str.Parse.{digit_at, without_leading_plus_none}
 use Rattle.std.specs.List.{AllByRecursion}
-use Rattle.std.specs.Str.Parse.{AllDigits, digits_value}
+use Rattle.std.specs.Str.Parse.{AllDigits}
 use Rattle.rpki_text.specs.Cuts.{IsCutAt, slash}
 use Rattle.rpki_text.specs.Numbers.{AreDigitsFrom, IsNumberText}
-use Rattle.rpki_addr.specs.AddressFronts.{IsAtFront}
 use Rattle.rpki_addr.specs.AddressText.{IsIpText}
-use Rattle.rpki_addr.specs.declared.addr.IpAddr.{IpAddr}
 use Rattle.rpki_addr.proofs.AddressBytes.{no_slash}
 use Rattle.rpki_addr.proofs.WrittenBytes.{IsWrittenByte, ipv4_written, ipv6_written, wider}
 use Rattle.rpki_base.specs.AsnPlaces.{IsAsnBetween}
-use Rattle.rpki_base.specs.AsnText.{IsAsnText}
 use Rattle.rpki_base.proofs.AsnLemmas.{digits_are_bytes}
-use Rattle.rpki_prefix.specs.PrefixText.{AreParts, HasParts}
-use Rattle.roa_vrps.specs.UsualRows.{IsDigitText, IsFirstField, IsVrpOf}
+use Rattle.rpki_prefix.specs.PrefixText.{AreParts}
 
 -- bytes within the shown ones are shown
 within : (low high : ℕ) → 45 ≤ low → high ≤ 126 → (xs : List ℕ) → AllByRecursion (IsInRange low high) xs → AreShown xs
-within low high above below xs h =
-    All-weaker (IsInRange low high) (IsInRange 45 126)
-    (λ b byte. (omega (arith, above, byte.0), omega (arith, below, byte.1)))
-    xs (All-from_recursion (IsInRange low high) xs h)
+within low high above below xs h = grind (arith, All-from_recursion, All-weaker)
 
 -- the AS number before a comma is the first field
 pub asn_first : (text rest : List ℕ) (asn end : ℕ) → IsAsnBetween 0 end text asn
@@ -87,23 +81,4 @@ pub usual_line : (line first second left : List ℕ) (asn : ℕ) (a : IpAddr) (n
     → IsFirstField (λ field. IsAsnText field asn) line first → IsFirstField (λ field. HasParts field a n) first second
     → IsAtFront IsDigitText second m left → EndsField left × AreFurther left count → IsVrpOf asn a n m v
     → IsUsualLine line v count
-usual_line line first second left asn a n m count v front next digits (ends, further) is = record {
-  asn = front.field;
-  prefix = next.field;
-  max_len = digits.front;
-  more = left;
-  split = grind (arith, front.split, next.split, digits.split);
-  asn_shown = front.shown;
-  prefix_shown = next.shown;
-  max_len_shown = digits_shown _ digits.writes.digits;
-  ends = ends;
-  further = further;
-  texts = record {
-    asn_is = rw is.asn_is front.writes;
-    prefix_is = record { addr = a; len = n; parts = next.writes; prefix = is.prefix };
-    len = m;
-    max_len = is.max_len_is;
-    len_is = digits.writes.number;
-    within = is.within;
-  };
-}
+usual_line line first second left asn a n m count v front next digits further is = grind (arith, digits_shown, within)

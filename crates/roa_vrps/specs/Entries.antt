@@ -1,28 +1,31 @@
--- The entries of a file of VRPs, lines of CSV or items of JSON, and the expiry of each.
-use Rattle.std.specs.Prelude.{◌≡◌, ◌≢◌, ◌⊎◌, ℕ, ◌+◌, Bool, IsTrue, List, [], ◌∷◌, ◌++◌, MatchResult, Option, Result}
-use Rattle.std.specs.Prelude.{Some, None, Vec, codes}
-use Rattle.json.specs.Json.{Json, Items, no_items, item, number}
-use Rattle.rpki_text.specs.Lines.{lines_of}
-use Rattle.roa_vrps.specs.Columns.{usual}
-use Rattle.roa_vrps.specs.Csv.{columns_after}
+-- The entries of a file of VRPs, lines of CSV or items of JSON, with the VRP and the expiry of each.
+use Rattle.std.specs.Prelude.{◌≡◌, ◌≢◌, ◌⊎◌, ℕ, Bool, IsTrue, List, [], ◌∷◌, MatchResult, Option, Result, Some, None}
+use Rattle.std.specs.Prelude.{Vec, codes, map}
+use Rattle.json.specs.Json.{Json, number}
+use Rattle.rpki_prefix.specs.MaxLen.{MaxLenValue}
 use Rattle.roa_vrps.specs.Expiries.{IsTimeText}
 use Rattle.roa_vrps.specs.Fields.{field}
 use Rattle.roa_vrps.specs.Members.{AreWrong, named_values}
-use Rattle.roa_vrps.specs.Rows.{IsRow}
-use Rattle.roa_vrps.specs.declared.columns.Columns.{Columns}
 use Rattle.roa_vrps.specs.declared.fault.ExpiresFault.{ExpiresFault}
 use Rattle.roa_vrps.specs.declared.fault.ExpiresFault.TheVariants.{Member, Number}
 use Rattle.roa_vrps.specs.declared.fault.ExpiryFault.{ExpiryFault}
 use Rattle.roa_vrps.specs.declared.fault.ExpiryFault.TheVariants.{Line, Item}
 use Rattle.roa_vrps.specs.declared.fault.MemberFault.TheVariants.{Missing}
-use Rattle.roa_vrps.specs.declared.row.Row.{Row}
-use Rattle.roa_vrps.specs.declared.row.Row.TheVariants.{Blank, Header, Vrp}
+use Rattle.roa_vrps.specs.declared.found.Found.{Found}
 
--- a line with a VRP: its number, the index of the column `Expires`, if there is one, and the line; or an item: its
--- number, and the item
+-- a VRP and its line: the line's number, the index of the column `Expires`, if there is one, and the line; or a VRP and
+-- its item: the item's number, and the item
 pub data Entry : Type 0 where
-  line_entry : ℕ → Option ℕ → List ℕ → Entry
-  item_entry : ℕ → Json → Entry
+  line_entry : MaxLenValue × ℕ → ℕ → Option ℕ → List ℕ → Entry
+  item_entry : MaxLenValue × ℕ → ℕ → Json → Entry
+
+abbrev pub vrp_of : Entry → MaxLenValue × ℕ
+vrp_of (line_entry vrp place column line) = vrp
+vrp_of (item_entry vrp place value) = vrp
+
+-- the VRPs of entries
+abbrev pub vrps_of : List Entry → List (MaxLenValue × ℕ)
+vrps_of entries = map vrp_of entries
 
 -- the expiry of a line: the time in the column, or None if there is no column or the field is empty
 abbrev pub IsLineExpiry : Option ℕ → List ℕ → Option ℕ → Type 0
@@ -57,55 +60,36 @@ HasExpiresFault value Number =
 
 -- the expiry of an entry, or None
 abbrev pub HasExpiry : Entry → Option ℕ → Type 0
-HasExpiry (line_entry place column line) expiry = IsLineExpiry column line expiry
-HasExpiry (item_entry place value) expiry = IsItemExpiry value expiry
+HasExpiry (line_entry vrp place column line) expiry = IsLineExpiry column line expiry
+HasExpiry (item_entry vrp place value) expiry = IsItemExpiry value expiry
 
 -- the fault of the expiry of an entry
 abbrev pub HasEntryFault : Entry → ExpiryFault → Type 0
-HasEntryFault (line_entry place column line) fault = HasLineExpiryFault column line × (fault ≡ Line place)
-HasEntryFault (item_entry place value) fault =
+HasEntryFault (line_entry vrp place column line) fault = HasLineExpiryFault column line × (fault ≡ Line place)
+HasEntryFault (item_entry vrp place value) fault =
     (wrong : ExpiresFault) × HasExpiresFault value wrong × (fault ≡ Item place wrong)
 
 -- entries have these expiries, one each, in their order
 abbrev pub AreExpiries : List Entry → List (Option ℕ) → Type 0
 AreExpiries [] expiries = expiries ≡ []
 AreExpiries (entry ∷ entries) expiries =
-    (expiry : Option ℕ) × HasExpiry entry expiry × (more : List (Option ℕ)) × (expiries ≡ expiry ∷ more)
-    × AreExpiries entries more
+    (expiry : Option ℕ) × HasExpiry entry expiry
+    × ((more : List (Option ℕ)) × AreExpiries entries more × (expiries ≡ expiry ∷ more))
 
 -- the first entry whose expiry is invalid has this fault
 abbrev pub HaveWrongExpiry : List Entry → ExpiryFault → Type 0
 HaveWrongExpiry [] fault = ⊥
 HaveWrongExpiry (entry ∷ entries) fault =
-    HasEntryFault entry fault ⊎ (((expiry : Option ℕ) × HasExpiry entry expiry) × HaveWrongExpiry entries fault)
+    HasEntryFault entry fault ⊎ ((expiry : Option ℕ) × HasExpiry entry expiry × HaveWrongExpiry entries fault)
 
 -- what a reader found is the expiries of entries, or their first fault, if it was asked for them
 abbrev pub AreRead : {A : Type 0} → Bool → List Entry → Result (Vec (Option ℕ) A) ExpiryFault → Type 0
 AreRead asked entries found =
     IsTrue asked → MatchResult found (λ expiries. AreExpiries entries expiries.items) (HaveWrongExpiry entries)
 
--- the same of the entries of a text or of a file
-abbrev pub AreReadOf : {A : Type 0} → Bool → (List Entry → Type 0) → Result (Vec (Option ℕ) A) ExpiryFault → Type 0
-AreReadOf asked AreEntries found = (entries : List Entry) × AreEntries entries × AreRead asked entries found
-
--- a line as entries: one if it has a VRP, and none otherwise
-abbrev pub entries_of : ℕ → Columns → List ℕ → Row → List Entry
-entries_of place columns line Blank = []
-entries_of place columns line (Header next) = []
-entries_of place columns line (Vrp vrp) = line_entry place columns.expires line ∷ []
-
--- the entries of lines; place is the number of the first line
-abbrev pub AreRowEntries : ℕ → Columns → List (List ℕ) → List Entry → Type 0
-AreRowEntries place columns [] entries = entries ≡ []
-AreRowEntries place columns (line ∷ lines) entries =
-    (row : Row) × IsRow columns line row × (more : List Entry) × (entries ≡ entries_of place columns line row ++ more)
-    × AreRowEntries (place + 1) (columns_after columns row) lines more
-
--- the entries of a CSV text
-abbrev pub AreCsvEntries : List ℕ → List Entry → Type 0
-AreCsvEntries text entries = AreRowEntries 1 usual (lines_of text) entries
-
--- the entries of items; place is the number of the first item
-abbrev pub item_entries : ℕ → Items → List Entry
-item_entries place no_items = []
-item_entries place (item value items) = item_entry place value ∷ item_entries (place + 1) items
+-- what a reader found: the VRPs of the entries of a text, and their expiries or first fault, if it was asked for them
+pub record IsFoundIn {A : Type 0} (asked : Bool) (AreEntries : List Entry → Type 0) (found : Found A) : Type 0 where
+  pub entries : List Entry
+  pub entries_are : AreEntries entries
+  pub vrps_are : found.vrps.items ≡ vrps_of entries
+  pub read : AreRead asked entries found.expiries

@@ -3,6 +3,7 @@ use Rattle.std.specs.Prelude.{◌≡◌, ◌⊎◌, ℕ, List, ◌∷◌}
 use Rattle.std.specs.Str.{IsTrimAsciiStart}
 use Rattle.rpki_prefix.specs.MaxLen.{MaxLenValue}
 use Rattle.roa_vrps.specs.Csv.{IsCsvFile, HasCsvFault}
+use Rattle.roa_vrps.specs.Entries.{Entry, vrps_of}
 use Rattle.roa_vrps.specs.JsonFiles.{IsJsonFile, HasJsonFault}
 use Rattle.roa_vrps.specs.Marks.{IsUnmarked}
 use Rattle.roa_vrps.specs.declared.fault.FileFault.{FileFault}
@@ -21,21 +22,26 @@ pub record IsCsvText (text : List ℕ) : Type 0 where
   pub no_object : ¬ IsObjectText text
   pub no_array : ¬ IsArrayText text
 
--- The text has these VRPs, at least one: as JSON if it opens an object, as CSV if it opens neither an object nor an
+-- The entries of a text, at least one: its items if it opens an object, its lines if it opens neither an object nor an
 -- array.
-abbrev pub IsVrpText : List ℕ → List (MaxLenValue × ℕ) → Type 0
-IsVrpText text vrps = (IsObjectText text × IsJsonFile text vrps) ⊎ (IsCsvText text × IsCsvFile text vrps)
+abbrev pub AreTextEntries : List ℕ → List Entry → Type 0
+AreTextEntries text entries =
+    (IsObjectText text × IsJsonFile text entries) ⊎ (IsCsvText text × IsCsvFile text entries)
 
 -- the fault of the text as JSON, as an array, or as CSV
 abbrev pub HasVrpTextFault : List ℕ → FileFault → Type 0
 HasVrpTextFault text fault =
     (IsObjectText text × HasJsonFault text fault)
-    ⊎ ((¬ IsObjectText text) × IsArrayText text × (fault ≡ JsonArray))
+    ⊎ (((¬ IsObjectText text) × IsArrayText text) × (fault ≡ JsonArray))
     ⊎ (IsCsvText text × HasCsvFault text fault)
 
--- the text of the file, without a byte order mark at its beginning, has these VRPs
+-- the entries of the text of the file, without a byte order mark at its beginning
+abbrev pub AreFileEntries : List ℕ → List Entry → Type 0
+AreFileEntries file entries = (text : List ℕ) × IsUnmarked file text × AreTextEntries text entries
+
+-- the entries of the file have these VRPs
 abbrev pub IsVrpFile : List ℕ → List (MaxLenValue × ℕ) → Type 0
-IsVrpFile file vrps = (text : List ℕ) × IsUnmarked file text × IsVrpText text vrps
+IsVrpFile file vrps = (entries : List Entry) × AreFileEntries file entries × (vrps ≡ vrps_of entries)
 
 -- the fault of the text of the file
 abbrev pub HasFileFault : List ℕ → FileFault → Type 0

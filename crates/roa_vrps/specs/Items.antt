@@ -1,7 +1,8 @@
--- The VRPs of the items of a JSON array.
+-- The entries of the items of a JSON array.
 use Rattle.std.specs.Prelude.{◌≡◌, ◌⊎◌, ℕ, ◌+◌, List, [], ◌∷◌}
 use Rattle.json.specs.Json.{Json, Items, no_items, item}
 use Rattle.rpki_prefix.specs.MaxLen.{MaxLenValue}
+use Rattle.roa_vrps.specs.Entries.{Entry, item_entry}
 use Rattle.roa_vrps.specs.Members.{HasText, HasMemberFault}
 use Rattle.roa_vrps.specs.Rows.{AreVrpTexts, HaveFault}
 use Rattle.roa_vrps.specs.declared.fault.FileFault.{FileFault}
@@ -32,12 +33,12 @@ HasItemFault value (Member MaxLength f) =
 HasItemFault value (Vrp f) =
     (asn : List ℕ) × (prefix : List ℕ) × (max : List ℕ) × HasTexts value asn prefix max × HaveFault asn prefix max f
 
--- items give these VRPs
-abbrev pub AreItems : Items → List (MaxLenValue × ℕ) → Type 0
-AreItems no_items vrps = vrps ≡ []
-AreItems (item value items) vrps =
-    (vrp : MaxLenValue × ℕ) × IsItem value vrp × (more : List (MaxLenValue × ℕ)) × (vrps ≡ vrp ∷ more)
-    × AreItems items more
+-- items give these entries; place is the number of the first item
+abbrev pub AreItems : ℕ → Items → List Entry → Type 0
+AreItems place no_items entries = entries ≡ []
+AreItems place (item value items) entries =
+    (vrp : MaxLenValue × ℕ) × IsItem value vrp
+    × ((more : List Entry) × AreItems (place + 1) items more × (entries ≡ item_entry vrp place value ∷ more))
 
 -- the first invalid item and its fault; place is the number of the first item
 abbrev pub HaveWrongItem : ℕ → Items → FileFault → Type 0

@@ -3,7 +3,7 @@ ghost use Rattle.std.specs.Prelude.{◌↔◌, IsTrue, MatchResult};
 ghost use Rattle.rpki_text.specs.Memory.{MatchOrMemory};
 ghost use Rattle.roa_vrps.specs.Asking.{HasCsvVrp};
 ghost use Rattle.roa_vrps.specs.Csv.{IsCsvFile, HasCsvFault, HasLineFault, HasUnknownHeader};
-ghost use Rattle.roa_vrps.specs.Entries.{AreCsvEntries, AreReadOf};
+ghost use Rattle.roa_vrps.specs.Entries.{IsFoundIn};
 
 use crate::columns::Columns;
 use crate::entry::add_line;
@@ -26,8 +26,7 @@ pub(crate) fn read_csv<A: Allocator + Copy>(
     text: &[u8],
     asked: bool,
 ) -> Result<Found<A>, OrMemory<FileFault>>
-    ensures { MatchResult result (λ found. IsCsvFile text.now found.vrps.items
-        × AreReadOf asked (AreCsvEntries text.now) found.expiries)
+    ensures { MatchResult result (IsFoundIn asked (IsCsvFile text.now))
         (λ error. MatchOrMemory error (HasCsvFault text.now) (HasCsvVrp text.now)) }
 {
     if has_unknown_header(text) {
@@ -55,8 +54,7 @@ fn read_lines<A: Allocator + Copy>(
     text: &[u8],
     asked: bool,
 ) -> Result<Found<A>, OrMemory<FileFault>>
-    ensures { MatchResult result (λ found. IsCsvFile text.now found.vrps.items
-        × AreReadOf asked (AreCsvEntries text.now) found.expiries)
+    ensures { MatchResult result (IsFoundIn asked (IsCsvFile text.now))
         (λ error. MatchOrMemory error (HasLineFault text.now) (HasCsvVrp text.now)) }
 {
     let mut vrps = Vec::new(alloc);

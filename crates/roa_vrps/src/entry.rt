@@ -3,10 +3,12 @@ ghost use Rattle.std.specs.Prelude.{◌≡◌, ℕ, Bool, List, [], ◌∷◌, �
 ghost use Rattle.std.specs.Str.{IsUtf8};
 ghost use Rattle.json.specs.Json.{number as json_number};
 ghost use Rattle.json.specs.Value.{value_view};
-ghost use Rattle.roa_vrps.specs.Entries.{AreRead, Entry, HasEntryFault, HasExpiry, IsNumeric, expires_name};
-ghost use Rattle.roa_vrps.specs.Entries.{item_entry, line_entry};
+ghost use Rattle.rpki_prefix.specs.MaxLen.{MaxLenValue};
+ghost use Rattle.roa_vrps.specs.Entries.{AreRead, Entry, HasEntryFault, HasExpiresFault, HasExpiry, HasLineExpiryFault};
+ghost use Rattle.roa_vrps.specs.Entries.{IsItemExpiry, IsLineExpiry, IsNumeric, expires_name, item_entry, line_entry};
 ghost use Rattle.roa_vrps.specs.Expiries.{IsTimeText};
 ghost use Rattle.roa_vrps.specs.Members.{AreWrong, named_values};
+ghost use Rattle.roa_vrps.specs.declared.fault.ExpiryFault.TheVariants.{Item, Line};
 
 use crate::fault::{ExpiresFault, ExpiryFault, MemberFault};
 use crate::field::field_at;
@@ -33,7 +35,8 @@ pub(crate) fn add_line<A: Allocator>(
 ) -> Result<Expiries<A>, AllocError>
     requires { IsUtf8 line.now }
     ensures { (entries : List Entry) → AreRead asked entries expiries
-        → IfOk result (AreRead asked (entries ++ line_entry number column line.now ∷ [])) }
+        → (vrp : MaxLenValue × ℕ)
+        → IfOk result (AreRead asked (entries ++ line_entry vrp number column line.now ∷ [])) }
 {
     if asked {
         add(expiries, expiry_of_line(number, column, line))
@@ -50,7 +53,8 @@ pub(crate) fn add_item<A: Allocator>(
     item: &Value<'_, A>,
 ) -> Result<Expiries<A>, AllocError>
     ensures { (entries : List Entry) → AreRead asked entries expiries
-        → IfOk result (AreRead asked (entries ++ item_entry number (value_view item.now) ∷ [])) }
+        → (vrp : MaxLenValue × ℕ)
+        → IfOk result (AreRead asked (entries ++ item_entry vrp number (value_view item.now) ∷ [])) }
 {
     if asked {
         add(expiries, expiry_of_item(number, item))
@@ -88,8 +92,8 @@ fn expiry_of_line(
     line: &[u8],
 ) -> Result<Option<u64>, ExpiryFault>
     requires { IsUtf8 line.now }
-    ensures { MatchResult result (HasExpiry (line_entry number column line.now))
-        (HasEntryFault (line_entry number column line.now)) }
+    ensures { MatchResult result (IsLineExpiry column line.now)
+        (λ fault. HasLineExpiryFault column line.now × (fault ≡ Line number)) }
 {
     let Some(index) = column else {
         return Ok(None);
@@ -112,8 +116,8 @@ fn expiry_of_item<A: Allocator>(
     number: usize,
     item: &Value<'_, A>,
 ) -> Result<Option<u64>, ExpiryFault>
-    ensures { MatchResult result (HasExpiry (item_entry number (value_view item.now)))
-        (HasEntryFault (item_entry number (value_view item.now))) }
+    ensures { MatchResult result (IsItemExpiry (value_view item.now))
+        (λ fault. (wrong : ExpiresFault) × HasExpiresFault (value_view item.now) wrong × (fault ≡ Item number wrong)) }
 {
     match expires_of(item) {
         Ok(text) => match time_of(text) {

@@ -4,7 +4,7 @@
 ghost use Rattle.std.specs.Prelude.{◌≡◌, ℕ, IfErr, IfOk, List, MatchResult, length};
 ghost use Rattle.std.specs.List.{count_by};
 ghost use Rattle.rpki_prefix.specs.MaxLen.{MaxLenValue};
-ghost use Rattle.rpki_text.specs.Memory.{IfRefused, IsMemory};
+ghost use Rattle.rpki_text.specs.Memory.{IsMemory, MatchOrMemory};
 ghost use Rattle.rpki_text.specs.Reading.{AnswersOrMemory};
 ghost use Rattle.roa_vrps.specs.Asking.{MayWantMemory};
 ghost use Rattle.roa_vrps.specs.Expiries.{is_expired, unexpired_of};
@@ -54,20 +54,6 @@ pub fn read_unexpired<A: Allocator + Copy>(
     // An allocation failed, and `read_vrps` may request memory for the file.
     ensures memory { IfErr result (λ error. IsMemory error → MayWantMemory text.now) }
 {
-    read_unexpired_matched(alloc, text, time)
-}
-
-/// Returns the VRPs of a file that have not expired, or the first fault of the file.
-fn read_unexpired_matched<A: Allocator + Copy>(
-    alloc: A,
-    text: &[u8],
-    time: u64,
-) -> Result<UnexpiredVrps<A>, OrMemory<ExpiryFault>>
-    ensures found { MatchResult result
-        (λ unexpired. IsUnexpiredFile text.now time unexpired.vrps.items unexpired.expired)
-        (IfRefused (HasExpiryFault text.now)) }
-    ensures memory { IfErr result (λ error. IsMemory error → MayWantMemory text.now) }
-{
     let (vrps, expiries) = read_dated(alloc, text)?;
     let kept = unexpired(alloc, &vrps, &expiries, time)?;
     Ok(UnexpiredVrps {
@@ -104,13 +90,13 @@ pub fn read_expiries<A: Allocator + Copy>(
 }
 
 /// Returns the VRPs of a file and their expiries, or the first fault of the file.
+#[tactic(auto, using(crate::proofs::ExpiryFileLemmas::dated_read, crate::proofs::ExpiryFileLemmas::wrong_read))]
 fn read_dated<A: Allocator + Copy>(
     alloc: A,
     text: &[u8],
 ) -> Result<(Vec<Vrp, A>, Vec<Option<u64>, A>), OrMemory<ExpiryFault>>
-    ensures found { MatchResult result (λ found. AreDated text.now found.0.items found.1.items)
-        (IfRefused (HasExpiryFault text.now)) }
-    ensures memory { IfErr result (λ error. IsMemory error → MayWantMemory text.now) }
+    ensures { MatchResult result (λ found. AreDated text.now found.0.items found.1.items)
+        (λ error. MatchOrMemory error (HasExpiryFault text.now) (MayWantMemory text.now)) }
 {
     let Found { vrps, expiries } = match read_file(alloc, text, true) {
         Ok(found) => found,

@@ -1,7 +1,4 @@
 //! Faults of VRP files.
-ghost use Rattle.std.specs.Prelude.{◌≡◌};
-ghost use Rattle.roa_vrps.specs.declared.fault.VrpFault.TheVariants.{Asn, MaxLen, MaxLenFormat, Prefix};
-
 use crate::member::Member;
 use rpki_base::asn::ParseAsnError;
 use rpki_base::number::ParseIntError;
@@ -37,38 +34,6 @@ pub enum VrpFault {
     /// bits.
     #[error("{0}")]
     MaxLen(MaxLenError),
-}
-
-impl From<ParseAsnError> for VrpFault {
-    ghost from_gives = { λ fault error. error ≡ Asn fault };
-
-    fn from(fault: ParseAsnError) -> VrpFault {
-        VrpFault::Asn(fault)
-    }
-}
-
-impl From<ParsePrefixError> for VrpFault {
-    ghost from_gives = { λ fault error. error ≡ Prefix fault };
-
-    fn from(fault: ParsePrefixError) -> VrpFault {
-        VrpFault::Prefix(fault)
-    }
-}
-
-impl From<ParseIntError> for VrpFault {
-    ghost from_gives = { λ fault error. error ≡ MaxLenFormat fault };
-
-    fn from(fault: ParseIntError) -> VrpFault {
-        VrpFault::MaxLenFormat(fault)
-    }
-}
-
-impl From<MaxLenError> for VrpFault {
-    ghost from_gives = { λ fault error. error ≡ MaxLen fault };
-
-    fn from(fault: MaxLenError) -> VrpFault {
-        VrpFault::MaxLen(fault)
-    }
 }
 
 /// A fault of a member that an object must have exactly once.

@@ -1,11 +1,11 @@
 //! VRP files in either form, JSON or CSV.
 ghost use Rattle.std.specs.Prelude.{◌↔◌, IfErr, IsTrue, MatchResult};
-ghost use Rattle.rpki_text.specs.Memory.{IfRefused, IsMemory, MatchOrMemory};
+ghost use Rattle.rpki_text.specs.Memory.{IsMemory, MatchOrMemory};
 ghost use Rattle.rpki_text.specs.Reading.{AnswersOrMemory};
 ghost use Rattle.roa_vrps.specs.Asking.{MayTextWantMemory, MayWantMemory};
-ghost use Rattle.roa_vrps.specs.Entries.{AreReadOf};
-ghost use Rattle.roa_vrps.specs.ExpiryFiles.{AreFileEntries, AreTextEntries};
-ghost use Rattle.roa_vrps.specs.Files.{IsArrayText, IsObjectText, IsVrpFile, IsVrpText, HasFileFault, HasVrpTextFault};
+ghost use Rattle.roa_vrps.specs.Entries.{IsFoundIn};
+ghost use Rattle.roa_vrps.specs.Files.{AreFileEntries, AreTextEntries, HasFileFault, HasVrpTextFault};
+ghost use Rattle.roa_vrps.specs.Files.{IsArrayText, IsObjectText, IsVrpFile};
 
 use crate::csv::read_csv;
 use crate::fault::FileFault;
@@ -62,15 +62,14 @@ pub fn read_vrps<A: Allocator + Copy>(
 }
 
 /// Returns the VRPs of a file, and their expiries if `asked`, or its first fault as a file of VRPs.
+#[tactic(auto, using(crate::proofs::Outcomes::result_as))]
 pub(crate) fn read_file<A: Allocator + Copy>(
     alloc: A,
     file: &[u8],
     asked: bool,
 ) -> Result<Found<A>, OrMemory<FileFault>>
-    ensures found { MatchResult result (λ found. IsVrpFile file.now found.vrps.items
-        × AreReadOf asked (AreFileEntries file.now) found.expiries)
-        (IfRefused (HasFileFault file.now)) }
-    ensures memory { IfErr result (λ error. IsMemory error → MayWantMemory file.now) }
+    ensures { MatchResult result (IsFoundIn asked (AreFileEntries file.now))
+        (λ error. MatchOrMemory error (HasFileFault file.now) (MayWantMemory file.now)) }
 {
     read_text(alloc, without_mark(file), asked)
 }
@@ -81,8 +80,7 @@ fn read_text<A: Allocator + Copy>(
     text: &[u8],
     asked: bool,
 ) -> Result<Found<A>, OrMemory<FileFault>>
-    ensures { MatchResult result (λ found. IsVrpText text.now found.vrps.items
-        × AreReadOf asked (AreTextEntries text.now) found.expiries)
+    ensures { MatchResult result (IsFoundIn asked (AreTextEntries text.now))
         (λ error. MatchOrMemory error (HasVrpTextFault text.now) (MayTextWantMemory text.now)) }
 {
     if opens_object(text) {

@@ -5,8 +5,8 @@ ghost use Rattle.json.specs.Token.{Token as SpecToken, begin_object};
 ghost use Rattle.json.specs.Json.{Members, document, object};
 ghost use Rattle.rpki_text.specs.Memory.{MatchOrMemory};
 ghost use Rattle.std.specs.Str.{IsUtf8};
-ghost use Rattle.roa_vrps.specs.Entries.{AreReadOf};
-ghost use Rattle.roa_vrps.specs.JsonFiles.{AreJsonEntries, IsJsonFile, HasJsonFault, IsRoasResult, roas};
+ghost use Rattle.roa_vrps.specs.Entries.{IsFoundIn};
+ghost use Rattle.roa_vrps.specs.JsonFiles.{IsJsonFile, HasJsonFault, IsRoasResult, roas};
 ghost use Rattle.roa_vrps.specs.Members.{values_in};
 
 use crate::fault::FileFault;
@@ -24,8 +24,7 @@ pub(crate) fn read_json<A: Allocator + Copy>(
     text: &[u8],
     asked: bool,
 ) -> Result<Found<A>, OrMemory<FileFault>>
-    ensures { MatchResult result (λ found. IsJsonFile text.now found.vrps.items
-        × AreReadOf asked (AreJsonEntries text.now) found.expiries)
+    ensures { MatchResult result (IsFoundIn asked (IsJsonFile text.now))
         (λ error. MatchOrMemory error (HasJsonFault text.now) (IsUtf8 text.now)) }
 {
     let Ok(text) = str::from_utf8(text) else {

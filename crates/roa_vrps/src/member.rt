@@ -69,6 +69,7 @@ impl fmt::Display for Member {
 ///
 /// - [`MemberFault::Missing`]: no member has this name.
 /// - [`MemberFault::Repeated`]: several members have it.
+#[tactic(auto, using(crate::proofs::MemberLemmas::one_named, crate::proofs::MemberLemmas::other_named))]
 pub fn only<'v, 'a, A: Allocator>(
     members: &'v Vec<(&'a str, Value<'a, A>), A>,
     name: &str,

@@ -39,6 +39,7 @@ pub(crate) fn read_members<A: Allocator + Copy>(
 
 /// Reads the value of the member `key`, and returns the VRPs of `roas` or their fault. `outcome` is the result before
 /// it.
+#[tactic(auto, using(crate::proofs::RoasLemmas::member_skipped, crate::proofs::RoasLemmas::member_duplicate))]
 fn read_member<A: Allocator + Copy>(
     alloc: A,
     reader: &mut Reader<'_>,

@@ -107,10 +107,10 @@ pub(crate) fn read_fields(asn: &str, prefix: &str, max_len: &str) -> Result<Vrp,
     ensures { MatchResult result (λ x. AreVrpTexts asn.now prefix.now max_len.now x.0 x.1)
         (HaveFault asn.now prefix.now max_len.now) }
 {
-    let asn = Asn::from_str(asn)?;
-    let prefix = Prefix::from_str(prefix)?;
-    let len = parse_u8(max_len)?;
-    let prefix = MaxLenPrefix::new(prefix, Some(len))?;
+    let asn = Asn::from_str(asn).map_err(VrpFault::Asn)?;
+    let prefix = Prefix::from_str(prefix).map_err(VrpFault::Prefix)?;
+    let len = parse_u8(max_len).map_err(VrpFault::MaxLenFormat)?;
+    let prefix = MaxLenPrefix::new(prefix, Some(len)).map_err(VrpFault::MaxLen)?;
     Ok((prefix, asn))
 }
 
@@ -119,8 +119,8 @@ fn read_pair(asn: &str, prefix: &str) -> Result<Vrp, VrpFault>
     ensures { MatchResult result (λ x. ArePairTexts asn.now prefix.now x.0 x.1)
         (HaveFieldsFault asn.now prefix.now []) }
 {
-    let asn = Asn::from_str(asn)?;
-    let whole = Prefix::from_str(prefix)?;
+    let asn = Asn::from_str(asn).map_err(VrpFault::Asn)?;
+    let whole = Prefix::from_str(prefix).map_err(VrpFault::Prefix)?;
     Ok((MaxLenPrefix::saturating_new(whole, Some(whole.len())), asn))
 }
 

@@ -19,6 +19,7 @@ use rpki_prefix::{MaxLenPrefix, Prefix};
 
 /// Returns the value of the AS number that is the first field, and the text after its comma.
 #[inline(always)]
+#[tactic(auto, using(crate::proofs::UsualFieldLemmas::asn_first))]
 fn take_asn(text: &[u8]) -> Option<(u32, &[u8])>
     ensures { IfSome result (λ found. IsFirstField (λ field. IsAsnText field found.0) text.now found.1.now) }
 {

@@ -1,4 +1,4 @@
-use Rattle.roa_vrps.proofs.Common.{arith, refl, eqb-false, eqb-true, nil_from_length, Header}
+use Rattle.roa_vrps.proofs.Common.{arith, refl, eqb-false, eqb-true, nil_from_length, Blank, Header}
 use Rattle.roa_vrps.proofs.CsvLemmas.{read_no_vrp, read_none, read_over, read_some, read_vrp, read_wrong}
 use Rattle.roa_vrps.proofs.csv.read_lines.Goals as goal
 
@@ -25,7 +25,8 @@ loop-rest-preserved-in_ok-expiries-in-Ok-Vrp g c =
           (read_vrp _ _ _ _ c.cut_at_line_end.result.0.now _ _ _ _ c.loop-rest.invariant.read
           c.cut_at_line_end.ensures.first c.in-Ok-Vrp.vrp c.in_ok-expiries-in-Ok-Vrp.expiries
           (rw c.in-Ok-Vrp.field-0-is at c.in-Ok-Vrp.ensures)
-          (c.in_ok-expiries-in-Ok-Vrp.ensures c.loop-rest.invariant.read.entries c.loop-rest.invariant.read.read));
+          (c.in_ok-expiries-in-Ok-Vrp.ensures c.loop-rest.invariant.read.entries c.loop-rest.invariant.read.read
+          c.in-Ok-Vrp.vrp));
     }
 
 -- other columns
@@ -38,7 +39,7 @@ loop-rest-preserved-in-Ok-Header g c =
       read =
           read_over _ _ _ _ c.cut_at_line_end.result.0.now _ _ _ _ c.loop-rest.invariant.read
           c.cut_at_line_end.ensures.first
-          (Header c.in-Ok-Header.next) refl refl (rw c.in-Ok-Header.field-0-is at c.in-Ok-Header.ensures);
+          (Header c.in-Ok-Header.next) refl (rw c.in-Ok-Header.field-0-is at c.in-Ok-Header.ensures);
     }
 
 -- the first invalid line
@@ -51,10 +52,23 @@ returns-in-Err g c =
 -- no line is left
 pub returns-then-is_empty : goal.returns-then-is_empty
 returns-then-is_empty g c =
-    read_no_vrp _ _ _ _ _ _ _ c.loop-rest.invariant.read (grind (arith, eqb-true, nil_from_length))
+    read_no_vrp _ _ _ _ _ (record { vrps = c.loop-rest.vrps; expiries = c.loop-rest.expiries })
+    c.loop-rest.invariant.read (grind (arith, eqb-true, nil_from_length))
     (grind (arith, eqb-true, nil_from_length))
 
 pub returns : goal.returns
 returns g c =
-    read_some _ _ _ _ _ _ _ c.loop-rest.invariant.read (grind (arith, eqb-true, nil_from_length))
+    read_some _ _ _ _ _ (record { vrps = c.loop-rest.vrps; expiries = c.loop-rest.expiries })
+    c.loop-rest.invariant.read (grind (arith, eqb-true, nil_from_length))
     (λ none. grind (arith, eqb-false, eqb-true, nil_from_length))
+
+pub loop-rest-preserved : goal.loop-rest-preserved
+loop-rest-preserved g c =
+    let had = c.loop-rest.invariant.within in
+    let shorter = c.cut_at_line_end.ensures.shorter in
+    record {
+      within = omega arith;
+      read =
+          read_over _ _ _ _ c.cut_at_line_end.result.0.now _ _ _ _ c.loop-rest.invariant.read
+          c.cut_at_line_end.ensures.first Blank refl (rw c.in-Ok-Blank.field-0-is at c.in-Ok-Blank.ensures);
+    }

@@ -1,5 +1,5 @@
-use Rattle.roa_vrps.specs.declared.fault.ExpiresFault.TheVariants.{Number}
 use Rattle.roa_vrps.proofs.Common.{refl}
+use Rattle.roa_vrps.specs.declared.fault.ExpiresFault.TheVariants.{Number}
 use Rattle.roa_vrps.proofs.entry.expiry_of_item.Goals as goal
 
 -- the number is no time

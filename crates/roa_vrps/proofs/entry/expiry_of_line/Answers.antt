@@ -1,6 +1,4 @@
-use Rattle.std.proofs.lemmas.Bool.{eqb-false, eqb-true}
-use Rattle.std.proofs.lemmas.List.{nil_from_length}
-use Rattle.roa_vrps.proofs.Common.{arith, refl, ◌≡◌}
+use Rattle.roa_vrps.proofs.Common.{eqb-false, eqb-true, nil_from_length, arith, refl, ◌≡◌}
 use Rattle.roa_vrps.proofs.EntryLemmas.{line_fault}
 use Rattle.roa_vrps.proofs.entry.expiry_of_line.Goals as goal
 

@@ -39,7 +39,7 @@ loop-alloc-preserved-in_ok-expiries-in-Ok-2 g c =
       read = rw pushed
           (more c.in-Ok.vrp c.in_ok-expiries-in-Ok.expiries c.in-Ok.ensures
           (rw len at c.in_ok-expiries-in-Ok.ensures c.loop-alloc.invariant.read.entries
-          c.loop-alloc.invariant.read.read));
+          c.loop-alloc.invariant.read.read c.in-Ok.vrp));
       within = grind arith;
     }
 

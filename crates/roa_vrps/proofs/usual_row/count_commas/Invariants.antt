@@ -1,6 +1,5 @@
 -- The bytes before the index are visible, and so many of them are commas.
-use Rattle.roa_vrps.proofs.Common.{take, ℕ, ◌<◌, ◌≡◌, ◌≤◌, IsInRange, count_by, is_comma}
-use Rattle.std.proofs.Common.{get_or}
+use Rattle.roa_vrps.proofs.Common.{take, ℕ, ◌<◌, ◌≡◌, ◌≤◌, IsInRange, count_by, is_comma, get_or}
 use Rattle.roa_vrps.proofs.usual_row.count_commas.Given as goal
 
 abbrev pub invariant-loop-byte : goal.invariant-loop-byte

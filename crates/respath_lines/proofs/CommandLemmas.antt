@@ -1,10 +1,9 @@
 -- A text may be cut at its first space, and after it.
-use Rattle.respath_lines.proofs.Common.{arith, length, ℕ, ◌+◌, ◌<◌, ◌≡◌, List, position_or_len}
-use Rattle.std.specs.Str.{IsCharBoundary, IsUtf8}
-use Rattle.std.proofs.lemmas.Bool.Decides.{nat_tests}
+use Rattle.respath_lines.proofs.Common.{arith, length, ℕ, ◌+◌, ◌<◌, ◌≡◌, List, position_or_len, IsUtf8, nat_tests}
+use Rattle.respath_lines.proofs.Common.{is_space}
+use Rattle.std.specs.Str.{IsCharBoundary}
 use Rattle.std.proofs.lemmas.List.Sums.{passes_at_first}
 use Rattle.std.proofs.lemmas.Str.{IsCharBoundary-after_ascii, IsCharBoundary-before_ascii}
-use Rattle.rpki_text.specs.Cuts.{is_space}
 
 -- the first space is the boundary of a character
 pub cut_before : (text : List ℕ) (at : ℕ) → at ≡ position_or_len is_space text → at < length text

@@ -2,10 +2,8 @@
 use Rattle.respath_lines.proofs.Common.{List, [], ap, arith, decimal, false, length, map, refl, sym, ℕ, ◌++◌, ◌==◌, ◌∙◌}
 use Rattle.respath_lines.proofs.Common.{◌∷◌, ◌≡◌, append-nil, flat_map_more, length-append, map-append, Drains}
 use Rattle.respath_lines.proofs.Common.{YieldsFirst, flat_map, AddressFamily, cover_text, listed_text}
-use Rattle.respath_lines.proofs.Common.{prefix_with_length}
-use Rattle.std.specs.Prelude.{codes}
+use Rattle.respath_lines.proofs.Common.{prefix_with_length, codes, PrefixValue}
 use Rattle.rpki_text.specs.Cuts.{slash}
-use Rattle.rpki_cover.specs.Prefixes.{PrefixValue}
 use Rattle.rpki_ip.specs.PrintedText.{addr_text}
 
 -- ---- prefixes that are printed one by one

@@ -1,7 +1,8 @@
 -- The resources of a family that a text writes.
 use Rattle.respath_lines.proofs.Common.{arith, List, MatchResult, Result, codes, ℕ, ◌≢◌, AddressFamily, Claim}
-use Rattle.respath_lines.proofs.Common.{FromStrError, HasBlocksFault, IfRefused, OrMemory}
-use Rattle.respath_lines.specs.Der.{HasIpResourcesFault, IsIpResourcesText, IsListed}
+use Rattle.respath_lines.proofs.Common.{FromStrError, HasBlocksFault, IfRefused, OrMemory, HasIpResourcesFault}
+use Rattle.respath_lines.proofs.Common.{IsIpResourcesText}
+use Rattle.respath_lines.specs.Der.{IsListed}
 
 module _ (family : AddressFamily) (list : List ℕ) (other : list ≢ codes "inherit") where
   listed_claim : (claim : Claim) → IsListed family list claim → IsIpResourcesText family list claim

@@ -1,9 +1,8 @@
 -- The words of hexadecimal mean what those of the library `hex` mean.
-use Rattle.respath_lines.proofs.Common.{List, Ok, [], arith, inl, inr, length, refl, suc, ℕ, ◌%◌, ◌+◌, ◌/◌, ◌<◌}
-use Rattle.respath_lines.proofs.Common.{◌∷◌, ◌≡◌, ◌≤◌, ◌⊎◌, IsBytes, IsHexadecimal, lower_hexadecimal}
-use Rattle.std.proofs.Common.{None, Some}
+use Rattle.respath_lines.proofs.Common.{List, Ok, [], arith, inl, inr, length, refl, suc, ℕ, ◌%◌, ◌+◌, ◌/◌, ◌<◌, ◌∷◌}
+use Rattle.respath_lines.proofs.Common.{◌≡◌, ◌≤◌, ◌⊎◌, IsBytes, IsHexadecimal, lower_hexadecimal, Some, nat_tests}
+use Rattle.std.proofs.Common.{None}
 use Rattle.std.proofs.lemmas.Bool.{cases_eq}
-use Rattle.std.proofs.lemmas.Bool.Decides.{nat_tests}
 use Rattle.std.specs.Char.{digit_char, digit_value}
 use Rattle.std.specs.Prelude.{slice_index, ◌↔◌}
 use Rattle.hex.specs.Hex.{decode_of, decode_pairs, encode_lower, encode_with, hex_digit_value, lower_digits}

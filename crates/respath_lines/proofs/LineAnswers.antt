@@ -1,31 +1,24 @@
 -- A line has at most one answer.
-use Rattle.respath_lines.proofs.Common.{IsAsResources, List, as_choice_at, as_from_str_error_text, as_list_text}
-use Rattle.respath_lines.proofs.Common.{codes, cover_text, family_text, ip_from_str_error_text, overclaimed_ip_text}
-use Rattle.respath_lines.proofs.Common.{set_text, sym, ℕ, ◌∙◌, ◌≡◌, ◌≢◌, AddressFamily, Claim, HasBlocks}
-use Rattle.respath_lines.proofs.Common.{HasBlocksFault}
-use Rattle.respath_lines.proofs.Common.{IsIpFamilies, IsSetOf, ip_families_at}
-use Rattle.std.specs.Str.{IsUtf8}
-use Rattle.rpki_as.proofs.AsResourcesDer.{one_resources}
+use Rattle.respath_lines.proofs.Common.{IsAsResources, List, as_choice_at, as_from_str_error_text, as_list_text, codes}
+use Rattle.respath_lines.proofs.Common.{cover_text, family_text, ip_from_str_error_text, overclaimed_ip_text, set_text}
+use Rattle.respath_lines.proofs.Common.{sym, ℕ, ◌∙◌, ◌≡◌, ◌≢◌, AddressFamily, Claim, HasBlocks, HasBlocksFault}
+use Rattle.respath_lines.proofs.Common.{IsIpFamilies, IsSetOf, ip_families_at, IsUtf8, one_resources}
+use Rattle.respath_lines.proofs.Common.{overclaimed_as_text, HasAsListFault, IsAsListText, HasAsResourcesFault}
+use Rattle.respath_lines.proofs.Common.{IsAsResourcesText, as_resources_text, of_family, one_of_families, IsCoverOf}
+use Rattle.respath_lines.proofs.Common.{HasIpResourcesFault, IsIpResourcesText, error_line}
 use Rattle.rpki_as.specs.AsDer.{as_resources_octets}
-use Rattle.rpki_as.specs.Faults.{overclaimed_as_text}
-use Rattle.rpki_as.specs.ListText.{HasAsListFault, IsAsListText}
-use Rattle.rpki_as.specs.ResourcesText.{HasAsResourcesFault, IsAsResourcesText, as_resources_text}
-use Rattle.rpki_der.specs.FamiliesDer.{ByFamily, of_family}
+use Rattle.rpki_der.specs.FamiliesDer.{ByFamily}
 use Rattle.rpki_der.specs.declared.family.AddressFamily.TheVariants.{Ipv4, Ipv6}
-use Rattle.rpki_ipres.proofs.IpResourcesWritten.{one_of_families}
 use Rattle.respath_lines.specs.Answer.{IsAnswer, IsUnknown}
 use Rattle.respath_lines.specs.Command.{argument_of, command_of, kind_of}
-use Rattle.respath_lines.specs.Cover.{IsCoverIp, IsCoverOf}
-use Rattle.respath_lines.specs.Der.{HasIpResourcesFault, IsDerAs, IsDerIp, IsIpResourcesText, octets_text}
-use Rattle.respath_lines.specs.Der.{one_family_der}
+use Rattle.respath_lines.specs.Cover.{IsCoverIp}
+use Rattle.respath_lines.specs.Der.{IsDerAs, IsDerIp, octets_text, one_family_der}
 use Rattle.respath_lines.specs.Kinds.{IsByKind}
 use Rattle.respath_lines.specs.Norm.{IsNormAs, IsNormIp}
 use Rattle.respath_lines.specs.Path.{IsPathAs, IsPathIp}
 use Rattle.respath_lines.specs.Read.{IsReadAs, IsReadIp}
-use Rattle.respath_lines.specs.Shown.{error_line}
 use Rattle.respath_lines.proofs.SingleAnswers.{read_once, same_text, shown_once, single_as, single_as_resources}
-use Rattle.respath_lines.proofs.SingleAnswers.{single_cover}
-use Rattle.respath_lines.proofs.SingleAnswers.{single_ip, single_ip_resources}
+use Rattle.respath_lines.proofs.SingleAnswers.{single_cover, single_ip, single_ip_resources}
 use Rattle.respath_lines.proofs.SinglePaths.{path_once}
 
 -- ---- resources of one kind

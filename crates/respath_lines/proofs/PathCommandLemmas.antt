@@ -3,14 +3,10 @@ use Rattle.respath_lines.proofs.Common.{List, Result, [], ap, arith, drop, eqb, 
 use Rattle.respath_lines.proofs.Common.{◌<◌, ◌∙◌, ◌∷◌, ◌≡◌, after_first, before_first, position_or_len, Claim, Holds}
 use Rattle.respath_lines.proofs.Common.{Runs, HasFirstFault, HaveValues, IfRefused, AnswersOrMemory, OrMemory, Memory}
 use Rattle.respath_lines.proofs.Common.{Refused, HasRootFault, HasStepFault, HavePathFault, IsStepText, ShowsLeft}
-use Rattle.respath_lines.proofs.Common.{ShowsPath, parts_of}
+use Rattle.respath_lines.proofs.Common.{ShowsPath, parts_of, IsPathResult, IsFirstRefusal, PathRefusal, Step, PartFault}
 use Rattle.std.proofs.lemmas.List.Splits.{slice_split_none, slice_split_first}
 use Rattle.std.proofs.lemmas.List.Sums.{fails_before_first}
 use Rattle.rpki_text.proofs.TextListLemmas.{parts_at}
-use Rattle.rpki_chain.specs.Paths.{IsPathResult, IsFirstRefusal}
-use Rattle.rpki_chain.specs.declared.path.PathRefusal.{PathRefusal}
-use Rattle.rpki_chain.specs.declared.path.Step.{Step}
-use Rattle.respath_lines.specs.declared.steps.PartFault.{PartFault}
 
 -- a text without a bar is one part
 pub one_part : (text : List ℕ) → position_or_len (λ b. eqb b 124) text ≡ length text → parts_of text ≡ text ∷ []

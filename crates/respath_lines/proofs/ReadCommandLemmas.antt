@@ -1,13 +1,11 @@
 -- Lemmas on octets that must hold one value. A call reads the value at the front, and checks that no octet is left.
 use Rattle.respath_lines.proofs.Common.{Err, List, MatchResult, Ok, Result, [], arith, length, refl, subst, ℕ, ◌∷◌, ◌≡◌}
 use Rattle.respath_lines.proofs.Common.{◌≢◌, ne_eqb, fault_text, IfRefused, OrMemory, Memory, Refused, IsHexadecimal}
-use Rattle.respath_lines.proofs.Common.{HasFault, IsEnded, ShowsHexadecimal, ShowsOctets, ShowsResult}
-use Rattle.std.proofs.Common.{Some}
-use Rattle.rpki_der.specs.Der.{OneFront}
+use Rattle.respath_lines.proofs.Common.{HasFault, IsEnded, ShowsHexadecimal, ShowsOctets, ShowsResult, Some, OneFront}
+use Rattle.respath_lines.proofs.Common.{DerError}
 use Rattle.rpki_der.specs.FrontLaws.{none_where_more, none_where_no_front, whole_value}
 use Rattle.rpki_der.specs.Views.{left}
 use Rattle.rpki_der.specs.declared.cursor.Cursor.{Cursor}
-use Rattle.rpki_der.specs.declared.error.DerError.{DerError}
 use Rattle.rpki_der.specs.declared.error.DerError.TheVariants.{TrailingData}
 use Rattle.rpki_der.specs.SequenceReading.{only}
 use Rattle.rpki_der.specs.SequenceViews.{ReadsOrMemory, TakesSaidOrMemory}

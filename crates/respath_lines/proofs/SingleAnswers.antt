@@ -1,28 +1,22 @@
 -- An answer is that of one value or of one fault, so there is one answer.
-use Rattle.respath_lines.proofs.Common.{Err, List, MatchResult, Ok, Result, [], ap, arith, inl, inr, refl, subst}
-use Rattle.respath_lines.proofs.Common.{sym, ℕ, ◌∙◌, ◌≡◌, ◌≢◌, ◌⊎◌, AddressFamily, Claim, Holds, Runs, FromStrError}
+use Rattle.respath_lines.proofs.Common.{Err, List, MatchResult, Ok, Result, [], ap, arith, inl, inr, refl, subst, sym}
+use Rattle.respath_lines.proofs.Common.{ℕ, ◌∙◌, ◌≡◌, ◌≢◌, ◌⊎◌, AddressFamily, Claim, Holds, Runs, FromStrError}
 use Rattle.respath_lines.proofs.Common.{HasBlocks, HasBlocksFault, IsSetOf, IfRefused, AnswersOrMemory, OrMemory}
-use Rattle.respath_lines.proofs.Common.{Refused, HasFault, IsHexadecimal, ShowsHexadecimal, fault_text}
+use Rattle.respath_lines.proofs.Common.{Refused, HasFault, IsHexadecimal, ShowsHexadecimal, fault_text, false}
+use Rattle.respath_lines.proofs.Common.{HasAsListFault, IsAsListText, HasAsResourcesFault, IsAsResourcesText}
+use Rattle.respath_lines.proofs.Common.{IsShortestCover, PrefixValue, OneFront, DerError, IsCoverOf}
+use Rattle.respath_lines.proofs.Common.{HasIpResourcesFault, IsIpResourcesText, error_line}
 use Rattle.std.proofs.lemmas.Bool.{cases_Bool}
 use Rattle.std.proofs.lemmas.Slice.Eq.{bytes_eq-Decides}
 use Rattle.std.specs.Bool.{Decides}
-use Rattle.std.specs.Prelude.{Bool, false, true}
+use Rattle.std.specs.Prelude.{Bool, true}
 use Rattle.std.specs.Str.{bytes_eq}
 use Rattle.rpki_as.proofs.AsListLemmas.{list_answers}
 use Rattle.rpki_as.proofs.AsResourcesTexts.{resources_answers}
-use Rattle.rpki_as.specs.ListText.{HasAsListFault, IsAsListText}
-use Rattle.rpki_as.specs.ResourcesText.{HasAsResourcesFault, IsAsResourcesText}
 use Rattle.rpki_chain.specs.declared.choice.ResourcesChoice.TheVariants.{Blocks, Inherit, Missing}
-use Rattle.rpki_cover.specs.Covers.{IsShortestCover}
-use Rattle.rpki_cover.specs.Prefixes.{PrefixValue}
-use Rattle.rpki_der.specs.Der.{OneFront}
-use Rattle.rpki_der.specs.declared.error.DerError.{DerError}
 use Rattle.rpki_ip_block.proofs.BlockListLemmas.{family_answers, same_blocks}
 use Rattle.rpki_ip_block.specs.declared.block.IpBlock.{IpBlock}
 use Rattle.rpki_ipres.proofs.PrintedSets.{one_set}
-use Rattle.respath_lines.specs.Cover.{IsCoverOf}
-use Rattle.respath_lines.specs.Der.{HasIpResourcesFault, IsIpResourcesText}
-use Rattle.respath_lines.specs.Shown.{error_line}
 
 -- ---- texts
 

@@ -1,6 +1,5 @@
-use Rattle.respath_lines.proofs.Common.{arith, sym}
+use Rattle.respath_lines.proofs.Common.{arith, sym, is_space}
 use Rattle.std.proofs.lemmas.List.Sums.{position_or_len_is}
-use Rattle.rpki_text.specs.Cuts.{is_space}
 use Rattle.respath_lines.proofs.command.first_space.Goals as goal
 
 pub returns-after-loop-at : goal.returns-after-loop-at

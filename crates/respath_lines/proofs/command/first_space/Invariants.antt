@@ -1,6 +1,5 @@
 -- No space was passed.
-use Rattle.respath_lines.proofs.Common.{false, get_or, length, ℕ, ◌-◌, ◌<◌, ◌≡◌, ◌≤◌}
-use Rattle.rpki_text.specs.Cuts.{is_space}
+use Rattle.respath_lines.proofs.Common.{false, get_or, length, ℕ, ◌-◌, ◌<◌, ◌≡◌, ◌≤◌, is_space}
 use Rattle.respath_lines.proofs.command.first_space.Given as goal
 
 abbrev pub invariant-loop-at : goal.invariant-loop-at

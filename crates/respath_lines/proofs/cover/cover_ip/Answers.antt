@@ -1,5 +1,4 @@
-use Rattle.respath_lines.proofs.Common.{arith, inl, subst, sym, on_ok_weaker, Holds}
-use Rattle.rpki_cover.specs.Covers.{IsShortestCover}
+use Rattle.respath_lines.proofs.Common.{arith, inl, subst, sym, on_ok_weaker, Holds, IsShortestCover}
 use Rattle.respath_lines.proofs.CoverCommandLemmas.{drained}
 use Rattle.respath_lines.proofs.cover.cover_ip.Goals as goal
 

@@ -1,6 +1,5 @@
 use Rattle.respath_lines.proofs.Common.{inl, inr, refl, on_ok_weaker, string_bytes, as_from_str_error_text}
-use Rattle.rpki_as.specs.Faults.{overclaimed_as_text}
-use Rattle.rpki_as.specs.ListText.{as_list_text}
+use Rattle.respath_lines.proofs.Common.{overclaimed_as_text, as_list_text}
 use Rattle.respath_lines.proofs.PathCommandLemmas.{shows_path}
 use Rattle.respath_lines.proofs.path.path_as.Goals as goal
 

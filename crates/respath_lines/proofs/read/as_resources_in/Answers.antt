@@ -1,5 +1,4 @@
-use Rattle.respath_lines.proofs.Common.{IsAsResources, as_choice_at, IsRunsOfBlocks}
-use Rattle.rpki_as.proofs.AsResourcesDer.{one_resources}
+use Rattle.respath_lines.proofs.Common.{IsAsResources, as_choice_at, IsRunsOfBlocks, one_resources}
 use Rattle.rpki_as_block.specs.Blocks.{as_bounds}
 use Rattle.rpki_chain.specs.Choices.{ListsBy}
 use Rattle.respath_lines.proofs.ReadCommandLemmas.{ended_take}

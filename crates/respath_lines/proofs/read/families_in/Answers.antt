@@ -1,5 +1,4 @@
-use Rattle.respath_lines.proofs.Common.{IsIpFamilies, SaysClaims, ip_families_at}
-use Rattle.rpki_ipres.proofs.IpResourcesWritten.{one_of_families}
+use Rattle.respath_lines.proofs.Common.{IsIpFamilies, SaysClaims, ip_families_at, one_of_families}
 use Rattle.respath_lines.proofs.ReadCommandLemmas.{ended_take}
 use Rattle.respath_lines.proofs.read.families_in.Goals as goal
 

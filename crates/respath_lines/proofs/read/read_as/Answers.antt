@@ -1,5 +1,4 @@
-use Rattle.respath_lines.proofs.Common.{on_ok_weaker, string_bytes, IsAsResources, as_choice_at}
-use Rattle.rpki_as.specs.ResourcesText.{as_resources_text}
+use Rattle.respath_lines.proofs.Common.{on_ok_weaker, string_bytes, IsAsResources, as_choice_at, as_resources_text}
 use Rattle.respath_lines.proofs.ReadCommandLemmas.{shows_octets, shows_text}
 use Rattle.respath_lines.proofs.read.read_as.Goals as goal
 

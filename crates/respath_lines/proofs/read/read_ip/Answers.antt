@@ -1,5 +1,5 @@
 use Rattle.respath_lines.proofs.Common.{on_ok_weaker, string_bytes, IsIpFamilies, ip_families_at, family_text}
-use Rattle.rpki_der.specs.FamiliesDer.{of_family}
+use Rattle.respath_lines.proofs.Common.{of_family}
 use Rattle.respath_lines.proofs.ReadCommandLemmas.{shows_text}
 use Rattle.respath_lines.proofs.read.read_ip.Goals as goal
 

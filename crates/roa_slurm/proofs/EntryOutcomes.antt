@@ -7,7 +7,8 @@ use Rattle.roa_vrps.proofs.MemberLemmas.{wrong_one}
 use Rattle.roa_slurm.proofs.Common.{FamilyPrefix, HasUnknown, KnowsAll, SlurmItemFault}
 use Rattle.roa_slurm.proofs.Common.{SlurmMember, SlurmObject, AreEntries, HaveInvalid}
 use Rattle.roa_slurm.proofs.Common.{HaveAssertionFault, HaveKeyFault, HaveKeyFilterFault}
-use Rattle.roa_slurm.proofs.OutcomeLemmas.{IsExact, IsOne, exact_with, one_of, step_one, then_one}
+use Rattle.roa_vrps.proofs.Outcomes.{IsExact, exact_with}
+use Rattle.roa_slurm.proofs.OutcomeLemmas.{IsOne, one_of, step_one, then_one}
 use Rattle.roa_slurm.proofs.PartOutcomes.{asn_exact, prefix_exact, need_asn, need_prefix, longest_exact}
 use Rattle.roa_slurm.proofs.PartOutcomes.{asn_apart, asn_one, longest_apart}
 use Rattle.roa_slurm.proofs.PartOutcomes.{longest_one, optional_apart, prefix_apart, prefix_one}

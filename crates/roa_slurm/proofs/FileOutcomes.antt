@@ -12,7 +12,8 @@ use Rattle.roa_vrps.specs.Marks.{IsUnmarked}
 use Rattle.roa_slurm.proofs.Common.{HasUnknown, KnowsAll, SlurmFault, SlurmMember, SlurmObject}
 use Rattle.roa_slurm.proofs.EntryOutcomes.{key_filter_item_exact, key_item_exact, known_apart, list_exact}
 use Rattle.roa_slurm.proofs.EntryOutcomes.{prefix_assertion_exact, prefix_filter_exact, unknown_one}
-use Rattle.roa_slurm.proofs.OutcomeLemmas.{IsExact, IsOne, exact_both, exact_of, exact_with, step_one, then_one}
+use Rattle.roa_vrps.proofs.Outcomes.{IsExact, exact_of, exact_with}
+use Rattle.roa_slurm.proofs.OutcomeLemmas.{IsOne, exact_both, step_one, then_one}
 use Rattle.std.specs.Prelude.{IfErr}
 use Rattle.std.specs.Str.{IsUtf8}
 use Rattle.rpki_text.specs.Memory.{IsMemory}

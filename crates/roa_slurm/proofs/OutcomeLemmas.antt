@@ -1,32 +1,7 @@
 -- Outcomes of readers: a value or a fault.
 use Rattle.std.proofs.Common.{None, Option, Some, arith, ◌≡◌, ◌⊎◌}
+use Rattle.roa_vrps.proofs.Outcomes.{IsExact}
 use Rattle.roa_slurm.specs.Steps.{FaultThen}
-
--- Has holds of at most one value, Fails of at most one fault, and not both hold
-pub record IsExact {A E : Type 0} (Has : A → Type 0) (Fails : E → Type 0) : Type 0 where
-  pub one : (a b : A) → Has a → Has b → a ≡ b
-  pub apart : (a : A) (e : E) → Has a → Fails e → ⊥
-  pub fault_one : (d e : E) → Fails d → Fails e → d ≡ e
-
--- the outcome of t, where an exact step finds t or a fault
-pub exact_with : {T A E : Type 0} {Is : T → Type 0} {Has : T → A → Type 0} {Wrong : E → Type 0}
-    {Fails : T → E → Type 0} → IsExact Is Wrong → ((t : T) → IsExact (Has t) (Fails t))
-    → IsExact (λ a. (t : T) × Is t × Has t a) (λ e. Wrong e ⊎ ((t : T) × Is t × Fails t e))
-exact_with {T} first each = record {
-  one = λ a b h k. (each k.0).one a b (rw (first.one h.0 k.0 h.1 k.1) at h.2) k.2;
-  apart = λ a e h wrong. grind (arith, first.apart, first.one, λ (t : T). (each t).apart a e);
-  fault_one = λ d e h k. grind (arith, first.apart, first.fault_one, first.one, λ (t : T). (each t).fault_one d e);
-}
-
--- the outcome of the only t
-pub exact_of : {T A E : Type 0} {Is : T → Type 0} {Has : T → A → Type 0} {Fails : T → E → Type 0}
-    → ((s t : T) → Is s → Is t → s ≡ t) → ((t : T) → IsExact (Has t) (Fails t))
-    → IsExact (λ a. (t : T) × Is t × Has t a) (λ e. (t : T) × Is t × Fails t e)
-exact_of same each = record {
-  one = λ a b h k. (each k.0).one a b (rw (same h.0 k.0 h.1 k.1) at h.2) k.2;
-  apart = λ a e h k. (each k.0).apart a e (rw (same h.0 k.0 h.1 k.1) at h.2) k.2;
-  fault_one = λ d e h k. (each k.0).fault_one d e (rw (same h.0 k.0 h.1 k.1) at h.2) k.2;
-}
 
 -- two steps, of which the value of the first is kept
 pub exact_both : {A B E : Type 0} {Has : A → Type 0} {Other : B → Type 0} {Fails Wrong : E → Type 0}

@@ -13,7 +13,8 @@ use Rattle.roa_slurm.proofs.Common.{FamilyPrefix, HasValue, IsString, Lacks, Giv
 use Rattle.roa_slurm.proofs.Common.{HasLongestFault, HasOptionalFault, HasOptionalText, GivesPrefix}
 use Rattle.roa_slurm.proofs.Common.{HasPrefixMemberFault, HasRequiredText, HasRequiredTextFault, IsMissing}
 use Rattle.roa_slurm.proofs.Common.{SlurmItemFault, SlurmMember}
-use Rattle.roa_slurm.proofs.OutcomeLemmas.{IsExact, exact_some}
+use Rattle.roa_vrps.proofs.Outcomes.{IsExact}
+use Rattle.roa_slurm.proofs.OutcomeLemmas.{exact_some}
 use Rattle.roa_slurm.specs.Objects.{IsNumber}
 use Rattle.roa_slurm.specs.Parts.{HasMaxLengthFault}
 use Rattle.roa_slurm.specs.declared.member.SlurmMember.TheVariants.{Asn, MaxPrefixLength, Prefix}

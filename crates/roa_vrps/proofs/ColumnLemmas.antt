@@ -51,16 +51,12 @@ needed_one : (a b : Columns) (m n : ℕ) → a.asn ≡ b.asn → a.prefix ≡ b.
     → IsNeeded a m → IsNeeded b n → m ≡ n
 needed_one a b m n asn prefix max_len h k = grind (arith)
 
--- columns with equal fields are equal
-same_columns : (a b : Columns) → a.asn ≡ b.asn → a.prefix ≡ b.prefix → a.max_len ≡ b.max_len → a.expires ≡ b.expires
-    → a.count ≡ b.count → a.needed ≡ b.needed → a.is_named ≡ b.is_named → a ≡ b
-same_columns a b asn prefix max_len expires count needed named = grind (arith)
-
 -- so it names one list of columns
 pub header_one : (line : List ℕ) (a b : Columns) → IsHeader line a → IsHeader line b → a ≡ b
 header_one line a b h k =
     let asn = column_one Asn line a.asn b.asn h.asn k.asn in
     let prefix = column_one Prefix line a.prefix b.prefix h.prefix k.prefix in
     let max_len = column_one MaxLen line a.max_len b.max_len h.max_len k.max_len in
-    same_columns a b asn prefix max_len (expires_one line a.expires b.expires h.expires k.expires) (cc)
-    (needed_one a b a.needed b.needed asn prefix max_len h.needed k.needed) (cc)
+    let expires = expires_one line a.expires b.expires h.expires k.expires in
+    let needed = needed_one a b a.needed b.needed asn prefix max_len h.needed k.needed in
+    grind (arith, asn, prefix, max_len, expires, needed, h.count, k.count, h.is_named, k.is_named)

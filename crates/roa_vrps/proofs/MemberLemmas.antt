@@ -51,12 +51,10 @@ module _ {A : Type 0} (name : List ℕ) (all : List (Bor (List ℕ) × Value A))
   pub other_named : true ≡ not (bytes_eq m.0.now name)
       → values_in name (members_view (take (i + 1) all)) ≡ values_in name (members_view (take i all))
   other_named other =
-      let no : bytes_eq m.0.now name ≡ false = grind arith in
-      rw (take_more all i m less, ← is, values_push name (take i all) m, no) (append-nil _)
+      rw (take_more all i m less, ← is, values_push name (take i all) m) (grind (arith, append-nil))
 
   pub one_named : false ≡ not (bytes_eq m.0.now name)
       → values_in name (members_view (take (i + 1) all))
       ≡ values_in name (members_view (take i all)) ++ value_view m.1 ∷ []
   one_named same =
-      let yes : bytes_eq m.0.now name ≡ true = grind arith in
-      rw (take_more all i m less, ← is, values_push name (take i all) m, yes) refl
+      rw (take_more all i m less, ← is, values_push name (take i all) m) (grind (arith))

@@ -31,7 +31,7 @@ pub use Rattle.roa_vrps.specs.Items.{AreItems, HasItemFault, HasTexts, HaveWrong
 pub use Rattle.roa_vrps.specs.JsonFiles.{HasJsonFault, IsJsonFile, IsRoasResult, roas}
 pub use Rattle.roa_vrps.specs.Members.{AreWrong, HasMemberFault, HasText, IsFound, values_in}
 pub use Rattle.roa_vrps.specs.Rows.{AreVrpTexts, HasRowFault, HaveFault, IsBody, IsRow}
-pub use Rattle.roa_vrps.specs.UsualRows.{AreFurther, AreShown, EndsField, IsUsualLine, IsDigitText, IsFirstField}
+pub use Rattle.roa_vrps.specs.UsualRows.{AreFurther, AreShown, EndsField, IsDigitText, IsFirstField}
 pub use Rattle.roa_vrps.specs.UsualRows.{IsVrpOf}
 pub use Rattle.roa_vrps.specs.declared.columns.Columns.{Columns}
 pub use Rattle.roa_vrps.specs.declared.fault.FileFault.{FileFault}

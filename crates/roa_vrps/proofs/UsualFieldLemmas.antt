@@ -1,8 +1,8 @@
 -- Fields of the usual form, and the line that they begin.
 use Rattle.roa_vrps.proofs.Common.{List, append_assoc, arith, drop, length, lit≤, refl, take, ℕ, ◌++◌, ◌-◌, ◌<◌, ◌^◌}
 use Rattle.roa_vrps.proofs.Common.{◌∷◌, ◌≡◌, ◌≢◌, ◌≤◌, length-take, All-append, All-cons, All-weaker, IsInRange, All}
-use Rattle.roa_vrps.proofs.Common.{MaxLenValue, comma, AreFurther, AreShown, EndsField, IsUsualLine, digits_value}
-use Rattle.roa_vrps.proofs.Common.{IsAtFront, IpAddr, IsAsnText, HasParts, IsDigitText, IsFirstField, IsVrpOf}
+use Rattle.roa_vrps.proofs.Common.{comma, AreShown, digits_value}
+use Rattle.roa_vrps.proofs.Common.{IsAtFront, IpAddr, IsAsnText, HasParts, IsDigitText, IsFirstField}
 use Rattle.std.proofs.Common.{length-drop}
 use Rattle.std.proofs.lemmas.List.{take-append-drop, take_rest}
 use Rattle.std.proofs.lemmas.List.Elements.{All-from_recursion}
@@ -54,7 +54,7 @@ addr_written text a h = grind (arith, All-weaker, ipv4_written, ipv6_written, wi
 written_shown : (text : List ℕ) → All IsWrittenByte text → AreShown text
 written_shown text h = All-weaker IsWrittenByte (IsInRange 45 126) (λ b byte. grind arith) text h
 
-digits_shown : (text : List ℕ) → AllDigits 10 text → AreShown text
+pub digits_shown : (text : List ℕ) → AllDigits 10 text → AreShown text
 digits_shown text h = within 48 122 (lit≤ tt) (lit≤ tt) text (digits_are_bytes 122 (lit≤ tt) text h)
 
 -- an address, a slash and a length before a comma are the first field
@@ -75,10 +75,3 @@ prefix_first text after len left rest a n addr e digits f =
       shown = All-append (IsInRange 45 126) addr.front _ (written_shown _ written) bytes;
       writes = record { left = addr.front; right = digits.front; cut = cut; holds = parts };
     }
-
--- the first three fields of a line, and the fields after them
-pub usual_line : (line first second left : List ℕ) (asn : ℕ) (a : IpAddr) (n m count : ℕ) (v : MaxLenValue × ℕ)
-    → IsFirstField (λ field. IsAsnText field asn) line first → IsFirstField (λ field. HasParts field a n) first second
-    → IsAtFront IsDigitText second m left → EndsField left × AreFurther left count → IsVrpOf asn a n m v
-    → IsUsualLine line v count
-usual_line line first second left asn a n m count v front next digits further is = grind (arith, digits_shown, within)

@@ -3,7 +3,7 @@ use Rattle.roa_vrps.proofs.Common.{List, [], append_assoc, arith, false, inr, le
 use Rattle.roa_vrps.proofs.Common.{◌++◌, ◌+◌, ◌<◌, ◌∙◌, ◌∷◌, ◌≡◌, ◌≢◌, length-append, length-take, All-append, All-cons}
 use Rattle.roa_vrps.proofs.Common.{All-weaker, IsInRange, IsUtf8, All, after_first, before_first, count_by, trim, comma}
 use Rattle.roa_vrps.proofs.Common.{after_commas, field, is_comma, unquoted, IsHeader, IsRow, MaxLenValue, Names}
-use Rattle.roa_vrps.proofs.Common.{AreFurther, AreShown, EndsField, IsUsualLine, Columns, Vrp, trim_shown, IsAtFront}
+use Rattle.roa_vrps.proofs.Common.{AreFurther, AreShown, EndsField, AreVrpTexts, Columns, Vrp, trim_shown, IsAtFront}
 use Rattle.roa_vrps.proofs.Common.{IpAddr, IsAsnText, HasParts, IsDigitText, IsFirstField, IsVrpOf}
 use Rattle.std.proofs.Common.{IfSome, cond}
 use Rattle.std.proofs.lemmas.Bool.Decides.{nat_tests}
@@ -17,7 +17,7 @@ use Rattle.rpki_text.proofs.TrimLemmas.{trim_visible}
 use Rattle.roa_vrps.specs.Fields.{field_count}
 use Rattle.roa_vrps.specs.UsualRows.{AllowUsual}
 use Rattle.roa_vrps.specs.declared.columns.Column.TheVariants.{MaxLen}
-use Rattle.roa_vrps.proofs.UsualFieldLemmas.{usual_line}
+use Rattle.roa_vrps.proofs.UsualFieldLemmas.{digits_shown}
 
 -- a shown byte is no comma
 not_comma : (b : ℕ) → IsInRange 45 126 b → is_comma b ≡ false
@@ -111,45 +111,50 @@ ascii line h = grind (arith, All-weaker, IsAscii-from_all, IsUtf8-from_ascii)
 not_blank : (line : List ℕ) → AreVisible line → 0 < length line → trim line ≢ []
 not_blank line h some none = grind (arith, All-get_or, ascii, trim_visible)
 
-module _ (columns : Columns) (line : List ℕ) (vrp : MaxLenValue × ℕ) (count : ℕ) (h : IsUsualLine line vrp count) where
+module _ (columns : Columns) (line after_asn after_prefix more : List ℕ) (n : ℕ) (addr : IpAddr) (len max count : ℕ)
+    (asn : IsFirstField (λ field. IsAsnText field n) line after_asn)
+    (prefix : IsFirstField (λ field. HasParts field addr len) after_asn after_prefix)
+    (max_len : IsAtFront IsDigitText after_prefix max more) (further : EndsField more × AreFurther more count) where
+  split : line ≡ asn.field ++ comma ∷ (prefix.field ++ comma ∷ (max_len.front ++ more))
+  split = grind (arith, asn.split, prefix.split, max_len.split)
+
+  shown : AreShown max_len.front
+  shown = digits_shown max_len.front max_len.writes.digits
+
   visible : AreVisible line
   visible =
-      let last = All-append (IsInRange 44 126) h.max_len h.more (wider h.max_len h.max_len_shown) h.further.shown in
-      rw h.split (field_before h.asn _ h.asn_shown (field_before h.prefix _ h.prefix_shown last))
+      let last = All-append (IsInRange 44 126) max_len.front more (wider max_len.front shown) further.1.shown in
+      rw split (field_before asn.field _ asn.shown (field_before prefix.field _ prefix.shown last))
 
   -- the line is not empty
   some : 0 < length line
-  some = grind (arith, length-append)
+  some = grind (arith, length-append, split)
 
   -- the line has three fields and those that follow
   fields : field_count line ≡ count + 3
   fields =
-      let last = sum_by-append (λ b. cond (is_comma b) 1 0) h.max_len h.more in
-      rw (h.split, count_comma h.asn _ h.asn_shown, count_comma h.prefix _ h.prefix_shown)
-      (omega (arith, last, count_shown h.max_len h.max_len_shown, h.further.count))
+      let last = sum_by-append (λ b. cond (is_comma b) 1 0) max_len.front more in
+      rw (split, count_comma asn.field _ asn.shown, count_comma prefix.field _ prefix.shown)
+      (omega (arith, last, count_shown max_len.front shown, further.1.count))
 
-  first : field 0 line ≡ h.asn
-  first = grind (arith, first_field)
+  first : field 0 line ≡ asn.field
+  first = rw split (first_field asn.field _ asn.shown (inr (_, refl)))
 
-  second : field 1 line ≡ h.prefix
-  second =
-      rw h.split (next_field 0 h.asn _ h.asn_shown ∙ first_field h.prefix _ h.prefix_shown (inr (_, refl)))
+  second : field 1 line ≡ prefix.field
+  second = rw split (next_field 0 asn.field _ asn.shown ∙ first_field prefix.field _ prefix.shown (inr (_, refl)))
 
-  third : field 2 line ≡ h.max_len
+  third : field 2 line ≡ max_len.front
   third =
-      rw h.split
-      (next_field 1 h.asn _ h.asn_shown ∙ next_field 0 h.prefix _ h.prefix_shown
-      ∙ first_field h.max_len h.more h.max_len_shown h.ends)
+      rw split
+      (next_field 1 asn.field _ asn.shown ∙ next_field 0 prefix.field _ prefix.shown
+      ∙ first_field max_len.front more shown further.0)
+
+  texts : (vrp : MaxLenValue × ℕ) → IsVrpOf n addr len max vrp
+      → AreVrpTexts asn.field prefix.field max_len.front vrp.0 vrp.1
+  texts vrp is = grind (arith)
 
   -- so a line of the usual form is a VRP, where the columns allow it
-  pub usual_row : AllowUsual columns count → IsRow columns line (Vrp vrp)
-  usual_row allow = grind (arith, ascii, fields, first, no_header, not_blank, second, some, third, visible)
-
--- and so is what is found in it, if anything
-pub usual_found : (columns : Columns) (line first second left : List ℕ) (asn : ℕ) (a : IpAddr) (n m count : ℕ)
-    (r : Option (MaxLenValue × ℕ)) → IsFirstField (λ field. IsAsnText field asn) line first
-    → IsFirstField (λ field. HasParts field a n) first second → IsAtFront IsDigitText second m left
-    → EndsField left × AreFurther left count → AllowUsual columns count → IfSome r (IsVrpOf asn a n m)
-    → IfSome r (λ vrp. IsRow columns line (Vrp vrp))
-usual_found columns line first second left asn a n m count r front next digits further allow h =
-    grind (arith, usual_line line first second left asn a n m count, usual_row columns line)
+  pub usual_found : (r : Option (MaxLenValue × ℕ)) → AllowUsual columns count → IfSome r (IsVrpOf n addr len max)
+      → IfSome r (λ vrp. IsRow columns line (Vrp vrp))
+  usual_found r allow is =
+      grind (arith, ascii, fields, first, no_header, not_blank, second, some, texts, third, visible)

@@ -10,7 +10,6 @@ use Rattle.rpki_prefix.specs.Values.{IsPrefixOf}
 use Rattle.rpki_text.specs.Cuts.{is_comma}
 use Rattle.rpki_text.specs.Lists.{comma}
 use Rattle.rpki_text.specs.Numbers.{IsNumberText}
-use Rattle.roa_vrps.specs.Rows.{AreVrpTexts}
 use Rattle.roa_vrps.specs.declared.columns.Columns.{Columns}
 
 -- The bytes of a field of the usual form: visible ASCII characters from `-` on. None is a comma, a quote or a space.
@@ -37,20 +36,6 @@ EndsField text = (text ≡ []) ⊎ ((rest : List ℕ) × (text ≡ comma ∷ res
 pub record AreFurther (text : List ℕ) (fields : ℕ) : Type 0 where
   pub shown : All (IsInRange 44 126) text
   pub count : fields ≡ count_by is_comma text
-
--- the first three fields of a line denote the VRP, and this number of fields follows them
-pub record IsUsualLine (line : List ℕ) (vrp : MaxLenValue × ℕ) (fields : ℕ) : Type 0 where
-  pub asn : List ℕ
-  pub prefix : List ℕ
-  pub max_len : List ℕ
-  pub more : List ℕ
-  pub split : line ≡ asn ++ comma ∷ (prefix ++ comma ∷ (max_len ++ more))
-  pub asn_shown : AreShown asn
-  pub prefix_shown : AreShown prefix
-  pub max_len_shown : AreShown max_len
-  pub ends : EndsField more
-  pub further : AreFurther more fields
-  pub texts : AreVrpTexts asn prefix max_len vrp.0 vrp.1
 
 -- the VRP has this AS number, the prefix of this address and this length, and this maximum length
 pub record IsVrpOf (asn : ℕ) (addr : IpAddr) (len max_len : ℕ) (vrp : MaxLenValue × ℕ) : Type 0 where

@@ -36,25 +36,12 @@ matched_with word count octet =
     else (if octet == 10 then 0
     else (if nat_lt count (length word) && (slice_index word count == octet) then count + 1 else length word + 1))
 
--- the state before any octet
-abbrev pub seen_nothing : Seen
-seen_nothing = record { error = 0; refused = 0 }
+-- the number of matched octets after more octets
+abbrev pub matched_after : List ℕ → ℕ → List ℕ → ℕ
+matched_after word count [] = count
+matched_after word count (octet ∷ octets) = matched_after word (matched_with word count octet) octets
 
--- the state after more octets
-abbrev pub seen_after : Seen → List ℕ → Seen
-seen_after seen [] = seen
-seen_after seen (octet ∷ octets) =
-    seen_after
-    (record {
-      error = matched_with error_word seen.error octet;
-      refused = matched_with refused_word seen.refused octet;
-    })
-    octets
-
--- whether two states are equal
-abbrev pub is_same : Seen → Seen → Bool
-is_same a b = a.error == b.error && a.refused == b.refused
-
--- whether a line has matched a word
-abbrev pub has_matched : Seen → Bool
-has_matched seen = seen.error == length error_word || seen.refused == length refused_word
+-- whether the state is the one after the octets
+abbrev pub is_after : List ℕ → Seen → Bool
+is_after octets seen =
+    seen.error == matched_after error_word 0 octets && seen.refused == matched_after refused_word 0 octets

@@ -1,6 +1,6 @@
 //! Finds errors and refusals in written answers.
-ghost use Rattle.std.specs.Prelude.{◌≡◌, ◌<◌, length};
-ghost use Rattle.respath_places.specs.Checks.{HasFaultLine, has_matched, is_same, matched_with, seen_after, seen_nothing};
+ghost use Rattle.std.specs.Prelude.{◌≡◌, ◌<◌, [], length, true};
+ghost use Rattle.respath_places.specs.Checks.{HasFaultLine, is_after, matched_with};
 
 use lines_engine::watched::Watch;
 
@@ -40,24 +40,17 @@ fn matched_with(word: &[u8], count: usize, byte: u8) -> usize
 impl Seen {
     /// Returns the state before any byte.
     pub fn nothing() -> Seen
-        ensures { result ≡ seen_nothing }
+        ensures { is_after [] result ≡ true }
     {
         Seen {
             error: 0,
             refused: 0,
         }
     }
-
-    /// Returns whether a line has matched a word.
-    fn has_matched(self) -> bool
-        ensures { result ≡ has_matched self }
-    {
-        self.error == ERROR.len() || self.refused == REFUSED.len()
-    }
 }
 
 impl Watch for Seen {
-    ghost sees = { λ seen bytes. is_same (seen_after seen_nothing bytes) seen };
+    ghost sees = { λ seen bytes. is_after bytes seen };
 
     ghost is_found = { λ _. HasFaultLine };
 
@@ -70,6 +63,6 @@ impl Watch for Seen {
 
     #[tactic(auto, using(crate::proofs::CheckLemmas::seen_found))]
     fn has_found(self) -> bool {
-        self.has_matched()
+        (self.error == ERROR.len()) | (self.refused == REFUSED.len())
     }
 }

@@ -171,13 +171,13 @@ impl Block for AsBlock {
     }
 
     fn bounds(&self) -> (Asn, Asn) {
-        match self {
-            AsBlock::Id(asn) => {
-                asn.recall_invariant();
-                (*asn, *asn)
-            }
-            AsBlock::Range(range) => range.bounds(),
-        }
+        // A branch on the kind would follow no pattern, so the kind selects only where the bounds are read.
+        let (min, max) = match self {
+            AsBlock::Id(asn) => (asn, asn),
+            AsBlock::Range(range) => range.as_bounds(),
+        };
+        max.recall_invariant();
+        (*min, *max)
     }
 }
 

@@ -68,6 +68,15 @@ impl AsRange {
         self.max
     }
 
+    /// Returns references to the least and to the greatest number.
+    pub(crate) fn as_bounds(&self) -> (&Asn, &Asn)
+        ensures min { result.0.now ≡ self.now.min }
+        ensures max { result.1.now ≡ self.now.max }
+        ensures in_order { self.now.min ≤ self.now.max }
+    {
+        (&self.min, &self.max)
+    }
+
     /// Returns the count of the range's numbers, 1 to 2^32.
     #[tactic(auto, using(crate::proofs::IntervalNumberLemmas::interval_size))]
     pub fn asn_count(self) -> u64

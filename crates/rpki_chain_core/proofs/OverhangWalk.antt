@@ -176,6 +176,11 @@ nothing_ends f xs ys none ends n c =
     let e = ends c.0 c.1 c.2 in
     absurd (omega (arith, ap length none, e.2))
 
+-- the blocks behind the first one begin with the next one
+pub next_one : {B : Type 0} (xs more : List B) (y : B) → more ≡ drop 1 xs → 0 < length more → y ≡ get_or more 0 y
+    → drop 1 xs ≡ y ∷ drop 1 more
+next_one xs more y is some first = grind (arith, drop_more more 0 y)
+
 -- the walk holds a block of the other chain, and all blocks of that before it end before the next block of `xs` does
 pub record Reaching {B I : Type 0} (f : B → ℕ × ℕ) (form : ℕ × ℕ → B) (number : I → ℕ) (last : ℕ) (xs ys : List B)
     (i : ℕ) (c : I × I) (rest : List B) : Type 0 where
@@ -211,12 +216,12 @@ module _ {B I : Type 0} {f : B → ℕ × ℕ} {form : ℕ × ℕ → B} {number
       grind (arith, drop_more ys (length ys - length rest) y, get_or_default)
 
   -- there is one behind it, if the other chain ends no earlier than xs
-  pub reaching_more : EndsWithin f xs ys → number c.1 < number b.1 → length rest ≡ 0 → ⊥
-  reaching_more ends less none =
+  pub reaching_more : EndsWithin f xs ys → number c.1 < number b.1 → 0 < length rest
+  reaching_more ends less =
       let x = (element_at xs i own.0).0 in
       let e = ends i x own.0 in
       let more = w.more in
-      let ended = reaching_ended less e.0 x x (omega (arith, e.2)) own.0 in
+      let ended = reaching_ended less e.0 x x in
       grind (arith, get_or_default)
 
   -- it has the next one of xs

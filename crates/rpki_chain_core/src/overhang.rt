@@ -161,26 +161,23 @@ fn overhang_within<T: Block>(own: &[T], other: &[T]) -> Option<Overhang<T::Item>
     ensures { MatchOption result (IsInside T.bounds own.now other.now)
         (IsOverhang T.bounds T.number T.first T.last own.now other.now) }
 {
-    let mut others = other.iter();
-    let Some(first) = others.next() else {
+    if other.is_empty() {
         return None;
-    };
-    let mut held = first.bounds();
-    // The blocks that were passed lie in the other chain. The other's blocks before `held` end before the current block
+    }
+    // The blocks that were passed lie in the other chain. The other's blocks before `others` end before the current block
     // does. So the first of the other's blocks that doesn't end before the current block does must contain it. There is
-    // such a block, so no iteration tests for the end of the other chain.
+    // such a block, so no iteration tests for the end of the other chain. `held` are the bounds of the first of `others`.
+    let mut others = other;
+    let mut held = others[0].bounds();
     let mut owns = own.iter();
     while let Some(block) = owns.next() {
         let (min, max) = block.bounds();
         while held.1 < max {
-            let Some(next) = others.next() else {
-                unreachable!()
-            };
-            held = next.bounds();
+            others = others.split_at(1).1;
+            held = others[0].bounds();
         }
         if min < held.0 {
-            let end = other.len() - others.as_slice().len() - 1;
-            let (other_at, reached) = reached_back_from(other, end, min);
+            let (other_at, reached) = reached_back_from(other, other.len() - others.len(), min);
             return Some(Overhang {
                 own_at: own.len() - owns.as_slice().len() - 1,
                 min,

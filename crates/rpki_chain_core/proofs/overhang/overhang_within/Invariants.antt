@@ -1,5 +1,5 @@
 -- What was passed of the one chain lies in the other; a turn within takes a block off the rest of the other.
-use Rattle.rpki_chain_core.proofs.Common.{Some, length, HoldsBlock, ◌-◌}
+use Rattle.rpki_chain_core.proofs.Common.{Some, drop, length, HoldsBlock, ◌-◌, ◌<◌}
 use Rattle.rpki_chain_core.proofs.OverhangWalk.{Reaching, Rest}
 use Rattle.rpki_chain_core.proofs.overhang.overhang_within.Given as goal
 
@@ -7,17 +7,19 @@ abbrev pub invariant-loop-held : goal.invariant-loop-held
 invariant-loop-held g l = record {
   own : HoldsBlock g.T.Block.bounds g.T.Block.number g.T.Block.last l.own (length l.own - length l.owns.rest.now - 1)
       (Some (l.min, l.max));
+  some : 0 < length l.others;
   reaching : Reaching g.T.Block.bounds g.T.Block.form g.T.Block.number g.T.Block.last l.own l.other
-      (length l.own - length l.owns.rest.now - 1) l.held l.others.rest.now;
+      (length l.own - length l.owns.rest.now - 1) l.held (drop 1 l.others);
 }
 
 abbrev pub decreases-loop-held : goal.decreases-loop-held
-decreases-loop-held g l = length l.others.rest.now
+decreases-loop-held g l = length l.others
 
 abbrev pub invariant-loop-block : goal.invariant-loop-block
 invariant-loop-block g l = record {
   iterates : (goal.iterator-loop-block g).can_next l.owns × (goal.iterator-loop-block g).is_finite l.owns;
   rest : Rest l.own l.owns.rest.now;
+  some : 0 < length l.others;
   reaching : Reaching g.T.Block.bounds g.T.Block.form g.T.Block.number g.T.Block.last l.own l.other
-      (length l.own - length l.owns.rest.now) l.held l.others.rest.now;
+      (length l.own - length l.owns.rest.now) l.held (drop 1 l.others);
 }

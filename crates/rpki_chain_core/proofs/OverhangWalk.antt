@@ -106,12 +106,12 @@ pub record Rest {B : Type 0} (xs rest : List B) : Type 0 where
 pub rest_start : {B : Type 0} {xs rest : List B} → rest ≡ xs → Rest xs rest
 rest_start is = grind (arith)
 
--- the first block of the rest has the index that the lengths give, and the blocks after it are a rest too
-pub rest_next : {B : Type 0} {xs rest more : List B} {x : B} → Rest xs rest → rest ≡ x ∷ more
-    → (length xs - length rest < length xs) × (x ≡ get_or xs (length xs - length rest) x) × Rest xs more
-    × (length xs - length rest ≡ length xs - length more - 1)
-    × (length xs - length more - 1 + 1 ≡ length xs - length more)
-rest_next {xs = xs} {rest = rest} {x = x} h is = grind (arith, drop_more xs (length xs - length rest) x, get_or_default)
+-- so are the blocks behind its first one
+pub rest_more : {B : Type 0} {xs rest more : List B} → Rest xs rest → 0 < length rest → more ≡ drop 1 rest
+    → Rest xs more × (length xs - length rest + 1 ≡ length xs - length more)
+rest_more {xs = xs} {rest = rest} h some is =
+    let x = (element_at rest 0 some).0 in
+    grind (arith, drop_more xs (length xs - length rest) x)
 
 -- the walk over two lists holds a block of the other one, and has the rest behind it still to come
 pub record Passing {B I : Type 0} (f : B → ℕ × ℕ) (form : ℕ × ℕ → B) (number : I → ℕ) (last : ℕ) (xs ys : List B)

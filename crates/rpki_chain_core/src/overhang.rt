@@ -164,14 +164,15 @@ fn overhang_within<T: Block>(own: &[T], other: &[T]) -> Option<Overhang<T::Item>
     if other.is_empty() {
         return None;
     }
-    // The blocks that were passed lie in the other chain. The other's blocks before `others` end before the current block
-    // does. So the first of the other's blocks that doesn't end before the current block does must contain it. There is
-    // such a block, so no iteration tests for the end of the other chain. `held` are the bounds of the first of `others`.
+    // `owns` begins with the current block, and `others` with the block whose bounds are held. The blocks before `owns`
+    // lie in the other chain. The other's blocks before `others` end before the current block does. So the first of the
+    // other's blocks that doesn't end before the current block does must contain it. There is such a block, so no
+    // iteration tests for the end of the other chain.
+    let mut owns = own;
     let mut others = other;
     let mut held = others[0].bounds();
-    let mut owns = own.iter();
-    while let Some(block) = owns.next() {
-        let (min, max) = block.bounds();
+    while !owns.is_empty() {
+        let (min, max) = owns[0].bounds();
         while held.1 < max {
             others = others.split_at(1).1;
             held = others[0].bounds();
@@ -179,13 +180,14 @@ fn overhang_within<T: Block>(own: &[T], other: &[T]) -> Option<Overhang<T::Item>
         if min < held.0 {
             let (other_at, reached) = reached_back_from(other, other.len() - others.len(), min);
             return Some(Overhang {
-                own_at: own.len() - owns.as_slice().len() - 1,
+                own_at: own.len() - owns.len(),
                 min,
                 max,
                 other_at,
                 other: Some(reached),
             });
         }
+        owns = owns.split_at(1).1;
     }
     None
 }

@@ -5,21 +5,23 @@ use Rattle.rpki_chain_core.proofs.overhang.overhang_within.Given as goal
 
 abbrev pub invariant-loop-held : goal.invariant-loop-held
 invariant-loop-held g l = record {
-  own : HoldsBlock g.T.Block.bounds g.T.Block.number g.T.Block.last l.own (length l.own - length l.owns.rest.now - 1)
+  own : HoldsBlock g.T.Block.bounds g.T.Block.number g.T.Block.last l.own (length l.own - length l.owns)
       (Some (l.min, l.max));
   some : 0 < length l.others;
   reaching : Reaching g.T.Block.bounds g.T.Block.form g.T.Block.number g.T.Block.last l.own l.other
-      (length l.own - length l.owns.rest.now - 1) l.held (drop 1 l.others);
+      (length l.own - length l.owns) l.held (drop 1 l.others);
 }
 
 abbrev pub decreases-loop-held : goal.decreases-loop-held
 decreases-loop-held g l = length l.others
 
-abbrev pub invariant-loop-block : goal.invariant-loop-block
-invariant-loop-block g l = record {
-  iterates : (goal.iterator-loop-block g).can_next l.owns × (goal.iterator-loop-block g).is_finite l.owns;
-  rest : Rest l.own l.owns.rest.now;
+abbrev pub invariant-loop-owns : goal.invariant-loop-owns
+invariant-loop-owns g l = record {
+  rest : Rest l.own l.owns;
   some : 0 < length l.others;
   reaching : Reaching g.T.Block.bounds g.T.Block.form g.T.Block.number g.T.Block.last l.own l.other
-      (length l.own - length l.owns.rest.now) l.held (drop 1 l.others);
+      (length l.own - length l.owns) l.held (drop 1 l.others);
 }
+
+abbrev pub decreases-loop-owns : goal.decreases-loop-owns
+decreases-loop-owns g l = length l.owns

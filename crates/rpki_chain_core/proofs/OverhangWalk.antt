@@ -97,22 +97,6 @@ pub held_at : {B I : Type 0} (f : B → ℕ × ℕ) (number : I → ℕ) (last :
     → HoldsBlock f number last xs i (Some b)
 held_at f number last xs i x b lt is low high to = grind (arith, get_or_default)
 
--- a list is the rest of another
-pub record Rest {B : Type 0} (xs rest : List B) : Type 0 where
-  pub few : length rest ≤ length xs
-  pub behind : drop (length xs - length rest) xs ≡ rest
-
--- a list is the rest of itself
-pub rest_start : {B : Type 0} {xs rest : List B} → rest ≡ xs → Rest xs rest
-rest_start is = grind (arith)
-
--- so are the blocks behind its first one
-pub rest_more : {B : Type 0} {xs rest more : List B} → Rest xs rest → 0 < length rest → more ≡ drop 1 rest
-    → Rest xs more × (length xs - length rest + 1 ≡ length xs - length more)
-rest_more {xs = xs} {rest = rest} h some is =
-    let x = (element_at rest 0 some).0 in
-    grind (arith, drop_more xs (length xs - length rest) x)
-
 -- the walk over two lists holds a block of the other one, and has the rest behind it still to come
 pub record Passing {B I : Type 0} (f : B → ℕ × ℕ) (form : ℕ × ℕ → B) (number : I → ℕ) (last : ℕ) (xs ys : List B)
     (i : ℕ) (c : I × I) (rest : List B) : Type 0 where

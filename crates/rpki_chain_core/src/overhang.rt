@@ -171,7 +171,7 @@ fn overhang_within<T: Block>(own: &[T], other: &[T]) -> Option<Overhang<T::Item>
     let mut owns = own;
     let mut others = other;
     let mut held = others[0].bounds();
-    while !owns.is_empty() {
+    for own_at in 0..own.len() {
         let (min, max) = owns[0].bounds();
         while held.1 < max {
             others = others.split_at(1).1;
@@ -180,7 +180,7 @@ fn overhang_within<T: Block>(own: &[T], other: &[T]) -> Option<Overhang<T::Item>
         if min < held.0 {
             let (other_at, reached) = reached_back_from(other, other.len() - others.len(), min);
             return Some(Overhang {
-                own_at: own.len() - owns.len(),
+                own_at,
                 min,
                 max,
                 other_at,

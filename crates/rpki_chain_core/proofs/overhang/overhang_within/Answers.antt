@@ -1,7 +1,8 @@
 -- Each turn passes a block of the one chain that the held block of the other has, or holds the next one.
-use Rattle.rpki_chain_core.proofs.Common.{arith, length, nat_tests, ◌<◌}
+use Rattle.rpki_chain_core.proofs.Common.{ap, arith, drop, length, nat_tests, ◌<◌, ◌∙◌}
+use Rattle.std.proofs.lemmas.List.{drop-drop}
 use Rattle.rpki_chain_core.proofs.OverhangWalk.{next_one, passed_all, reaching_fit, reaching_leaves, reaching_more}
-use Rattle.rpki_chain_core.proofs.OverhangWalk.{reaching_skip, rest_more}
+use Rattle.rpki_chain_core.proofs.OverhangWalk.{reaching_skip}
 use Rattle.rpki_chain_core.proofs.overhang.overhang_within.Goals as goal
 
 pub bounds-others-0-in-loop-held : goal.bounds-others-0-in-loop-held
@@ -35,19 +36,16 @@ returns-then-lt g c =
     (grind (arith, nat_tests, g.met.T.Block.in_order, g.met.T.Item.Ord.matches_partial_cmp))
     (grind (arith, nat_tests, g.met.T.Block.in_order, g.met.T.Item.Ord.matches_partial_cmp)) back.block back.passed
 
-pub loop-owns-preserved : goal.loop-owns-preserved
-loop-owns-preserved g c =
+pub loop-own_at-preserved : goal.loop-own_at-preserved
+loop-own_at-preserved g c =
     let inv = c.loop-held.invariant in
-    let back = c.split_at-in-loop-owns.ensures in
-    let next = rest_more c.loop-owns.invariant.rest (grind (arith, back.back_len)) back.back in
     record {
-      rest = next.0;
+      rest = c.split_at-in-loop-own_at.ensures.back ∙ ap (drop 1) c.loop-own_at.invariant.rest
+          ∙ drop-drop 1 c.loop-own_at.own_at c.args.own.now;
       some = inv.some;
-      reaching = rw (← next.1) (reaching_fit inv.reaching _ inv.own
-          (grind (arith, nat_tests, g.met.T.Block.in_order, g.met.T.Item.Ord.matches_partial_cmp)));
+      reaching = reaching_fit inv.reaching _ inv.own
+          (grind (arith, nat_tests, g.met.T.Block.in_order, g.met.T.Item.Ord.matches_partial_cmp));
     }
 
 pub returns : goal.returns
-returns g c =
-    let inv = c.loop-owns.invariant in
-    passed_all inv.reaching.walk (grind (arith, inv.rest.few, c.loop-owns-test.ensures))
+returns g c = passed_all c.loop-own_at.invariant.reaching.walk c.loop-own_at-test.false

@@ -7,8 +7,10 @@ pub mod ReturnedVrps
 pub mod RouteChanges
 pub mod RouteTexts
 pub mod Routes
+pub mod SeveralTables
 pub mod TableChanges
 pub mod Tables
+pub mod UnexpiredFiles
 pub mod Validities
 pub mod VrpFiles
 pub mod Written

@@ -21,7 +21,7 @@ pub(crate) fn vrp_fault_number(fault: VrpFault) -> u32
 }
 
 /// Returns the number of the fault of a member, from 1.
-fn member_fault_number(fault: MemberFault) -> u32
+pub(crate) fn member_fault_number(fault: MemberFault) -> u32
     ensures { result ≡ member_fault_number fault }
 {
     match fault {

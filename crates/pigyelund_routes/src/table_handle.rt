@@ -117,4 +117,16 @@ impl TableRef {
         }
         unsafe { Some(&*at) }
     }
+
+    /// Returns the table of a handle that stays, or `None` if the handle is null.
+    pub fn lent(&self) -> Option<&OriginTable<Global>>
+        ensures { MatchOption result (self.now.at ≡ null_ptr)
+            (λ table. (table.now ≡ self.now.vrps) × InBlock self.now.at) }
+    {
+        let at = self.at as *const OriginTable<Global>;
+        if at.is_null() {
+            return None;
+        }
+        unsafe { Some(&*at) }
+    }
 }

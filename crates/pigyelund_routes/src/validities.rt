@@ -15,7 +15,7 @@ use rpki_text::memory::OrMemory;
 use std::alloc::Global;
 
 /// Writes a validity to `octets[at]`, and its reason to `reasons[at]` if `reasons` is long enough.
-fn put_found(found: ValidityAndAsn, at: usize, octets: &mut [u8], reasons: &mut [u8])
+pub(crate) fn put_found(found: ValidityAndAsn, at: usize, octets: &mut [u8], reasons: &mut [u8])
     requires { at < length octets.old }
     ensures octets { octets.new ≡ slice_set octets.old at (validity_number found.validity) }
     ensures reasons { reasons.new ≡ slice_set reasons.old at

@@ -1,5 +1,6 @@
 //! The exports of the VRPs of a validator's file, and of the routes of lines.
 ghost use Rattle.pigyelund_routes.specs.RouteTexts.{AreLineRoutesReturned};
+ghost use Rattle.pigyelund_routes.specs.UnexpiredFiles.{AreUnexpiredReturned};
 ghost use Rattle.pigyelund_routes.specs.VrpFiles.{AreFileVrpsReturned};
 
 use pigyelund_routes::file::file_vrps;
@@ -7,6 +8,7 @@ use pigyelund_routes::file_fault::{file_fault_line, file_fault_status};
 use pigyelund_routes::lines::line_routes;
 use pigyelund_routes::route::{RawVrp, Route};
 use pigyelund_routes::status;
+use pigyelund_routes::unexpired::{expiry_fault_line, expiry_fault_status, unexpired_vrps};
 use pigyelund_routes::write::write_items;
 use rpki_resources::OrMemory;
 use std::alloc::Global;
@@ -79,6 +81,54 @@ pub extern "C" fn pigy_routes_read(
         Err(OrMemory::Refused(first)) => {
             *line = first.number;
             first.status()
+        }
+        Err(OrMemory::Memory(_)) => status::MEMORY,
+    }
+}
+
+/// Lists the VRPs of a validator's file that have not expired, in the order of the file. The file is read as
+/// `pigy_vrps_read` reads it.
+///
+/// `time` is in seconds since 1970-01-01 UTC. The expiry of a VRP is a whole number of seconds since then: the member
+/// `expires` of its item in JSON, or the field in the column `Expires` in CSV. A VRP has expired if its expiry is
+/// before `time`. A VRP without this member or field, or with an empty field, does not expire.
+///
+/// `len` receives the length, written or required, in VRPs. It is 0 if all VRPs have expired. `expired` receives the
+/// number of VRPs that have expired. `line` receives the number of the first invalid line or item, counted from 1, and
+/// 0 otherwise.
+///
+/// Returns the first status that applies:
+///
+/// - The errors of `pigy_vrps_read`.
+/// - `PIGY_BAD_LINE` + 20: the first line of CSV with an invalid expiry. `PIGY_BAD_ITEM` + n with n from 18 to 20: the
+///   first item of `roas` with an invalid expiry.
+/// - `PIGY_TOO_SMALL`, then `PIGY_OK`.
+///
+/// The call can return `PIGY_MEMORY` instead of any other status. `len` and `expired` are 0 for an error other than
+/// `PIGY_TOO_SMALL`. For any error `out` is unchanged.
+#[unsafe(no_mangle)]
+pub extern "C" fn pigy_vrps_read_unexpired(
+    alloc: Global,
+    file: &[u8],
+    time: u64,
+    out: &mut [RawVrp],
+    len: &mut usize,
+    expired: &mut usize,
+    line: &mut usize,
+) -> u32
+    ensures { AreUnexpiredReturned file.now time out.old out.new len.new expired.new line.new result }
+{
+    *len = 0;
+    *expired = 0;
+    *line = 0;
+    match unexpired_vrps(alloc, file, time) {
+        Ok(found) => {
+            *expired = found.expired;
+            write_items(found.vrps.as_slice(), out, len)
+        }
+        Err(OrMemory::Refused(fault)) => {
+            *line = expiry_fault_line(fault);
+            expiry_fault_status(fault)
         }
         Err(OrMemory::Memory(_)) => status::MEMORY,
     }

@@ -1,6 +1,7 @@
 //! The exports on tables of VRPs.
 ghost use Rattle.pigyelund_routes.specs.Reasons.{IsValidatedReturned};
 ghost use Rattle.pigyelund_routes.specs.RouteChanges.{AreRouteChangesReturned};
+ghost use Rattle.pigyelund_routes.specs.SeveralTables.{AreOriginsByTablesReturned};
 ghost use Rattle.pigyelund_routes.specs.TableChanges.{AreTableChangesReturned};
 ghost use Rattle.pigyelund_routes.specs.Tables.{AreCoveringsReturned, AreVrpsReturned, IsChangedTableReturned, IsCountReturned, IsMadeTableReturned};
 ghost use Rattle.pigyelund_routes.specs.Validities.{AreTableOriginsReturned};
@@ -8,6 +9,7 @@ ghost use Rattle.pigyelund_routes.specs.Validities.{AreTableOriginsReturned};
 use pigyelund_routes::change::changed_table;
 use pigyelund_routes::route::{Covering, RawVrp, Route};
 use pigyelund_routes::route_changes::route_changes;
+use pigyelund_routes::several_tables::validate_by_tables;
 use pigyelund_routes::status;
 use pigyelund_routes::table::{all_vrps, coverings, made_table};
 use pigyelund_routes::table_changes::write_changes;
@@ -125,6 +127,36 @@ pub extern "C" fn pigy_table_validate_routes(
         return status::NO_HANDLE;
     };
     validate_routes(table, routes, out, reasons, len, index)
+}
+
+/// Validates routes by several tables at once, as `pigy_table_validate_routes` does by one.
+///
+/// The validity of a route is that by the VRPs of all tables together (RFC 6811, 2). So a route is valid if it is valid
+/// by one of them, and not found if it is not found by each. Without a table no route is found. `index` receives the
+/// index of the first null handle, or else of the first invalid route, counted from 0, and 0 otherwise. The call
+/// allocates nothing.
+///
+/// Returns the first status that applies:
+///
+/// - `PIGY_NO_HANDLE`: a handle in `tables` is null.
+/// - `PIGY_SECOND` + `PIGY_BAD_FAMILY`, `PIGY_SECOND` + `PIGY_BAD_PREFIX`: the first invalid route.
+/// - `PIGY_TOO_SMALL`: `out` is too small, or `reasons` is too small and not empty.
+/// - `PIGY_OK`.
+///
+/// `len` is 0 for an error other than `PIGY_TOO_SMALL`. For any error `out` and `reasons` are unchanged.
+#[unsafe(no_mangle)]
+pub extern "C" fn pigy_tables_validate_routes(
+    tables: &[TableRef],
+    routes: &[Route],
+    out: &mut [u8],
+    reasons: &mut [u8],
+    len: &mut usize,
+    index: &mut usize,
+) -> u32
+    ensures { AreOriginsByTablesReturned tables.now routes.now out.old out.new reasons.old reasons.new
+        len.new index.new result }
+{
+    validate_by_tables(tables, routes, out, reasons, len, index)
 }
 
 /// Makes the next table: `table` without the withdrawn VRPs, and then with the announced ones (RFC 8210, 5.3).

@@ -17,6 +17,7 @@ HEADER, MADE = HERE / "pigyelund.h", HERE / "python" / "src" / "pigyelund" / "_b
 TYPES = {
     "uint8_t": "c_uint8",
     "uint32_t": "c_uint32",
+    "uint64_t": "c_uint64",
     "size_t": "c_size_t",
     "const char *": "c_char_p",
     "char *": "c_char_p",
@@ -28,7 +29,7 @@ TYPES = {
 FORMATS = {"c_uint8": "B", "c_uint32": "I", "c_size_t": "N"}
 HEAD = '''"""The numbers, structs and calls of foreign/pigyelund.h. foreign/bindings.py makes this file."""
 
-from ctypes import POINTER, Array, Structure, c_char_p, c_size_t, c_uint8, c_uint32, c_void_p
+from ctypes import POINTER, Array, Structure, c_char_p, c_size_t, c_uint8, c_uint32, c_uint64, c_void_p
 from enum import IntEnum
 '''
 
@@ -92,7 +93,7 @@ def format_of(kind: str) -> str:
 
 def type_of(text: str) -> str:
     """Returns the type of a parameter or of a result for ctypes."""
-    text = text.strip()
+    text = re.sub(r"\*const$", "*", text.strip())
     plain = text.removeprefix("const ")
     known = TYPES.get(text) or TYPES.get(plain)
     if known:

@@ -6,8 +6,8 @@
  * - Resource sets. The calls pigy_resources_... use a handle of a set that is read once. The other calls on sets take
  *   DER: pigy_union, pigy_contains, pigy_prefixes and more.
  * - Route origins. The calls pigy_table_... use a handle of a table of VRPs (validated ROA payloads). pigy_vrps_read
- *   reads the VRPs of a validator's file, and pigy_routes_read the routes of lines. pigy_validate validates routes by
- *   VRPs without a handle.
+ *   reads the VRPs of a validator's file, and pigy_vrps_read_unexpired leaves out those that have expired.
+ *   pigy_routes_read reads the routes of lines. pigy_validate validates routes by VRPs without a handle.
  *
  * Example: does a certificate claim more than its issuer has?
  *
@@ -28,8 +28,9 @@
  *
  * RESULTS. Each call that can fail returns a status. Compare it with PIGY_OK. With any other status the call stores:
  *
- * - 0 in an answer, an index and a length. A length is not 0 after PIGY_TOO_SMALL and for overclaimed resources. An
- *   index is that of the item at fault if the comment of the call says so;
+ * - 0 in an answer, an index, a length and a number of expired VRPs. A length is not 0 for overclaimed resources. With
+ *   PIGY_TOO_SMALL the lengths and the number of expired VRPs are those of the result. An index is that of the item at
+ *   fault if the comment of the call says so;
  * - PIGY_NO_VALIDITY in a single validity;
  * - NULL in a handle. The handle of overclaimed resources is not NULL if the status is one of PIGY_OVERCLAIM;
  * - 0 in each member of a VRP or a route that is read from its text.
@@ -71,9 +72,10 @@
  * it takes from malloc before it returns. There is no hook for another allocator.
  *
  * - These calls take no memory: pigy_version, pigy_status_text, pigy_table_validate, pigy_table_validate_routes,
- *   pigy_table_revalidate, pigy_table_len, pigy_resources_contains, pigy_resources_contains_asn,
- *   pigy_resources_contains_prefix, pigy_resources_equal, pigy_resources_free, pigy_table_free, pigy_vrp_from_text,
- *   pigy_vrp_text, pigy_route_from_text and pigy_route_text. Any other call may return PIGY_MEMORY.
+ *   pigy_tables_validate_routes, pigy_table_revalidate, pigy_table_len, pigy_resources_contains,
+ *   pigy_resources_contains_asn, pigy_resources_contains_prefix, pigy_resources_equal, pigy_resources_free,
+ *   pigy_table_free, pigy_vrp_from_text, pigy_vrp_text, pigy_route_from_text and pigy_route_text. Any other call may
+ *   return PIGY_MEMORY.
  * - A table of 500,000 VRPs takes some 42 octets for each VRP. pigy_table_new takes some 80 more for each VRP
  *   during the call.
  * - PIGY_MEMORY has three causes. malloc or realloc failed, or an array of the library would have 2^63 octets or more,
@@ -108,9 +110,9 @@
  *   block is a multiple of 16, 8, 4 or 2 octets, its address is a multiple of the same number. Another allocator has to
  *   meet the rule too.
  * - The processor has the instructions of x86-64-v2: SSE3, SSSE3, SSE4.1, SSE4.2, POPCNT, CMPXCHG16B, LAHF and SAHF.
- * - The stack has 128 KiB left for pigy_vrps_read, and 16 KiB for each other call. In the tests pigy_vrps_read uses
- *   less than 64 KiB for the deepest JSON that it reads, and each other call less than 8 KiB. This is measured on
- *   x86-64, and is not proved.
+ * - The stack has 128 KiB left for each call that reads JSON, and 16 KiB for each other call. In the tests a call that
+ *   reads JSON uses less than 64 KiB for the deepest JSON that it reads, and each other call less than 8 KiB. This is
+ *   measured on x86-64, and is not proved. pigy_vrps_read and pigy_vrps_read_unexpired read JSON.
  * - No call is made in a signal handler, or in the forked child of a process with threads.
  *
  * THREADS. The calls share no state. Any number of them may run at the same time if each meets the obligations. Several
@@ -241,8 +243,8 @@ PIGY_ENUM {
  * - 13: There is no address family (RFC 6487, 4.8.10).
  * - 14: The encoding is not canonical. Only PIGY_STRICT returns this.
  *
- * PIGY_BAD_LINE + n with n from 1 to 7, PIGY_BAD_ITEM + n with n from 4 to 16. The text of a VRP has no number of
- * fields, so n is 1 or from 4 to 7:
+ * PIGY_BAD_LINE + n with n from 1 to 7 or n = 20, PIGY_BAD_ITEM + n with n from 4 to 16 or from 18 to 20. The text of a
+ * VRP has no number of fields, so n is 1 or from 4 to 7:
  *
  * - 1: The line is not UTF-8.
  * - 2: The line has more fields than the line that names the columns.
@@ -254,6 +256,8 @@ PIGY_ENUM {
  * - 8, 9, 10: The member asn is missing, is repeated, or is neither a number nor a string.
  * - 11, 12, 13: The member prefix is missing, is repeated, or is not a string.
  * - 14, 15, 16: The member maxLength is missing, is repeated, or is not a number.
+ * - 18, 19: The member expires is repeated, or is not a number. Only pigy_vrps_read_unexpired returns 18 to 20.
+ * - 20: The expiry is not a whole number below 2^64.
  *
  * PIGY_BAD_FILE + n:
  *
@@ -1114,6 +1118,33 @@ pigy_status pigy_vrps_read(const uint8_t *file, size_t file_len, pigy_vrp *out, 
                            size_t *line) PIGY_NODISCARD PIGY_NONNULL(5, 6);
 
 /**
+ * Reads the VRPs of a validator's file that have not expired. They are in the order of the file. pigy_vrps_read
+ * describes the file.
+ *
+ * The expiry of a VRP is the last second at which it is valid: a whole number of seconds since 1970-01-01 UTC. In JSON
+ * it is the member expires of the item, a number. In CSV it is the field in the column Expires. A VRP without this
+ * member or field, or with an empty field, does not expire.
+ *
+ * @param file      The octets of the whole file. May be NULL if the length is 0.
+ * @param file_len  Length in octets; may be 0.
+ * @param time      Time in seconds since 1970-01-01 UTC. A VRP has expired if its expiry is before this time.
+ * @param out       Buffer for the VRPs. Owned by the caller. May be NULL if the capacity is 0.
+ * @param capacity  Capacity of `out` in VRPs, not in octets; may be 0. file_len / 8 + 1 always suffices.
+ * @param len       Receives the number of VRPs that have not expired, written or required. It is 0 if all VRPs have
+ *                  expired. Not NULL.
+ * @param expired   Receives the number of VRPs that have expired; 0 with any error except PIGY_TOO_SMALL. Not NULL.
+ * @param line      Receives the number of the first invalid line of CSV or item of JSON, from 1; else 0. Not NULL.
+ *
+ * @return the first of these that applies:
+ *   1. The errors 1 to 3 of pigy_vrps_read.
+ *   2. PIGY_BAD_LINE + 20, PIGY_BAD_ITEM + n with n from 18 to 20: the first line or item with an invalid expiry.
+ *   3. PIGY_TOO_SMALL, then PIGY_OK.
+ */
+pigy_status pigy_vrps_read_unexpired(const uint8_t *file, size_t file_len, uint64_t time, pigy_vrp *out,
+                                     size_t capacity, size_t *len, size_t *expired, size_t *line)
+    PIGY_NODISCARD PIGY_NONNULL(6, 7, 8);
+
+/**
  * Reads the routes of lines, as the program origins reads them. They are in the order of the lines.
  *
  * A line has one of two forms:
@@ -1299,6 +1330,41 @@ pigy_status pigy_table_validate(const pigy_table *table, const pigy_route *route
 pigy_status pigy_table_validate_routes(const pigy_table *table, const pigy_route *routes, size_t count, uint8_t *out,
                                        size_t capacity, uint8_t *reasons, size_t reasons_capacity, size_t *len,
                                        size_t *index) PIGY_NODISCARD PIGY_NONNULL(8, 9);
+
+/**
+ * Validates routes by several tables at once: one octet for each route, PIGY_VALID, PIGY_NOT_FOUND or PIGY_INVALID (RFC
+ * 6811, 2). A router that has several caches keeps a table for each of them (RFC 8210, 10).
+ *
+ * The validity of a route is that by the VRPs of all tables together. So a route is valid if it is valid by at least
+ * one table. Otherwise it is invalid if it is invalid by at least one. Otherwise it is not found. Without a table no
+ * route is found. The call takes no memory.
+ *
+ * @param tables            The tables, which are only read. The status is PIGY_NO_HANDLE if one of them is NULL. May be
+ *                          NULL if the count is 0.
+ * @param table_count       Number of tables; may be 0.
+ * @param routes            Routes. May be NULL if the count is 0.
+ * @param count             Number of routes.
+ * @param out               Buffer for one octet a route, in the order of the routes. Owned by the caller. May be NULL
+ *                          if the capacity is 0.
+ * @param capacity          Capacity of `out` in octets; may be 0. The count of the routes always suffices.
+ * @param reasons           Buffer for the reason of each route: PIGY_INVALID_LENGTH if a VRP of any table covers the
+ *                          route and has its AS, PIGY_INVALID_AS if none has, and 0 for a route that is not invalid.
+ *                          Owned by the caller. May be NULL if the capacity is 0.
+ * @param reasons_capacity  Capacity of `reasons` in octets: at least the count of the routes, or 0 for no reasons.
+ * @param len               Receives the length of both outputs in octets, written or required. Not NULL.
+ * @param index             Receives the index of the first NULL handle with PIGY_NO_HANDLE, and of the first invalid
+ *                          route with PIGY_SECOND, from 0; else 0. Not NULL.
+ *
+ * @return the first of these that applies:
+ *   1. PIGY_NO_HANDLE: the first NULL handle.
+ *   2. PIGY_SECOND + PIGY_BAD_FAMILY, PIGY_SECOND + PIGY_BAD_PREFIX: the first invalid route.
+ *   3. PIGY_TOO_SMALL: `capacity` is below the count, or `reasons_capacity` is below the count and is not 0.
+ *   4. PIGY_OK.
+ */
+pigy_status pigy_tables_validate_routes(const pigy_table *const *tables, size_t table_count, const pigy_route *routes,
+                                        size_t count, uint8_t *out, size_t capacity, uint8_t *reasons,
+                                        size_t reasons_capacity, size_t *len, size_t *index)
+    PIGY_NODISCARD PIGY_NONNULL(9, 10);
 
 /**
  * Compares the validity of each route by two tables (RFC 6811, 4). The octet of a route is 1 if its validity differs

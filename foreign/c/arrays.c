@@ -21,6 +21,7 @@ static const union {
   pigy_prefix prefix;
   pigy_as_range as_range;
   pigy_ip_range ip_range;
+  const pigy_table *table;
 } nothing = {0};
 
 /* An array and its length, as two arguments of a call. */
@@ -64,6 +65,7 @@ PROVED(as_ranges);
 PROVED(ip_ranges);
 PROVED(validate);
 PROVED(vrps_read);
+PROVED(vrps_read_unexpired);
 PROVED(routes_read);
 PROVED(vrp_from_text);
 PROVED(vrp_text);
@@ -72,6 +74,7 @@ PROVED(route_text);
 PROVED(table_new);
 PROVED(table_with_changes);
 PROVED(table_validate_routes);
+PROVED(tables_validate_routes);
 PROVED(table_revalidate);
 PROVED(table_changes);
 PROVED(table_covering);
@@ -201,6 +204,11 @@ pigy_status pigy_vrps_read(const uint8_t *file, size_t file_len, pigy_vrp *out, 
   return proved_vrps_read(ARRAY(file, file_len), ARRAY(out, capacity), len, line);
 }
 
+pigy_status pigy_vrps_read_unexpired(const uint8_t *file, size_t file_len, uint64_t time, pigy_vrp *out,
+                                     size_t capacity, size_t *len, size_t *expired, size_t *line) {
+  return proved_vrps_read_unexpired(ARRAY(file, file_len), time, ARRAY(out, capacity), len, expired, line);
+}
+
 pigy_status pigy_routes_read(const char *text, size_t text_len, pigy_route *out, size_t capacity, size_t *len,
                              size_t *line) {
   return proved_routes_read(ARRAY(text, text_len), ARRAY(out, capacity), len, line);
@@ -238,6 +246,13 @@ pigy_status pigy_table_validate_routes(const pigy_table *table, const pigy_route
                                        size_t *index) {
   return proved_table_validate_routes(table, ARRAY(routes, count), ARRAY(out, capacity),
                                       ARRAY(reasons, reasons_capacity), len, index);
+}
+
+pigy_status pigy_tables_validate_routes(const pigy_table *const *tables, size_t table_count, const pigy_route *routes,
+                                        size_t count, uint8_t *out, size_t capacity, uint8_t *reasons,
+                                        size_t reasons_capacity, size_t *len, size_t *index) {
+  return proved_tables_validate_routes(ARRAY(tables, table_count), ARRAY(routes, count), ARRAY(out, capacity),
+                                       ARRAY(reasons, reasons_capacity), len, index);
 }
 
 pigy_status pigy_table_revalidate(const pigy_table *old, const pigy_table *next, const pigy_route *routes, size_t count,

@@ -49,7 +49,7 @@ IS_STATUS(PIGY_OVERCLAIM_V6, PIGY_OVERCLAIM, PIGY_IPV6);
 IS_STATUS(PIGY_UNKNOWN_WITHDRAWAL, PIGY_BAD_CHANGE, 6u);
 IS_STATUS(PIGY_DUPLICATE_ANNOUNCEMENT, PIGY_BAD_CHANGE, 7u);
 IS_STATUS(PIGY_BAD_LINE + 7u, PIGY_BAD_LINE, 7u);
-IS_STATUS(PIGY_BAD_ITEM + 16u, PIGY_BAD_ITEM, 16u);
+IS_STATUS(PIGY_BAD_ITEM + 20u, PIGY_BAD_ITEM, 20u);
 IS_STATUS(PIGY_BAD_FILE + 3u, PIGY_BAD_FILE, 3u);
 IS_STATUS(PIGY_BAD_TEXT + 5u, PIGY_BAD_TEXT, 5u);
 IS_STATUS(PIGY_BAD_QUERY, PIGY_BAD_QUERY, 0u);
@@ -111,8 +111,8 @@ typedef struct {
 } run;
 
 typedef enum {
-  VERIFY, PATH, MAKE, TEST, TEXT, COVER, AS_RANGES, IP_RANGES, HAS_ASN, HAS_PREFIX, PRINT, ANSWER, READ, ROUTES,
-  READ_VRP, READ_ROUTE, PRINT_VRP, PRINT_ROUTE, ORIGINS, COVERING, VRPS, CHANGED, DIFFER, CHANGES
+  VERIFY, PATH, MAKE, TEST, TEXT, COVER, AS_RANGES, IP_RANGES, HAS_ASN, HAS_PREFIX, PRINT, ANSWER, READ, UNEXPIRED,
+  ROUTES, READ_VRP, READ_ROUTE, PRINT_VRP, PRINT_ROUTE, ORIGINS, COVERING, VRPS, CHANGED, DIFFER, CHANGES
 } kind;
 
 /* The calls of an operation on two sets, or of a test of two sets: by DER, if there is such a call, and by handles. */
@@ -248,6 +248,7 @@ static void name_call(question *q, const char *call) {
   } names[] = {{"verify", VERIFY, {0}}, {"path", PATH, {0}}, {"cover", COVER, {0}}, {"answer", ANSWER, {0}},
                {"origins", ORIGINS, {0}}, {"covering", COVERING, {0}}, {"vrps", VRPS, {0}}, {"changed", CHANGED, {0}},
                {"differ", DIFFER, {0}}, {"changes", CHANGES, {0}}, {"read", READ, {0}}, {"text", TEXT, {0}},
+               {"unexpired", UNEXPIRED, {0}},
                {"as_ranges", AS_RANGES, {0}}, {"ip_ranges", IP_RANGES, {0}}, {"contains_asn", HAS_ASN, {0}},
                {"contains_prefix", HAS_PREFIX, {0}}, {"print", PRINT, {0}},
                {"routes", ROUTES, {0}}, {"vrp_from_text", READ_VRP, {0}}, {"route_from_text", READ_ROUTE, {0}},
@@ -273,9 +274,9 @@ static void name_call(question *q, const char *call) {
 typedef struct {
   const question *q;
   const pigy_resources *a, *b;
-  const pigy_table *table, *next;
+  const pigy_table *table, *next, *const *tables;
   void *list, *second;
-  size_t capacity, second_capacity, len, second_len, index;
+  size_t table_count, capacity, second_capacity, len, second_len, index, expired;
   uint8_t answer, reason;
   pigy_buffers out, excess;
   pigy_resources *set, *over;
@@ -284,9 +285,11 @@ typedef struct {
 
 /* What a call stores: a list and its length, a text and its length, an index, an answer, a reason, a set in buffers,
  * overclaimed resources in buffers, and handles. WITHDRAWN is a second list and its length. REASONS is a second list
- * of the same length, which the call does not store if its capacity is 0. Or the call takes no memory. */
+ * of the same length, which the call does not store if its capacity is 0. EXPIRED is the number of expired VRPs. Or the
+ * call takes no memory. */
 enum { LEN = 1, IS_TEXT = 2, INDEX = 4, ANSWERS = 8, REASON = 16, OUT = 32, EXCESS = 64, SET = 128, OVER = 256,
-       TABLE = 512, NO_MEMORY = 1024, WITHDRAWN = 2048, REASONS = 4096, SECOND = WITHDRAWN | REASONS };
+       TABLE = 512, NO_MEMORY = 1024, WITHDRAWN = 2048, REASONS = 4096, SECOND = WITHDRAWN | REASONS,
+       EXPIRED = 8192 };
 
 typedef struct {
   pigy_status (*make)(attempt *);
@@ -370,6 +373,13 @@ static pigy_status make_vrps_of_file(attempt *a) {
   return pigy_vrps_read(a->q->in[0].octets, a->q->in[0].length, (pigy_vrp *)a->list, a->capacity, &a->len, &a->index);
 }
 
+static pigy_status make_unexpired(attempt *a) {
+  const question *q = a->q;
+  uint64_t time = (uint64_t)q->numbers[0] << 32 | q->numbers[1];
+  return pigy_vrps_read_unexpired(q->in[0].octets, q->in[0].length, time, (pigy_vrp *)a->list, a->capacity, &a->len,
+                                  &a->expired, &a->index);
+}
+
 static pigy_status make_routes_of_lines(attempt *a) {
   const run *in = a->q->in;
   return pigy_routes_read(text_in(in), in->length, (pigy_route *)a->list, a->capacity, &a->len, &a->index);
@@ -448,6 +458,11 @@ static pigy_status validate_all(attempt *a) {
                                     (uint8_t *)a->second, a->second_capacity, &a->len, &a->index);
 }
 
+static pigy_status validate_by_several(attempt *a) {
+  return pigy_tables_validate_routes(a->tables, a->table_count, a->q->routes, a->q->route_count, (uint8_t *)a->list,
+                                     a->capacity, (uint8_t *)a->second, a->second_capacity, &a->len, &a->index);
+}
+
 static pigy_status revalidate(attempt *a) {
   return pigy_table_revalidate(a->table, a->next, a->q->routes, a->q->route_count, (uint8_t *)a->list, a->capacity,
                                &a->len, &a->index);
@@ -470,6 +485,7 @@ static const form of_verify = {make_verify, OUT | EXCESS}, of_path = {make_path,
                   of_pair = {make_pair, OUT}, of_test = {make_test, ANSWERS}, of_text = {make_text, OUT},
                   of_list = {make_list, LEN}, of_answer = {make_answer, LEN | IS_TEXT},
                   of_file = {make_vrps_of_file, LEN | INDEX}, of_origins = {make_origins, LEN | INDEX},
+                  of_unexpired = {make_unexpired, LEN | EXPIRED | INDEX},
                   of_lines = {make_routes_of_lines, LEN | INDEX}, of_value = {print_value, LEN | IS_TEXT | NO_MEMORY},
                   of_first = {read_first, SET}, of_second = {read_second, SET}, of_der = {write_der, OUT},
                   of_combine = {combine, SET}, of_compare = {compare, ANSWERS | NO_MEMORY},
@@ -479,6 +495,7 @@ static const form of_verify = {make_verify, OUT | EXCESS}, of_path = {make_path,
                   of_print = {print_set, LEN | IS_TEXT}, of_table = {make_table, TABLE | INDEX},
                   of_change = {change_table, TABLE | INDEX}, of_one = {validate_one, ANSWERS | REASON | NO_MEMORY},
                   of_all = {validate_all, LEN | REASONS | INDEX | NO_MEMORY},
+                  of_several = {validate_by_several, LEN | REASONS | INDEX | NO_MEMORY},
                   of_revalidate = {revalidate, LEN | INDEX | NO_MEMORY}, of_changes = {list_changes, LEN | WITHDRAWN},
                   of_covering = {list_covering, LEN}, of_vrps = {list_vrps, LEN};
 
@@ -490,7 +507,7 @@ static size_t size_of(const question *q) {
     case COVER: return sizeof(pigy_prefix);
     case AS_RANGES: return sizeof(pigy_as_range);
     case IP_RANGES: return sizeof(pigy_ip_range);
-    case READ: case VRPS: case CHANGES: return sizeof(pigy_vrp);
+    case READ: case UNEXPIRED: case VRPS: case CHANGES: return sizeof(pigy_vrp);
     case ROUTES: return sizeof(pigy_route);
     case COVERING: return sizeof(pigy_covering);
     default: return 1;
@@ -501,7 +518,7 @@ static size_t size_of(const question *q) {
 static size_t size_in_row(const question *q) {
   switch (q->call) {
     case COVER: return q->numbers[1] == PIGY_IPV4 ? 5 : 17;
-    case READ: case VRPS: case CHANGES: return 23;
+    case READ: case UNEXPIRED: case VRPS: case CHANGES: return 23;
     case ROUTES: return 22;
     case COVERING: return 24;
     default: return size_of(q);
@@ -544,7 +561,7 @@ static void put(const question *q, const void *list, size_t at, uint8_t *to) {
       put_asn(to, range->min);
       put_asn(to + 4, range->max);
       return;
-    case READ: case VRPS: case CHANGES: put_vrp(to, (const pigy_vrp *)list + at); return;
+    case READ: case UNEXPIRED: case VRPS: case CHANGES: put_vrp(to, (const pigy_vrp *)list + at); return;
     case ROUTES: put_route(to, (const pigy_route *)list + at); return;
     case COVERING:
       put_vrp(to, &((const pigy_covering *)list)[at].vrp);
@@ -604,7 +621,7 @@ static void prepare(const form *f, attempt *a, size_t first, size_t second) {
   a->second = f->stores & SECOND ? buffer(a->q, second * size_of(a->q)) : 0;
   a->capacity = first;
   a->second_capacity = second;
-  a->len = a->second_len = a->index = ANY;
+  a->len = a->second_len = a->index = a->expired = ANY;
   a->answer = a->reason = MARK;
   if (f->stores & OUT) a->out = buffers_of(a->q, first, second);
   if (f->stores & EXCESS) a->excess = buffers_of(a->q, first, second);
@@ -617,7 +634,10 @@ static void expect_stored(const form *f, const attempt *a, size_t last, uint8_t 
   const question *q = a->q;
   const void *other = &calls;
   unsigned stores = f->stores;
-  expect(a->index == (stores & INDEX ? last : ANY), q->row, "another index");
+  size_t index = stores & EXPIRED && q->status == PIGY_OK ? 0 : last;
+  size_t expired = q->status == PIGY_OK ? last : 0;
+  expect(a->index == (stores & INDEX ? index : ANY), q->row, "another index");
+  expect(a->expired == (stores & EXPIRED ? expired : ANY), q->row, "another number of expired VRPs");
   expect(a->answer == (stores & ANSWERS ? last : MARK), q->row, "another answer");
   expect(a->reason == (stores & REASON ? reason : MARK), q->row, "another reason");
   expect(stores & SET ? a->set != other && (a->set != 0) == has_result : a->set == other, q->row, "another set");
@@ -819,7 +839,7 @@ static void expect_capacities(const question *q) {
     expect(expected[0].length <= as && expected[1].length <= ip, q->row, "more than a capacity that suffices");
   if (q->call == TEXT)
     expect(expected[0].length + expected[1].length <= 8 * q->in[0].length + 64, q->row, "a longer set of a text");
-  if (q->call == READ)
+  if (q->call == READ || q->call == UNEXPIRED)
     expect(expected[0].length / 23 <= q->in[0].length / 8 + 1, q->row, "more VRPs of a file");
   if (q->call == ROUTES)
     expect(expected[0].length / 22 <= q->in[0].length / 7 + 1, q->row, "more routes of lines");
@@ -841,6 +861,7 @@ static void ask_by_der(const question *q, extent how) {
     case COVER: case AS_RANGES: case IP_RANGES: ask_list(&of_list, &a, how); return;
     case ANSWER: ask_list(&of_answer, &a, how); return;
     case READ: ask_list(&of_file, &a, how); return;
+    case UNEXPIRED: ask_list(&of_unexpired, &a, how); return;
     case ROUTES: ask_list(&of_lines, &a, how); return;
     case READ_VRP: case READ_ROUTE: ask_value(q); return;
     case PRINT_VRP: case PRINT_ROUTE: ask_list(&of_value, &a, how); return;
@@ -928,6 +949,30 @@ static void ask_each(const question *q, const attempt *table, extent how) {
       expect(pigy_table_validate(table->table, one.routes, &validity, &reason) == PIGY_OK, q->row, "a route before");
     }
   }
+}
+
+/* Validates the routes of a row by several tables, which have its VRPs: the first half, no VRPs, and the other half. If
+ * the row has no VRPs, it also validates them by no table. */
+static void ask_several(const question *q, extent how) {
+  enum { TABLES = 3 };
+  attempt a = {.q = q, .table_count = TABLES};
+  const size_t half = q->count / 2, from[TABLES] = {0, half, half}, to[TABLES] = {half, half, q->count};
+  const pigy_table *tables[TABLES];
+  pigy_table *made[TABLES];
+  size_t index;
+  for (int i = 0; i < TABLES; i++) {
+    pigy_status found = pigy_table_new(q->vrps + from[i], to[i] - from[i], made + i, &index);
+    expect(found == PIGY_OK, q->row, "one of several tables");
+    tables[i] = made[i];
+  }
+  a.tables = tables;
+  ask_list(&of_several, &a, how);
+  if (!q->count) {
+    a.table_count = 0;
+    if (q->has_null) a.tables = 0;
+    ask_list(&of_several, &a, how);
+  }
+  for (int i = 0; i < TABLES; i++) pigy_table_free(made[i]);
 }
 
 /* Compares each route of a row by two tables in a call of its own, also with the tables exchanged. Between a table and
@@ -1027,6 +1072,7 @@ static void ask_table(const question *q, extent how) {
   a.table = made.made;
   if (a.table && q->call == ORIGINS) {
     ask_list(&of_all, &a, how);
+    ask_several(q, how);
     ask_each(q, &a, how);
   }
   if (a.table && q->call == COVERING) ask_list(&of_covering, &a, how);
@@ -1151,6 +1197,14 @@ static void ask_null_tables(void) {
     EXPECT_NONE(pigy_table_changes(old, other, &marked, 1, &len, &marked, 1, &index), none, len, index,
                 "changes of null");
   }
+  for (size_t i = 0; i < 3; i++) {
+    const pigy_table *tables[3] = {i ? table : 0, i > 1 ? table : 0, 0};
+    len = index = ANY;
+    reason = MARK;
+    EXPECT_NONE(pigy_tables_validate_routes(tables, 3, &route, 1, &octet, 1, &reason, 1, &len, &index), none, len,
+                index != i, "routes of several with null");
+    expect(reason == MARK, 0, "reasons of several with null");
+  }
   expect(octet == MARK && is_marked((const uint8_t *)&marked, 0, sizeof marked), 0, "an octet of null");
   pigy_table_free(table);
 }
@@ -1173,6 +1227,8 @@ static void ask_empty_table(void) {
   EXPECT_NONE(pigy_table_validate_routes(table, 0, 0, 0, 0, 0, 0, &len, &index), PIGY_OK, len, index, "no routes");
   expect(pigy_table_validate(table, &route, &validity, &reason) == PIGY_OK, 0, "a route by no VRPs");
   expect(validity == PIGY_NOT_FOUND && !reason, 0, "a validity by no VRPs");
+  len = index = ANY;
+  EXPECT_NONE(pigy_tables_validate_routes(0, 0, 0, 0, 0, 0, 0, 0, &len, &index), PIGY_OK, len, index, "no tables");
   len = index = ANY;
   EXPECT_NONE(pigy_table_revalidate(table, next, 0, 0, 0, 0, &len, &index), PIGY_OK, len, index, "no changed routes");
   len = index = ANY;
@@ -1218,7 +1274,7 @@ static void ask_empty(void) {
   pigy_buffers out = none, excess = none;
   pigy_vrp vrp = {{1}, 1, 1, 1, 1};
   pigy_route route = {{1}, 1, 1, 1};
-  size_t len = ANY, index = ANY;
+  size_t len = ANY, index = ANY, expired;
   for (pigy_present present = 0; present <= PIGY_HAS_BOTH; present++) {
     uint32_t status = !present ? PIGY_ABSENT : PIGY_SECOND + (present == PIGY_HAS_IP ? PIGY_BAD_IP : PIGY_BAD_AS) + 1u;
     out = excess = none;
@@ -1248,6 +1304,9 @@ static void ask_empty(void) {
   EXPECT_NONE(pigy_validate(0, 0, 0, 0, 0, 0, &len, &index), PIGY_OK, len, index, "no VRPs and no routes");
   len = index = ANY;
   EXPECT_NONE(pigy_vrps_read(0, 0, 0, 0, &len, &index), PIGY_BAD_FILE + 6u, len, index, "an empty file");
+  len = expired = index = ANY;
+  EXPECT_NONE(pigy_vrps_read_unexpired(0, 0, 0, 0, 0, &len, &expired, &index), PIGY_BAD_FILE + 6u, len || expired,
+              index, "an empty file with expiries");
   len = index = ANY;
   EXPECT_NONE(pigy_routes_read(0, 0, 0, 0, &len, &index), PIGY_OK, len, index, "no lines");
   EXPECT_NONE(pigy_vrp_from_text(0, 0, &vrp), PIGY_BAD_LINE + 4u, vrp.family, vrp.asn, "an empty VRP");
@@ -1492,9 +1551,9 @@ static void ask_on_threads(questions rows) {
 
 /* ---- the stack */
 
-/* The header requires STACK for pigy_vrps_read, and STACK_OF_OTHERS for each other call. It says that pigy_vrps_read
- * uses less than USED_TO_READ of it, and that each other call uses less than USED. The stack of the thread is much
- * larger. */
+/* The header requires STACK for each call that reads JSON, and STACK_OF_OTHERS for each other call. It says that a call
+ * that reads JSON uses less than USED_TO_READ of it, and that each other call uses less than USED. The stack of the
+ * thread is much larger. */
 enum { STACK = 128 << 10, STACK_OF_OTHERS = 16 << 10, USED = 8 << 10, USED_TO_READ = 64 << 10,
        STACK_OF_THREAD = 8 << 20, ALIGNED = 4096 };
 
@@ -1516,7 +1575,8 @@ static void *ask_on_stack(void *of) {
     ask_many();
   }
   for (unsigned i = 0; i < one->rows.count; i++)
-    if ((one->rows.all[i].call == READ) == one->reads) ask_row(one->rows.all + i, ONCE);
+    if ((one->rows.all[i].call == READ || one->rows.all[i].call == UNEXPIRED) == one->reads)
+      ask_row(one->rows.all + i, ONCE);
   return 0;
 }
 

@@ -15,6 +15,10 @@ static bool tables() {
   if (pigy_table_new(vrps.data(), vrps.size(), &table, &index) != PIGY_OK) return false;
   bool is_so = pigy_table_validate_routes(table, routes.data(), routes.size(), octets.data(), octets.size(),
                                           octets.data(), octets.size(), &len, &index) == PIGY_OK && len == 0;
+  std::vector<const pigy_table *> several;
+  is_so = is_so && pigy_tables_validate_routes(several.data(), several.size(), routes.data(), routes.size(),
+                                               octets.data(), octets.size(), octets.data(), octets.size(), &len,
+                                               &index) == PIGY_OK && len == 0;
   is_so = is_so && pigy_table_changes(table, table, vrps.data(), vrps.size(), &len, vrps.data(), vrps.size(),
                                       &other) == PIGY_OK && len == 0 && other == 0;
   is_so = is_so && pigy_table_vrps(table, vrps.data(), vrps.size(), &len) == PIGY_OK && len == 0;

@@ -7,7 +7,7 @@ from operator import eq
 from re import fullmatch
 from typing import NamedTuple
 
-from . import asn, ip, lines, paths, prefixes, resources, route_lines, texts, vrp_files
+from . import asn, expiry, ip, lines, paths, prefixes, resources, route_lines, texts, vrp_files
 from .addresses import Family
 from .faults import BAD_AS_NUMBER, BAD_AS_RANGE, BAD_RANGE, FAMILY_MISMATCH, DerFault, Fault
 from .paths import Refused, Step
@@ -350,13 +350,16 @@ def table_answer(question: Question) -> Answer:
 # How the text of the fault of a VRP begins, and its number. Any other text is that of a wrong AS number.
 VRP_FAULTS = {"not UTF-8": 1, "too many fields: ": 2, "too few fields: ": 3}
 VRP_FAULTS |= {"invalid prefix: ": 5, "invalid max length: ": 6, "max-length ": 7}
-FIRST_OF_MEMBER = {"asn": 8, "prefix": 11, "maxLength": 14, "roas": 3}
+FIRST_OF_MEMBER = {"asn": 8, "prefix": 11, "maxLength": 14, "expires": 17, "roas": 3}
 MEMBER_FAULTS = ("missing", "repeated", "wrong kind of value")
+BAD_EXPIRY = 20
 FILE_FAULTS = {"a JSON array, where an object with the member roas is expected": 1, "not a JSON object": 2, "no VRP": 6}
 
 
 def fault_number(text: str) -> int:
     """Returns the number of the fault of a line, of an item, or of the member `roas`."""
+    if text == "expires: not a whole number below 2^64":
+        return BAD_EXPIRY
     name, _, rest = text.partition(": ")
     if name in FIRST_OF_MEMBER:
         return FIRST_OF_MEMBER[name] + MEMBER_FAULTS.index(rest)
@@ -364,9 +367,13 @@ def fault_number(text: str) -> int:
 
 
 def file_answer(question: Question) -> Answer:
-    """Returns the VRPs of a file, or its first fault."""
+    """Returns the VRPs of a file, or those that have not expired and the number of the others, or its first fault."""
+    file, last = question.first[0], 0
     try:
-        vrps = vrp_files.read(question.first[0])
+        if question.call == "unexpired":
+            vrps, last = expiry.unexpired(file, question.numbers[0] << 32 | question.numbers[1])
+        else:
+            vrps = vrp_files.read(file)
     except Fault as fault:
         text = str(fault)
         if text.startswith("line 1: neither a known header nor a VRP"):
@@ -375,7 +382,7 @@ def file_answer(question: Question) -> Answer:
             base = BAD_LINE if found[1] == "line" else BAD_ITEM
             return Answer(base + fault_number(found[3]), (b"", b""), int(found[2]))
         return Answer(BAD_FILE + (FILE_FAULTS.get(text) or fault_number(text)), (b"", b""), 0)
-    return Answer(OK, (b"".join(map(vrp_octets, vrps)), b""), 0)
+    return Answer(OK, (b"".join(map(vrp_octets, vrps)), b""), last)
 
 
 def vrp_of_text(octets: bytes) -> prefixes.Vrp:
@@ -524,6 +531,7 @@ def written_by(question: Question) -> Octets:
 
 # The calls whose answer has a last word.
 ANSWERS = {"path": path_answer, "origins": origins_answer, "differ": differ_answer, "read": file_answer}
+ANSWERS |= {"unexpired": file_answer}
 ANSWERS |= {"routes": lines_answer}
 ANSWERS |= dict.fromkeys(("covering", "vrps", "changed", "changes"), table_answer)
 ANSWERS |= dict.fromkeys((*TESTS, "contains_asn", "contains_prefix"), answer_of_test)

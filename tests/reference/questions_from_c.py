@@ -6,7 +6,7 @@ tests/run/foreign_rows.py writes them with their answers.
 from collections.abc import Iterator
 from random import Random
 
-from . import asn, ip, prefixes
+from . import asn, ip, prefixes, random_vrps
 from .addresses import Family
 from .calls_from_c import (
     ADDRESSES, ASN, BOTH, KINDS, LENIENT, NUMBERS, ON_SETS, REFUSE, STRICT, TRIM, V4, V6, Octets, Place, Question,
@@ -438,6 +438,46 @@ def of_files() -> Iterator[Question]:
         yield asked(of_json([it.encode() for it in items]))
 
 
+# Expiries that are no whole numbers below 2^64.
+WRONG_EXPIRIES = b"x", b"-1", b"+1", b"1.5", b"1e3", b"18446744073709551616", b"99999999999999999999"
+# The expiry of one of LINES, and times around it and at both ends.
+EXPIRY = 1732600000
+TIMES = 0, EXPIRY - 1, EXPIRY, EXPIRY + 1, 2**64 - 1
+
+
+def of_expiries() -> Iterator[Question]:
+    """Yields files at several times, with valid, missing, empty and invalid expiries."""
+    source, maker = Random(5280), random_vrps.Maker(5280)
+
+    def asked(file: bytes, time: int) -> Question:
+        return Question("unexpired", (time >> 32, time % 2**32), (file, b""))
+
+    def of_json(*expiries: bytes) -> bytes:
+        item = b'{"asn": 1, "prefix": "10.0.0.0/8", "maxLength": 8%s}'
+        return b'{"roas": [' + b", ".join(item % it for it in expiries) + b"]}"
+
+    for at, question in enumerate(of_files()):
+        yield asked(question.first[0], TIMES[at % len(TIMES)])
+    for time in TIMES:
+        yield asked(HEADER + b"".join(LINES), time)
+        yield asked(b"Expires,ASN,Prefix,Max Length\n1732600000,AS1,10.0.0.0/8,\n,AS2,10.0.0.0/8,9\n", time)
+        yield asked(of_json(b', "expires": 1732600000', b"", b', "expires": 18446744073709551615'), time)
+        yield asked(of_json(b', "expires": 0'), time)
+    for wrong in WRONG_EXPIRIES:
+        for place in range(3):
+            lines_of = [LINES[0], b"\n", LINES[1]]
+            lines_of[place:place] = [b"AS1,10.0.0.0/8,8,ripe," + wrong + b"\n"]
+            yield asked(HEADER + b"".join(lines_of), EXPIRY)
+        yield asked(b"AS1,10.0.0.0/8,8,ripe," + wrong + b"\n", EXPIRY)
+        yield asked(HEADER + b"AS1,10.0.0.0/8,8,ripe," + wrong + b"\n" + WRONG_LINES[2], EXPIRY)
+        yield asked(of_json(b"", b', "expires": ' + wrong), EXPIRY)
+    for wrong in (b'"1732600000"', b"null", b"[]", b'1, "expires": 1', b'null, "expires": "x"'):
+        yield asked(of_json(b', "expires": 1', b', "expires": ' + wrong, b', "expires": null'), EXPIRY)
+    for _ in range(40):
+        vrps = [maker.vrp() for _ in range(source.randrange(9))]
+        yield asked(maker.dated(vrps), source.randrange(996, 1005))
+
+
 # Lines with routes, and lines of bgpdump -m. The last three have no route.
 ROUTE_LINES = [
     *(b"10.0.0.0/8 AS64496\n", b" 2001:db8::/32  64497\t\r\n", b"0.0.0.0/0 as0\n", b"::/0 0\n"),
@@ -595,5 +635,6 @@ def of_sets() -> Iterator[Question]:
 def questions() -> Iterator[Question]:
     """Yields all questions."""
     parts = of_certificates, of_absence, of_paths, of_sets, of_covers, of_origins, of_tables, of_differences, of_changes
-    for part in (*parts, of_lines, of_files, of_texts, of_ranges, of_contents, of_route_texts):
+    parts += of_lines, of_files, of_expiries, of_texts, of_ranges, of_contents, of_route_texts
+    for part in parts:
         yield from part()

@@ -102,7 +102,7 @@ def of_stack() -> list[str]:
     if not stack or not others or not used or not to_read:
         return [f"foreign/c/test.c lacks one of {', '.join(names)}"]
     wanted = (
-        f"The stack has {stack[1]} KiB left for pigy_vrps_read, and {others[1]} KiB for each other call.",
+        f"The stack has {stack[1]} KiB left for each call that reads JSON, and {others[1]} KiB for each other call.",
         f"less than {to_read[1]} KiB for the deepest JSON that it reads, and each other call less than {used[1]} KiB.",
     )
     said = re.sub(r"\s+\*\s+", " ", HEADER.read_text())

@@ -36,6 +36,8 @@ The input and the output depend on the call:
 * `changes`: the VRPs of two tables. The output is the VRPs that only the second table has, and those that only the
   first has.
 * `read`: a file of VRPs. The output is its VRPs. The last word is the number of the first line or item that is invalid.
+* `unexpired`: a file of VRPs. The two numbers are the upper and the lower half of the time. The output is the VRPs that
+  have not expired. The last word is the number of expired VRPs, or of the first line or item that is invalid.
 * `text`: a list of resources as text. The output is a set.
 * `routes`: lines with routes. The output is the routes. The last word is the number of the first line that is invalid.
 * `vrp_from_text` and `route_from_text`: a text. The output is the VRP or the route.

@@ -7,7 +7,8 @@
 //!
 //! - [`Resources`] is a set of AS numbers and addresses. It is read from DER or text, and verifies certificates.
 //! - [`Table`] is a table of VRPs (validated ROA payloads, [`Vrp`]). It validates a [`Route`].
-//! - [`read_vrps`] reads the VRPs of a validator's file, and [`read_routes`] the routes of lines.
+//! - [`read_vrps`] reads the VRPs of a validator's file, and [`read_unexpired_vrps`] leaves out those that have expired.
+//!   [`read_routes`] reads the routes of lines.
 //! - [`Asn`] and [`Prefix`] are the values that sets, VRPs and routes have.
 //! - [`answer`] returns the answer of the program `respath` to a line.
 //!
@@ -67,7 +68,10 @@ pub use faults::{DerFault, FileFault, RouteFault, TextFault, VrpFault};
 pub use prefix::{Prefix, Subnets, ValueError};
 pub use reason::{status_text, AnswerError, Reason, ResourceError, TableError};
 pub use resources::{Contained, Resources};
-pub use table::{read_routes, read_vrps, Changes, Covering, Table};
+pub use table::{
+    read_routes, read_unexpired_vrps, read_vrps, validate_routes, Changes, Covering, Table,
+    UnexpiredVrps,
+};
 pub use vrp::{Route, Vrp};
 
 use std::fmt::{Debug, Display, Formatter, Result as Written};

@@ -75,8 +75,8 @@ impl Reason {
     /// ```
     pub fn from_status(status: u32) -> Reason {
         let fault = sys::PIGY_FAULT(status);
-        let is_line = (1..=7).contains(&fault);
-        let is_item = (4..=16).contains(&fault);
+        let is_line = matches!(fault, 1..=7 | 20);
+        let is_item = matches!(fault, 4..=16 | 18..=20);
         let found = match sys::PIGY_KIND(status) {
             sys::PIGY_BAD_AS => DerFault::of_number(fault).map(Reason::BadAs),
             sys::PIGY_BAD_IP => DerFault::of_number(fault).map(Reason::BadIp),

@@ -90,7 +90,7 @@ fn without_position(status: u32) -> TableError {
 /// The first character that is not white space decides how the file is read. If it is `{`, the file is JSON, with the
 /// VRPs in the array `roas`. If it is `[`, the file is invalid. Any other file is CSV. `pigy_vrps_read` in
 /// `pigyelund.h` says what is valid. No line and no item is skipped: one that is invalid makes the whole file invalid.
-/// The result has expired VRPs too.
+/// The result has expired VRPs too. [`read_unexpired_vrps`] leaves them out.
 ///
 /// # Errors
 ///
@@ -129,6 +129,113 @@ pub fn read_vrps(file: &[u8]) -> Result<Vec<Vrp>, TableError> {
         })
     };
     found.map_err(|status| TableError { status, at })
+}
+
+/// Runs a call that writes the validity and the reason of each route. Returns the validities.
+fn validities_of(count: usize, call: impl FnOnce(&mut [u8], &mut [u8]) -> u32) -> Vec<Validity> {
+    let [mut octets, mut reasons] = [vec![0; count], vec![0; count]];
+    assert_ok(call(&mut octets, &mut reasons));
+    let each = octets.into_iter().zip(reasons);
+    each.map(|(octet, reason)| Validity::of(octet, reason))
+        .collect()
+}
+
+/// Validates routes by several tables at once (RFC 6811, 2), for example by a table for each cache (RFC 8210, 10).
+/// Returns the validity of each route, in the order of `routes`.
+///
+/// The validity of a route is that by the VRPs of all tables together. So a route is valid if it is valid by at least
+/// one table. Otherwise it is invalid if it is invalid by at least one. Otherwise it is not found.
+///
+/// # Example
+///
+/// ```
+/// use pigyelund::{validate_routes, Route, Table, Validity};
+///
+/// let one = Table::new(&["10.0.0.0/8 AS64496".parse().unwrap()]).unwrap();
+/// let other = Table::new(&["10.0.0.0/8 AS64497".parse().unwrap()]).unwrap();
+/// let route: Route = "10.0.0.0/8 AS64497".parse().unwrap();
+/// assert_ne!(one.validate(&route), Validity::Valid);
+/// assert_eq!(validate_routes([&one, &other], &[route]), [Validity::Valid]);
+/// ```
+#[must_use]
+pub fn validate_routes<'a>(
+    tables: impl IntoIterator<Item = &'a Table>,
+    routes: &[Route],
+) -> Vec<Validity> {
+    let tables: Vec<&Table> = tables.into_iter().collect();
+    let handles: Vec<*const sys::pigy_table> = tables.iter().map(|it| it.0.cast_const()).collect();
+    let (mut len, mut at) = (0, 0);
+    // SAFETY: the pointers and lengths are those of the slices and of the vector. The tables live until the call
+    // returns.
+    validities_of(routes.len(), |octets, reasons| unsafe {
+        sys::pigy_tables_validate_routes(
+            handles.as_ptr(),
+            handles.len(),
+            routes_of(routes),
+            routes.len(),
+            octets.as_mut_ptr(),
+            octets.len(),
+            reasons.as_mut_ptr(),
+            reasons.len(),
+            &mut len,
+            &mut at,
+        )
+    })
+}
+
+/// The VRPs of a file that have not expired, and how many have.
+#[derive(Clone, Debug, PartialEq, Eq, Hash)]
+pub struct UnexpiredVrps {
+    /// The VRPs that have not expired, in the order of the file. The list may be empty.
+    pub vrps: Vec<Vrp>,
+    /// The number of VRPs that have expired.
+    pub expired: usize,
+}
+
+/// Reads the VRPs of a validator's file that have not expired. [`read_vrps`] describes the file.
+///
+/// `time` is in seconds since 1970-01-01 UTC. A VRP has expired if its expiry is before `time`. In JSON the expiry is
+/// the member `expires` of the item, a number. In CSV it is the field in the column `Expires`. A VRP without this
+/// member or field, or with an empty field, does not expire.
+///
+/// # Errors
+///
+/// Those of [`read_vrps`], and then [`Reason::BadLine`] or [`Reason::BadItem`] for an invalid expiry:
+/// [`VrpFault::Expiry`], [`VrpFault::ExpiresRepeated`] or [`VrpFault::ExpiresKind`].
+///
+/// # Example
+///
+/// ```
+/// let file = b"ASN,IP Prefix,Max Length,Expires\nAS64496,10.0.0.0/8,16,1732600000\nAS64497,10.0.0.0/8,16,\n";
+/// let found = pigyelund::read_unexpired_vrps(file, 1_732_600_001).unwrap();
+/// assert_eq!(found.vrps, ["10.0.0.0/8-16 AS64497".parse().unwrap()]);
+/// assert_eq!(found.expired, 1);
+/// ```
+///
+/// [`Reason::BadLine`]: crate::Reason::BadLine
+/// [`Reason::BadItem`]: crate::Reason::BadItem
+/// [`VrpFault::Expiry`]: crate::VrpFault::Expiry
+/// [`VrpFault::ExpiresRepeated`]: crate::VrpFault::ExpiresRepeated
+/// [`VrpFault::ExpiresKind`]: crate::VrpFault::ExpiresKind
+pub fn read_unexpired_vrps(file: &[u8], time: u64) -> Result<UnexpiredVrps, TableError> {
+    let (mut expired, mut at) = (0, 0);
+    // SAFETY: as in `read_vrps`.
+    let found = unsafe {
+        items(file.len() / 24, |out: *mut Vrp, capacity, len| {
+            sys::pigy_vrps_read_unexpired(
+                file.as_ptr(),
+                file.len(),
+                time,
+                out.cast(),
+                capacity,
+                len,
+                &mut expired,
+                &mut at,
+            )
+        })
+    };
+    let vrps = found.map_err(|status| TableError { status, at })?;
+    Ok(UnexpiredVrps { vrps, expired })
 }
 
 /// Reads the routes of lines, as the program `origins` does: a prefix and an AS number, or a line of `bgpdump -m`.
@@ -204,6 +311,16 @@ impl Table {
     /// Those of [`read_vrps`].
     pub fn read(file: &[u8]) -> Result<Table, TableError> {
         Table::new(&read_vrps(file)?)
+    }
+
+    /// Builds the table of the VRPs of a validator's file that have not expired at a time, in seconds since 1970-01-01
+    /// UTC.
+    ///
+    /// # Errors
+    ///
+    /// Those of [`read_unexpired_vrps`].
+    pub fn read_unexpired(file: &[u8], time: u64) -> Result<Table, TableError> {
+        Table::new(&read_unexpired_vrps(file, time)?.vrps)
     }
 
     /// Returns a new table: this one without `withdrawn`, and then with `announced` (RFC 8210, 5.3).
@@ -321,11 +438,9 @@ impl Table {
     /// ```
     #[must_use]
     pub fn validate_routes(&self, routes: &[Route]) -> Vec<Validity> {
-        let [mut octets, mut reasons] = [vec![0; routes.len()], vec![0; routes.len()]];
         let (mut len, mut at) = (0, 0);
-        // SAFETY: the pointers and lengths are those of the slice and of the vectors. The table lives until the call
-        // returns.
-        assert_ok(unsafe {
+        // SAFETY: the pointers and lengths are those of the slices. The table lives until the call returns.
+        validities_of(routes.len(), |octets, reasons| unsafe {
             sys::pigy_table_validate_routes(
                 self.0,
                 routes_of(routes),
@@ -337,10 +452,7 @@ impl Table {
                 &mut len,
                 &mut at,
             )
-        });
-        let each = octets.into_iter().zip(reasons);
-        each.map(|(octet, reason)| Validity::of(octet, reason))
-            .collect()
+        })
     }
 
     /// Returns the indices of the routes whose validity differs between this table and `next` (RFC 6811, 4).

@@ -4,9 +4,9 @@
 //! A golden test is a line with a call, its arguments, and the stored result. The tests in C and Python read the same
 //! file. The calls of C are made with buffers of each length up to the needed one, and the calls of the crate once.
 use pigyelund::{
-    answer, read_routes, read_vrps, status_text, version, Asn, Certificate, Encoding, Extensions,
-    Family, InvalidReason, Kind, Mode, Prefix, Reason, ResourceError, Resources, Route, Table,
-    TableError, Validity, ValueError, Vrp,
+    answer, read_routes, read_unexpired_vrps, read_vrps, status_text, validate_routes, version,
+    Asn, Certificate, Encoding, Extensions, Family, InvalidReason, Kind, Mode, Prefix, Reason,
+    ResourceError, Resources, Route, Table, TableError, Validity, ValueError, Vrp,
 };
 use pigyelund_sys as sys;
 use pigyelund_sys::{PIGY_KIND, PIGY_OK, PIGY_SECOND, PIGY_TOO_SMALL};
@@ -126,6 +126,13 @@ fn padded(address: IpAddr) -> Vec<u8> {
 
 fn asn(octets: &[u8]) -> u32 {
     u32::from_be_bytes(octets[16..20].try_into().unwrap())
+}
+
+/// Returns a VRP of the library in the form of a golden test.
+fn c_vrp_octets(it: &sys::pigy_vrp) -> Vec<u8> {
+    let number = it.asn.to_be_bytes();
+    let last = [it.family, it.len, it.max_len];
+    [&it.address[..], &number[..], &last[..]].concat()
 }
 
 fn c_vrp(octets: &[u8]) -> sys::pigy_vrp {
@@ -645,8 +652,20 @@ impl Row<'_> {
         let reasons: Vec<u8> = found.iter().map(reason).collect();
         assert_eq!((numbers, reasons), self.expected, "{}", self.text);
         assert_eq!(self.status, PIGY_OK, "{}", self.text);
+        self.ask_several(&routes, &found);
         for (route, validity) in routes.iter().zip(found) {
             assert_eq!(table.validate(route), validity, "{}", self.text);
+        }
+    }
+
+    /// Validates the routes of a golden test by several tables, which have its VRPs: each has one of three.
+    fn ask_several(&self, routes: &[Route], wanted: &[Validity]) {
+        let vrps = self.values(0, 23, false, vrp).unwrap();
+        let part = |at| -> Vec<Vrp> { vrps.iter().copied().skip(at).step_by(3).collect() };
+        let tables = [0, 1, 2].map(|at| Table::new(&part(at)).unwrap());
+        assert_eq!(validate_routes(&tables, routes), wanted, "{}", self.text);
+        if vrps.is_empty() {
+            assert_eq!(validate_routes([], routes), wanted, "{}", self.text);
         }
     }
 
@@ -789,6 +808,46 @@ impl Row<'_> {
         }
     }
 
+    /// Reads the unexpired VRPs of the file of a golden test, as `ask_read` reads all.
+    fn ask_unexpired(&self) {
+        let file = &self.runs[0];
+        let time = u64::from(self.numbers[0]) << 32 | u64::from(self.numbers[1]);
+        let is_valid = self.status == PIGY_OK;
+        let last = self.last.unwrap();
+        let wanted = if is_valid { (last, 0) } else { (0, last) };
+        self.ask_items(23, c_vrp_octets, |out, capacity, len| {
+            let (mut expired, mut line) = (usize::MAX, usize::MAX);
+            let (start, file) = (file.as_ptr(), file.len());
+            let status = unsafe {
+                sys::pigy_vrps_read_unexpired(
+                    start,
+                    file,
+                    time,
+                    out,
+                    capacity,
+                    len,
+                    &mut expired,
+                    &mut line,
+                )
+            };
+            assert_eq!((expired, line), wanted, "{}", self.text);
+            status
+        });
+        match read_unexpired_vrps(file, time) {
+            Ok(found) => {
+                let table = Table::read_unexpired(file, time).unwrap();
+                assert_eq!(table.len(), found.vrps.len());
+                assert_eq!(found.expired, last, "{}", self.text);
+                self.expect_octets(Ok(found.vrps.iter().flat_map(vrp_octets).collect()));
+            }
+            Err(error) => {
+                let found = (error.status(), error.line().unwrap_or(0));
+                assert_eq!(found, (self.status, last), "{}", self.text);
+                assert_eq!(Table::read_unexpired(file, time).unwrap_err(), error);
+            }
+        }
+    }
+
     /// Reads the lines of a golden test, with buffers of each length up to the needed one and with one more.
     fn ask_routes(&self) {
         let lines = &self.runs[0];
@@ -882,6 +941,7 @@ impl Row<'_> {
             "answer" => self.ask_answer(),
             "differ" => self.ask_differ(),
             "read" => self.ask_read(),
+            "unexpired" => self.ask_unexpired(),
             "routes" => self.ask_routes(),
             "vrp_from_text" => self.ask_vrp_from_text(),
             "route_from_text" => self.ask_route_from_text(),
@@ -1059,6 +1119,18 @@ fn null_handles_are_refused() {
                 &mut len,
                 &mut index,
             ),
+            sys::pigy_tables_validate_routes(
+                &table,
+                1,
+                &route,
+                1,
+                octets,
+                1,
+                null_mut(),
+                0,
+                &mut len,
+                &mut index,
+            ),
             sys::pigy_table_revalidate(table, table, &route, 1, octets, 1, &mut len, &mut index),
             sys::pigy_table_changes(
                 table,
@@ -1079,7 +1151,7 @@ fn null_handles_are_refused() {
             sys::pigy_resources_equal(set, set, &mut yes),
         ]
     };
-    assert_eq!(found, [sys::PIGY_NO_HANDLE; 11]);
+    assert_eq!(found, [sys::PIGY_NO_HANDLE; 12]);
     assert_eq!(
         (out, sets, len, index, yes, lens),
         (null_mut(), null_mut(), 0, 0, 0, [0, 0])

@@ -1,6 +1,7 @@
 //! Tests tables: one table on several threads, changes, copies of a VRP, and errors.
 use pigyelund::{
-    read_vrps, InvalidReason, Prefix, Reason, Route, Table, TableError, Validity, Vrp, VrpFault,
+    read_unexpired_vrps, read_vrps, InvalidReason, Prefix, Reason, Route, Table, TableError,
+    Validity, Vrp, VrpFault,
 };
 use std::collections::HashSet;
 use std::error::Error;
@@ -248,4 +249,25 @@ fn files_of_vrps() {
         read_vrps(&file[..47]),
         Ok(vec![vrp("10.0.0.0/8-16 AS64496")])
     );
+}
+
+#[test]
+fn files_with_expiries() {
+    let file = b"ASN,IP Prefix,Max Length,Expires\nAS1,10.0.0.0/8,8,100\nAS2,10.0.0.0/8,8,\n";
+    for (time, asns, expired) in [(100, &[1, 2][..], 0), (101, &[2], 1), (u64::MAX, &[2], 1)] {
+        let found = read_unexpired_vrps(file, time).unwrap();
+        let kept: Vec<u32> = found.vrps.iter().map(|it| it.asn().into()).collect();
+        assert_eq!((&kept[..], found.expired), (asns, expired), "{time}");
+        assert_eq!(Table::read_unexpired(file, time).unwrap().len(), asns.len());
+    }
+    let found = read_unexpired_vrps(&file[..52], 101).unwrap();
+    assert!(found.vrps.is_empty() && found.expired == 1);
+    let file = b"ASN,IP Prefix,Max Length,Expires\nAS1,10.0.0.0/8,8,soon\n";
+    let refused = read_unexpired_vrps(file, 0).unwrap_err();
+    assert_eq!(refused.reason(), Reason::BadLine(VrpFault::Expiry));
+    assert_eq!(refused.line(), Some(2));
+    assert_eq!(read_vrps(file).unwrap().len(), 1);
+    let item = br#"{"roas": [{"asn": 1, "prefix": "10.0.0.0/8", "maxLength": 8, "expires": "1"}]}"#;
+    let refused = Table::read_unexpired(item, 0).unwrap_err();
+    assert_eq!(refused.reason(), Reason::BadItem(VrpFault::ExpiresKind));
 }

@@ -10,6 +10,7 @@ pub const PIGY_VRP_TEXT_MAX: u32 = 62;
 pub const PIGY_ROUTE_TEXT_MAX: u32 = 58;
 pub type __uint8_t = ::core::ffi::c_uchar;
 pub type __uint32_t = ::core::ffi::c_uint;
+pub type __uint64_t = ::core::ffi::c_ulong;
 pub type pigy_status = u32;
 pub type pigy_present = u32;
 pub type pigy_encoding = u32;
@@ -1139,6 +1140,18 @@ extern "C" {
     ) -> pigy_status;
 }
 extern "C" {
+    pub fn pigy_vrps_read_unexpired(
+        file: *const u8,
+        file_len: usize,
+        time: u64,
+        out: *mut pigy_vrp,
+        capacity: usize,
+        len: *mut usize,
+        expired: *mut usize,
+        line: *mut usize,
+    ) -> pigy_status;
+}
+extern "C" {
     pub fn pigy_routes_read(
         text: *const ::core::ffi::c_char,
         text_len: usize,
@@ -1208,6 +1221,20 @@ extern "C" {
 extern "C" {
     pub fn pigy_table_validate_routes(
         table: *const pigy_table,
+        routes: *const pigy_route,
+        count: usize,
+        out: *mut u8,
+        capacity: usize,
+        reasons: *mut u8,
+        reasons_capacity: usize,
+        len: *mut usize,
+        index: *mut usize,
+    ) -> pigy_status;
+}
+extern "C" {
+    pub fn pigy_tables_validate_routes(
+        tables: *const *const pigy_table,
+        table_count: usize,
         routes: *const pigy_route,
         count: usize,
         out: *mut u8,

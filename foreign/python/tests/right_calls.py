@@ -35,6 +35,7 @@ from pigyelund import (
     Route,
     Status,
     Table,
+    UnexpiredVrps,
     Validity,
     Vrp,
     VrpFileError,
@@ -45,8 +46,10 @@ from pigyelund import (
     read_octets,
     read_route_octets,
     read_routes,
+    read_unexpired_vrps,
     read_vrps,
     status_text,
+    validate_routes,
 )
 
 
@@ -94,6 +97,8 @@ for given in (vrps, tuple(vrps), set(vrps), frozenset(vrps), each(), {vrp: 1}):
     Table(given)
 Table(octets), Table(bytearray(octets)), Table(memoryview(octets)), Table(vrps=[])
 Table(array("B", octets)), Table(()), Table(), Table.read(b""), Table(read_octets(b""))
+unexpired: UnexpiredVrps = read_unexpired_vrps(b"", time=Index())
+Table(unexpired.vrps), Table.read_unexpired(b"", 2**64 - unexpired.expired)
 read: list[Route] = [*read_routes(b""), Route("10.0.0.0/8 AS1")]
 packed: bytes = read_route_octets(b"")
 with Table(vrps) as table:
@@ -105,6 +110,8 @@ with Table(vrps) as table:
     numbers_and_reasons: tuple[bytes, bytes] = table.validate_octets(octets, allow_malformed=True, reasons=True)
     found_and_reasons: tuple[list[Validity], list[Reason | None]] = table.validate_routes(routes, reasons=True)
     results += table.validate_octets(routes, reasons=False) + numbers_and_reasons[0]
+    found += validate_routes([table, following], routes) + validate_routes(iter([table]), octets, reasons=False)
+    several: tuple[list[Validity], list[Reason | None]] = validate_routes((table,), routes, reasons=True)
     covering: list[Covering] = table.covering(route)
     is_too_long: bool = Mismatch.TOO_LONG in covering[0].mismatch
     held: list[Vrp] = [*table] + [it.vrp for it in covering] + read_vrps(b"")

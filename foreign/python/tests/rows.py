@@ -30,7 +30,9 @@ from pigyelund import (
     answer,
     read_route_octets,
     read_routes,
+    read_unexpired_vrps,
     read_vrps,
+    validate_routes,
 )
 from pigyelund import _bindings as c
 from pigyelund._library import library
@@ -430,7 +432,7 @@ def are_origins(row: Row) -> bool:
                 return False
             if found[0] != table.validate_octets(routes, allow_malformed=True):
                 return False
-            if row.status == Status.OK and found != row.expected:
+            if row.status == Status.OK and (found != row.expected or not are_of_several(row)):
                 return False
             if row.status >= Status.SECOND and found[0].index(NO_VALIDITY) != row.number:
                 return False
@@ -461,6 +463,17 @@ def are_in_buffers(table: Table, row: Row) -> bool:
         if [*map(bytes, runs)] != (wanted if fits else [bytes(it) for it in capacities]):
             return False
     return True
+
+
+def are_of_several(row: Row) -> bool:
+    """Returns whether several tables that have the VRPs of a row give the expected validities and reasons."""
+    vrps, routes = values_of(Vrp, row.first[0]) or [], values_of(Route, row.second[0]) or []
+    with Table(vrps[::2]) as even, Table() as none, Table(vrps[1::2]) as odd:
+        tables = [even, none, odd] if vrps else []
+        found = [it.value for it in validate_routes(tables, routes)]
+        validities, reasons = validate_routes(iter(tables), routes, reasons=True)
+    both = bytes(it.value for it in validities), bytes(it.value if it else 0 for it in reasons)
+    return both == row.expected and bytes(found) == row.expected[0]
 
 
 def are_of_table(table: Table, row: Row) -> bool:
@@ -602,6 +615,33 @@ def is_read(row: Row) -> bool:
         return (reason.status, reason.line, reason.index) == (row.status, row.number, None)
 
 
+def is_unexpired(row: Row) -> bool:
+    """Returns whether the row of the unexpired VRPs of a file has its expected result."""
+    (high, low), file, expected = row.numbers, row.first[0], structs(row.expected[0], 23)
+    count, time = len(expected) // 24, high << 32 | low
+    last = (row.number, 0) if row.status == Status.OK else (0, row.number)
+    for capacity in (count + 3, count, 0):
+        array, length, expired, line = (c.Vrp * capacity)(), c_size_t(7), c_size_t(7), c_size_t(7)
+        status = library().pigy_vrps_read_unexpired(
+            file, len(file), time, array, capacity, byref(length), byref(expired), byref(line)
+        )
+        fits = count <= capacity
+        wanted = (row.status if fits else Status.TOO_SMALL, count, *last)
+        if (status, length.value, expired.value, line.value) != wanted:
+            return False
+        found = [bytes(it)[:23] for it in array]
+        if found != [it[:23] for it in cut(expected, 24) if fits] + [bytes(23)] * (capacity - count * fits):
+            return False
+    try:
+        with Table.read_unexpired(file, time) as table, Table(expected) as same:
+            if table.octets() != same.octets():
+                return False
+        unexpired = read_unexpired_vrps(file, time)
+        return (vrp_octets(unexpired.vrps), unexpired.expired, row.status) == (row.expected[0], last[0], Status.OK)
+    except VrpFileError as reason:
+        return (reason.status, reason.line, reason.index) == (row.status, row.number, None)
+
+
 def route_octets(routes: list[Route]) -> bytes:
     """Returns routes as a row has them."""
     return b"".join(bytes(it)[:16] + bytes(it)[16:20][::-1] + bytes(it)[20:22] for it in routes)
@@ -682,6 +722,7 @@ ASKED |= {"contains_asn": has_asn, "contains_prefix": has_prefix}
 ASKED |= {"routes": are_routes}
 ASKED |= dict.fromkeys(("vrp_from_text", "vrp_text", "route_from_text", "route_text"), is_value)
 ASKED |= {"differ": are_differences, "changes": are_changes, "read": is_read, "text": is_text, "print": is_printed}
+ASKED |= {"unexpired": is_unexpired}
 
 
 def faults(lines: list[str]) -> Iterator[str]:

@@ -50,8 +50,10 @@ from pigyelund import (
     library_version,
     load,
     read_routes,
+    read_unexpired_vrps,
     read_vrps,
     status_text,
+    validate_routes,
 )
 from pigyelund import _bindings as c
 from pigyelund.errors import error_for_status
@@ -312,6 +314,8 @@ def reasons(folder: Path) -> Iterator[str]:
             (lambda: read_vrps(b'{"roas": [{"prefix": "10.0.0.0/8", "maxLength": 8}]}'), VrpFileError,
              Status.BAD_ITEM + 8, "at item 1: ", None),
             (lambda: read_vrps(b""), VrpFileError, Status.BAD_FILE + 6, "", None),
+            (lambda: read_unexpired_vrps(b"ASN,Prefix,Max Length,Expires\nAS1,10.0.0.0/8,8,soon\n", 0), VrpFileError,
+             Status.BAD_LINE + 20, "at line 2: ", None),
             (lambda: read_routes(b"::/0 1\n10.0.0.1/8 1\n"), RouteTextError, Status.BAD_ROUTE + 5, "at line 2: ", None),
             (lambda: Route("10.0.0.0/8,AS1"), RouteTextError, Status.BAD_ROUTE + 3, "", "10.0.0.0/8,AS1"),
             (lambda: Vrp("10.0.0.0/8-7 AS1"), RouteTextError, Status.BAD_LINE + 7, "", "10.0.0.0/8-7 AS1"),
@@ -355,6 +359,7 @@ def tables(_: Path) -> Iterator[str]:
         lambda: table.validate(Route(TEN, 1)),
         lambda: table.reason(Route(TEN, 1)),
         lambda: table.validate_octets([], reasons=True),
+        lambda: validate_routes([Table(), table], []),
         lambda: table.changes(Table()),
         lambda: table.with_changes(),
         lambda: next(iter(table)),

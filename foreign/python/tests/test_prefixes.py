@@ -5,6 +5,7 @@
 
 import pickle
 from collections.abc import Callable, Iterator
+from functools import partial
 from ipaddress import (
     IPv4Address,
     IPv4Interface,
@@ -29,7 +30,9 @@ from pigyelund import (
     Validity,
     Vrp,
     read_routes,
+    read_unexpired_vrps,
     read_vrps,
+    validate_routes,
 )
 from pigyelund.values import Address, Network
 
@@ -121,6 +124,8 @@ def wrong_items(_: Path) -> Iterator[str]:
             (lambda: table.validate_routes([vrp]), no_route),  # type: ignore[list-item]
             (lambda: table.validate_octets([vrp]), no_route),  # type: ignore[list-item]
             (lambda: table.revalidate(table, [vrp]), no_route),  # type: ignore[list-item]
+            (lambda: validate_routes([table], [vrp]), no_route),  # type: ignore[list-item]
+            (lambda: validate_routes(table, []), f"tables: {vrp!r} is no Table"),  # type: ignore[arg-type]
             (lambda: Table(7), neither),  # type: ignore[arg-type]
             (lambda: Table("vrps"), "'vrps' is neither an iterable of Vrp nor a buffer"),  # type: ignore[arg-type]
         ]
@@ -150,6 +155,12 @@ def wrong_texts(_: Path) -> Iterator[str]:
     text = "file: a str is no bytes; for the name of a file pass Path(name).read_bytes()"
     yield from refuses(lambda: read_vrps("vrps.csv"), TypeError, text)  # type: ignore[arg-type]
     yield from refuses(lambda: Table.read("vrps.csv"), TypeError, text)  # type: ignore[arg-type]
+    yield from refuses(lambda: read_unexpired_vrps("vrps.csv", 1), TypeError, text)  # type: ignore[arg-type]
+    text = "time: 1.5 is no integer; for the current time pass int(time.time())"
+    yield from refuses(lambda: read_unexpired_vrps(b"", 1.5), TypeError, text)  # type: ignore[arg-type]
+    for time in (-1, 2**64):
+        text = f"time: {time} is not from 0 to 18446744073709551615"
+        yield from refuses(partial(Table.read_unexpired, b"", time), ValueError, text)
     text = "lines: a str is no bytes; for the name of a file pass Path(name).read_bytes()"
     yield from refuses(lambda: read_routes("routes"), TypeError, text)  # type: ignore[arg-type]
 

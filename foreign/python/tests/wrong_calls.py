@@ -7,7 +7,7 @@ import socket
 from ipaddress import ip_network
 
 from pigyelund import Asn, Certificate, Encoding, Extensions, Family, Mode, Resources, Route, Table, Validity, Vrp
-from pigyelund import answer, load, read_routes, read_vrps
+from pigyelund import answer, load, read_routes, read_unexpired_vrps, read_vrps, validate_routes
 
 network = ip_network("10.0.0.0/8")
 issuer, extensions = Resources(), Extensions(ip=b"")
@@ -83,6 +83,8 @@ issuer.prefixes(socket.AF_INET)  # refused
 issuer.ranges(Encoding.STRICT)  # refused
 answer(b"norm as 1")  # refused
 read_vrps("vrps.csv")  # refused
+read_unexpired_vrps(b"")  # refused
+read_unexpired_vrps(b"", 1732600000.5)  # refused
 read_routes("10.0.0.0/8 AS1")  # refused
 
 Table([route])  # refused
@@ -91,6 +93,9 @@ Table("vrps.csv")  # refused
 Table([network])  # refused
 Table(vrp)  # refused
 Table.read("vrps.csv")  # refused
+validate_routes(table, [route])  # refused
+validate_routes([vrp], [route])  # refused
+validate_routes([table], [route], True)  # refused
 table.validate_routes([vrp])  # refused
 table.validate_routes(7)  # refused
 table.validate_routes(route)  # refused

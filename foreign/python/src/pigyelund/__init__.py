@@ -5,7 +5,8 @@ validate route origins (RFC 6811). It calls the proved shared library through ct
 proved. `docs/PYTHON.md` in the repository is the guide: installation, pandas, Dask, threads.
 
 Route origins: a `Table` of VRPs (validated ROA payloads) validates routes. `Table.read` makes one of a validator's
-file, and `read_vrps` lists the VRPs of such a file. `read_routes` lists the routes of lines.
+file, and `read_vrps` lists the VRPs of such a file. `read_unexpired_vrps` leaves out those that have expired.
+`read_routes` lists the routes of lines.
 
     >>> from pigyelund import Route, Table, Vrp
     >>> table = Table([Vrp("10.0.0.0/8-16 AS64496")])
@@ -55,12 +56,15 @@ from .table import (
     Changes,
     Reason,
     Table,
+    UnexpiredVrps,
     Validity,
     answer,
     read_octets,
     read_route_octets,
     read_routes,
+    read_unexpired_vrps,
     read_vrps,
+    validate_routes,
 )
 from .values import Asn, Covering, Family, Mismatch, Route, Vrp
 
@@ -91,6 +95,7 @@ __all__ = [
     "SetTextError",
     "Status",
     "Table",
+    "UnexpiredVrps",
     "Validity",
     "Vrp",
     "VrpFileError",
@@ -100,8 +105,10 @@ __all__ = [
     "read_octets",
     "read_route_octets",
     "read_routes",
+    "read_unexpired_vrps",
     "read_vrps",
     "status_text",
+    "validate_routes",
 ]
 
 __version__ = "0.2.0"

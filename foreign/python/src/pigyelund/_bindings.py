@@ -1,6 +1,6 @@
 """The numbers, structs and calls of foreign/pigyelund.h. foreign/bindings.py makes this file."""
 
-from ctypes import POINTER, Array, Structure, c_char_p, c_size_t, c_uint8, c_uint32, c_void_p
+from ctypes import POINTER, Array, Structure, c_char_p, c_size_t, c_uint8, c_uint32, c_uint64, c_void_p
 from enum import IntEnum
 
 VERSION_NUMBER = 2000
@@ -268,6 +268,8 @@ CALLS: dict[str, tuple[type | None, list[type]]] = {
     "pigy_validate": (c_uint32, [POINTER(Vrp), c_size_t, POINTER(Route), c_size_t, POINTER(c_uint8), c_size_t,
         POINTER(c_size_t), POINTER(c_size_t)]),
     "pigy_vrps_read": (c_uint32, [c_char_p, c_size_t, POINTER(Vrp), c_size_t, POINTER(c_size_t), POINTER(c_size_t)]),
+    "pigy_vrps_read_unexpired": (c_uint32, [c_char_p, c_size_t, c_uint64, POINTER(Vrp), c_size_t, POINTER(c_size_t),
+        POINTER(c_size_t), POINTER(c_size_t)]),
     "pigy_routes_read": (c_uint32, [c_char_p, c_size_t, POINTER(Route), c_size_t, POINTER(c_size_t),
         POINTER(c_size_t)]),
     "pigy_vrp_from_text": (c_uint32, [c_char_p, c_size_t, POINTER(Vrp)]),
@@ -280,6 +282,8 @@ CALLS: dict[str, tuple[type | None, list[type]]] = {
     "pigy_table_validate": (c_uint32, [c_void_p, POINTER(Route), POINTER(c_uint8), POINTER(c_uint8)]),
     "pigy_table_validate_routes": (c_uint32, [c_void_p, POINTER(Route), c_size_t, POINTER(c_uint8), c_size_t,
         POINTER(c_uint8), c_size_t, POINTER(c_size_t), POINTER(c_size_t)]),
+    "pigy_tables_validate_routes": (c_uint32, [POINTER(c_void_p), c_size_t, POINTER(Route), c_size_t, POINTER(c_uint8),
+        c_size_t, POINTER(c_uint8), c_size_t, POINTER(c_size_t), POINTER(c_size_t)]),
     "pigy_table_revalidate": (c_uint32, [c_void_p, c_void_p, POINTER(Route), c_size_t, POINTER(c_uint8), c_size_t,
         POINTER(c_size_t), POINTER(c_size_t)]),
     "pigy_table_changes": (c_uint32, [c_void_p, c_void_p, POINTER(Vrp), c_size_t, POINTER(c_size_t), POINTER(Vrp),

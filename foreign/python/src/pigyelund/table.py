@@ -7,14 +7,14 @@ from ctypes import POINTER, byref, c_size_t, c_uint8, c_void_p
 from dataclasses import dataclass
 from enum import Enum
 from struct import iter_unpack
-from typing import TYPE_CHECKING, Any, Literal, NoReturn, TypeAlias, TypeVar, overload
+from typing import TYPE_CHECKING, Any, Literal, NoReturn, SupportsIndex, TypeAlias, TypeVar, overload
 
 from . import _bindings
 from ._bindings import NO_VALIDITY, Status
 from ._library import Handle, library, listed, texted
 from .errors import KIND, error_for_status
 from .resources import check
-from .values import Covering, Mismatch, Packed, Route, Vrp
+from .values import Covering, Mismatch, Packed, Route, Vrp, integer_of
 
 if TYPE_CHECKING:
     from _typeshed import ReadableBuffer
@@ -25,6 +25,7 @@ Array: TypeAlias = "ctypes.Array[Any]"
 Answer = TypeVar("Answer")
 SIZE = 24  # octets of a VRP or of a route
 PART = 1 << 12  # routes of one call of C if some may be malformed
+LAST_TIME = 2**64 - 1
 
 
 class Validity(Enum):
@@ -78,6 +79,19 @@ class Changes:
 
     announced: list[Vrp]
     withdrawn: list[Vrp]
+
+
+@dataclass(frozen=True)
+class UnexpiredVrps:
+    """The VRPs of a validator's file that have not expired.
+
+    Attributes:
+        vrps: The VRPs that have not expired, in the order of the file. The list may be empty.
+        expired: The number of VRPs that have expired.
+    """
+
+    vrps: list[Vrp]
+    expired: int
 
 
 def plain_format(kind: type[ctypes.Structure] | None, text: str = "") -> str:
@@ -144,6 +158,13 @@ def vrps_of(octets: bytes) -> list[Vrp]:
     return [Vrp._of_struct(octets[at : at + SIZE]) for at in range(0, len(octets), SIZE)]
 
 
+def refuse_no_file(file: object) -> None:
+    """Raises TypeError for a file that is no `bytes`."""
+    if not isinstance(file, bytes):
+        kind = type(file).__name__
+        raise TypeError(f"file: a {kind} is no bytes; for the name of a file pass Path(name).read_bytes()")
+
+
 def read_octets(file: bytes) -> bytes:
     """Reads the VRPs of a validator's file into structs, as `read_vrps` does into objects.
 
@@ -153,9 +174,7 @@ def read_octets(file: bytes) -> bytes:
     Raises:
         VrpFileError, TypeError: As in `read_vrps`.
     """
-    if not isinstance(file, bytes):
-        kind = type(file).__name__
-        raise TypeError(f"file: a {kind} is no bytes; for the name of a file pass Path(name).read_bytes()")
+    refuse_no_file(file)
     line, length = c_size_t(), bytes.__len__(file)
     status, octets = listed(
         _bindings.Vrp,
@@ -178,7 +197,7 @@ def read_vrps(file: bytes) -> list[Vrp]:
     The first character that is not white space decides how the file is read. If it is `{`, the file is JSON, with the
     VRPs in the array `roas`. If it is `[`, the file is invalid. Any other file is CSV. `pigy_vrps_read` in
     `pigyelund.h` says what is valid. An invalid line or item makes the whole file invalid. The list has expired VRPs
-    too. `Table.read` makes a table without a list.
+    too, which `read_unexpired_vrps` leaves out. `Table.read` makes a table without a list.
 
     Args:
         file: The octets of the whole file.
@@ -192,6 +211,57 @@ def read_vrps(file: bytes) -> list[Vrp]:
         TypeError: `file` is no `bytes`, for example the name of the file.
     """
     return vrps_of(read_octets(file))
+
+
+def unexpired_octets(file: bytes, time: SupportsIndex) -> tuple[bytes, int]:
+    """Reads the unexpired VRPs of a file into structs. Returns them, and the number of expired VRPs.
+
+    Raises:
+        VrpFileError, TypeError, ValueError: As in `read_unexpired_vrps`.
+    """
+    refuse_no_file(file)
+    seconds = integer_of(time)
+    if seconds is None:
+        raise TypeError(f"time: {time!r} is no integer; for the current time pass int(time.time())")
+    if not 0 <= seconds <= LAST_TIME:
+        raise ValueError(f"time: {seconds} is not from 0 to {LAST_TIME}")
+    line, expired, length = c_size_t(), c_size_t(), bytes.__len__(file)
+    status, octets = listed(
+        _bindings.Vrp,
+        lambda out, capacity, count: int(
+            library().pigy_vrps_read_unexpired(
+                file, length, seconds, out, capacity, count, byref(expired), byref(line)
+            )
+        ),
+        length // SIZE + 1,
+    )
+    if status != Status.OK:
+        raise error_for_status(status, line=line.value)
+    return octets, expired.value
+
+
+def read_unexpired_vrps(file: bytes, time: SupportsIndex) -> UnexpiredVrps:
+    """Reads the VRPs of a validator's file that have not expired. `read_vrps` describes the file.
+
+        >>> lines = b"ASN,IP Prefix,Max Length,Expires\\nAS64496,10.0.0.0/8,16,1732600000\\nAS64497,10.0.0.0/8,16,\\n"
+        >>> read_unexpired_vrps(lines, 1732600001)
+        UnexpiredVrps(vrps=[Vrp('10.0.0.0/8-16 AS64497')], expired=1)
+
+    A VRP has expired if its expiry is before `time`. In JSON the expiry is the member `expires` of the item, a number.
+    In CSV it is the field in the column `Expires`. A VRP without this member or field, or with an empty field, does not
+    expire. `Table.read_unexpired` makes a table without a list.
+
+    Args:
+        file: The octets of the whole file.
+        time: The time in seconds since 1970-01-01 UTC, for example `int(time.time())`.
+
+    Raises:
+        VrpFileError: As in `read_vrps`, or an expiry is invalid.
+        TypeError: `file` is no `bytes`, or `time` is no integer.
+        ValueError: `time` is negative, or is above 2^64 - 1.
+    """
+    octets, expired = unexpired_octets(file, time)
+    return UnexpiredVrps(vrps_of(octets), expired)
 
 
 def read_route_octets(lines: bytes) -> bytes:
@@ -310,6 +380,15 @@ class Table:
             VrpFileError, TypeError: As in `read_vrps`.
         """
         return cls(read_octets(file))
+
+    @classmethod
+    def read_unexpired(cls, file: bytes, time: SupportsIndex) -> "Table":
+        """Makes a table of the VRPs of a validator's file that have not expired, as `read_unexpired_vrps` reads them.
+
+        Raises:
+            VrpFileError, TypeError, ValueError: As in `read_unexpired_vrps`.
+        """
+        return cls(unexpired_octets(file, time)[0])
 
     def _status(self, call: Callable[[c_void_p], Any]) -> int:
         """Makes a call with the handle, as `_with_handle` does. Returns the status."""
@@ -468,23 +547,12 @@ class Table:
             TypeError: `routes` is neither an iterable nor a buffer, or an item of it is no `Route`.
             ValueError: The table is closed, or the length of the buffer is no multiple of 24 octets.
         """
-        asked = array_of(_bindings.Route, Route, routes)
-        out = (c_uint8 * len(asked)).from_buffer_copy(bytes([NO_VALIDITY]) * len(asked))
-        found = (c_uint8 * len(asked))() if reasons else None
-
-        def ask(at: int, count: int) -> tuple[int, int]:
-            """Validates some routes. Returns the status, and the index of the first malformed one in these routes."""
-            length, index = c_size_t(), c_size_t()
-            buffer = (items_from(found, at), count) if found is not None else (None, 0)
-            words = items_from(asked, at), count, items_from(out, at), count, *buffer, byref(length), byref(index)
-            status = self._status(lambda handle: library().pigy_table_validate_routes(handle, *words))
-            return status, index.value
-
-        if allow_malformed:
-            validate_parts(ask, len(asked), out)
-        else:
-            refuse_failed(*ask(0, len(asked)), asked)
-        return bytes(out) if found is None else (bytes(out), bytes(found))
+        return validated(
+            lambda words: self._status(lambda handle: library().pigy_table_validate_routes(handle, *words)),
+            routes,
+            allow_malformed,
+            reasons,
+        )
 
     def revalidate(self, following: "Table", routes: Routes) -> list[int]:
         """Returns the indices of the routes whose validity differs between this table and another one (RFC 6811, 4).
@@ -728,6 +796,84 @@ def validate_parts(ask: Callable[[int, int], tuple[int, int]], count: int, out: 
         if status != Status.OK:
             raise error_for_status(status)
         at += size
+
+
+def validated(
+    call: Callable[[tuple[Any, ...]], int], routes: Routes, allow_malformed: bool, reasons: bool
+) -> bytes | tuple[bytes, bytes]:
+    """Validates routes by a call of the library, as `Table.validate_octets` describes.
+
+    Args:
+        call: The call. It takes the arguments after the table or tables, and returns the status.
+        routes, allow_malformed, reasons: As in `Table.validate_octets`.
+    """
+    asked = array_of(_bindings.Route, Route, routes)
+    out = (c_uint8 * len(asked)).from_buffer_copy(bytes([NO_VALIDITY]) * len(asked))
+    found = (c_uint8 * len(asked))() if reasons else None
+
+    def ask(at: int, count: int) -> tuple[int, int]:
+        """Validates some routes. Returns the status, and the index of the first malformed one in these routes."""
+        length, index = c_size_t(), c_size_t()
+        buffer = (items_from(found, at), count) if found is not None else (None, 0)
+        words = items_from(asked, at), count, items_from(out, at), count, *buffer, byref(length), byref(index)
+        return call(words), index.value
+
+    if allow_malformed:
+        validate_parts(ask, len(asked), out)
+    else:
+        refuse_failed(*ask(0, len(asked)), asked)
+    return bytes(out) if found is None else (bytes(out), bytes(found))
+
+
+@overload
+def validate_routes(tables: Iterable[Table], routes: Routes, *, reasons: Literal[False] = False) -> list[Validity]: ...
+
+
+@overload
+def validate_routes(
+    tables: Iterable[Table], routes: Routes, *, reasons: Literal[True]
+) -> tuple[list[Validity], list[Reason | None]]: ...
+
+
+def validate_routes(
+    tables: Iterable[Table], routes: Routes, *, reasons: bool = False
+) -> list[Validity] | tuple[list[Validity], list[Reason | None]]:
+    """Validates routes by several tables at once (RFC 6811, 2), for example by a table for each cache.
+
+        >>> with Table([Vrp("10.0.0.0/8 AS64496")]) as one, Table([Vrp("10.0.0.0/8 AS64497")]) as other:
+        ...     validate_routes([one, other], [Route("10.0.0.0/8 AS64497"), Route("10.0.0.0/8 AS64498")])
+        [<Validity.VALID: 0>, <Validity.INVALID: 2>]
+
+    The validity of a route is that by the VRPs of all tables together. So a route is valid if it is valid by at least
+    one table. Otherwise it is invalid if it is invalid by at least one. Otherwise it is not found.
+
+    Args:
+        tables: The tables. Without a table no route is found.
+        routes: The routes: an iterable of `Route`, or a buffer of C structs.
+        reasons: Whether to return the reasons too, as `Table.validate_routes` returns them.
+
+    Raises:
+        OriginError: A struct of a buffer is malformed. The attribute `index` is the index, from 0, of the first one.
+        TypeError: An item of `tables` is no table, `routes` is neither an iterable nor a buffer, or an item of it is no
+            `Route`.
+        ValueError: A table is closed, or the length of the buffer is no multiple of 24 octets.
+    """
+    given = [*tables]
+    for it in given:
+        check("tables", it, Table)
+    # The list keeps the handles until the call returns, also if another thread closes a table.
+    owners = [it._owner for it in given]
+    handles = (c_void_p * len(owners))(*(it.stored.value for it in owners if it is not None))
+    if None in owners:
+        raise ValueError("a table is closed")
+
+    def call(words: tuple[Any, ...]) -> int:
+        return int(library().pigy_tables_validate_routes(handles, len(owners), *words))
+
+    found = validated(call, routes, False, reasons)
+    if isinstance(found, bytes):
+        return [_VALIDITIES[octet] for octet in found]
+    return [_VALIDITIES[octet] for octet in found[0]], [_REASONS.get(octet) for octet in found[1]]
 
 
 def answer(line: str) -> str:

@@ -99,8 +99,8 @@ faults! {
 faults! {
     /// The first error of a line or of an item of a VRP file, or of the text of a [`Vrp`](crate::Vrp).
     ///
-    /// A line of CSV has an error with a number from 1 to 7, or 20. An item of JSON has one from 4 to 16, or from 18 to 20.
-    /// A text has one from 4 to 7.
+    /// A line of CSV has an error with a number from 1 to 7, or 20. An item of JSON has one from 4 to 16, or from 18 to
+    /// 20. A text has one from 4 to 7.
     VrpFault {
         /// The line is not UTF-8.
         NotUtf8 = 1,

@@ -7,7 +7,7 @@
 //!
 //! - [`Resources`] is a set of AS numbers and addresses. It is read from DER or text, and verifies certificates.
 //! - [`Table`] is a table of VRPs (validated ROA payloads, [`Vrp`]). It validates a [`Route`].
-//! - [`read_vrps`] reads the VRPs of a validator's file, and [`read_unexpired_vrps`] leaves out those that have expired.
+//! - [`read_vrps`] reads the VRPs of a validator's file. [`read_unexpired_vrps`] leaves out those that have expired.
 //!   [`read_routes`] reads the routes of lines.
 //! - [`Asn`] and [`Prefix`] are the values that sets, VRPs and routes have.
 //! - [`answer`] returns the answer of the program `respath` to a line.

@@ -149,17 +149,17 @@ module _ (Is : List ℕ → List ℕ → Type 0) where
 -- ---- how a run ends
 
 module _ {R W : Type 0} (read_mark : R → Bool) (left : R → Option (List ℕ)) (mark : W → Bool)
-    (written : W → Option (List ℕ)) (is_flushed : W → Bool) (Is : List ℕ → List ℕ → Type 0) (reader reader' : R)
-    (w u : W) (same : read_mark reader' ≡ read_mark reader) where
+    (written : W → Option (List ℕ)) (is_flushed : W → Bool) (Is : List ℕ → List ℕ → Type 0) (AfterRead : Type 0)
+    (reader reader' : R) (w u : W) (same : read_mark reader' ≡ read_mark reader) where
   -- it was out of memory, or a write failed
   pub run_failed : (e : RunError) (r : Result (Unit {0}) RunError) → r ≡ Err e → MarksWriter (mark w) (mark u) (Err e)
       → IfSome (left reader) (λ bytes. BreaksOff Is (written w) (written u) (lines_of bytes) e)
-      → IsRun read_mark left mark written is_flushed Is reader reader' w u r
+      → IsRun read_mark left mark written is_flushed Is AfterRead reader reader' w u r
   run_failed e r is marks broke = grind (arith)
 
   -- all was answered, and then the writer was flushed
   pub run_flushed : (v : W) (r : Result (Unit {0}) RunError) → mark v ≡ mark w → IsAtEnd (left reader')
       → IfSome (left reader) (AnswersAll Is (written w) (written v)) → OnOk r (mark u ≡ mark v)
       → OnOk r (is_flushed u ≡ true) → IfErr r (λ e. (e ≡ Write) × (mark u ≡ true)) → Keeps (written v) (written u)
-      → IsRun read_mark left mark written is_flushed Is reader reader' w u r
+      → IsRun read_mark left mark written is_flushed Is AfterRead reader reader' w u r
   run_flushed v r unmarked whole all kept_mark flushed failed kept = grind (arith, answered_kept)

@@ -102,17 +102,19 @@ abbrev pub AnswersEnded : (List ℕ → List ℕ → Type 0) → Option (List �
 AnswersEnded Is old new input left = (part : List ℕ) × HasNo 10 part × AnswersBut Is old new input left part
 
 -- A run of a reader and a writer ended with `result`. They were `reader` and `writer` before it, and are `reader'` and
--- `writer'` after it. The first five arguments are the ghost members of their types.
+-- `writer'` after it. The first five arguments are the ghost members of their types. `AfterRead` says what holds of the
+-- written bytes after a failed read.
 pub record IsRun {X R W : Type 0} (read_mark : R → Bool) (left : R → Option (List ℕ)) (write_mark : W → Bool)
-    (written : W → Option (List ℕ)) (is_flushed : W → Bool) (Is : List ℕ → List ℕ → Type 0) (reader reader' : R)
-    (writer writer' : W) (result : Result X RunError) : Type 0 where
+    (written : W → Option (List ℕ)) (is_flushed : W → Bool) (Is : List ℕ → List ℕ → Type 0) (AfterRead : Type 0)
+    (reader reader' : R) (writer writer' : W) (result : Result X RunError) : Type 0 where
   -- Ok: no call failed, the input was read to its end, each answer was written whole, and the writer is flushed.
   pub unmarked : OnOk result ((read_mark reader' ≡ read_mark reader) × (write_mark writer' ≡ write_mark writer))
   pub read_whole : OnOk result (IsAtEnd (left reader'))
   pub answered : OnOk result (IfSome (left reader) (AnswersAll Is (written writer) (written writer')))
   pub flushed : OnOk result (is_flushed writer' ≡ true)
-  -- Read: a read failed, and no write did. Each run says by a clause of its own what was written.
+  -- Read: a read failed, and no write did.
   pub read : IsErrOf result Read → (read_mark reader' ≡ true) × (write_mark writer' ≡ write_mark writer)
+  pub after_read : IsErrOf result Read → AfterRead
   -- Memory: no call failed. The answers to some first lines were written whole, and nothing else. They are not the
   -- answers to all lines, unless the input has no line.
   pub memory_unmarked : IsErrOf result Memory
@@ -123,3 +125,11 @@ pub record IsRun {X R W : Type 0} (read_mark : R → Bool) (left : R → Option 
   pub write : IsErrOf result Write → write_mark writer' ≡ true
   pub no_read_failed : IsErrOf result Write → read_mark reader' ≡ read_mark reader
   pub some_written : IsErrOf result Write → IfSome (left reader) (BeginsAnswers Is (written writer) (written writer'))
+
+-- A run that answers as it reads ended with `result`. After a failed read the lines whose ends were read are answered.
+abbrev pub IsStreamRun : {X R W : Type 0} → (R → Bool) → (R → Option (List ℕ)) → (W → Bool) → (W → Option (List ℕ))
+    → (W → Bool) → (List ℕ → List ℕ → Type 0) → R → R → W → W → Result X RunError → Type 0
+IsStreamRun read_mark left write_mark written is_flushed Is reader reader' writer writer' result =
+    IsRun read_mark left write_mark written is_flushed Is
+    (AnswersEnded Is (written writer) (written writer') (left reader) (left reader')) reader reader' writer writer'
+    result

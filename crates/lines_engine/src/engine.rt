@@ -42,13 +42,10 @@ pub fn run<A: Allocator + Copy, L: Answers, R: Source, W: Sink>(
     reader: &mut R,
     writer: &mut W,
 ) -> Result<(), RunError>
-    // No call of `reader` or `writer` has failed.
     requires reader_clear { R.mark reader.old ≡ false }
     requires writer_clear { W.mark writer.old ≡ false }
-    ensures run { IsRun R.mark R.left W.mark W.written W.flushed (L.is_answer answers.now) reader.old reader.new
-        writer.old writer.new result }
-    // Read: nothing was written.
-    ensures nothing_written { IsErrOf result RunError.Read → writer.new ≡ writer.old }
+    ensures { IsRun R.mark R.left W.mark W.written W.flushed (L.is_answer answers.now) (writer.new ≡ writer.old)
+        reader.old reader.new writer.old writer.new result }
 {
     let input = read_to_end(alloc, reader)?;
     answer_lines(alloc, answers, &input, writer)?;
@@ -96,7 +93,7 @@ pub fn read_to_end<A: Allocator + Copy, R: Source>(
 
 /// Writes to `writer` the answer to each line of `text`, in order, as one line.
 #[tactic(auto, using(crate::proofs::RunLemmas::answered_none, crate::proofs::RunLemmas::answered_then, crate::proofs::RunLemmas::then_are))]
-fn answer_lines<A: Allocator + Copy, L: Answers, W: Sink>(
+pub(crate) fn answer_lines<A: Allocator + Copy, L: Answers, W: Sink>(
     alloc: A,
     answers: &L,
     text: &[u8],

@@ -2,7 +2,7 @@
 ghost use Rattle.std.specs.Prelude.{◌≡◌, ◌<◌, ◌++◌, length, ℕ, List, [], false, IfErr, OnOk, IsErrOf};
 ghost use Rattle.rpki_text.specs.Cuts.{HasNo};
 ghost use Rattle.rpki_text.specs.Lines.{lines_of};
-ghost use Rattle.lines_engine.specs.Run.{AnswersEnded, AreAnswered, IsRun, MarksWriter};
+ghost use Rattle.lines_engine.specs.Run.{AreAnswered, IsStreamRun, MarksWriter};
 
 use crate::answers::Answers;
 use crate::device::{DeviceFault, Sink, Source};
@@ -38,14 +38,10 @@ pub fn answer_as_read<A: Allocator + Copy, L: Steps, R: Source, W: Sink>(
     reader: &mut R,
     writer: &mut W,
 ) -> Result<(), RunError>
-    // No call of `reader` or `writer` has failed.
     requires reader_clear { R.mark reader.old ≡ false }
     requires writer_clear { W.mark writer.old ≡ false }
-    ensures run { IsRun R.mark R.left W.mark W.written W.flushed (L.is_answer answers.now) reader.old reader.new
+    ensures { IsStreamRun R.mark R.left W.mark W.written W.flushed (L.is_answer answers.now) reader.old reader.new
         writer.old writer.new result }
-    // Read: the answers to the lines whose ends were read were written whole, and nothing else.
-    ensures ended_answered { IsErrOf result RunError.Read → AnswersEnded (L.is_answer answers.now)
-        (W.written writer.old) (W.written writer.new) (R.left reader.old) (R.left reader.new) }
 {
     let mut piece = read_buffer(alloc)?;
     let mut part = Vec::new(alloc);

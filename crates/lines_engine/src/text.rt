@@ -2,8 +2,9 @@
 ghost use Rattle.std.specs.Prelude.{[], IfOk, Some};
 ghost use Rattle.lines_engine.specs.Run.{AnswersAll};
 
+use crate::adapters::IntoWrite;
 use crate::answers::Answers;
-use rpki_text::line::cut_at_line_end;
+use crate::engine::answer_lines;
 use std::alloc::{AllocError, Allocator};
 
 /// Returns the answers to all lines of a text, in order, each as one line.
@@ -20,15 +21,10 @@ pub fn answer_text<A: Allocator + Copy, L: Answers>(
 ) -> Result<Vec<u8, A>, AllocError>
     ensures { IfOk result (λ written. AnswersAll (L.is_answer answers.now) (Some []) (Some written.items) input.now) }
 {
-    let mut written = Vec::new(alloc);
-    let mut answer = String::new(alloc);
-    let mut rest = input;
-    while !rest.is_empty() {
-        let (line, after) = cut_at_line_end(rest);
-        answers.answer(alloc, line, &mut answer)?;
-        written.extend_from_slice(answer.as_bytes())?;
-        written.push(b'\n')?;
-        rest = after;
+    let mut sink = IntoWrite::new(Vec::new(alloc));
+    // A write to a vector fails only if an allocation does.
+    match answer_lines(alloc, answers, input, &mut sink) {
+        Ok(()) => Ok(sink.into_inner()),
+        Err(_) => Err(AllocError),
     }
-    Ok(written)
 }

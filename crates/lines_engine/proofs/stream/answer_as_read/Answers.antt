@@ -13,28 +13,28 @@ pub loop-count-preserved : goal.loop-count-preserved
 loop-count-preserved g c = grind (arith, common_steps, but_more)
 
 -- the line without an end was not answered
-pub returns-in_err-answer_last-clause-run : goal.returns-in_err-answer_last-clause-run
-returns-in_err-answer_last-clause-run g c =
+pub returns-in_err-answer_last : goal.returns-in_err-answer_last
+returns-in_err-answer_last g c =
     let p = err_from_is_err_and c.from_residual-in_err-answer_last.result
     c.from_residual-in_err-answer_last.ensures.1 in
     let had : IfSome (g.R.Source.left c.args.reader.now)
     (λ bytes. HasAnswered (g.L.Answers.is_answer c.args.answers.now)
     (g.W.Sink.written c.args.writer.now) (g.W.Sink.written c.loop-count.writer) (lines_of bytes)
     (lines_of c.loop-count.part.items) []) = grind (arith, common_steps) in
-    run_failed g.R.Source.mark g.R.Source.left g.W.Sink.mark g.W.Sink.written g.W.Sink.flushed _ _ _ _ _
+    run_failed g.R.Source.mark g.R.Source.left g.W.Sink.mark g.W.Sink.written g.W.Sink.flushed _ _ _ _ _ _
     (grind (arith, common_steps)) c.in_err-answer_last.field-0.0 _ (p.1 ∙ ap Err p.2)
     (grind (arith, common_steps))
     (last_then _ _ _ _ _ c.loop-count.part.items (Err c.in_err-answer_last.field-0.0) had
     (rw c.deref.ensures.value at c.in_err-answer_last.ensures.answered))
 
 -- all was answered, and maybe the flush failed
-pub returns-then-count-eq0-clause-run : goal.returns-then-count-eq0-clause-run
-returns-then-count-eq0-clause-run g c =
+pub returns-then-count-eq0 : goal.returns-then-count-eq0
+returns-then-count-eq0 g c =
     let had : IfSome (g.R.Source.left c.args.reader.now)
     (λ bytes. HasAnswered (g.L.Answers.is_answer c.args.answers.now)
     (g.W.Sink.written c.args.writer.now) (g.W.Sink.written c.loop-count.writer) (lines_of bytes)
     (lines_of c.loop-count.part.items) []) = grind (arith, common_steps) in
-    run_flushed g.R.Source.mark g.R.Source.left g.W.Sink.mark g.W.Sink.written g.W.Sink.flushed _ _ _ _ _
+    run_flushed g.R.Source.mark g.R.Source.left g.W.Sink.mark g.W.Sink.written g.W.Sink.flushed _ _ _ _ _ _
     (grind (arith, common_steps)) c.answer_last.new.writer c.flush_all.result
     (grind (arith, common_steps)) (grind (arith, common_steps))
     (last_then _ _ _ _ _ c.loop-count.part.items (Ok tt) had
@@ -42,22 +42,22 @@ returns-then-count-eq0-clause-run g c =
     c.flush_all.ensures.unmarked c.flush_all.ensures.flushed c.flush_all.ensures.write c.flush_all.ensures.kept
 
 -- the input has too many bytes
-pub returns-in-None-clause-run : goal.returns-in-None-clause-run
-returns-in-None-clause-run g c =
+pub returns-in-None : goal.returns-in-None
+returns-in-None g c =
     let some : 0 < length (take c.in-Ok.count c.read.new.piece) = grind (arith, common_steps) in
-    run_failed g.R.Source.mark g.R.Source.left g.W.Sink.mark g.W.Sink.written g.W.Sink.flushed _ _ _ _ _
+    run_failed g.R.Source.mark g.R.Source.left g.W.Sink.mark g.W.Sink.written g.W.Sink.flushed _ _ _ _ _ _
     (grind (arith, common_steps)) Memory (Err Memory) refl (grind (arith, common_steps))
     (but_are _ _ _ _ _ _ c.loop-count.part.items _ c.loop-count.invariant.answered c.in-Ok.ensures.bytes.0
     (g.W.Sink.written c.loop-count.writer) [] (Err Memory)
     (λ more. left_are _ _ c.loop-count.part.items _ more [] (Err Memory) refl some))
 
-pub returns-in_err-answer_piece-clause-run : goal.returns-in_err-answer_piece-clause-run
-returns-in_err-answer_piece-clause-run g c =
+pub returns-in_err-answer_piece : goal.returns-in_err-answer_piece
+returns-in_err-answer_piece g c =
     let p = err_from_is_err_and c.from_residual-in_err-answer_piece.result
     c.from_residual-in_err-answer_piece.ensures.1 in
     let again = front_taken c.deref-in-loop-count.result.now c.read.new.piece _ _ c.deref-in-loop-count.ensures.value
     (c.read.auto.piece ∙ c.deref_mut.ensures.len) in
-    run_failed g.R.Source.mark g.R.Source.left g.W.Sink.mark g.W.Sink.written g.W.Sink.flushed _ _ _ _ _
+    run_failed g.R.Source.mark g.R.Source.left g.W.Sink.mark g.W.Sink.written g.W.Sink.flushed _ _ _ _ _ _
     (grind (arith, common_steps)) c.in_err-answer_piece.field-0.0 _ (p.1 ∙ ap Err p.2)
     (grind (arith, common_steps))
     (but_are _ _ _ _ _ _ c.loop-count.part.items _ c.loop-count.invariant.answered c.in-Ok.ensures.bytes.0 _ []

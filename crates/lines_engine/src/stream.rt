@@ -116,7 +116,7 @@ pub(crate) fn keep<A: Allocator>(part: &mut Vec<u8, A>, rest: &[u8]) -> Result<(
 }
 
 /// Answers `part`, the last line without an end, unless it is empty.
-#[tactic(auto, using(std::proofs::lemmas::Grind::common_steps, crate::proofs::StreamLemmas::none_last))]
+#[tactic(auto, using(std::proofs::lemmas::Grind::common_steps, crate::proofs::StreamLemmas::none_last, crate::proofs::StreamLemmas::last_are))]
 fn answer_last<A: Allocator + Copy, L: Answers, W: Sink>(
     alloc: A,
     answers: &L,

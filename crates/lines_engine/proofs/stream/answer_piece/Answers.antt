@@ -1,4 +1,4 @@
-use Rattle.lines_engine.proofs.Common.{Err, ap, arith, lines_of, ◌++◌, ◌∙◌}
+use Rattle.lines_engine.proofs.Common.{arith, common_steps, lines_of, ◌++◌}
 use Rattle.std.proofs.lemmas.Result.{err_from_is_err_and}
 use Rattle.lines_engine.proofs.RunLemmas.{then_are}
 use Rattle.lines_engine.proofs.GroupLemmas.{cut_shorter}
@@ -9,9 +9,7 @@ use Rattle.lines_engine.proofs.stream.answer_piece.Goals as goal
 pub returns-in_err-extend_from_slice-in-Some-clause-answered :
     goal.returns-in_err-extend_from_slice-in-Some-clause-answered
 returns-in_err-extend_from_slice-in-Some-clause-answered g c more =
-    let p = err_from_is_err_and c.from_residual.result c.from_residual.ensures.1 in
-    left_are (g.L.Answers.is_answer c.args.answers.now) _ c.args.part.now.items c.args.piece.now more _ _
-    (p.1 ∙ ap Err p.2) (omega (arith, cut_shorter c.args.piece.now _ _ c.in-Some.ensures))
+    grind (arith, common_steps, cut_shorter, left_are)
 
 -- it was not answered
 pub returns-in_err-answer_line-in-Some-clause-answered : goal.returns-in_err-answer_line-in-Some-clause-answered
@@ -33,6 +31,4 @@ returns-in_ok-answer_line-in-Some-clause-answered g c more =
 
 -- no line ends in the piece
 pub returns-in-None-clause-answered : goal.returns-in-None-clause-answered
-returns-in-None-clause-answered g c =
-    kept_are (g.L.Answers.is_answer c.args.answers.now) _ c.args.part.now.items c.args.piece.now _ c.keep.result
-    c.keep.ensures.kept c.keep.ensures.memory
+returns-in-None-clause-answered g c = grind (arith, common_steps, kept_are)

@@ -1,13 +1,36 @@
--- Answers by a table are answers by the list that it was made of.
-use Rattle.origins_lines.proofs.Common.{arith, Bool, List, Option, [], ℕ, ◌∷◌, IfSome, OnOk, Result, AnswersAll}
-use Rattle.origins_lines.proofs.Common.{AnswersEnded, AnswersFirst, BeginsAnswers, HasAnswered}
-use Rattle.origins_lines.proofs.Common.{Form, IsVrpFile, Vrp, ByFile}
+-- The answer to what a line gives. Answers by a table are answers by the list that it was made of.
+use Rattle.origins_lines.proofs.Common.{arith, Bool, List, Option, [], append-nil, inl, inr, ℕ, ◌∷◌, ◌≡◌, IfSome}
+use Rattle.origins_lines.proofs.Common.{Result}
+use Rattle.origins_lines.proofs.Common.{HasAnswered, IsStreamRun, Form, IsVrpFile, Vrp, ByFile}
+use Rattle.origins_lines.proofs.Common.{AskedRoute, BegunRoute, IsAnswerIn, IsBegun, IsFaultAnswer, IsRouteAnswer}
 use Rattle.std.specs.List.{AllZip}
 use Rattle.std.specs.List.Sorted.{IsPermutation}
 use Rattle.std.proofs.lemmas.List.Sorted.{IsPermutation-sym}
-use Rattle.origins_lines.specs.Forms.{IsAnswerIn}
-use Rattle.origins_lines.specs.declared.explanation.Form.TheVariants.{Json, Words}
-use Rattle.origins_lines.proofs.OrderLemmas.{any_order, json_any_order}
+use Rattle.json.specs.Print.{print, print_from, quoted}
+use Rattle.json.specs.Token.{string}
+use Rattle.lines_engine.specs.declared.error.RunError.{RunError}
+use Rattle.roa_routes.specs.declared.fault.RouteFault.{RouteFault}
+use Rattle.origins_lines.specs.declared.begun.BegunRoute.TheVariants.{Asked, Wrong}
+use Rattle.origins_lines.proofs.OrderLemmas.{any_order}
+
+-- a writer of JSON prints one string as the string between quotes
+pub printed_string : (said : List ℕ) → print (string said ∷ []) ≡ quoted said
+unfolding print_from
+printed_string said = append-nil (quoted said)
+
+module _ (form : Form) (why : Bool) (vrps : List Vrp) (line text : List ℕ) (begun : BegunRoute)
+    (known : IsBegun vrps begun line) where
+  -- the answer to the route that a line gives is an answer to the line
+  pub asked_answered : (asked : AskedRoute) → begun ≡ Asked asked
+      → IsRouteAnswer form why asked.lookup.vrps asked.route text → IsAnswerIn form why vrps line text
+  asked_answered asked is texts =
+      let (route, one, same) = rw is at known in
+      inl (asked.route, route, rw same at texts)
+
+  -- and so is the answer to its fault
+  pub wrong_answered : (fault : RouteFault) → begun ≡ Wrong fault → IsFaultAnswer form fault line text
+      → IsAnswerIn form why vrps line text
+  wrong_answered fault is texts = inr (inr (fault, rw is at known, texts))
 
 -- each answer of one sort is an answer of another
 module _ (One Other : List ℕ → List ℕ → Type 0)
@@ -21,29 +44,19 @@ module _ (One Other : List ℕ → List ℕ → Type 0)
       → HasAnswered One old new lines rest unwritten → HasAnswered Other old new lines rest unwritten
   answered_turned old new lines rest unwritten had = grind (arith, each_turned)
 
-  pub all_turned : {X E : Type 0} (r : Result X E) (input old new : Option (List ℕ))
-      → OnOk r (IfSome input (AnswersAll One old new)) → OnOk r (IfSome input (AnswersAll Other old new))
-  all_turned r input old new had = grind (arith, answered_turned)
-
-  pub first_turned : (input old new : Option (List ℕ)) → IfSome input (AnswersFirst One old new)
-      → IfSome input (AnswersFirst Other old new)
-  first_turned input old new had = grind (arith, answered_turned)
-
-  pub begins_turned : (input old new : Option (List ℕ)) → IfSome input (BeginsAnswers One old new)
-      → IfSome input (BeginsAnswers Other old new)
-  begins_turned input old new had = grind (arith, answered_turned)
-
-  pub ended_turned : (old new input left : Option (List ℕ)) → AnswersEnded One old new input left
-      → AnswersEnded Other old new input left
-  ended_turned old new input left had = grind (arith, answered_turned)
+  pub run_turned : {R W : Type 0} (read_mark : R → Bool) (left : R → Option (List ℕ)) (mark : W → Bool)
+      (written : W → Option (List ℕ)) (is_flushed : W → Bool) (reader reader' : R) (writer writer' : W)
+      (r : Result (Unit {0}) RunError)
+      → IsStreamRun read_mark left mark written is_flushed One reader reader' writer writer' r
+      → IsStreamRun read_mark left mark written is_flushed Other reader reader' writer writer' r
+  run_turned read_mark left mark written is_flushed reader reader' writer writer' r run =
+      grind (arith, answered_turned)
 
 -- a table has the VRPs of a list in another order: an answer by the table is one by the list
 pub by_list : (form : Form) (why : Bool) (listed table : List Vrp) → IsPermutation listed table
     → (line text : List ℕ) → IsAnswerIn form why table line text → IsAnswerIn form why listed line text
-by_list Words why listed table moved line text is =
-    any_order why table listed line text (IsPermutation-sym listed table moved) is
-by_list Json why listed table moved line text is =
-    json_any_order why table listed line text (IsPermutation-sym listed table moved) is
+by_list form why listed table moved line text is =
+    any_order form why table listed line text (IsPermutation-sym listed table moved) is
 
 -- a file's VRPs
 pub by_file : (file : Option (List ℕ)) (P : List Vrp → Type 0) (listed : List Vrp)

@@ -1,15 +1,12 @@
--- What was read of files, after no file and after one more.
-use Rattle.origins_lines.proofs.Common.{Bool, List, Option, Some, [], ap, arith}
+-- What was read of files, after one more.
+use Rattle.origins_lines.proofs.Common.{List, Option, Some, [], ap, arith}
 use Rattle.origins_lines.proofs.Common.{inl, inr, length, refl, ℕ, ◌+◌, ◌++◌, ◌≡◌, ◌∷◌, ◌∙◌, ◌⊎◌}
 use Rattle.origins_lines.proofs.Common.{Vrp, append-nil, map-append}
-use Rattle.std.specs.Prelude.{◌-◌, ◌^◌, ◌<◌, min, slice_get, suc, zero}
+use Rattle.std.specs.Prelude.{◌-◌, ◌^◌, min, slice_get, suc, zero}
 use Rattle.std.proofs.lemmas.Grind.{flat_map-append}
 use Rattle.std.proofs.lemmas.List.{length_push}
 use Rattle.std.proofs.lemmas.List.Sums.{sum_by_push}
-use Rattle.origins_lines.specs.Inputs.{AppendsPart, AreFilesRead, AreValidBefore, FilePart}
-use Rattle.origins_lines.specs.Inputs.{IsFileStepError, IsInputsError}
-use Rattle.origins_lines.specs.declared.error.InputsError.{InputsError}
-use Rattle.origins_lines.specs.declared.inputs.Selection.{Selection}
+use Rattle.origins_lines.specs.Inputs.{AppendsPart, AreFilesRead, FilePart}
 use Rattle.origins_lines.specs.declared.file.Numbers.{Numbers}
 
 -- the element at an index of a list and one more: that of the list, or the last
@@ -24,16 +21,6 @@ get_push (z ∷ xs) x y (suc k) is = elim (get_push xs x y k is) [
 ]
 
 module _ (text : ℕ → Option (List ℕ)) (time : Option ℕ) where
-  pub files_none : AreFilesRead text time 0 [] [] 0
-  files_none = record {
-    parts = [];
-    one_each = refl;
-    parts_are = λ k part is. cc;
-    listed_are = refl;
-    files_are = refl;
-    expired_are = refl;
-  }
-
   pub files_more : (count : ℕ) (listed more : List Vrp) (files : List Numbers) (expired : ℕ) (numbers : Numbers)
       → AreFilesRead text time count listed files expired → AppendsPart time (text count) listed more numbers
       → AreFilesRead text time (count + 1) more (files ++ numbers ∷ [])
@@ -54,14 +41,3 @@ module _ (text : ℕ → Option (List ℕ)) (time : Option ℕ) where
           ap (λ (n : Numbers). n.expired) numbers_are,
         );
   }
-
--- the error of a file is the first one of all files
-pub step_error : (text : ℕ → Option (List ℕ)) (selection : Selection) (index : ℕ) (mark : Bool) (error : InputsError)
-    → index < selection.files → AreValidBefore text selection.time index
-    → IsFileStepError selection.time index (text index) mark error → IsInputsError text selection mark error
-step_error text selection index mark (InputsError.NotOpened at) less valid (same, marked) =
-    (marked, inl (rw same (less, valid)))
-step_error text selection index mark (InputsError.File at error) less valid (same, is) = rw same (less, valid, is)
-step_error text selection index mark (InputsError.Slurm at error) less valid wrong = absurd wrong
-step_error text selection index mark (InputsError.NoVrpLeft all) less valid wrong = absurd wrong
-step_error text selection index mark InputsError.Memory less valid wrong = absurd wrong

@@ -3,11 +3,9 @@ pub mod AnswerLemmas
 pub mod CheckLemmas
 pub mod Common
 pub mod InputLemmas
-pub mod JsonLemmas
 pub mod LineLemmas
 pub mod Members
 pub mod OrderLemmas
-pub mod RouteAnswerLemmas
 pub mod StateLemmas
 pub mod VrpTextLemmas
 pub mod WhyLemmas

@@ -1,15 +1,17 @@
 -- Where an answer has its state: by its outcome, and by its line.
 use Rattle.origins_lines.proofs.Common.{Bool, List, Some, arith, inl, inr, refl, subst, ℕ, ◌++◌, ◌↔◌, IsFaultInitial}
-use Rattle.origins_lines.proofs.Common.{IsJsonAnswer, IsOriginAnswer, IsOutcomeOf, IsRouteLine}
-use Rattle.origins_lines.proofs.Common.{IsSkippedLine, None, Option, Outcome, Route, Vrp, asked_asn, object_head}
-use Rattle.origins_lines.proofs.Common.{FamilyPrefix, outcome_text}
-use Rattle.std.specs.Prelude.{codes, slice_index_or}
+use Rattle.origins_lines.proofs.Common.{IsAnswerIn, IsFaultAnswer, IsOutcomeOf, IsRouteLine, Form}
+use Rattle.origins_lines.proofs.Common.{IsSkippedLine, None, Outcome, Route, Vrp, asked_asn, FamilyPrefix, skipped_text}
+use Rattle.std.specs.Prelude.{slice_index_or}
 use Rattle.std.proofs.lemmas.Option.{none-some, same_Some}
 use Rattle.roa_origin.specs.Validities.{IsValidity}
 use Rattle.roa_origin.specs.declared.validation.Validity.TheVariants as Validity
 use Rattle.roa_origin.proofs.ChangedRoutes.{one_validity}
+use Rattle.origins_lines.specs.Answers.{answer_end, answer_head}
 use Rattle.origins_lines.specs.Checks.{IsFaultyLine}
+use Rattle.origins_lines.specs.declared.explanation.Form.TheVariants.{Json, Words}
 use Rattle.origins_lines.specs.declared.outcome.Outcome.TheVariants.{InvalidAs, InvalidLength, NotFound, Valid}
+use Rattle.roa_routes.specs.declared.fault.RouteFault.{RouteFault}
 use Rattle.roa_routes.proofs.RouteLineLemmas.{route_decided}
 
 -- the outcome is that of an invalid route
@@ -19,22 +21,32 @@ IsInvalid InvalidLength = Unit {0}
 IsInvalid InvalidAs = Unit {0}
 IsInvalid NotFound = ⊥
 
--- the first byte of a word
-word_state : (outcome : Outcome) (behind : List ℕ)
-    → IsFaultInitial (slice_index_or (outcome_text outcome ++ behind) 0 0) ↔ IsInvalid outcome
-word_state Valid behind = grind (arith)
-word_state InvalidLength behind = grind (arith)
-word_state InvalidAs behind = grind (arith)
-word_state NotFound behind = grind (arith)
+-- the index of the state's first byte
+abbrev pub state_place : Form → ℕ
+state_place Words = 0
+state_place Json = 10
 
--- the byte of an object after ten others
-object_state : (outcome : Outcome) (prefix : FamilyPrefix) (origin : Option ℕ) (member : List ℕ)
-    → IsFaultInitial (slice_index_or (object_head outcome prefix origin ++ member ++ codes "}") 10 0)
+-- the byte of an answer at its place, by what the line gives
+head_state : (form : Form) (outcome : Outcome) (route : Route) (more end : List ℕ)
+    → IsFaultInitial (slice_index_or (answer_head form outcome route ++ more ++ end) (state_place form) 0)
     ↔ IsInvalid outcome
-object_state Valid prefix origin member = grind (arith)
-object_state InvalidLength prefix origin member = grind (arith)
-object_state InvalidAs prefix origin member = grind (arith)
-object_state NotFound prefix origin member = grind (arith)
+head_state Words Valid route more end = grind (arith)
+head_state Words InvalidLength route more end = grind (arith)
+head_state Words InvalidAs route more end = grind (arith)
+head_state Words NotFound route more end = grind (arith)
+head_state Json Valid route more end = grind (arith)
+head_state Json InvalidLength route more end = grind (arith)
+head_state Json InvalidAs route more end = grind (arith)
+head_state Json NotFound route more end = grind (arith)
+
+skipped_state : (form : Form) → ¬ IsFaultInitial (slice_index_or (skipped_text form) (state_place form) 0)
+skipped_state Words h = grind (arith)
+skipped_state Json h = grind (arith)
+
+fault_state : (form : Form) (fault : RouteFault) (line text : List ℕ) → IsFaultAnswer form fault line text
+    → IsFaultInitial (slice_index_or text (state_place form) 0)
+fault_state Words fault line text whole = rw whole (inr refl)
+fault_state Json fault line text (value, is, whole) = rw whole (inr refl)
 
 module _ (vrps : List Vrp) (route : FamilyPrefix) (asn : ℕ) where
   invalid_by : (outcome : Outcome) → IsOutcomeOf route asn vrps outcome
@@ -70,23 +82,13 @@ module _ (vrps : List Vrp) (line : List ℕ) where
         | inr (fault, has) ↦ decided.apart None fault skipped has
       ]
 
-  pub word_faulty : (why : Bool) (text : List ℕ) → IsOriginAnswer why vrps line text
-      → IsFaultInitial (slice_index_or text 0 0) ↔ IsFaultyLine vrps line
-  word_faulty why text (inl (route, is, (outcome, is_outcome, behind, explained, whole))) =
-      let state = word_state outcome behind in
+  pub answer_faulty : (form : Form) (why : Bool) (text : List ℕ) → IsAnswerIn form why vrps line text
+      → IsFaultInitial (slice_index_or text (state_place form) 0) ↔ IsFaultyLine vrps line
+  answer_faulty form why text (inl (route, is, (outcome, is_outcome, more, explained, whole))) =
+      let state = head_state form outcome route more (answer_end form) in
       let faulty = route_faulty route is outcome is_outcome in
       rw whole (λ h. faulty.1 (state.0 h), λ h. state.1 (faulty.0 h))
-  word_faulty why text (inr (inl (skipped, whole))) =
-      let sound = skipped_sound skipped in rw whole (λ h. absurd (grind (arith)), λ h. absurd (sound h))
-  word_faulty why text (inr (inr (fault, has, whole))) = rw whole (λ h. inr (fault, has), λ h. inr refl)
-
-  pub object_faulty : (why : Bool) (text : List ℕ) → IsJsonAnswer why vrps line text
-      → IsFaultInitial (slice_index_or text 10 0) ↔ IsFaultyLine vrps line
-  object_faulty why text (inl (route, is, (outcome, is_outcome, member, explained, whole))) =
-      let state = object_state outcome route.prefix route.origin member in
-      let faulty = route_faulty route is outcome is_outcome in
-      rw whole (λ h. faulty.1 (state.0 h), λ h. state.1 (faulty.0 h))
-  object_faulty why text (inr (inl (skipped, whole))) =
-      let sound = skipped_sound skipped in rw whole (λ h. absurd (grind (arith)), λ h. absurd (sound h))
-  object_faulty why text (inr (inr (fault, has, (value, is_value, whole)))) =
-      rw whole (λ h. inr (fault, has), λ h. inr refl)
+  answer_faulty form why text (inr (inl (skipped, whole))) =
+      rw whole (λ h. absurd (skipped_state form h), λ h. absurd (skipped_sound skipped h))
+  answer_faulty form why text (inr (inr (fault, has, is))) =
+      (λ h. inr (fault, has), λ h. fault_state form fault line text is)

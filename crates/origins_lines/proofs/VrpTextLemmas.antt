@@ -1,30 +1,33 @@
 -- What is printed of a VRP is UTF-8, by its parts.
-use Rattle.origins_lines.proofs.Common.{List, None, Option, Some, [], arith, refl, true, ℕ, ◌≡◌, ◌++◌, ◌<◌, ◌∷◌, IsUtf8}
-use Rattle.origins_lines.proofs.Common.{Vrp, FamilyPrefix, IsFamilyPrefix, Reason}
+use Rattle.origins_lines.proofs.Common.{Bool, List, [], arith, false, refl, true, ℕ, ◌≡◌, ◌++◌, ◌<◌, ◌∷◌, IsUtf8, Form}
+use Rattle.origins_lines.proofs.Common.{Vrp, FamilyPrefix, IsFamilyPrefix, Reason, item_text}
 use lib.Utf8.{encode}
 use Rattle.std.specs.Prelude.{◌^◌, codes, decimal}
 use Rattle.std.proofs.lemmas.Fmt.{IsAscii-decimal}
-use Rattle.std.proofs.lemmas.Str.{IsUtf8-append, IsUtf8-from_ascii, IsUtf8-from_is_utf8, IsUtf8-nil}
+use Rattle.std.proofs.lemmas.Str.{IsUtf8-append, IsUtf8-from_ascii, IsUtf8-from_is_utf8}
 use Rattle.std.proofs.lemmas.Str.Ascii.{IsAscii-from_all}
 use Rattle.rpki_addr.proofs.AddressBytes.{ip_bytes}
 use Rattle.rpki_addr.proofs.WidthLemmas.{width_small}
 use Rattle.rpki_addr.specs.PrintedAddress.{ip_text}
 use Rattle.rpki_addr.specs.declared.addr.IpAddr.{IpAddr}
 use Rattle.rpki_base.specs.AsnText.{asn_text}
-use Rattle.rpki_prefix.specs.MaxLen.{IsMaxLenOf, IsMaxLenPrefix, MaxLenValue, max_len_text, max_text, resolved}
+use Rattle.rpki_prefix.specs.MaxLen.{IsMaxLenPrefix, MaxLenValue, resolved}
 use Rattle.rpki_prefix.specs.PrefixText.{prefix_text}
 use Rattle.rpki_text.specs.Cuts.{dash, slash}
-use Rattle.lines_engine.specs.Run.{as_line}
 use Rattle.roa_origin.specs.Vrps.{longest}
 use Rattle.std.specs.Str.{chars, is_utf8}
 use Rattle.origins_lines.specs.Explanations.{asn_key, max_length_key, prefix_key, reason_and_vrp_text, reason_key}
-use Rattle.origins_lines.specs.Explanations.{reason_text, vrp_back, vrp_front, vrp_object}
-use Rattle.roa_routes.specs.Texts.{vrp_text}
+use Rattle.origins_lines.specs.Explanations.{reason_text, vrp_object}
+use Rattle.origins_lines.specs.declared.explanation.Form.TheVariants.{Json, Words}
 use Rattle.origins_lines.specs.declared.explanation.Reason.TheVariants.{Match, Length, As}
 
 -- a constant text and a text behind it
 behind : (constant text : List ℕ) → is_utf8 constant ≡ true → IsUtf8 text → IsUtf8 (constant ++ text)
 behind constant text is h = IsUtf8-append constant text (IsUtf8-from_is_utf8 constant is) h
+
+-- a text and a constant text behind it
+before : (text constant : List ℕ) → is_utf8 constant ≡ true → IsUtf8 text → IsUtf8 (text ++ constant)
+before text constant is h = IsUtf8-append text constant h (IsUtf8-from_is_utf8 constant is)
 
 -- an address
 address : (a : IpAddr) → IsUtf8 (ip_text a)
@@ -51,11 +54,6 @@ asn n small = behind (codes "AS") _ refl (number n (omega (arith, small)))
 max_small : (p : MaxLenValue) → IsMaxLenPrefix p → resolved p.prefix p.max_len < 2 ^ 64
 max_small p h = grind (arith, width_small p.prefix.addr)
 
-max_text_is_utf8 : (p : FamilyPrefix) (max : Option ℕ) → IsMaxLenOf p max → IsUtf8 (max_text max)
-unfolding is_utf8 chars encode
-max_text_is_utf8 p None h = IsUtf8-nil
-max_text_is_utf8 p (Some n) h = behind (dash ∷ []) _ refl (number n (omega (arith, h.1, width_small p.addr)))
-
 -- a reason
 reason : (r : Reason) → IsUtf8 (reason_text r)
 unfolding is_utf8 chars encode
@@ -68,37 +66,25 @@ module _ (p : Vrp) (lawful : IsMaxLenPrefix p.0) (small : p.1 < 2 ^ 32) where
   len : IsUtf8 (decimal (longest p))
   len = number (longest p) (max_small p.0 lawful)
 
-  pub word_is_utf8 : (r : Reason) → IsUtf8 (reason_and_vrp_text r p)
+  word : (r : Reason) → IsUtf8 (reason_and_vrp_text r p)
   unfolding is_utf8 chars encode
-  word_is_utf8 r =
-      let start = IsUtf8-append _ _ (behind (codes " ") _ refl (reason r)) (IsUtf8-from_is_utf8 (codes ":") refl) in
-      let max =
-      IsUtf8-append _ _ (IsUtf8-append _ _ start (prefix p.0.prefix lawful.0)) (behind (dash ∷ []) _ refl len) in
-      IsUtf8-append _ _ (IsUtf8-append _ _ max (IsUtf8-from_is_utf8 (codes ":") refl)) (asn p.1 small)
+  word r =
+      let start = before _ (codes ":") refl (behind (codes " ") _ refl (reason r)) in
+      let front = IsUtf8-append _ _ start (prefix p.0.prefix lawful.0) in
+      let max = IsUtf8-append _ _ front (behind (dash ∷ []) _ refl len) in
+      IsUtf8-append _ _ (before _ (codes ":") refl max) (asn p.1 small)
 
-  front : (r : Reason) → IsUtf8 (vrp_front r p)
-  unfolding reason_key prefix_key is_utf8 chars encode
-  front r =
-      let start = behind (codes "{\"reason\":\"") _ refl (reason r) in
-      IsUtf8-append _ _ (IsUtf8-append _ _ start (IsUtf8-from_is_utf8 (codes "\",\"prefix\":\"") refl))
-      (prefix p.0.prefix lawful.0)
+  object : (r : Reason) → IsUtf8 (vrp_object r p)
+  unfolding reason_key prefix_key max_length_key asn_key is_utf8 chars encode
+  object r =
+      let start = before _ (codes "\",\"prefix\":\"") refl (behind (codes "{\"reason\":\"") _ refl (reason r)) in
+      let front = IsUtf8-append _ _ start (prefix p.0.prefix lawful.0) in
+      let max = IsUtf8-append _ _ (before _ (codes "\",\"max_length\":") refl front) len in
+      let whole = IsUtf8-append _ _ (before _ (codes ",\"asn\":\"") refl max) (asn p.1 small) in
+      before _ (codes "\"}") refl whole
 
-  back : IsUtf8 (vrp_back p)
-  unfolding max_length_key asn_key is_utf8 chars encode
-  back =
-      let start = behind (codes "\",\"max_length\":") _ refl len in
-      let asn_next = IsUtf8-append _ _ start (IsUtf8-from_is_utf8 (codes ",\"asn\":\"") refl) in
-      IsUtf8-append _ _ (IsUtf8-append _ _ asn_next (asn p.1 small)) (IsUtf8-from_is_utf8 (codes "\"}") refl)
-
-  pub object_is_utf8 : (r : Reason) → IsUtf8 (vrp_object r p)
-  object_is_utf8 r = IsUtf8-append _ _ (front r) back
-
-  -- the line of a VRP
-  with_max_len : IsUtf8 (max_len_text p.0)
-  with_max_len = IsUtf8-append _ _ (prefix p.0.prefix lawful.0) (max_text_is_utf8 p.0.prefix p.0.max_len lawful.1)
-
-  pub line_is_utf8 : IsUtf8 (as_line (vrp_text p))
+  pub item_is_utf8 : (form : Form) (first : Bool) (r : Reason) → IsUtf8 (item_text form first r p)
   unfolding is_utf8 chars encode
-  line_is_utf8 =
-      IsUtf8-append _ _ (IsUtf8-append _ _ with_max_len (behind (32 ∷ []) _ refl (asn p.1 small)))
-      (IsUtf8-from_is_utf8 (10 ∷ []) refl)
+  item_is_utf8 Words first r = word r
+  item_is_utf8 Json true r = object r
+  item_is_utf8 Json false r = behind (codes ",") _ refl (object r)

@@ -10,8 +10,7 @@ use Rattle.origins_lines.specs.declared.begun.BegunRoute.TheVariants.{Asked, Ski
 -- the lookup is of the prefix and of the AS of the route
 pub record IsLookedUp (asked : AskedRoute) : Type 0 where
   pub prefix : asked.lookup.route ≡ asked.route.prefix
-  pub looked_up : asked.lookup.asn ≡ asked.asn
-  pub asn : asked.asn ≡ asked_asn asked.route.origin
+  pub asn : asked.lookup.asn ≡ asked_asn asked.route.origin
 
 -- the value says what the line gives: a route, which is looked up in these VRPs, no route, or a fault
 abbrev pub IsBegun : List Vrp → BegunRoute → List ℕ → Type 0

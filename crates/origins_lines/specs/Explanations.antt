@@ -55,17 +55,11 @@ max_length_key = codes "\",\"max_length\":"
 unfoldable pub asn_key : List ℕ
 asn_key = codes ",\"asn\":\""
 
--- the first two members of an object of JSON for a VRP: its relation to the route, and its prefix
-abbrev pub vrp_front : Reason → Vrp → List ℕ
-vrp_front reason p = reason_key ++ reason_text reason ++ prefix_key ++ prefix_text p.0.prefix
-
--- the last two members: its maximum length, and its AS
-abbrev pub vrp_back : Vrp → List ℕ
-vrp_back p = max_length_key ++ decimal (longest p) ++ asn_key ++ asn_text p.1 ++ codes "\"}"
-
--- a VRP as an object of JSON (RFC 8259)
+-- a VRP as an object of JSON (RFC 8259): its relation to the route, its prefix, its maximum length, and its AS
 abbrev pub vrp_object : Reason → Vrp → List ℕ
-vrp_object reason p = vrp_front reason p ++ vrp_back p
+vrp_object reason p =
+    reason_key ++ reason_text reason ++ prefix_key ++ prefix_text p.0.prefix ++ max_length_key ++ decimal (longest p)
+    ++ asn_key ++ asn_text p.1 ++ codes "\"}"
 
 -- the text of a VRP in an explanation; a comma is before each object of JSON except the first
 abbrev pub item_text : Form → Bool → Reason → Vrp → List ℕ

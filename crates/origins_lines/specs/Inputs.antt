@@ -88,23 +88,6 @@ HasFaultAt None file (ExpiryFault.Line number) = ⊥
 HasFaultAt None file (ExpiryFault.Item number fault) = ⊥
 HasFaultAt (Some time) file fault = HasExpiryFault file fault
 
--- why the file of VRPs at an index could not be opened or read
-abbrev pub IsFileStepError : Option ℕ → ℕ → Option (List ℕ) → Bool → InputsError → Type 0
-IsFileStepError time index file mark (InputsError.NotOpened at) = (at ≡ index) × (mark ≡ true)
-IsFileStepError time index file mark (InputsError.File at error) =
-    (at ≡ index) × IsFileError (HasFaultAt time) file mark error
-IsFileStepError time index file mark (InputsError.Slurm at error) = ⊥
-IsFileStepError time index file mark (InputsError.NoVrpLeft all) = ⊥
-IsFileStepError time index file mark InputsError.Memory = ⊥
-
--- why the SLURM file at an index could not be opened or read
-abbrev pub IsSlurmStepError : ℕ → Option (List ℕ) → Bool → InputsError → Type 0
-IsSlurmStepError index file mark (InputsError.NotOpened at) = (at ≡ index) × (mark ≡ true)
-IsSlurmStepError index file mark (InputsError.File at error) = ⊥
-IsSlurmStepError index file mark (InputsError.Slurm at error) = (at ≡ index) × IsFileError HasSlurmFault file mark error
-IsSlurmStepError index file mark (InputsError.NoVrpLeft all) = ⊥
-IsSlurmStepError index file mark InputsError.Memory = ⊥
-
 -- why the files give no VRPs, and which files are valid
 abbrev pub IsInputsError : (ℕ → Option (List ℕ)) → Selection → Bool → InputsError → Type 0
 IsInputsError text selection mark (InputsError.NotOpened index) = (mark ≡ true) × IsTurnOf text selection index

@@ -5,9 +5,6 @@ pub mod Begun
 pub mod Checks
 pub mod Explanations
 pub mod FileResult
-pub mod Forms
 pub mod Inputs
-pub mod JsonAnswers
 pub mod Outcomes
 pub mod Runs
-pub mod Words

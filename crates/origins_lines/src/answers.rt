@@ -1,16 +1,17 @@
 //! The answer to a line with a route.
-ghost use Rattle.std.specs.Prelude.{◌≡◌, [], OnOk};
+ghost use Rattle.std.specs.Prelude.{◌≡◌, ◌++◌, ℕ, List, [], OnOk};
 ghost use Rattle.std.specs.String.{string_bytes};
-ghost use Rattle.origins_lines.specs.Answers.{IsRouteAnswer};
+ghost use Rattle.origins_lines.specs.Answers.{IsExplanationIf, IsFaultAnswer, IsRouteAnswer, answer_head, skipped_text};
 ghost use Rattle.origins_lines.specs.Begun.{IsLookedUp};
 
 use crate::begun::{AskedRoute, BegunRoute};
 use crate::explanation::{Form, push_why};
-use crate::json_answers::{write_fault, write_route};
-use crate::outcome::{outcome_of, word_for};
+use crate::json_answers::{push_members, write_fault_object};
+use crate::outcome::{Outcome, outcome_of, word_for};
 use lines_engine::answers::Answers;
 use lines_engine::steps::Steps;
 use roa_origin::OriginTable;
+use roa_routes::{Route, RouteFault};
 use std::alloc::{AllocError, Allocator, Global};
 
 /// Answers lines of routes by a table of VRPs.
@@ -49,7 +50,7 @@ pub struct Routes<'a, B: Allocator = Global> {
 }
 
 impl<B: Allocator> Answers for Routes<'_, B> {
-    ghost use Rattle.origins_lines.specs.Forms.{IsAnswerIn};
+    ghost use Rattle.origins_lines.specs.Answers.{IsAnswerIn};
 
     ghost is_answer = { λ routes line text. IsAnswerIn routes.form routes.why routes.table.now line text };
 
@@ -90,14 +91,21 @@ impl<'a, B: Allocator> Steps for Routes<'a, B> {
         text: &mut String<A>,
     ) -> Result<(), AllocError> {
         text.clear();
-        match (self.form, begun) {
-            (Form::Words, BegunRoute::Asked(asked)) => write_answer(text, self.why, asked),
-            (Form::Words, BegunRoute::Skipped) => text.push_str("skipped"),
-            (Form::Words, BegunRoute::Wrong(fault)) => write!(text, "error: {fault}"),
-            (Form::Json, BegunRoute::Asked(asked)) => write_route(text, self.why, asked),
-            (Form::Json, BegunRoute::Skipped) => text.push_str("{\"state\":\"skipped\"}"),
-            (Form::Json, BegunRoute::Wrong(fault)) => write_fault(alloc, text, *fault, line),
+        match begun {
+            BegunRoute::Asked(asked) => write_route(text, self.form, self.why, asked),
+            BegunRoute::Skipped => text.push_str(skipped_text(self.form)),
+            BegunRoute::Wrong(fault) => write_fault(alloc, text, self.form, *fault, line),
         }
+    }
+}
+
+/// Returns the answer to a line that announces no route.
+fn skipped_text(form: Form) -> &'static str
+    ensures { result.now ≡ skipped_text form }
+{
+    match form {
+        Form::Words => "skipped",
+        Form::Json => "{\"state\":\"skipped\"}",
     }
 }
 
@@ -106,19 +114,85 @@ impl<'a, B: Allocator> Steps for Routes<'a, B> {
 /// # Preconditions
 ///
 /// `text` is empty, and `asked` has the lookup of its route.
-fn write_answer<A: Allocator>(
+fn write_route<A: Allocator>(
     text: &mut String<A>,
+    form: Form,
     why: bool,
     asked: &AskedRoute<'_>,
 ) -> Result<(), AllocError>
     requires empty { string_bytes text.old ≡ [] }
     requires asked { IsLookedUp asked.now }
-    ensures { OnOk result (IsRouteAnswer why asked.now.lookup.vrps asked.now.route.prefix asked.now.asn
-        (string_bytes text.new)) }
+    ensures { OnOk result (IsRouteAnswer form why asked.now.lookup.vrps asked.now.route (string_bytes text.new)) }
 {
-    text.push_str(word_for(outcome_of(&asked.lookup)))?;
-    if why {
-        push_why(text, Form::Words, asked)?;
+    push_head(text, form, outcome_of(&asked.lookup), &asked.route)?;
+    push_explanation(text, form, why, asked)?;
+    match form {
+        Form::Words => Ok(()),
+        Form::Json => text.push_str("}"),
     }
-    Ok(())
+}
+
+/// Appends the beginning of the answer to a route.
+fn push_head<A: Allocator>(
+    text: &mut String<A>,
+    form: Form,
+    outcome: Outcome,
+    route: &Route,
+) -> Result<(), AllocError>
+    ensures { OnOk result (string_bytes text.new ≡ string_bytes text.old ++ answer_head form outcome route.now) }
+{
+    match form {
+        Form::Words => text.push_str(word_for(outcome)),
+        Form::Json => push_members(text, outcome, route),
+    }
+}
+
+/// Appends the explanation, if `why` is true.
+///
+/// # Preconditions
+///
+/// `asked` has the lookup of its route.
+fn push_explanation<A: Allocator>(
+    text: &mut String<A>,
+    form: Form,
+    why: bool,
+    asked: &AskedRoute<'_>,
+) -> Result<(), AllocError>
+    requires { IsLookedUp asked.now }
+    ensures { OnOk result ((explanation : List ℕ)
+        × IsExplanationIf form why asked.now.lookup.vrps asked.now.route explanation
+        × (string_bytes text.new ≡ string_bytes text.old ++ explanation)) }
+{
+    if !why {
+        return Ok(());
+    }
+    match form {
+        Form::Words => push_why(text, Form::Words, asked),
+        Form::Json => {
+            text.push_str(",\"vrps\":[")?;
+            push_why(text, Form::Json, asked)?;
+            text.push_str("]")
+        }
+    }
+}
+
+/// Appends the answer to a line that is not a route.
+///
+/// # Preconditions
+///
+/// `text` is empty.
+fn write_fault<A: Allocator + Copy>(
+    alloc: A,
+    text: &mut String<A>,
+    form: Form,
+    fault: RouteFault,
+    line: &[u8],
+) -> Result<(), AllocError>
+    requires { string_bytes text.old ≡ [] }
+    ensures { OnOk result (IsFaultAnswer form fault line.now (string_bytes text.new)) }
+{
+    match form {
+        Form::Words => write!(text, "error: {fault}"),
+        Form::Json => write_fault_object(alloc, text, fault, line),
+    }
 }

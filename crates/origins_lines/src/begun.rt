@@ -1,10 +1,10 @@
 //! Holds what is known about the answer to a line of routes, while its route is looked up.
 ghost use Rattle.origins_lines.specs.Begun.{IsBegun};
 
+use crate::outcome::asked_asn;
 use roa_origin::{Lookup, OriginTable};
-use roa_routes::route::read_route_matched;
-use roa_routes::{Route, RouteFault};
-use rpki_base::Asn;
+use roa_routes::fault::RouteFault;
+use roa_routes::route::{Route, read_route_matched};
 use std::alloc::Allocator;
 
 /// The route that a line gives, and its lookup.
@@ -12,10 +12,8 @@ use std::alloc::Allocator;
 pub struct AskedRoute<'a> {
     /// The route.
     pub route: Route,
-    /// The AS of the lookup: the origin of the route, or AS0 if the origin is unknown
+    /// The lookup of the route's prefix and of its origin, or AS0 if the origin is unknown
     /// ([`asked_asn`](crate::asked_asn)).
-    pub asn: Asn,
-    /// The lookup of the route's prefix and of this AS.
     pub lookup: Lookup<'a>,
 }
 
@@ -37,10 +35,8 @@ impl<'a> BegunRoute<'a> {
     {
         match read_route_matched(line) {
             Ok(Some(route)) => {
-                let Route { prefix, origin } = route;
-                let asn = origin.unwrap_or(Asn::MIN);
-                let lookup = table.lookup(prefix, asn);
-                BegunRoute::Asked(AskedRoute { route, asn, lookup })
+                let lookup = table.lookup(route.prefix, asked_asn(route.origin));
+                BegunRoute::Asked(AskedRoute { route, lookup })
             }
             Ok(None) => BegunRoute::Skipped,
             Err(fault) => BegunRoute::Wrong(fault),

@@ -1,6 +1,6 @@
 //! Finds invalid routes and invalid lines in the answers to routes.
-ghost use Rattle.std.specs.Prelude.{◌≡◌, ◌↔◌, ◌⊎◌, [], IsTrue};
-ghost use Rattle.origins_lines.specs.Checks.{IsSeen, IsFaultInitial, column_with, seen_nothing, seen_with};
+ghost use Rattle.std.specs.Prelude.{◌≡◌, ◌↔◌, ◌⊎◌, [], true, IsTrue};
+ghost use Rattle.origins_lines.specs.Checks.{IsFaultInitial, column_with, is_state_after, seen_with};
 
 use lines_engine::watched::Watch;
 
@@ -32,8 +32,8 @@ fn is_fault_initial(byte: u8) -> bool
 impl Seen {
     /// Returns the state before any byte. The check looks at the byte of a line after `place` bytes.
     pub fn nothing(place: u8) -> Seen
-        ensures seen { IsSeen place [] result }
-        ensures value { result ≡ seen_nothing place }
+        ensures seen { is_state_after result [] ≡ true }
+        ensures place { result.place ≡ place }
     {
         Seen {
             place,
@@ -82,7 +82,7 @@ impl Seen {
 }
 
 impl Watch for Seen {
-    ghost use Rattle.origins_lines.specs.Checks.{HasFound, is_state_after};
+    ghost use Rattle.origins_lines.specs.Checks.{HasFound};
 
     ghost sees = { λ seen octets. is_state_after seen octets };
 

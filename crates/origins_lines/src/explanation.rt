@@ -4,9 +4,11 @@ ghost use Rattle.std.specs.String.{string_bytes};
 ghost use Rattle.roa_origin.specs.Tables.{as_sent};
 ghost use Rattle.roa_origin.specs.Vrps.{IsLawfulVrp};
 ghost use Rattle.origins_lines.specs.Begun.{IsLookedUp};
-ghost use Rattle.origins_lines.specs.Explanations.{IsReason, IsNextText, IsExplanationText, asn_key, max_length_key, prefix_key, reason_and_vrp_text, reason_key, reason_text, vrp_back, vrp_front, vrp_object};
+ghost use Rattle.origins_lines.specs.Outcomes.{asked_asn};
+ghost use Rattle.origins_lines.specs.Explanations.{IsReason, IsNextText, IsExplanationText, asn_key, item_text, max_length_key, prefix_key, reason_and_vrp_text, reason_key, reason_text, vrp_object};
 
 use crate::begun::AskedRoute;
+use crate::outcome::asked_asn;
 use roa_origin::Vrp;
 use roa_routes::buffer::{
     MAX_ASN, MAX_PREFIX, push_before, put_all, put_asn, put_dash_and_len, put_prefix,
@@ -87,11 +89,12 @@ pub(crate) fn push_why<A: Allocator>(
 ) -> Result<(), AllocError>
     requires { IsLookedUp asked.now }
     ensures { OnOk result ((why : List ℕ)
-        × IsExplanationText form asked.now.route.prefix asked.now.asn asked.now.lookup.vrps why
+        × IsExplanationText form asked.now.route.prefix (asked_asn asked.now.route.origin)
+        asked.now.lookup.vrps why
         × (string_bytes text.new ≡ string_bytes text.old ++ why)) }
 {
     let route = asked.route.prefix;
-    let asn = asked.asn;
+    let asn = asked_asn(asked.route.origin);
     route.recall_invariant();
     let mut last = None;
     for vrp in asked.lookup.covering() {
@@ -105,7 +108,7 @@ pub(crate) fn push_why<A: Allocator>(
 }
 
 /// Appends a VRP with its relation to a route. Appends nothing if the VRP is the same, as it is sent, as `last`, the
-/// VRP before it. An object of JSON that is not the first has a comma before it.
+/// VRP before it.
 fn push_next<A: Allocator>(
     text: &mut String<A>,
     form: Form,
@@ -117,23 +120,13 @@ fn push_next<A: Allocator>(
     ensures { OnOk result ((more : List ℕ) × IsNextText form reason last.now vrp.now more
         × (string_bytes text.new ≡ string_bytes text.old ++ more)) }
 {
-    let is_first = match last {
-        Some(before) => {
-            if is_same(before, vrp) {
-                return Ok(());
-            }
-            false
-        }
-        None => true,
-    };
-    match form {
-        Form::Words => push_word(text, reason, vrp),
-        Form::Json => if is_first {
-            push_object(text, reason, vrp)
+    match last {
+        Some(before) => if is_same(before, vrp) {
+            Ok(())
         } else {
-            text.push_str(",")?;
-            push_object(text, reason, vrp)
+            push_item(text, form, false, reason, vrp)
         },
+        None => push_item(text, form, true, reason, vrp),
     }
 }
 
@@ -146,26 +139,44 @@ fn is_same(one: &Vrp, other: &Vrp) -> bool
         && one.0.resolved_max_len() == other.0.resolved_max_len()
 }
 
-/// The maximum number of bytes of a word: a space, a reason of six letters, a prefix, a length of three digits, an AS
-/// number, two colons and a dash.
-const MAX_WORD: usize = 1 + 6 + MAX_PREFIX + 3 + MAX_ASN + 3;
+/// The maximum number of bytes of the text of a VRP, which is that of an object after a comma: its texts between the
+/// values, a reason of six letters, a prefix, a length of three digits and an AS number.
+const MAX_ITEM: usize = 1 + 48 + 6 + MAX_PREFIX + 3 + MAX_ASN;
 
-/// Appends a VRP with its relation to a route, as a word after a space.
-fn push_word<A: Allocator>(
+/// Appends a VRP with its relation to a route.
+fn push_item<A: Allocator>(
     text: &mut String<A>,
+    form: Form,
+    is_first: bool,
     reason: Reason,
     vrp: &Vrp,
 ) -> Result<(), AllocError>
     requires { IsLawfulVrp vrp.now }
-    ensures { OnOk result (string_bytes text.new ≡ string_bytes text.old ++ reason_and_vrp_text reason vrp.now) }
+    ensures { OnOk result (string_bytes text.new ≡ string_bytes text.old ++ item_text form is_first reason vrp.now) }
 {
-    let mut out = [0; MAX_WORD];
-    let end = put_word(&mut out, reason, vrp);
+    let mut out = [0; MAX_ITEM];
+    let end = put_item(&mut out, form, is_first, reason, vrp);
     push_before(text, &out, end)
 }
 
-/// Writes a VRP with its relation to a route at the front of a buffer, as a word after a space, and returns the end
-/// index.
+/// Writes a VRP with its relation to a route at the front of a buffer, and returns the end index. An object of JSON
+/// that is not the first has a comma before it.
+fn put_item(out: &mut [u8], form: Form, is_first: bool, reason: Reason, vrp: &Vrp) -> usize
+    requires { 114 ≤ length out.old }
+    ensures text { take result out.new ≡ item_text form is_first reason vrp.now }
+    ensures end { result ≤ 114 }
+{
+    match (form, is_first) {
+        (Form::Words, _) => put_word(out, reason, vrp),
+        (Form::Json, true) => put_object(out, 0, reason, vrp),
+        (Form::Json, false) => {
+            let end = put(out, 0, b',');
+            put_object(out, end, reason, vrp)
+        }
+    }
+}
+
+/// Writes a word after a space.
 fn put_word(out: &mut [u8], reason: Reason, vrp: &Vrp) -> usize
     requires { 69 ≤ length out.old }
     ensures text { take result out.new ≡ reason_and_vrp_text reason vrp.now }
@@ -190,44 +201,17 @@ fn before_prefix(reason: Reason) -> &'static [u8]
     }
 }
 
-/// The maximum number of bytes of an object: its texts between the values, a reason of six letters, a prefix, a length
-/// of three digits and an AS number.
-const MAX_OBJECT: usize = 48 + 6 + MAX_PREFIX + 3 + MAX_ASN;
-
-/// Appends a VRP with its relation to a route, as an object of JSON.
-fn push_object<A: Allocator>(
-    text: &mut String<A>,
-    reason: Reason,
-    vrp: &Vrp,
-) -> Result<(), AllocError>
-    requires { IsLawfulVrp vrp.now }
-    ensures { OnOk result (string_bytes text.new ≡ string_bytes text.old ++ vrp_object reason vrp.now) }
+/// Writes an object of JSON from index `at` on.
+fn put_object(out: &mut [u8], at: usize, reason: Reason, vrp: &Vrp) -> usize
+    requires { at + 113 ≤ length out.old }
+    ensures text { take result out.new ≡ take at out.old ++ vrp_object reason vrp.now }
+    ensures end { result ≤ at + 113 }
 {
-    let mut out = [0; MAX_OBJECT];
-    let end = put_front(&mut out, reason, vrp);
-    let end = put_back(&mut out, end, vrp);
-    push_before(text, &out, end)
-}
-
-/// Writes the first two members of an object of JSON for a VRP at the front of a buffer, and returns the end index.
-fn put_front(out: &mut [u8], reason: Reason, vrp: &Vrp) -> usize
-    requires { 73 ≤ length out.old }
-    ensures text { take result out.new ≡ vrp_front reason vrp.now }
-    ensures end { result ≤ 73 }
-{
-    let end = put_all(out, 0, reason_key().as_bytes());
+    let end = put_all(out, at, reason_key().as_bytes());
     let end = put_all(out, end, word_for(reason).as_bytes());
     let end = put_all(out, end, prefix_key().as_bytes());
-    put_prefix(out, end, vrp.0.prefix())
-}
-
-/// Writes the last two members of an object of JSON for a VRP from index `at` on, and returns the end index.
-fn put_back(out: &mut [u8], at: usize, vrp: &Vrp) -> usize
-    requires { at + 40 ≤ length out.old }
-    ensures text { take result out.new ≡ take at out.old ++ vrp_back vrp.now }
-    ensures end { result ≤ at + 40 }
-{
-    let end = put_all(out, at, max_length_key().as_bytes());
+    let end = put_prefix(out, end, vrp.0.prefix());
+    let end = put_all(out, end, max_length_key().as_bytes());
     let end = put_octet(out, end, vrp.0.resolved_max_len());
     let end = put_all(out, end, asn_key().as_bytes());
     let end = put_asn(out, end, vrp.1);

@@ -1,14 +1,12 @@
 //! Reads the VRPs of several files, one after another, and applies the local exceptions of a SLURM file to them.
-ghost use Rattle.std.specs.Prelude.{◌≡◌, ◌≢◌, [], ℕ, Bool, false, List, Option, IfErr, IfOk, IfSome, OnOk, length};
+ghost use Rattle.std.specs.Prelude.{◌≡◌, ◌≢◌, ◌<◌, [], ℕ, Bool, false, List, Option, IfErr, IfOk, OnOk, length};
 ghost use Rattle.lines_engine.specs.Device.{MarksFailure};
-ghost use Rattle.origins_lines.specs.Inputs.{AppendsPart, AreFilesRead, AreInputsRead, AreValidBefore, IsAppliedIf, IsFileStepError, IsInputsError, IsSlurmStepError};
-ghost use Rattle.roa_slurm.specs.SlurmFiles.{IsSlurmFile, slurm_value};
+ghost use Rattle.origins_lines.specs.Inputs.{AppendsPart, AreFilesRead, AreInputsRead, AreValidBefore, IsAppliedIf, IsInputsError};
 
 use crate::error::InputsError;
 use crate::file::{Numbers, add_file, read_exceptions};
 use lines_engine::device::{DeviceFault, Source};
 use roa_origin::Vrp;
-use roa_slurm::Slurm;
 use std::alloc::{Allocator, Global};
 
 /// The files that a run may read, by their indices.
@@ -113,7 +111,6 @@ pub fn read_inputs<A: Allocator + Copy, I: Inputs>(
     inputs: &mut I,
     selection: Selection,
 ) -> Result<InputVrps<A>, InputsError>
-    // No call of the files has failed.
     requires clear { I.mark inputs.old ≡ false }
 
     // Ok: no call failed. The result has the VRPs of the files, at least one, and their numbers.
@@ -154,7 +151,7 @@ fn read_files<A: Allocator + Copy, I: Inputs>(
     let mut files = Vec::new(alloc);
     let mut expired: usize = 0;
     for index in 0..selection.files {
-        let numbers = add_input(alloc, inputs, index, selection.time, &mut listed)?;
+        let numbers = add_input(alloc, inputs, index, selection, &mut listed)?;
         expired = expired.saturating_add(numbers.expired);
         files.push(numbers)?;
     }
@@ -166,23 +163,30 @@ fn read_files<A: Allocator + Copy, I: Inputs>(
 }
 
 /// Reads the VRP file at `index`, and appends its VRPs to `listed`. Returns the numbers of the file.
+///
+/// # Preconditions
+///
+/// The files before it were read.
 fn add_input<A: Allocator + Copy, I: Inputs>(
     alloc: A,
     inputs: &mut I,
     index: usize,
-    time: Option<u64>,
+    selection: Selection,
     listed: &mut Vec<Vrp, A>,
 ) -> Result<Numbers, InputsError>
     requires clear { I.mark inputs.old ≡ false }
+    requires within { index < selection.files }
+    requires read { AreValidBefore (I.text inputs.old) selection.time index }
     ensures unmarked { OnOk result (I.mark inputs.new ≡ false) }
     ensures text { I.text inputs.new ≡ I.text inputs.old }
-    ensures appended { IfOk result (AppendsPart time (I.text inputs.old index) listed.old.items listed.new.items) }
-    ensures wrong { IfErr result (IsFileStepError time index (I.text inputs.old index) (I.mark inputs.new)) }
+    ensures appended { IfOk result (AppendsPart selection.time (I.text inputs.old index) listed.old.items
+        listed.new.items) }
+    ensures wrong { IfErr result (IsInputsError (I.text inputs.old) selection (I.mark inputs.new)) }
 {
     let Ok(mut file) = inputs.open(index) else {
         return Err(InputsError::NotOpened(index));
     };
-    let added = add_file(alloc, &mut file, time, listed);
+    let added = add_file(alloc, &mut file, selection.time, listed);
     inputs.close(file);
     match added {
         Ok(numbers) => Ok(numbers),
@@ -210,30 +214,13 @@ fn apply_exceptions<A: Allocator + Copy, I: Inputs>(
     let Some(index) = selection.slurm else {
         return Ok(listed);
     };
-    let exceptions = exceptions_of(alloc, inputs, index)?;
-    let vrps = exceptions.apply(alloc, listed.as_slice())?;
-    Ok(vrps)
-}
-
-/// Returns the local exceptions of the SLURM file at `index`.
-fn exceptions_of<A: Allocator + Copy, I: Inputs>(
-    alloc: A,
-    inputs: &mut I,
-    index: usize,
-) -> Result<Slurm<A>, InputsError>
-    requires clear { I.mark inputs.old ≡ false }
-    ensures unmarked { OnOk result (I.mark inputs.new ≡ false) }
-    ensures slurm { IfOk result (λ slurm. IfSome (I.text inputs.old index)
-        (λ text. IsSlurmFile text (slurm_value slurm))) }
-    ensures wrong { IfErr result (IsSlurmStepError index (I.text inputs.old index) (I.mark inputs.new)) }
-{
     let Ok(mut file) = inputs.open(index) else {
         return Err(InputsError::NotOpened(index));
     };
     let read = read_exceptions(alloc, &mut file);
     inputs.close(file);
     match read {
-        Ok(slurm) => Ok(slurm),
+        Ok(exceptions) => Ok(exceptions.apply(alloc, listed.as_slice())?),
         Err(error) => Err(InputsError::Slurm(index, error)),
     }
 }

@@ -2,46 +2,23 @@
 ghost use Rattle.std.specs.Prelude.{◌≡◌, ◌++◌, ℕ, List, [], OnOk};
 ghost use Rattle.std.specs.String.{string_bytes};
 ghost use Rattle.json.specs.Print.{quoted};
-ghost use Rattle.origins_lines.specs.JsonAnswers.{IsErrorObject, IsJsonRouteAnswer, IsLineValue, IsVrpsMember, object_head, origin_key, origin_value, outcome_members, route_prefix_key};
-ghost use Rattle.origins_lines.specs.Begun.{IsLookedUp};
+ghost use Rattle.origins_lines.specs.Answers.{IsFaultAnswer, IsLineValue, answer_head, origin_key, origin_value, outcome_members, route_prefix_key};
+ghost use Rattle.origins_lines.specs.declared.explanation.Form.TheVariants as Form;
 
-use crate::begun::AskedRoute;
-use crate::explanation::{Form, push_why};
-use crate::outcome::{Outcome, outcome_of};
+use crate::outcome::Outcome;
 use json::Writer;
 use roa_routes::{Route, RouteFault};
 use rpki_base::Asn;
 use std::alloc::{AllocError, Allocator};
 
-/// Appends the object for a route that is looked up.
-///
-/// # Preconditions
-///
-/// `text` is empty, and `asked` has the lookup of its route.
-pub(crate) fn write_route<A: Allocator>(
-    text: &mut String<A>,
-    why: bool,
-    asked: &AskedRoute<'_>,
-) -> Result<(), AllocError>
-    requires empty { string_bytes text.old ≡ [] }
-    requires asked { IsLookedUp asked.now }
-    ensures { OnOk result (IsJsonRouteAnswer why asked.now.lookup.vrps asked.now.route.prefix asked.now.route.origin
-        (string_bytes text.new)) }
-{
-    push_head(text, outcome_of(&asked.lookup), &asked.route)?;
-    push_vrps(text, why, asked)?;
-    text.push_str("}")?;
-    Ok(())
-}
-
 /// Appends the beginning of the object for a route.
-fn push_head<A: Allocator>(
+pub(crate) fn push_members<A: Allocator>(
     text: &mut String<A>,
     outcome: Outcome,
     route: &Route,
 ) -> Result<(), AllocError>
     ensures { OnOk result (string_bytes text.new ≡ string_bytes text.old
-        ++ object_head outcome route.now.prefix route.now.origin) }
+        ++ answer_head Form.Json outcome route.now) }
 {
     let members = outcome_members(outcome);
     let before_prefix = route_prefix_key();
@@ -52,7 +29,7 @@ fn push_head<A: Allocator>(
 }
 
 /// Returns the text before the prefix of a route.
-#[tactic(auto, unfolding(crate::specs::JsonAnswers::route_prefix_key))]
+#[tactic(auto, unfolding(crate::specs::Answers::route_prefix_key))]
 fn route_prefix_key() -> &'static str
     ensures { result.now ≡ route_prefix_key }
 {
@@ -60,7 +37,7 @@ fn route_prefix_key() -> &'static str
 }
 
 /// Returns the text before the origin of a route.
-#[tactic(auto, unfolding(crate::specs::JsonAnswers::origin_key))]
+#[tactic(auto, unfolding(crate::specs::Answers::origin_key))]
 fn origin_key() -> &'static str
     ensures { result.now ≡ origin_key }
 {
@@ -89,43 +66,19 @@ fn push_origin<A: Allocator>(text: &mut String<A>, origin: &Option<Asn>) -> Resu
     }
 }
 
-/// Appends the member `vrps`, if `why` is true.
-///
-/// # Preconditions
-///
-/// `asked` has the lookup of its route.
-fn push_vrps<A: Allocator>(
-    text: &mut String<A>,
-    why: bool,
-    asked: &AskedRoute<'_>,
-) -> Result<(), AllocError>
-    requires { IsLookedUp asked.now }
-    ensures { OnOk result ((member : List ℕ)
-        × IsVrpsMember why asked.now.lookup.vrps asked.now.route.prefix asked.now.asn member
-        × (string_bytes text.new ≡ string_bytes text.old ++ member)) }
-{
-    if !why {
-        return Ok(());
-    }
-    text.push_str(",\"vrps\":[")?;
-    push_why(text, Form::Json, asked)?;
-    text.push_str("]")?;
-    Ok(())
-}
-
 /// Appends the object for a line that is not a route.
 ///
 /// # Preconditions
 ///
 /// `text` is empty.
-pub(crate) fn write_fault<A: Allocator + Copy>(
+pub(crate) fn write_fault_object<A: Allocator + Copy>(
     alloc: A,
     text: &mut String<A>,
     fault: RouteFault,
     line: &[u8],
 ) -> Result<(), AllocError>
     requires { string_bytes text.old ≡ [] }
-    ensures { OnOk result (IsErrorObject fault line.now (string_bytes text.new)) }
+    ensures { OnOk result (IsFaultAnswer Form.Json fault line.now (string_bytes text.new)) }
 {
     text.push_str("{\"state\":\"error\",\"error\":")?;
     let said = format!(in alloc; "{fault}")?;
@@ -152,7 +105,7 @@ fn push_line<A: Allocator + Copy>(
 }
 
 /// Appends a text as a string of JSON (RFC 8259, 7).
-#[tactic(auto, using(crate::proofs::JsonLemmas::printed_string))]
+#[tactic(auto, using(crate::proofs::AnswerLemmas::printed_string))]
 fn push_quoted<A: Allocator + Copy>(
     alloc: A,
     text: &mut String<A>,

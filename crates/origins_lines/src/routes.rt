@@ -1,15 +1,11 @@
 //! Answers routes by the VRPs of files.
-ghost use Rattle.std.specs.Prelude.{◌≡◌, false, true, IfOk, IfSome, List, OnOk, IsErrOf, length};
-ghost use Rattle.std.specs.Io.KnownBytes.{IsAtEnd};
-ghost use Rattle.lines_engine.specs.Run.{AnswersAll, AnswersEnded, AnswersFirst, BeginsAnswers};
-ghost use Rattle.lines_engine.specs.declared.error.RunError.TheVariants as RunError;
-ghost use Rattle.origins_lines.specs.Forms.{IsAnswerIn};
-ghost use Rattle.origins_lines.specs.Inputs.{AreInputsRead, ByInputs, IsInputsError};
-ghost use Rattle.roa_origin.specs.Vrps.{Vrp};
-ghost use Rattle.origins_lines.specs.declared.error.OriginsError.TheVariants as OriginsError;
+ghost use Rattle.std.specs.Prelude.{◌≡◌, false};
+ghost use Rattle.lines_engine.specs.Run.{IsStreamRun};
+ghost use Rattle.origins_lines.specs.Answers.{IsAnswerIn};
+ghost use Rattle.origins_lines.specs.Runs.{IsInputsRun};
 
 use crate::answers::Routes;
-use crate::error::{InputsError, OriginsError};
+use crate::error::OriginsError;
 use crate::explanation::Form;
 use crate::inputs::{InputVrps, Inputs, Report, Selection, read_inputs};
 use lines_engine::device::{Sink, Source};
@@ -51,55 +47,14 @@ pub fn answer_inputs<A: Allocator + Copy, I: Inputs, R: Source, W: Sink>(
     routes: &mut R,
     writer: &mut W,
 ) -> Result<Report<A>, OriginsError>
-    // No call of a device has failed.
     requires inputs_clear { I.mark inputs.old ≡ false }
     requires routes_clear { R.mark routes.old ≡ false }
     requires writer_clear { W.mark writer.old ≡ false }
-
-    // Ok: no call failed, and the routes were read to their end. Each line was answered by the VRPs that the files
-    // give, whose numbers are returned. The writer is flushed.
-    ensures unmarked { OnOk result ((I.mark inputs.new ≡ false) × (R.mark routes.new ≡ R.mark routes.old)
-        × (W.mark writer.new ≡ W.mark writer.old)) }
-    ensures read_whole { OnOk result (IsAtEnd (R.left routes.new)) }
-    ensures answered { IfOk result (λ report. (vrps : List Vrp)
-        × AreInputsRead (I.text inputs.old) selection vrps report.files.items report.all
-        × (report.used ≡ length vrps) × IfSome (R.left routes.old)
-        (AnswersAll (IsAnswerIn form why vrps) (W.written writer.old) (W.written writer.new))) }
-    ensures flushed { OnOk result (W.flushed writer.new ≡ true) }
-
-    // Inputs: the files give no VRPs. No route was read, and nothing was written.
-    ensures wrong { (error : InputsError) → IsErrOf result (OriginsError.Inputs error) →
-        IsInputsError (I.text inputs.old) selection (I.mark inputs.new) error
-        × (routes.new ≡ routes.old) × (writer.new ≡ writer.old) }
-
-    // Run: the run failed after the files were read.
-    ensures inputs_read { (error : RunError) → IsErrOf result (OriginsError.Run error) → I.mark inputs.new ≡ false }
-
-    // Read: a read of the routes failed. The answers to the lines whose ends were read were written whole, and nothing
-    // else.
-    ensures routes_read { IsErrOf result (OriginsError.Run RunError.Read) →
-        (R.mark routes.new ≡ true) × (W.mark writer.new ≡ W.mark writer.old) }
-    ensures ended_answered { IsErrOf result (OriginsError.Run RunError.Read) →
-        ByInputs (I.text inputs.old) selection (λ vrps.
-        AnswersEnded (IsAnswerIn form why vrps) (W.written writer.old) (W.written writer.new)
-        (R.left routes.old) (R.left routes.new)) }
-
-    // Memory: no call failed. The answers to some first lines were written whole, and nothing else. They are not the
-    // answers to all lines, unless the input has no lines.
-    ensures memory_unmarked { IsErrOf result (OriginsError.Run RunError.Memory) →
-        (R.mark routes.new ≡ R.mark routes.old) × (W.mark writer.new ≡ W.mark writer.old) }
-    ensures some_answered { IsErrOf result (OriginsError.Run RunError.Memory) →
-        ByInputs (I.text inputs.old) selection (λ vrps. IfSome (R.left routes.old)
-        (AnswersFirst (IsAnswerIn form why vrps) (W.written writer.old) (W.written writer.new))) }
-
-    // Write: a write or the flush failed, or a write took nothing, and no read failed. A beginning of the answers was
-    // written.
-    ensures write { IsErrOf result (OriginsError.Run RunError.Write) → W.mark writer.new ≡ true }
-    ensures no_read_failed { IsErrOf result (OriginsError.Run RunError.Write) →
-        R.mark routes.new ≡ R.mark routes.old }
-    ensures some_written { IsErrOf result (OriginsError.Run RunError.Write) →
-        ByInputs (I.text inputs.old) selection (λ vrps. IfSome (R.left routes.old)
-        (BeginsAnswers (IsAnswerIn form why vrps) (W.written writer.old) (W.written writer.new))) }
+    // The answers are those by the VRPs that the files give.
+    ensures { IsInputsRun (I.text inputs.old) selection (I.mark inputs.new)
+        ((routes.new ≡ routes.old) × (writer.new ≡ writer.old))
+        (λ vrps. IsStreamRun R.mark R.left W.mark W.written W.flushed (IsAnswerIn form why vrps) routes.old routes.new
+        writer.old writer.new) result }
 {
     let InputVrps { vrps, report } = match read_inputs(alloc, inputs, selection) {
         Ok(read) => read,
@@ -142,24 +97,8 @@ pub fn answer_by<A: Allocator + Copy, R: Source, W: Sink>(
 ) -> Result<(), RunError>
     requires routes_clear { R.mark routes.old ≡ false }
     requires writer_clear { W.mark writer.old ≡ false }
-    ensures unmarked { OnOk result ((R.mark routes.new ≡ R.mark routes.old)
-        × (W.mark writer.new ≡ W.mark writer.old)) }
-    ensures read_whole { OnOk result (IsAtEnd (R.left routes.new)) }
-    ensures answered { OnOk result (IfSome (R.left routes.old)
-        (AnswersAll (IsAnswerIn form why listed.items) (W.written writer.old) (W.written writer.new))) }
-    ensures flushed { OnOk result (W.flushed writer.new ≡ true) }
-    ensures read { IsErrOf result RunError.Read →
-        (R.mark routes.new ≡ true) × (W.mark writer.new ≡ W.mark writer.old) }
-    ensures ended_answered { IsErrOf result RunError.Read → AnswersEnded (IsAnswerIn form why listed.items)
-        (W.written writer.old) (W.written writer.new) (R.left routes.old) (R.left routes.new) }
-    ensures memory_unmarked { IsErrOf result RunError.Memory →
-        (R.mark routes.new ≡ R.mark routes.old) × (W.mark writer.new ≡ W.mark writer.old) }
-    ensures some_answered { IsErrOf result RunError.Memory → IfSome (R.left routes.old)
-        (AnswersFirst (IsAnswerIn form why listed.items) (W.written writer.old) (W.written writer.new)) }
-    ensures write { IsErrOf result RunError.Write → W.mark writer.new ≡ true }
-    ensures no_read_failed { IsErrOf result RunError.Write → R.mark routes.new ≡ R.mark routes.old }
-    ensures some_written { IsErrOf result RunError.Write → IfSome (R.left routes.old)
-        (BeginsAnswers (IsAnswerIn form why listed.items) (W.written writer.old) (W.written writer.new)) }
+    ensures { IsStreamRun R.mark R.left W.mark W.written W.flushed (IsAnswerIn form why listed.items) routes.old
+        routes.new writer.old writer.new result }
 {
     let table = OriginTable::new(alloc, listed.as_slice())?;
     drop(listed);

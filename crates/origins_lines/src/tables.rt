@@ -1,25 +1,15 @@
 //! Lists the VRPs of files, and compares the VRPs of two files.
-ghost use Rattle.std.specs.Prelude.{◌≡◌, ◌⊎◌, ℕ, List, [], false, true, IfOk, IfSome, OnOk, IsErrOf, length};
-ghost use Rattle.std.specs.Io.KnownBytes.{IsAtEnd};
-ghost use Rattle.lines_engine.specs.declared.error.RunError.TheVariants as RunError;
-ghost use Rattle.origins_lines.specs.Inputs.{AreInputsRead, ByInputs, IsInputsError};
-ghost use Rattle.origins_lines.specs.Runs.{ByFile, WritesBetween, WritesChanges, WritesTable};
-ghost use Rattle.origins_lines.specs.declared.error.ChangesError.TheVariants as ChangesError;
-ghost use Rattle.roa_origin.specs.Vrps.{Vrp};
-ghost use Rattle.origins_lines.specs.declared.error.OriginsError.TheVariants as OriginsError;
-ghost use Rattle.origins_lines.specs.declared.error.ReadFileError.TheVariants.{File};
-ghost use Rattle.origins_lines.specs.FileResult.{IsFileError};
-ghost use Rattle.roa_vrps.specs.Files.{HasFileFault};
+ghost use Rattle.std.specs.Prelude.{◌≡◌, false};
+ghost use Rattle.origins_lines.specs.Runs.{IsChangesRun, IsChangesText, IsFlushed, IsInputsRun, IsTableText};
 
-use crate::error::{ChangesError, InputsError, OriginsError, ReadFileError};
+use crate::error::{ChangesError, OriginsError};
 use crate::file::read_file;
 use crate::inputs::{InputVrps, Inputs, Report, Selection, read_inputs};
-use crate::lines::{write_both, write_vrps};
+use crate::lines::write_vrps;
 use lines_engine::device::{Sink, Source};
 use lines_engine::engine::flush_all;
 use lines_engine::error::RunError;
 use roa_origin::{Vrp, VrpTable};
-use roa_vrps::FileFault;
 use rpki_base::Asn;
 use std::alloc::Allocator;
 
@@ -51,39 +41,11 @@ pub fn list_inputs<A: Allocator + Copy, I: Inputs, W: Sink>(
     of: Option<Asn>,
     writer: &mut W,
 ) -> Result<Report<A>, OriginsError>
-    // No call of a device has failed.
     requires inputs_clear { I.mark inputs.old ≡ false }
     requires writer_clear { W.mark writer.old ≡ false }
-
-    // Ok: no call failed, the table of the VRPs that the files give was written, and the writer is flushed. Their
-    // numbers are returned.
-    ensures unmarked { OnOk result ((I.mark inputs.new ≡ false) × (W.mark writer.new ≡ W.mark writer.old)) }
-    ensures written { IfOk result (λ report. (vrps : List Vrp)
-        × AreInputsRead (I.text inputs.old) selection vrps report.files.items report.all
-        × (report.used ≡ length vrps)
-        × WritesTable of (W.written writer.old) (W.written writer.new) [] vrps) }
-    ensures flushed { OnOk result (W.flushed writer.new ≡ true) }
-
-    // Inputs: the files give no VRPs, and nothing was written.
-    ensures wrong { (error : InputsError) → IsErrOf result (OriginsError.Inputs error) →
-        IsInputsError (I.text inputs.old) selection (I.mark inputs.new) error × (writer.new ≡ writer.old) }
-
-    // Run: the run failed after the files were read.
-    ensures inputs_read { (error : RunError) → IsErrOf result (OriginsError.Run error) → I.mark inputs.new ≡ false }
-
-    // Memory: no call failed. Nothing was written, or a beginning of the table.
-    ensures memory_unmarked { IsErrOf result (OriginsError.Run RunError.Memory) →
-        W.mark writer.new ≡ W.mark writer.old }
-    ensures some_if_memory { IsErrOf result (OriginsError.Run RunError.Memory) →
-        ByInputs (I.text inputs.old) selection (λ vrps. (writer.new ≡ writer.old)
-        ⊎ ((unwritten : List ℕ) × WritesTable of (W.written writer.old) (W.written writer.new) unwritten vrps)) }
-
-    // Write: a write or the flush failed, or a write took nothing, and a beginning of the table was written.
-    ensures write { IsErrOf result (OriginsError.Run RunError.Write) → W.mark writer.new ≡ true }
-    ensures some_written { IsErrOf result (OriginsError.Run RunError.Write) →
-        ByInputs (I.text inputs.old) selection (λ vrps.
-        (unwritten : List ℕ) × WritesTable of (W.written writer.old) (W.written writer.new) unwritten vrps) }
-    ensures not_read { IsErrOf result (OriginsError.Run RunError.Read) → ⊥ }
+    // The lines are those of the table of the VRPs that the files give.
+    ensures { IsInputsRun (I.text inputs.old) selection (I.mark inputs.new) (writer.new ≡ writer.old)
+        (λ vrps. IsFlushed W.mark W.written W.flushed (IsTableText of vrps) writer.old writer.new) result }
 {
     let InputVrps { vrps, report } = match read_inputs(alloc, inputs, selection) {
         Ok(read) => read,
@@ -118,24 +80,8 @@ pub fn write_listed<A: Allocator + Copy, W: Sink>(
     of: Option<Asn>,
     writer: &mut W,
 ) -> Result<(), RunError>
-    // No call of the writer has failed.
     requires clear { W.mark writer.old ≡ false }
-
-    // Ok: no call failed, the table of the VRPs was written, and the writer is flushed.
-    ensures unmarked { OnOk result (W.mark writer.new ≡ W.mark writer.old) }
-    ensures written { OnOk result (WritesTable of (W.written writer.old) (W.written writer.new) [] listed.now) }
-    ensures flushed { OnOk result (W.flushed writer.new ≡ true) }
-
-    // Memory: no call failed. Nothing was written, or a beginning of the table.
-    ensures memory_unmarked { IsErrOf result RunError.Memory → W.mark writer.new ≡ W.mark writer.old }
-    ensures some_if_memory { IsErrOf result RunError.Memory → (writer.new ≡ writer.old)
-        ⊎ ((unwritten : List ℕ) × WritesTable of (W.written writer.old) (W.written writer.new) unwritten listed.now) }
-
-    // Write: a write or the flush failed, or a write took nothing, and a beginning of the table was written.
-    ensures write { IsErrOf result RunError.Write → W.mark writer.new ≡ true }
-    ensures some_written { IsErrOf result RunError.Write → (unwritten : List ℕ)
-        × WritesTable of (W.written writer.old) (W.written writer.new) unwritten listed.now }
-    ensures not_read { IsErrOf result RunError.Read → ⊥ }
+    ensures { IsFlushed W.mark W.written W.flushed (IsTableText of listed.now) writer.old writer.new result }
 {
     let table = VrpTable::new(alloc, listed)?;
     write_vrps(alloc, of, "", &table, writer)?;
@@ -171,60 +117,12 @@ pub fn write_changes<A: Allocator + Copy, P: Source, N: Source, W: Sink>(
     new: &mut N,
     writer: &mut W,
 ) -> Result<(usize, usize), ChangesError>
-    // No call of a device has failed.
     requires old_clear { P.mark old.old ≡ false }
     requires new_clear { N.mark new.old ≡ false }
     requires writer_clear { W.mark writer.old ≡ false }
-
-    // Ok: no call failed, and both files were read to their ends. The changes from the VRPs of the old file to those of
-    // the new one were written, and the writer is flushed.
-    ensures unmarked { OnOk result ((P.mark old.new ≡ P.mark old.old) × (N.mark new.new ≡ N.mark new.old)
-        × (W.mark writer.new ≡ W.mark writer.old)) }
-    ensures read_whole { OnOk result (IsAtEnd (P.left old.new) × IsAtEnd (N.left new.new)) }
-    ensures written { IfOk result (λ counts. IfSome (P.left old.old) (ByFile (λ before. (counts.0 ≡ length before)
-        × IfSome (N.left new.old) (ByFile (λ after. (counts.1 ≡ length after)
-        × WritesChanges (W.written writer.old) (W.written writer.new) [] before after))))) }
-    ensures flushed { OnOk result (W.flushed writer.new ≡ true) }
-
-    // Old: the old VRPs could not be read. The new file was not read, and nothing was written. An invalid file was
-    // read whole.
-    ensures old_untouched { (error : ReadFileError FileFault) → IsErrOf result (ChangesError.Old error) →
-        (new.new ≡ new.old) × (writer.new ≡ writer.old) }
-    ensures old_wrong { (error : ReadFileError FileFault) → IsErrOf result (ChangesError.Old error) →
-        IsFileError HasFileFault (P.left old.old) (P.mark old.new) error }
-    ensures old_whole { (fault : FileFault) → IsErrOf result (ChangesError.Old (File fault)) →
-        IsAtEnd (P.left old.new) }
-
-    // New: the new VRPs could not be read. The old file was read whole, and nothing was written. An invalid file was
-    // read whole.
-    ensures new_untouched { (error : ReadFileError FileFault) → IsErrOf result (ChangesError.New error) →
-        (P.mark old.new ≡ P.mark old.old) × IsAtEnd (P.left old.new) × (writer.new ≡ writer.old) }
-    ensures new_wrong { (error : ReadFileError FileFault) → IsErrOf result (ChangesError.New error) →
-        IsFileError HasFileFault (N.left new.old) (N.mark new.new) error }
-    ensures new_whole { (fault : FileFault) → IsErrOf result (ChangesError.New (File fault)) →
-        IsAtEnd (N.left new.new) }
-
-    // Run: the run failed after the VRPs of both files were read whole.
-    ensures both_read { (error : RunError) → IsErrOf result (ChangesError.Run error) →
-        (P.mark old.new ≡ P.mark old.old) × IsAtEnd (P.left old.new)
-        × (N.mark new.new ≡ N.mark new.old) × IsAtEnd (N.left new.new) }
-
-    // Memory: no call failed. Nothing was written, or a beginning of the changes.
-    ensures memory_unmarked { IsErrOf result (ChangesError.Run RunError.Memory) →
-        W.mark writer.new ≡ W.mark writer.old }
-    ensures some_if_memory { IsErrOf result (ChangesError.Run RunError.Memory) →
-        IfSome (P.left old.old) (ByFile (λ before.
-        IfSome (N.left new.old) (ByFile (λ after. (writer.new ≡ writer.old)
-        ⊎ ((unwritten : List ℕ)
-        × WritesChanges (W.written writer.old) (W.written writer.new) unwritten before after))))) }
-
-    // Write: a write or the flush failed, or a write took nothing, and a beginning of the changes was written.
-    ensures write { IsErrOf result (ChangesError.Run RunError.Write) → W.mark writer.new ≡ true }
-    ensures some_written { IsErrOf result (ChangesError.Run RunError.Write) →
-        IfSome (P.left old.old) (ByFile (λ before.
-        IfSome (N.left new.old) (ByFile (λ after. (unwritten : List ℕ)
-        × WritesChanges (W.written writer.old) (W.written writer.new) unwritten before after)))) }
-    ensures not_read { IsErrOf result (ChangesError.Run RunError.Read) → ⊥ }
+    ensures { IsChangesRun P.left P.mark N.left N.mark old.old old.new new.old new.new (writer.new ≡ writer.old)
+        (λ before after. IsFlushed W.mark W.written W.flushed (IsChangesText before after) writer.old writer.new)
+        result }
 {
     let before = match read_file(alloc, old) {
         Ok(listed) => listed,
@@ -248,43 +146,12 @@ fn write_listed_changes<A: Allocator + Copy, W: Sink>(
     writer: &mut W,
 ) -> Result<(), RunError>
     requires clear { W.mark writer.old ≡ false }
-    ensures unmarked { OnOk result (W.mark writer.new ≡ W.mark writer.old) }
-    ensures written { OnOk result (WritesChanges (W.written writer.old) (W.written writer.new) [] before.now after.now) }
-    ensures flushed { OnOk result (W.flushed writer.new ≡ true) }
-    ensures memory_unmarked { IsErrOf result RunError.Memory → W.mark writer.new ≡ W.mark writer.old }
-    ensures some_if_memory { IsErrOf result RunError.Memory → (writer.new ≡ writer.old) ⊎ ((unwritten : List ℕ)
-        × WritesChanges (W.written writer.old) (W.written writer.new) unwritten before.now after.now) }
-    ensures write { IsErrOf result RunError.Write → W.mark writer.new ≡ true }
-    ensures some_written { IsErrOf result RunError.Write → (unwritten : List ℕ)
-        × WritesChanges (W.written writer.old) (W.written writer.new) unwritten before.now after.now }
-    ensures not_read { IsErrOf result RunError.Read → ⊥ }
+    ensures { IsFlushed W.mark W.written W.flushed (IsChangesText before.now after.now) writer.old writer.new result }
 {
     let old = VrpTable::new(alloc, before)?;
     let new = VrpTable::new(alloc, after)?;
-    write_table_changes(alloc, &old, &new, writer)
-}
-
-/// Writes the changes from one table to the next.
-#[tactic(auto, using(lines_engine::proofs::RunLemmas::written_kept, crate::proofs::LineLemmas::written_between))]
-fn write_table_changes<A: Allocator + Copy, W: Sink>(
-    alloc: A,
-    old: &VrpTable<A>,
-    new: &VrpTable<A>,
-    writer: &mut W,
-) -> Result<(), RunError>
-    requires clear { W.mark writer.old ≡ false }
-    ensures unmarked { OnOk result (W.mark writer.new ≡ W.mark writer.old) }
-    ensures written { OnOk result (WritesBetween (W.written writer.old) (W.written writer.new) [] old.now new.now) }
-    ensures flushed { OnOk result (W.flushed writer.new ≡ true) }
-    ensures memory_unmarked { IsErrOf result RunError.Memory → W.mark writer.new ≡ W.mark writer.old }
-    ensures some_if_memory { IsErrOf result RunError.Memory → (writer.new ≡ writer.old) ⊎ ((unwritten : List ℕ)
-        × WritesBetween (W.written writer.old) (W.written writer.new) unwritten old.now new.now) }
-    ensures write { IsErrOf result RunError.Write → W.mark writer.new ≡ true }
-    ensures some_written { IsErrOf result RunError.Write → (unwritten : List ℕ)
-        × WritesBetween (W.written writer.old) (W.written writer.new) unwritten old.now new.now }
-    ensures not_read { IsErrOf result RunError.Read → ⊥ }
-{
-    let changes = old.changes_to(alloc, new)?;
-    write_both(alloc, &changes.withdrawn, &changes.announced, writer)?;
+    let changes = old.changes_to(alloc, &new)?;
+    write_vrps(alloc, None, "withdraw ", &changes.withdrawn, writer)?;
+    write_vrps(alloc, None, "announce ", &changes.announced, writer)?;
     flush_all(writer)
 }

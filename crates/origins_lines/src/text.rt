@@ -4,7 +4,7 @@ ghost use Rattle.rpki_text.specs.Memory.{IfRefused};
 ghost use Rattle.lines_engine.specs.Run.{AnswersAll};
 ghost use Rattle.roa_origin.specs.Vrps.{Vrp};
 ghost use Rattle.roa_vrps.specs.Files.{HasFileFault, IsVrpFile};
-ghost use Rattle.origins_lines.specs.Forms.{IsAnswerIn};
+ghost use Rattle.origins_lines.specs.Answers.{IsAnswerIn};
 
 use crate::answers::Routes;
 use crate::explanation::Form;

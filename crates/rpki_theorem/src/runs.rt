@@ -5,7 +5,7 @@ ghost use Rattle.lines_engine.specs.Run.{AnswersAll};
 ghost use Rattle.respath_lines.specs.Answer.{IsAnswer};
 ghost use Rattle.roa_origin.specs.Vrps.{Vrp};
 ghost use Rattle.roa_vrps.specs.Files.{HasFileFault, IsVrpFile};
-ghost use Rattle.origins_lines.specs.Forms.{IsAnswerIn};
+ghost use Rattle.origins_lines.specs.Answers.{IsAnswerIn};
 
 use origins_lines::explanation::Form;
 use roa_vrps::FileFault;

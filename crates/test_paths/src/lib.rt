@@ -61,7 +61,6 @@ use origins_lines::inputs::Selection as _;
 use origins_lines::inputs::read_inputs as _;
 use origins_lines::laws::laws_of_answers as _;
 use origins_lines::laws::laws_of_states as _;
-use origins_lines::lines::write_both as _;
 use origins_lines::lines::write_vrps as _;
 use origins_lines::outcome_of as _;
 use origins_lines::read_route as _;

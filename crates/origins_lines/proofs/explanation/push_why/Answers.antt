@@ -1,6 +1,6 @@
 -- The VRPs that cover the route are those that were given, and then those that are left.
 use Rattle.origins_lines.proofs.Common.{List, [], ap, append_assoc, subst, sym, ◌++◌, ◌∙◌, ◌∷◌, ◌≡◌, append-nil}
-use Rattle.origins_lines.proofs.Common.{string_bytes, IsLawfulVrp, Vrp}
+use Rattle.origins_lines.proofs.Common.{asked_asn, string_bytes, IsLawfulVrp, Vrp}
 use Rattle.origins_lines.proofs.Members.{walked}
 use Rattle.origins_lines.proofs.WhyLemmas.{IsExplainedSo, all_explained, explained_next, explained_none}
 use Rattle.origins_lines.proofs.explanation.push_why.Goals as goal
@@ -8,7 +8,7 @@ use Rattle.origins_lines.proofs.explanation.push_why.Goals as goal
 pub loop-vrp-init : goal.loop-vrp-init
 loop-vrp-init g c = (
   [],
-  explained_none c.args.form c.args.asked.now.route.prefix c.args.asked.now.asn,
+  explained_none c.args.form c.args.asked.now.route.prefix (asked_asn c.args.asked.now.route.origin),
   sym (append-nil (string_bytes c.args.text.now)),
 )
 
@@ -29,16 +29,17 @@ loop-vrp-preserved g c =
     let lawful : IsLawfulVrp c.in-Some.vrp =
     record { prefix = c.recall_invariant-in-loop-vrp.ensures; number = c.recall_invariant-in-loop-vrp-2.ensures } in (
       why ++ next.0,
-      explained_next c.args.form route c.recall_invariant.ensures c.args.asked.now.asn vrps all done c.next.new.self
-          c.in-Some.vrp lawful those covering.longest_first covering.order cut c.loop-vrp.last why next.0
-          c.reason_for-reason.result c.reason_for-reason.ensures explained next.1,
+      explained_next c.args.form route c.recall_invariant.ensures (asked_asn c.args.asked.now.route.origin) vrps all
+          done c.next.new.self c.in-Some.vrp lawful those covering.longest_first covering.order cut c.loop-vrp.last
+          why next.0 c.reason_for-reason.result (rw c.asked_asn-asn.ensures at c.reason_for-reason.ensures)
+          explained next.1,
       next.2 ∙ ap (λ t. t ++ next.0) text ∙ append_assoc _ why next.0,
     )
 
 pub returns : goal.returns
 returns g c =
     let route = c.args.asked.now.route.prefix in
-    let asn = c.args.asked.now.asn in
+    let asn = asked_asn c.args.asked.now.route.origin in
     let vrps = c.args.asked.now.lookup.vrps in
     let all : List Vrp = c.covering-vrp-items.result in
     let done : List Vrp = c.loop-vrp.yielded in

@@ -2,9 +2,9 @@
 use Rattle.roa_slurm.specs.SlurmFiles.{slurm_value}
 use Rattle.origins_lines.proofs.inputs.apply_exceptions.Goals as goal
 
-pub returns-clause-applied : goal.returns-clause-applied
-returns-clause-applied g c = rw c.in-Some.is (
-  slurm_value c.in_ok-exceptions.exceptions,
-  c.in_ok-exceptions.ensures.slurm,
-  rw c.as_slice.ensures.value at c.in_ok-vrps.ensures,
+pub returns-in-Ok-read-clause-applied : goal.returns-in-Ok-read-clause-applied
+returns-in-Ok-read-clause-applied g c = rw c.in-Some.is (
+  slurm_value c.in-Ok-read.exceptions,
+  rw c.in-Ok.ensures.file.1 at c.in-Ok-read.ensures.found,
+  rw c.as_slice.ensures.value at c.in_ok-apply-in-Ok-read.ensures,
 )

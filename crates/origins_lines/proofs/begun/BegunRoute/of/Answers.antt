@@ -7,6 +7,6 @@ returns-in-Ok-Some g c =
     let found = rw c.in-Ok-Some.field-0-is at c.in-Ok-Some.ensures in
     let lookup = c.lookup-lookup.ensures in (
       found,
-      record { prefix = lookup.route; looked_up = lookup.asn; asn = grind (arith, common_steps) },
+      record { prefix = lookup.route; asn = grind (arith, common_steps) },
       lookup.vrps,
     )

@@ -15,6 +15,8 @@
  * test FOLDER stack: makes the call of each row on a thread with a marked stack. It fails if the calls use more of the
  * stack than pigyelund.h states.
  *
+ * test FOLDER thread: makes the call of each row on a thread with the default stack of the C library, 128 KiB with musl.
+ *
  * Each input and each buffer is an allocation of its own, so that valgrind reports an access after its end. The program
  * is linked with --wrap=malloc,--wrap=realloc: each allocation of the library calls a function of this file. */
 #include "../pigyelund.h"
@@ -55,7 +57,7 @@ IS_STATUS(PIGY_BAD_TEXT + 5u, PIGY_BAD_TEXT, 5u);
 IS_STATUS(PIGY_BAD_QUERY, PIGY_BAD_QUERY, 0u);
 IS_STATUS(PIGY_BAD_ROUTE + 6u, PIGY_BAD_ROUTE, 6u);
 
-/* The layouts on x86-64. A change of one needs another number of the ABI. */
+/* The layouts on x86-64 and ARM64. A change of one needs another number of the ABI. */
 #define IS_SIZE(type, size) _Static_assert(sizeof(type) == size, #type)
 #define IS_AT(type, member, offset) _Static_assert(offsetof(type, member) == offset, #type "." #member)
 IS_SIZE(pigy_set, 32);
@@ -1609,6 +1611,20 @@ static void ask_stack(questions rows) {
          to_read, (unsigned)STACK);
 }
 
+/* Makes all calls on a thread with the default stack. */
+static void ask_default_stack(questions rows) {
+  on_stack one = {rows, 0, 0};
+  pthread_attr_t how;
+  pthread_t thread;
+  size_t size = 0;
+  if (pthread_attr_init(&how) || pthread_attr_getstacksize(&how, &size)) exit(2);
+  for (one.reads = 0; one.reads < 2; one.reads++)
+    if (pthread_create(&thread, 0, ask_on_stack, &one) || pthread_join(thread, 0)) exit(2);
+  pthread_attr_destroy(&how);
+  expect(calls > rows.count, 0, "no calls on a thread");
+  printf("C: %u calls on a thread with a stack of %zu octets\n", calls, size);
+}
+
 /* ---- texts of statuses */
 
 /* Returns whether a status has a text. */
@@ -1655,11 +1671,13 @@ static void ask_all(questions rows) {
 
 int main(int count, char **words) {
   questions rows;
-  int is_of_stack = count == 3 && !strcmp(words[2], "stack");
-  if (count != 2 && !is_of_stack) return 2;
+  int is_of_stack = count == 3 && !strcmp(words[2], "stack"), is_of_thread = count == 3 && !strcmp(words[2], "thread");
+  if (count != 2 && !is_of_stack && !is_of_thread) return 2;
   rows = read_rows(words[1]);
   if (is_of_stack) {
     ask_stack(rows);
+  } else if (is_of_thread) {
+    ask_default_stack(rows);
   } else {
     expect(pigy_version() == PIGY_VERSION_NUMBER, 0, "another version");
     ask_texts(words[1]);

@@ -9,9 +9,12 @@
 #   python3-pigyelund   the Python package
 #   pigyelund-vectors   the conformance vectors
 #
+# It also makes a wheel of the Python package with the library inside. If release has proved the library for ARM64, the
+# folder arm64 has libpigyelund1, libpigyelund-dev and a wheel for it.
+#
 # MAINTAINER in the environment is the maintainer of the packages, as `Name <address>`. If it is not set, the author of
 # the commit is. The same commit and the same MAINTAINER make the same packages.
-# shellcheck disable=SC2154 # release sets version, folder, work, date, library and top
+# shellcheck disable=SC2154 # release sets version, folder, work, date, library, arm64 and top
 packaging=$top/packaging
 symbols=$packaging/libpigyelund1.symbols
 soname=$(sed -n '1s/ .*//p' "$symbols")
@@ -53,7 +56,7 @@ depends_of() {
         ! is_elf "$file" || set -- "$@" "$file"
     done
     if [ $# -eq 0 ]; then return; fi
-    if command -v dpkg-shlibdeps >/dev/null; then by_dpkg "$@"; else by_objdump "$@"; fi
+    if [ -z "$cross" ] && command -v dpkg-shlibdeps >/dev/null; then by_dpkg "$@"; else by_objdump "$@"; fi
 }
 
 # Prints the symbols that a library exports, in the form of a symbols file and without the versions of packages.
@@ -107,16 +110,21 @@ build_package() {
     SOURCE_DATE_EPOCH=${date#@} dpkg-deb --root-owner-group -Zxz --build "$tree" "$made" >/dev/null
     dpkg-deb -x "$made" "$work/again/$name" && diff -r --no-dereference "$tree/usr" "$work/again/$name/usr" >&2 ||
         stop "the package doesn't have the files whose sums were noted"
-    mv "$made" "$folder"
-    echo "$folder/${made##*/}"
+    mv "$made" "$target_folder"
+    echo "$target_folder/${made##*/}"
 }
 
-# Installs the libraries for C in the folders of the system's architecture, and stops if their symbols are others.
+# stage_library LIBRARY [VARIABLE=VALUE ..]: installs the libraries for C in the folders of the architecture. Stops if
+# their symbols are others.
 stage_library() {
+    of_target=$1
+    shift
+    rm -rf "$work/c" "$work/stage" "$work/deb" "$work/again"
+    mkdir "$work/again"
     stage=$work/stage
     make -s -C foreign/c install OUT="$work/c" DESTDIR="$stage" PREFIX=/usr LIBDIR="/usr/lib/$triplet" \
-        INCLUDEDIR=/usr/include DOCDIR=/usr/share/doc/pigyelund LIB="$library" KIT="$KIT" >&2
-    same_sum "$library"
+        INCLUDEDIR=/usr/include DOCDIR=/usr/share/doc/pigyelund LIB="$of_target" KIT="$KIT" "$@" >&2
+    same_sum "$of_target"
     require_symbols "$stage/usr/lib/$triplet/$soname"
     grep -qx "Version: $version" "$stage/usr/lib/$triplet/pkgconfig/pigyelund.pc" || stop "pigyelund.pc has no version"
 }
@@ -128,7 +136,7 @@ library_package() {
     install -d "$lib"
     cp -P "$stage/usr/lib/$triplet/$soname"* "$lib"
     file=$(readlink -f "$lib/$soname")
-    strip --strip-unneeded --remove-section=.comment --remove-section=.note "$file"
+    "${cross}strip" --strip-unneeded --remove-section=.comment --remove-section=.note "$file"
     require_symbols "$file"
     install -m 644 "$symbols" "$tree/DEBIAN/symbols"
     stem=${soname%%.so.*}
@@ -144,8 +152,7 @@ Description: RPKI resource sets and route origin validation (C library)
  validation (RFC 6811). No call checks signatures. The code that computes the
  answers is formally verified.
  .
- This package has the shared library, which needs a processor of level
- x86-64-v2.
+ This package has the shared library$limit.
 END_OF_TEXT
 }
 
@@ -184,6 +191,25 @@ Description: RPKI resource sets and route origin validation (development files)
  This package has the header, the static library, the file that pkg-config
  reads, a guide, and examples in C.
 END_OF_TEXT
+}
+
+# Makes a wheel with the library, for a Python that has no package of Debian.
+wheel() {
+    for python in python3 /usr/bin/python3 none; do
+        ! "$python" -c 'import setuptools, wheel' 2>/dev/null || break
+    done
+    if [ "$python" = none ]; then
+        echo "release: left out: a wheel needs python3-setuptools and python3-wheel" >&2
+        return
+    fi
+    rm -rf "$work/wheel"
+    mkdir "$work/wheel"
+    git archive HEAD foreign/python | tar -xf - -C "$work/wheel" --strip-components=2
+    cp "$stage/usr/lib/$triplet/$soname" "$work/wheel/src/pigyelund/libpigyelund.so"
+    (cd "$work/wheel" && SOURCE_DATE_EPOCH=${date#@} "$python" -W ignore -c \
+        'import sys; from setuptools import build_meta; print(build_meta.build_wheel(sys.argv[1]))' "$target_folder") \
+        >"$work/log" 2>&1 || { cat "$work/log" >&2; stop "setuptools makes no wheel"; }
+    echo "$target_folder/$(tail -n 1 "$work/log")"
 }
 
 # The package has no library of its own: it loads the one of libpigyelund1 by its soname. The scripts compile the modules,
@@ -278,17 +304,33 @@ Description: RPKI resource sets and route origin validation (test vectors)
 END_OF_TEXT
 }
 
+# Makes the packages for ARM64, which the machine cannot run.
+debian_arm64() {
+    architecture=arm64 triplet=aarch64-linux-gnu cross=aarch64-linux-gnu- target_folder=$folder/arm64
+    limit=". Its tests ran on an emulator alone"
+    rm -rf "$target_folder"
+    mkdir "$target_folder"
+    stage_library "$arm64" TARGET=aarch64-unknown-linux-gnu CC="${cross}gcc" AR="${cross}ar" \
+        OBJCOPY="${cross}objcopy" CPU=
+    library_package
+    development_package
+    wheel
+}
+
 # Makes all packages. The last one has the programs.
 debian() {
     for tool in dpkg dpkg-deb objdump strip; do
         command -v "$tool" >/dev/null || stop "$tool isn't there"
     done
-    architecture=$(dpkg --print-architecture)
+    maintainer=${MAINTAINER:-$(git log -1 --format='%an <%ae>')}
+    [ ! -f "$arm64" ] || debian_arm64
+    architecture=$(dpkg --print-architecture) cross='' target_folder=$folder
     triplet=$(${CC:-cc} -print-multiarch)
     [ -n "$triplet" ] || stop "the C compiler names no folder of the architecture"
-    maintainer=${MAINTAINER:-$(git log -1 --format='%an <%ae>')}
-    mkdir "$work/again"
-    stage_library
+    limit=", which needs a processor of level
+ x86-64-v2"
+    stage_library "$library"
+    wheel
     vectors_package
     library_package
     development_package

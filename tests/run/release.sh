@@ -22,7 +22,7 @@ archive=pigyelund-$version.tar.gz
 
 # Makes the kit: rt says what the files of its folder say, and takes programs and the library from there.
 make_kit() {
-    mkdir -p "$kit/bin" "$kit/c" "$kit/proved" "$kit/said" "$kit/tools"
+    mkdir -p "$kit/bin" "$kit/c" "$kit/proved" "$kit/arm64" "$kit/said" "$kit/tools"
     cat >"$kit/bin/rt" <<'END'
 #!/bin/sh
 kit=$(dirname "$(dirname "$(readlink -f "$0")")")
@@ -40,7 +40,8 @@ run) file=out/$crate ;;
 check) file= ;;
 esac
 [ ! -e "$kit/meanwhile" ] || . "$kit/meanwhile"
-[ -z "$file" ] || [ ! -e "$kit/proved/${file#out/}" ] || { mkdir -p out && cp -p "$kit/proved/${file#out/}" "$file"; }
+case $* in *aarch64*) proved=$kit/arm64/${file#out/} ;; *) proved=$kit/proved/${file#out/} ;; esac
+[ -z "$file" ] || [ ! -e "$proved" ] || { mkdir -p out && cp -p "$proved" "$file"; }
 cat "$kit/said/$crate"
 END
     chmod +x "$kit/bin/rt"
@@ -61,7 +62,11 @@ END
             [ "$name" = pigy_version ] || grep -q "^[a-z][a-z0-9_ *]*\b$name(" foreign/c/texts.c ||
                 echo "void $name(void) {}"
         done
-    } | gcc -fPIC -c -x c - -o "$out/one.o" &&
+    } >"$out/one.c"
+    if has "ARM64 in a release" aarch64-linux-gnu-gcc; then
+        aarch64-linux-gnu-gcc -fPIC -c "$out/one.c" -o "$out/one.o" && ar rcs "$kit/arm64/libpigyelund_c.a" "$out/one.o"
+    fi
+    gcc -fPIC -c "$out/one.c" -o "$out/one.o" &&
         printf '#include <stdlib.h>\nvoid *of_kit(size_t n) { return malloc(n); }\n' |
         gcc -fPIC -c -x c - -o "$out/two.o" &&
         ar rcs "$kit/proved/libpigyelund_c.a" "$out/one.o" && ar rcs "$kit/c/liblibc_c.a" "$out/two.o"
@@ -339,10 +344,25 @@ try_packages() {
                 [ "$(by_dpkg "$lib/$so")" = "$(field libpigyelund1 Depends)" ]
         ) || fail "dpkg-shlibdeps and objdump differ"
     fi
+    [ ! -d "$1/arm64" ] || try_arm64 "$1"
     if has "the rules of Debian" lintian; then
-        lintian --allow-root --fail-on error,warning "$made"/*.deb >"$out/log" 2>&1 ||
+        find "$1" -name '*.deb' -exec lintian --allow-root --fail-on error,warning {} + >"$out/log" 2>&1 ||
             { cat "$out/log"; fail "lintian"; }
     fi
+}
+
+# try_arm64 FOLDER: the fields of the packages for ARM64, the machine of their libraries, and the name of the wheel
+try_arm64() {
+    local made=$1/arm64 name
+    rm -rf "${out:?}/lib"
+    for name in libpigyelund1 libpigyelund-dev; do
+        [ "$(field "$name" Architecture) $(field "$name" Multi-Arch)" = "arm64 same" ] || fail "the fields of $name:arm64"
+        dpkg-deb -x "$made/$name"_*.deb "$out/lib" || fail "the files of $name:arm64"
+    done
+    [ "$(readelf -h "$out/lib/usr/lib/aarch64-linux-gnu/libpigyelund".{so,a} | grep -c 'Machine: *AArch64')" -eq 2 ] ||
+        fail "the libraries for ARM64"
+    case $(field libpigyelund1 Depends) in "libc6 (>= 2."*) ;; *) fail "Depends of libpigyelund1:arm64" ;; esac
+    [ -f "$made/pigyelund-$version-py3-none-manylinux_2_34_aarch64.whl" ] || fail "the wheel for ARM64"
 }
 
 # The same commit makes the same packages.

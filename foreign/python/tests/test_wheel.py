@@ -1,10 +1,10 @@
 #!/usr/bin/env python3
-"""Tests the wheels and the source archive that setuptools makes: test_wheel.py LIBRARY.
+"""Tests the wheels and the source archive that setuptools makes: test_wheel.py LIBRARY ...
 
 The wheels are made twice, in copies of the folder of the package, and the octets have to be the same. Their names,
-metadata and files have to be right. The tag of the wheel with LIBRARY inside has to be true of this ELF file: it needs
-no later symbol version than the tag says, and no library that is not a part of glibc. The status is 1 if something
-differs.
+metadata and files have to be right. The tag of the wheel with a LIBRARY inside has to be true of this ELF file: it is
+for this processor, needs no later symbol version than the tag says, and no library that is not a part of glibc. The
+status is 1 if something differs.
 """
 
 import csv
@@ -27,6 +27,8 @@ LIBRARY = "libpigyelund.so"
 MODULES = ("__init__", "_bindings", "_library", "arrays", "errors", "resources", "table", "values")
 PACKAGE = {f"pigyelund/{name}.py" for name in MODULES} | {"pigyelund/py.typed"}
 OF_GLIBC = {"libc.so.6", "libm.so.6", "libpthread.so.0", "libdl.so.2", "librt.so.1", "ld-linux-x86-64.so.2"}
+OF_GLIBC |= {"ld-linux-aarch64.so.1"}
+PROCESSORS = {"Advanced Micro Devices X86-64": "x86_64", "AArch64": "aarch64"}
 TIME = "1732600000"
 
 
@@ -113,25 +115,39 @@ def tag_of(library: str) -> tuple[str, str]:
     named = re.findall(r"Name: (\S+)  Flags", printed.partition("needs section")[2])
     faults = [*(needed - OF_GLIBC), *re.findall(r"\(R(?:UN)?PATH\)", printed)]
     faults += [it for it in named if not re.fullmatch(r"GLIBC_\d+\.\d+(\.\d+)?", it)]
-    if "Advanced Micro Devices X86-64" not in printed or "DYN (Shared object" not in printed:
-        faults.append("no shared library for x86-64")
+    machine = re.findall(r"Machine: +(.*)", printed)[0]
+    if machine not in PROCESSORS or "DYN (Shared object" not in printed:
+        faults.append(f"no shared library for {' or '.join(PROCESSORS)}")
     major, minor = max((int(major), int(minor)) for _, major, minor in [("", 2, 5), *versions])
-    return f"manylinux_{major}_{minor}_x86_64", ", ".join(faults)
+    return f"manylinux_{major}_{minor}_{PROCESSORS.get(machine)}", ", ".join(faults)
 
 
 def of_tag(tag: str, library: str) -> Iterator[str]:
     """What is wrong in the tag of a wheel with a library: it may name a later glibc than the library needs."""
     least, fault = tag_of(library)
-    found = re.fullmatch(r"py3-none-manylinux_(\d+)_(\d+)_x86_64", tag)
-    needed = re.fullmatch(r"manylinux_(\d+)_(\d+)_x86_64", least)
+    found = re.fullmatch(r"py3-none-manylinux_(\d+)_(\d+)_(\w+)", tag)
+    needed = re.fullmatch(r"manylinux_(\d+)_(\d+)_(\w+)", least)
     if fault:
         yield f"no manylinux tag is true of {library}: {fault}"
-    if not found or not needed or [*map(int, found.groups())] < [*map(int, needed.groups())]:
+    if not found or not needed or found[3] != needed[3] or [*map(int, found.groups()[:2])] < [
+        *map(int, needed.groups()[:2])
+    ]:
         yield f"{library} needs {least}, and the tag is {tag}"
 
 
-def wrong_libraries(folder: Path) -> Iterator[str]:
-    """The test of the tag finds a later symbol version, another library, and a run path."""
+def wrong_libraries(folder: Path, last: str) -> Iterator[str]:
+    """The test of the tag finds another processor, a later symbol version, another library, and a run path."""
+    if not [*of_tag("py3-none-manylinux_2_34_riscv64", last)]:
+        yield f"the tag of another processor is true of {last}"
+    octets = Path(last).read_bytes()
+    for at, other in enumerate((octets[:18] + b"\xf3" + octets[19:], octets.replace(b"libc.so.6", b"libc.so\0\0"))):
+        (folder / "other").write_bytes(other)
+        try:
+            Tree(folder / f"wrong {at}", str(folder / "other")).made("wheel")
+            yield f"setuptools makes a wheel of the wrong library {at}"
+        except SystemExit as error:
+            if "expected a library for glibc on x86_64 or aarch64" not in str(error):
+                yield f"the wrong library {at}: {error}"
     call = "int {0}(); int f(void) {{ return {0}(); }}"
     cases = [(call.format("abs"), "-Wl,-rpath,/opt"), ("int f;", "-Wl,--no-as-needed,-lgcc_s")]
     cases += [(call.format("strlcpy"), ""), (call.format("__isoc23_strtol"), "")]
@@ -152,7 +168,7 @@ def contents(folder: Path, library: str) -> Iterator[str]:
     pure = tree.made("wheel")
     yield from of_wheel(pure, None, "py3-none-any")
     held = Tree(folder / "with a library", library).made("wheel")
-    yield from of_wheel(held, library, "py3-none-manylinux_2_34_x86_64")
+    yield from of_wheel(held, library, f"py3-none-manylinux_2_34_{tag_of(library)[0].split('_', 3)[3]}")
     yield from of_tag(held.name.removeprefix(f"{NAME}-").removesuffix(".whl"), library)
     sdist = tree.made("sdist")
     with tarfile.open(sdist) as archive:
@@ -166,13 +182,14 @@ def contents(folder: Path, library: str) -> Iterator[str]:
 
 def main() -> int:
     """Makes the tests."""
-    library = os.path.abspath(sys.argv[1])
+    libraries = [os.path.abspath(it) for it in sys.argv[1:]]
     found: list[str] = []
     with tempfile.TemporaryDirectory() as name:
-        for at, test in enumerate((same_octets, contents)):
-            (Path(name) / str(at)).mkdir()
-            found += test(Path(name) / str(at), library)
-        found += wrong_libraries(Path(name))
+        for at, library in enumerate(libraries):
+            for test in (same_octets, contents):
+                (folder := Path(name) / f"{test.__name__} {at}").mkdir()
+                found += test(folder, library)
+        found += wrong_libraries(Path(name), libraries[-1])
     for fault in found:
         print(fault)
     print(f"wheels: {len(found)} faults")

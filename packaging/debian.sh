@@ -119,10 +119,7 @@ build_package() {
 stage_library() {
     of_target=$1
     shift
-    rm -rf "$work/c" "$work/stage" "$work/deb" "$work/again"
-    mkdir "$work/again"
-    stage=$work/stage
-    make -s -C foreign/c install OUT="$work/c" DESTDIR="$stage" PREFIX=/usr LIBDIR="/usr/lib/$triplet" \
+    make -s -C foreign/c install OUT="$stage/made" DESTDIR="$stage" PREFIX=/usr LIBDIR="/usr/lib/$triplet" \
         INCLUDEDIR=/usr/include DOCDIR=/usr/share/doc/pigyelund LIB="$of_target" KIT="$KIT" "$@" >&2
     same_sum "$of_target"
     require_symbols "$stage/usr/lib/$triplet/$soname"
@@ -304,17 +301,33 @@ Description: RPKI resource sets and route origin validation (test vectors)
 END_OF_TEXT
 }
 
-# Makes the packages for ARM64, which the machine cannot run.
-debian_arm64() {
-    architecture=arm64 triplet=aarch64-linux-gnu cross=aarch64-linux-gnu- target_folder=$folder/arm64
+# What follows is for ARM64, which the machine cannot run.
+for_arm64() {
+    architecture=arm64 triplet=aarch64-linux-gnu cross=aarch64-linux-gnu-
+    stage=$work/stage_arm64 target_folder=$folder/arm64
     limit=". Its tests ran on an emulator alone"
+}
+
+# What follows is for the machine.
+for_machine() {
+    architecture=$(dpkg --print-architecture) triplet=$(${CC:-cc} -print-multiarch) cross=
+    [ -n "$triplet" ] || stop "the C compiler names no folder of the architecture"
+    stage=$work/stage target_folder=$folder
+    limit=", which needs a processor of level
+ x86-64-v2"
+}
+
+# Makes the packages and the wheel for ARM64.
+debian_arm64() {
+    for_arm64
     rm -rf "$target_folder"
     mkdir "$target_folder"
-    stage_library "$arm64" TARGET=aarch64-unknown-linux-gnu CC="${cross}gcc" AR="${cross}ar" \
-        OBJCOPY="${cross}objcopy" CPU=
     library_package
     development_package
     wheel
+    rm -rf "$work/deb" "$work/again"
+    mkdir "$work/again"
+    for_machine
 }
 
 # Makes all packages. The last one has the programs.
@@ -323,13 +336,15 @@ debian() {
         command -v "$tool" >/dev/null || stop "$tool isn't there"
     done
     maintainer=${MAINTAINER:-$(git log -1 --format='%an <%ae>')}
-    [ ! -f "$arm64" ] || debian_arm64
-    architecture=$(dpkg --print-architecture) cross='' target_folder=$folder
-    triplet=$(${CC:-cc} -print-multiarch)
-    [ -n "$triplet" ] || stop "the C compiler names no folder of the architecture"
-    limit=", which needs a processor of level
- x86-64-v2"
+    mkdir "$work/again"
+    if [ -f "$arm64" ]; then
+        for_arm64
+        stage_library "$arm64" TARGET=aarch64-unknown-linux-gnu CC="${cross}gcc" AR="${cross}ar" \
+            OBJCOPY="${cross}objcopy" CPU=
+    fi
+    for_machine
     stage_library "$library"
+    [ ! -f "$arm64" ] || debian_arm64
     wheel
     vectors_package
     library_package

@@ -1,6 +1,6 @@
 #!/usr/bin/env bash
-# foreign.sh [LIBRARY]: tests the static library from C, Rust and Python. It builds the library by rt lib, or takes the
-# file LIBRARY. The tests are the rows that tests/run/foreign_rows.py makes, names, numbers and texts, the programs of
+# foreign.sh [LIBRARY [ARM64_LIBRARY]]: tests the static library from C, Rust and Python. It builds the library by rt lib
+# for x86-64 and for ARM64, or takes the files. Programs for ARM64 run under qemu. The tests are the rows that tests/run/foreign_rows.py makes, names, numbers and texts, the programs of
 # the pages, and packages that are installed. The script names the tools that are missing, and leaves out the tests that
 # need them. The status is 0 if nothing failed.
 cd "$(dirname "$0")/../.." || exit 1
@@ -22,8 +22,12 @@ same() {
 python3 -c 'import sys; sys.exit(sys.version_info < (3, 10))' 2>/dev/null ||
     { echo "foreign.sh: python3 is missing, or older than 3.10"; exit 1; }
 
+arm64=aarch64-unknown-linux-gnu
+library_arm64=${2-$out/libpigyelund_c.a}
 if [ $# -eq 0 ]; then
-    (cd crates/pigyelund_c && rt lib >"$out/log" 2>&1) || { tail -n 20 "$out/log"; echo "FAILED: rt lib"; exit 1; }
+    # All targets have one file. The second proof takes what the first one kept.
+    (cd crates/pigyelund_c && rt lib --target "$arm64" && mv out/libpigyelund_c.a "$library_arm64" && rt lib) \
+        >"$out/log" 2>&1 || { tail -n 20 "$out/log"; echo "FAILED: rt lib"; exit 1; }
 fi
 
 # made [VARIABLE=VALUE ..] TARGET ..: runs make with the C compiler and the folder of this test
@@ -142,6 +146,27 @@ on_page() { tests/run/foreign_page.py "docs/$1" "$2" "$prefix" || fail "docs/$1:
 example() {
     foreign/c/examples/run.sh "$1" "$prefix" >"$out/example.txt" &&
         diff "foreign/c/examples/$1.txt" "$out/example.txt" || fail "the example $1"
+}
+
+# target TARGET LIBRARY RUN COMPILER [OPTION]: the tests in C, and the examples by this compiler. RUN runs a program, and
+# the option is for programs.
+target() {
+    folder="$spaced/$1"
+    for words in install "check LDFLAGS=${5-}"; do
+        # shellcheck disable=SC2086 # one word or two
+        make -s -C foreign/c $words TARGET="$1" LIB="$2" RUN="$3" KIT=/nonexistent OUT="$folder" PREFIX="$folder/usr" \
+            CFLAGS="-O2 -Wall -Wextra -Werror" || fail "make $words TARGET=$1"
+    done
+    for name in update table set; do RUN=$3 CC="$4 ${5-}" prefix=$folder/usr example "$name"; done
+}
+
+of_targets() {
+    if [ ! -f "$library_arm64" ]; then
+        echo "left out: ARM64 needs its library"
+    elif has "ARM64" aarch64-linux-gnu-gcc qemu-aarch64; then
+        target "$arm64" "$library_arm64" "qemu-aarch64 -L /usr/aarch64-linux-gnu" aarch64-linux-gnu-gcc
+    fi
+    has "musl" musl-gcc && target x86_64-unknown-linux-musl "$LIB" "" musl-gcc -static
 }
 
 # The example for certificates of OpenSSL, if there are the command and the headers.
@@ -425,6 +450,7 @@ if has "C, and all that is installed," gcc make ar objcopy nm readelf; then
     on_page C.md "First program"; on_page C.md "Verify a path"; of_python
     for name in update table set; do example "$name"; done
     has "the example in C++" g++ && example table_cpp
+    of_targets
     of_openssl
     has "Rust" cargo cc tar && of_rust
 fi

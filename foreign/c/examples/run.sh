@@ -1,8 +1,10 @@
 #!/bin/sh
 # run.sh NAME PREFIX: builds an example of this folder with the static library below PREFIX, and runs it in an empty
 # folder. NAME is update, table, table_cpp, set or openssl. NAME.txt has what the example prints. PREFIX of the Debian
-# package is /usr.
+# package is /usr. CC in the environment is the C compiler with its options, and RUN the command that runs a program, for
+# example on ARM64.
 set -eu
+: "${CC:=gcc}" "${RUN:=}"
 here=$(cd "$(dirname "$0")" && pwd)
 name=$1
 prefix=$2
@@ -18,7 +20,8 @@ build() {
     compiler=$1
     file=$2
     shift 2
-    "$compiler" -Wall -Wextra -Werror -I"$prefix/include" "$here/$file" "$library" "$@" -o program
+    # shellcheck disable=SC2086 # the compiler is one word or more
+    $compiler -Wall -Wextra -Werror -I"$prefix/include" "$here/$file" "$library" "$@" -o program
 }
 
 # certificate NAME BLOCKS: makes a self-signed certificate with these address blocks
@@ -28,15 +31,15 @@ certificate() {
 }
 
 case $name in
-update) build gcc update.c -pthread && ./program ;;
-table) build gcc table.c && ./program <"$here/vrps.csv" ;;
+update) build "$CC" update.c -pthread && $RUN ./program ;;
+table) build "$CC" table.c && $RUN ./program <"$here/vrps.csv" ;;
 table_cpp) build g++ table.cpp -std=c++11 && ./program <"$here/vrps.csv" ;;
-set) build gcc set.c && ./program ;;
+set) build "$CC" set.c && $RUN ./program ;;
 openssl)
     certificate anchor IPv4:10.0.0.0/8
     certificate holder IPv4:10.1.0.0/16
     certificate other IPv4:10.0.0.0/7
-    build gcc openssl.c -lcrypto
+    build "$CC" openssl.c -lcrypto
     ./program anchor.pem holder.pem
     ./program anchor.pem other.pem || true
     ;;

@@ -42,7 +42,8 @@ def class_of(struct: str) -> str:
 def enumerations(text: str) -> Iterator[list[tuple[str, str, str]]]:
     """Yields the constants of each enumeration: the name without PIGY_, the number, and the comment."""
     for body in re.findall(r"^PIGY_ENUM \{(.*?)\}", text, re.MULTILINE | re.DOTALL):
-        found = re.findall(r"(?:/\*((?:(?!\*/).)*)\*/\s*)?PIGY_(\w+) = (\w+),?[ ]*(?:/\* (.*?) \*/)?", body, re.DOTALL)
+        pattern = r"(?:/\*\*((?:(?!\*/).)*)\*/\s*)?PIGY_(\w+) = (\w+),?[ ]*(?:/\*\*< (.*?) \*/)?"
+        found = re.findall(pattern, body, re.DOTALL)
         yield [(name, number, after or before) for before, name, number, after in found]
 
 

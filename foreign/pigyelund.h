@@ -1,4 +1,6 @@
-/* Pigyelund is a formally verified library for RPKI resource sets (RFC 3779) and route origin validation (RFC 6811).
+/** @file
+ *
+ * Pigyelund is a formally verified library for RPKI resource sets (RFC 3779) and route origin validation (RFC 6811).
  * This header declares its calls for C and C++. It is tested as C99, C11, C17, C++11 and C++17.
  *
  * - Certificates. pigy_verify compares the resources that a certificate claims with those of its issuer.
@@ -11,6 +13,7 @@
  *
  * Example: does a certificate claim more than its issuer has?
  *
+ * @code
  *   // IP address blocks with 10.0.0.0/8
  *   static const uint8_t ten[] = {0x30, 12, 0x30, 10, 4, 2, 0, 1, 0x30, 4, 3, 2, 0, 10};
  *   // IP address blocks with 10.0.0.0/8 and 12.0.0.0/8
@@ -21,6 +24,7 @@
  *   pigy_status status = pigy_verify(issuer, cert, PIGY_HAS_IP, PIGY_STRICT, PIGY_REFUSE, &out, &excess);
  *   puts(pigy_status_text(status)); // overclaimed IPv4 resources
  *   // over has the DER of 12.0.0.0/8, in excess.ip_len octets
+ * @endcode
  *
  * The guide has the installation, complete programs, and what to do after an error. It is docs/C.md in the repository.
  * The Debian package has the guide, and each page and example that the guide names, below
@@ -109,10 +113,12 @@
  * - malloc, realloc and free belong to one allocator. The allocator of the C library meets this rule: if the size of a
  *   block is a multiple of 16, 8, 4 or 2 octets, its address is a multiple of the same number. Another allocator has to
  *   meet the rule too.
- * - The processor has the instructions of x86-64-v2: SSE3, SSSE3, SSE4.1, SSE4.2, POPCNT, CMPXCHG16B, LAHF and SAHF.
- * - The stack has 128 KiB left for each call that reads JSON, and 16 KiB for each other call. In the tests a call that
- *   reads JSON uses less than 64 KiB for the deepest JSON that it reads, and each other call less than 8 KiB. This is
- *   measured on x86-64, and is not proved. pigy_vrps_read and pigy_vrps_read_unexpired read JSON.
+ * - A processor for x86-64 has the instructions of x86-64-v2: SSE3, SSSE3, SSE4.1, SSE4.2, POPCNT, CMPXCHG16B, LAHF and
+ *   SAHF. A processor for ARM64 has those of ARMv8-A.
+ * - The stack has 128 KiB left for each call that reads JSON (pigy_vrps_read and pigy_vrps_read_unexpired), and 16 KiB
+ *   for each other call. In the tests a call that reads JSON uses less than 64 KiB for the deepest JSON that it reads,
+ *   and each other call less than 8 KiB. This is measured on x86-64, and for ARM64 on an emulator, and is not proved.
+ *   With musl a thread has 128 KiB in all, unless you ask for more by pthread_attr_setstacksize.
  * - No call is made in a signal handler, or in the forked child of a process with threads.
  *
  * THREADS. The calls share no state. Any number of them may run at the same time if each meets the obligations. Several
@@ -135,22 +141,21 @@ extern "C" {
 
 /* ---- Attributes and types of numbers ---- */
 
-/* Attributes, by which GCC and Clang warn. They are empty for other compilers.
- *
- * - PIGY_NODISCARD: A program that ignores the result gets a warning. pigy_table_len does not have this attribute,
- *   since its only error is a NULL handle.
- * - PIGY_NONNULL(...): The parameters with these numbers must never be NULL. The first parameter has number 1. With
- *   -Wall a program that passes the constant NULL for such a parameter gets a warning. No array is among them, since an
- *   array of length 0 may be NULL. */
+/* Attributes, by which GCC and Clang warn. They are empty for other compilers. */
 #ifdef __GNUC__
+/** A program that ignores the result gets a warning. pigy_table_len does not have this attribute, since its only error
+ * is a NULL handle. */
 #define PIGY_NODISCARD __attribute__((__warn_unused_result__))
+/** The parameters with these numbers must never be NULL. The first parameter has number 1. With -Wall a program that
+ * passes the constant NULL for such a parameter gets a warning. No array is among them, since an array of length 0 may
+ * be NULL. */
 #define PIGY_NONNULL(...) __attribute__((__nonnull__(__VA_ARGS__)))
 #else
 #define PIGY_NODISCARD
 #define PIGY_NONNULL(...)
 #endif
 
-/* PIGY_ENUM begins an enumeration of constants. They have 32 bits if the language has such enumerations (C++11, C23).
+/** Begins an enumeration of constants. They have 32 bits if the language has such enumerations (C++11, C23).
  * No parameter and no member of a struct has the type of an enumeration, so no layout depends on it. */
 #if (defined __cplusplus && __cplusplus >= 201103L) || (defined __STDC_VERSION__ && __STDC_VERSION__ >= 202311L)
 #define PIGY_ENUM enum : uint32_t
@@ -158,58 +163,61 @@ extern "C" {
 #define PIGY_ENUM enum
 #endif
 
-typedef uint32_t pigy_status;   /* PIGY_OK, or the reason why a call failed. */
-typedef uint32_t pigy_present;  /* PIGY_HAS_AS, PIGY_HAS_IP, PIGY_HAS_BOTH or 0. */
-typedef uint32_t pigy_encoding; /* PIGY_LENIENT or PIGY_STRICT. */
-typedef uint32_t pigy_mode;     /* PIGY_REFUSE or PIGY_TRIM. */
-typedef uint32_t pigy_family;   /* PIGY_IPV4 or PIGY_IPV6. */
-typedef uint32_t pigy_kind;     /* PIGY_ASN, PIGY_IPV4 or PIGY_IPV6. */
+typedef uint32_t pigy_status;   /**< PIGY_OK, or the reason why a call failed. */
+typedef uint32_t pigy_present;  /**< PIGY_HAS_AS, PIGY_HAS_IP, PIGY_HAS_BOTH or 0. */
+typedef uint32_t pigy_encoding; /**< PIGY_LENIENT or PIGY_STRICT. */
+typedef uint32_t pigy_mode;     /**< PIGY_REFUSE or PIGY_TRIM. */
+typedef uint32_t pigy_family;   /**< PIGY_IPV4 or PIGY_IPV6. */
+typedef uint32_t pigy_kind;     /**< PIGY_ASN, PIGY_IPV4 or PIGY_IPV6. */
 
-/* The version of this header. The number is made of all three: 2 is 0.0.2, and 1002003 is 1.2.3. */
+/** The first number of the version of this header. */
 #define PIGY_VERSION_MAJOR 0
+/** The second number of the version. */
 #define PIGY_VERSION_MINOR 2
+/** The third number of the version. */
 #define PIGY_VERSION_PATCH 0
+/** The version as one number, which is made of all three: 2 is 0.0.2, and 1002003 is 1.2.3. */
 #define PIGY_VERSION_NUMBER 2000u
 
-/* ---- Statuses ----
- *
- * The meaning of a released number never changes. PIGY_KIND(status) is the kind of a status, and PIGY_FAULT(status) the
- * number n that is added to it. Each kind is one bit that no other kind has, so PIGY_KIND(status) is PIGY_OK if and
- * only if the status is PIGY_OK. */
+/* ---- Statuses ---- */
+
+/** Statuses. The meaning of a released number never changes. PIGY_KIND(status) is the kind of a status, and
+ * PIGY_FAULT(status) the number n that is added to it. Each kind is one bit that no other kind has, so
+ * PIGY_KIND(status) is PIGY_OK if and only if the status is PIGY_OK. */
 PIGY_ENUM {
-  PIGY_OK = 0x0,             /* Success. */
-  PIGY_TOO_SMALL = 0x100,    /* A buffer is too small. The lengths are the required ones. */
-  PIGY_MEMORY = 0x200,       /* Out of memory (see MEMORY above). */
-  PIGY_BAD_ARGUMENT = 0x400, /* An argument is invalid. The number of the reason is added: one of the next nine. */
-  PIGY_BAD_ENCODING = 0x401, /* The encoding is neither PIGY_LENIENT nor PIGY_STRICT. */
-  PIGY_BAD_MODE = 0x402,     /* The mode is neither PIGY_REFUSE nor PIGY_TRIM. */
-  PIGY_BAD_PRESENT = 0x403,  /* The bit mask of the extensions is above PIGY_HAS_BOTH. */
-  PIGY_BAD_FAMILY = 0x404,   /* The family is neither PIGY_IPV4 nor PIGY_IPV6. */
-  PIGY_BAD_KIND = 0x405,     /* The kind is none of PIGY_ASN, PIGY_IPV4 and PIGY_IPV6. */
-  PIGY_BAD_PREFIX = 0x406,   /* The prefix is longer than its family allows, or has host bits set. */
-  PIGY_BAD_MAX_LEN = 0x407,  /* The maximum length is below the prefix length, or is above 32 (IPv4) or 128 (IPv6). */
-  PIGY_OUTSIDE = 0x408,      /* An extension is not in the octets that are passed as `run`. */
-  PIGY_NO_HANDLE = 0x409,    /* A handle is NULL. */
-  PIGY_BAD_AS = 0x800,       /* The AS identifiers are invalid. The number of the first error is added. */
-  PIGY_BAD_IP = 0x1000,      /* The IP address blocks are invalid. The number of the first error is added. */
-  PIGY_INHERITED = 0x2000,   /* A set has "inherit". Only a certificate may have it. */
-  PIGY_ABSENT = 0x4000,      /* The certificate has neither extension. */
-  PIGY_OVERCLAIM = 0x8000,   /* The certificate claims more than its issuer has. A kind of resources is added. */
-  PIGY_OVERCLAIM_V4 = 0x8004, /* Overclaimed IPv4 addresses: PIGY_OVERCLAIM + PIGY_IPV4. */
-  PIGY_OVERCLAIM_AS = 0x8005, /* Overclaimed AS numbers: PIGY_OVERCLAIM + PIGY_ASN. */
-  PIGY_OVERCLAIM_V6 = 0x8006, /* Overclaimed IPv6 addresses: PIGY_OVERCLAIM + PIGY_IPV6. */
-  PIGY_BAD_CHANGE = 0x10000, /* A change is impossible for the table. Its code of RFC 8210, 12 is added. */
-  PIGY_UNKNOWN_WITHDRAWAL = 0x10006,     /* A withdrawn VRP is not in the table, or is listed twice. */
-  PIGY_DUPLICATE_ANNOUNCEMENT = 0x10007, /* An announced VRP is in the table and not withdrawn, or is listed twice. */
-  PIGY_BAD_LINE = 0x20000,   /* A line of CSV, or the text of a VRP, is invalid. The number of its first error is
+  PIGY_OK = 0x0,             /**< Success. */
+  PIGY_TOO_SMALL = 0x100,    /**< A buffer is too small. The lengths are the required ones. */
+  PIGY_MEMORY = 0x200,       /**< Out of memory (see MEMORY above). */
+  PIGY_BAD_ARGUMENT = 0x400, /**< An argument is invalid. The number of the reason is added: one of the next nine. */
+  PIGY_BAD_ENCODING = 0x401, /**< The encoding is neither PIGY_LENIENT nor PIGY_STRICT. */
+  PIGY_BAD_MODE = 0x402,     /**< The mode is neither PIGY_REFUSE nor PIGY_TRIM. */
+  PIGY_BAD_PRESENT = 0x403,  /**< The bit mask of the extensions is above PIGY_HAS_BOTH. */
+  PIGY_BAD_FAMILY = 0x404,   /**< The family is neither PIGY_IPV4 nor PIGY_IPV6. */
+  PIGY_BAD_KIND = 0x405,     /**< The kind is none of PIGY_ASN, PIGY_IPV4 and PIGY_IPV6. */
+  PIGY_BAD_PREFIX = 0x406,   /**< The prefix is longer than its family allows, or has host bits set. */
+  PIGY_BAD_MAX_LEN = 0x407,  /**< The maximum length is below the prefix length, or is above 32 (IPv4) or 128 (IPv6). */
+  PIGY_OUTSIDE = 0x408,      /**< An extension is not in the octets that are passed as `run`. */
+  PIGY_NO_HANDLE = 0x409,    /**< A handle is NULL. */
+  PIGY_BAD_AS = 0x800,       /**< The AS identifiers are invalid. The number of the first error is added. */
+  PIGY_BAD_IP = 0x1000,      /**< The IP address blocks are invalid. The number of the first error is added. */
+  PIGY_INHERITED = 0x2000,   /**< A set has "inherit". Only a certificate may have it. */
+  PIGY_ABSENT = 0x4000,      /**< The certificate has neither extension. */
+  PIGY_OVERCLAIM = 0x8000,   /**< The certificate claims more than its issuer has. A kind of resources is added. */
+  PIGY_OVERCLAIM_V4 = 0x8004, /**< Overclaimed IPv4 addresses: PIGY_OVERCLAIM + PIGY_IPV4. */
+  PIGY_OVERCLAIM_AS = 0x8005, /**< Overclaimed AS numbers: PIGY_OVERCLAIM + PIGY_ASN. */
+  PIGY_OVERCLAIM_V6 = 0x8006, /**< Overclaimed IPv6 addresses: PIGY_OVERCLAIM + PIGY_IPV6. */
+  PIGY_BAD_CHANGE = 0x10000, /**< A change is impossible for the table. Its code of RFC 8210, 12 is added. */
+  PIGY_UNKNOWN_WITHDRAWAL = 0x10006,     /**< A withdrawn VRP is not in the table, or is listed twice. */
+  PIGY_DUPLICATE_ANNOUNCEMENT = 0x10007, /**< An announced VRP is in the table and not withdrawn, or is listed twice. */
+  PIGY_BAD_LINE = 0x20000,   /**< A line of CSV, or the text of a VRP, is invalid. The number of its first error is
                               * added. */
-  PIGY_BAD_ITEM = 0x40000,   /* An item of JSON is invalid. The number of its first error is added. */
-  PIGY_BAD_FILE = 0x80000,   /* A file as a whole is invalid. The number of the error is added. */
-  PIGY_BAD_TEXT = 0x100000,  /* The text of a set is invalid. The number of the first error is added. */
-  PIGY_BAD_QUERY = 0x200000, /* The line that is passed to pigy_answer is invalid. */
-  PIGY_BAD_ROUTE = 0x800000, /* A line with a route, or the text of a route, is invalid. The number of its first error
+  PIGY_BAD_ITEM = 0x40000,   /**< An item of JSON is invalid. The number of its first error is added. */
+  PIGY_BAD_FILE = 0x80000,   /**< A file as a whole is invalid. The number of the error is added. */
+  PIGY_BAD_TEXT = 0x100000,  /**< The text of a set is invalid. The number of the first error is added. */
+  PIGY_BAD_QUERY = 0x200000, /**< The line that is passed to pigy_answer is invalid. */
+  PIGY_BAD_ROUTE = 0x800000, /**< A line with a route, or the text of a route, is invalid. The number of its first error
                               * is added. */
-  /* PIGY_SECOND is added to PIGY_BAD_AS + n, PIGY_BAD_IP + n, PIGY_INHERITED, PIGY_BAD_FAMILY, PIGY_BAD_PREFIX and
+  /** PIGY_SECOND is added to PIGY_BAD_AS + n, PIGY_BAD_IP + n, PIGY_INHERITED, PIGY_BAD_FAMILY, PIGY_BAD_PREFIX and
    * PIGY_BAD_MAX_LEN, and to no other status. For these six it says which argument has the error:
    *
    *   call                                  with PIGY_SECOND        without PIGY_SECOND
@@ -221,10 +229,10 @@ PIGY_ENUM {
   PIGY_SECOND = 0x1000000
 };
 
-/* PIGY_KIND(status) is a kind, without n and without PIGY_SECOND. */
+/** PIGY_KIND(status) is a kind, without n and without PIGY_SECOND. */
 #define PIGY_KIND(s) ((uint32_t)(s) & ~(0xffu | (uint32_t)PIGY_SECOND))
 
-/* PIGY_FAULT(status) is n, the number that is added to a kind. It is 0 for a kind that has no such numbers.
+/** PIGY_FAULT(status) is n, the number that is added to a kind. It is 0 for a kind that has no such numbers.
  *
  * PIGY_BAD_AS + n, PIGY_BAD_IP + n, also with PIGY_SECOND:
  *
@@ -294,16 +302,16 @@ PIGY_ENUM {
  * too. None of them is 0, except `present` for neither extension. So a call refuses exchanged arguments, and a struct
  * whose members are 0. */
 
-/* The extensions that a certificate has, as a bit mask: one of these numbers, or 0 if it has neither. */
+/** The extensions that a certificate has, as a bit mask: one of these numbers, or 0 if it has neither. */
 PIGY_ENUM { PIGY_HAS_AS = 1, PIGY_HAS_IP = 2, PIGY_HAS_BOTH = 3 };
 
-/* Address families. AF_INET, AF_INET6 and the numbers 1 and 2 of RFC 3779, 2.2.3.3 are refused. */
+/** Address families. AF_INET, AF_INET6 and the numbers 1 and 2 of RFC 3779, 2.2.3.3 are refused. */
 PIGY_ENUM { PIGY_IPV4 = 4, PIGY_IPV6 = 6 };
 
-/* A kind of resources is PIGY_ASN, PIGY_IPV4 or PIGY_IPV6. */
+/** A kind of resources is PIGY_ASN, PIGY_IPV4 or PIGY_IPV6. */
 PIGY_ENUM { PIGY_ASN = 5 };
 
-/* Encodings. PIGY_STRICT accepts canonical DER only (RFC 3779, 2.2.3.3, 2.2.3.6, 2.2.3.7, 2.2.3.9 and 3.2.3.4).
+/** Encodings. PIGY_STRICT accepts canonical DER only (RFC 3779, 2.2.3.3, 2.2.3.6, 2.2.3.7, 2.2.3.9 and 3.2.3.4).
  * PIGY_LENIENT also accepts these other encodings of the same resources:
  *
  * - Blocks are not in ascending order, overlap or touch.
@@ -316,159 +324,163 @@ PIGY_ENUM { PIGY_ASN = 5 };
  * (4.8.10 and 4.8.11). */
 PIGY_ENUM { PIGY_LENIENT = 16, PIGY_STRICT = 17 };
 
-/* Modes, for a certificate that claims more than its issuer has. PIGY_REFUSE refuses the certificate (RFC 6487, 7.2).
+/** Modes, for a certificate that claims more than its issuer has. PIGY_REFUSE refuses the certificate (RFC 6487, 7.2).
  * PIGY_TRIM reduces the claim to the resources that the issuer has (RFC 8360, 4). It is for certificates with the
  * policy id-cp-ipAddr-asNumber-v2, whose extensions have the OIDs of RFC 8360, 4.2. With PIGY_TRIM no call returns
  * the removed resources. docs/C.md, "All overclaimed resources", says how to get them. */
 PIGY_ENUM { PIGY_REFUSE = 32, PIGY_TRIM = 33 };
 
-/* Validity of a route (RFC 6811, 2), with the numbers of RFC 8097, 2. The number of PIGY_VALID is 0, so compare with
+/** Validity of a route (RFC 6811, 2), with the numbers of RFC 8097, 2. The number of PIGY_VALID is 0, so compare with
  * the names. */
 PIGY_ENUM {
-  PIGY_VALID = 0,         /* At least one VRP matches the route. */
-  PIGY_NOT_FOUND = 1,     /* No VRP covers the route. */
-  PIGY_INVALID = 2,       /* At least one VRP covers the route, and none matches it. */
-  PIGY_NO_VALIDITY = 0xff /* There is no validity, since the call failed. */
+  PIGY_VALID = 0,         /**< At least one VRP matches the route. */
+  PIGY_NOT_FOUND = 1,     /**< No VRP covers the route. */
+  PIGY_INVALID = 2,       /**< At least one VRP covers the route, and none matches it. */
+  PIGY_NO_VALIDITY = 0xff /**< There is no validity, since the call failed. */
 };
 
-/* The reason why a route is invalid. It is 0 for any other validity. */
+/** The reason why a route is invalid. It is 0 for any other validity. */
 PIGY_ENUM {
-  PIGY_INVALID_AS = 1,    /* No VRP that covers the route has its AS, or that AS is AS 0. */
-  PIGY_INVALID_LENGTH = 2 /* A VRP that covers the route has its AS. The route is longer than the VRP allows. */
+  PIGY_INVALID_AS = 1,    /**< No VRP that covers the route has its AS, or that AS is AS 0. */
+  PIGY_INVALID_LENGTH = 2 /**< A VRP that covers the route has its AS. The route is longer than the VRP allows. */
 };
 
-/* The reason why a VRP that covers a route does not match it: a bit mask. If it is 0, the VRP matches. */
+/** The reason why a VRP that covers a route does not match it: a bit mask. If it is 0, the VRP matches. */
 PIGY_ENUM {
-  PIGY_OTHER_AS = 1, /* The AS of the VRP is not the route's, or is AS 0. */
-  PIGY_TOO_LONG = 2  /* The route's prefix is longer than the maximum length of the VRP. */
+  PIGY_OTHER_AS = 1, /**< The AS of the VRP is not the route's, or is AS 0. */
+  PIGY_TOO_LONG = 2  /**< The route's prefix is longer than the maximum length of the VRP. */
 };
 
-/* The capacities in octets that always suffice for the text of a VRP and of a route, with the NUL after it. */
+/** The capacity in octets that always suffices for the text of a VRP, with the NUL after it. */
 #define PIGY_VRP_TEXT_MAX 62u
+/** The capacity in octets that always suffices for the text of a route, with the NUL after it. */
 #define PIGY_ROUTE_TEXT_MAX 58u
 
 /* ---- Structs and handles ---- */
 
-/* A resource set as DER, or the extensions of a certificate. A pointer that is NULL means length 0.
- *
- * - as: AS identifiers: DER. Owned by the caller. May be NULL.
- * - as_len: Length in octets. Ignored if `as` is NULL.
- * - ip: IP address blocks: DER. Owned by the caller. May be NULL.
- * - ip_len: Length in octets. Ignored if `ip` is NULL. */
+/** A resource set as DER, or the extensions of a certificate. A pointer that is NULL means length 0. */
 typedef struct {
+  /** AS identifiers: DER. Owned by the caller. May be NULL. */
   const uint8_t *as;
+  /** Length in octets. Ignored if `as` is NULL. */
   size_t as_len;
+  /** IP address blocks: DER. Owned by the caller. May be NULL. */
   const uint8_t *ip;
+  /** Length in octets. Ignored if `ip` is NULL. */
   size_t ip_len;
 } pigy_set;
 
-/* The buffers that receive a set as DER. A buffer that is NULL means capacity 0.
- *
- * - as: Buffer for AS identifiers. Owned by the caller. May be NULL.
- * - as_capacity: Capacity of this buffer, in octets. Ignored if `as` is NULL.
- * - as_len: The call stores the length here, written or required.
- * - ip, ip_capacity, ip_len: The same for IP address blocks. */
+/** The buffers that receive a set as DER. A buffer that is NULL means capacity 0. */
 typedef struct {
+  /** Buffer for AS identifiers. Owned by the caller. May be NULL. */
   uint8_t *as;
+  /** Capacity of this buffer, in octets. Ignored if `as` is NULL. */
   size_t as_capacity;
+  /** The call stores the length here, written or required. */
   size_t as_len;
+  /** Buffer for IP address blocks. Owned by the caller. May be NULL. */
   uint8_t *ip;
+  /** Capacity of this buffer, in octets. Ignored if `ip` is NULL. */
   size_t ip_capacity;
+  /** The call stores the length here, written or required. */
   size_t ip_len;
 } pigy_buffers;
 
-/* A certificate of a path, as pigy_verify_path takes it. Its extensions are ranges of `run`, a parameter of that call.
- *
- * - as_start, as_len: Index of the first octet of the AS identifiers in `run`, from 0, and their length in octets.
- * - ip_start, ip_len: The same for the IP address blocks.
- * - present: Extensions of the certificate: PIGY_HAS_AS, PIGY_HAS_IP, PIGY_HAS_BOTH or 0.
- * - mode: PIGY_REFUSE or PIGY_TRIM.
+/** A certificate of a path, as pigy_verify_path takes it. Its extensions are ranges of `run`, a parameter of that call.
  *
  * Both ranges lie in `run`, also the range of an absent extension. An absent extension may have start 0 and
  * length 0. */
 typedef struct {
+  /** Index of the first octet of the AS identifiers in `run`, from 0. */
   size_t as_start;
+  /** Length of the AS identifiers in octets. */
   size_t as_len;
+  /** Index of the first octet of the IP address blocks in `run`, from 0. */
   size_t ip_start;
+  /** Length of the IP address blocks in octets. */
   size_t ip_len;
+  /** Extensions of the certificate: PIGY_HAS_AS, PIGY_HAS_IP, PIGY_HAS_BOTH or 0. */
   pigy_present present;
+  /** PIGY_REFUSE or PIGY_TRIM. */
   pigy_mode mode;
 } pigy_certificate;
 
-/* A range of AS numbers, in host byte order: its least and its greatest number. They may be equal. */
+/** A range of AS numbers, in host byte order. */
 typedef struct {
+  /** The least number. */
   uint32_t min;
+  /** The greatest number. It may be equal to the least one. */
   uint32_t max;
 } pigy_as_range;
 
-/* A range of addresses of one family, in network byte order: its lowest and its highest address. They may be equal. An
- * IPv4 address is in the first 4 octets, and the other 12 are 0. */
+/** A range of addresses of one family, in network byte order. An IPv4 address is in the first 4 octets, and the other
+ * 12 are 0. */
 typedef struct {
+  /** The lowest address. */
   uint8_t min[16];
+  /** The highest address. It may be equal to the lowest one. */
   uint8_t max[16];
 } pigy_ip_range;
 
-/* A prefix.
- *
- * - address: Address, in network byte order. An IPv4 address is in the first 4 octets. The other 12 are not read, and
- *   are 0 in a prefix that a call writes.
- * - family: PIGY_IPV4 or PIGY_IPV6.
- * - len: Length in bits. The bits of the address after it are 0. */
+/** A prefix. */
 typedef struct {
+  /** Address, in network byte order. An IPv4 address is in the first 4 octets. The other 12 are not read, and are 0 in
+   * a prefix that a call writes. */
   uint8_t address[16];
+  /** PIGY_IPV4 or PIGY_IPV6. */
   uint8_t family;
+  /** Length in bits. The bits of the address after it are 0. */
   uint8_t len;
 } pigy_prefix;
 
-/* A VRP (validated ROA payload): a prefix, its maximum length, and the AS that may originate it.
- *
- * - address: Address of the prefix, in network byte order. An IPv4 address is in the first 4 octets. The other 12 are
- *   not read, and are 0 in a VRP that a call writes.
- * - asn: AS number, in host byte order.
- * - family: PIGY_IPV4 or PIGY_IPV6.
- * - len: Length of the prefix in bits. The bits of the address after it are 0.
- * - max_len: Maximum length (maxLength) in bits: from len to 32 for IPv4, and to 128 for IPv6.
+/** A VRP (validated ROA payload): a prefix, its maximum length, and the AS that may originate it.
  *
  * Compare two VRPs by their members, and not by memcmp. The struct has padding, and 12 octets of an IPv4 address are
  * not read. */
 typedef struct {
+  /** Address of the prefix, in network byte order. An IPv4 address is in the first 4 octets. The other 12 are not read,
+   * and are 0 in a VRP that a call writes. */
   uint8_t address[16];
+  /** AS number, in host byte order. */
   uint32_t asn;
+  /** PIGY_IPV4 or PIGY_IPV6. */
   uint8_t family;
+  /** Length of the prefix in bits. The bits of the address after it are 0. */
   uint8_t len;
+  /** Maximum length (maxLength) in bits: from len to 32 for IPv4, and to 128 for IPv6. */
   uint8_t max_len;
 } pigy_vrp;
 
-/* A route: a prefix, and the AS that originates it.
- *
- * - address, family, len: The prefix, as in a VRP.
- * - asn: AS number, in host byte order. Use AS 0 if the path of the route ends in an AS_SET. RFC 6811, 2 calls the
- *   origin of such a route "NONE". No VRP matches AS 0. If the path is empty, or ends in a confederation segment, use
- *   the router's own AS. */
+/** A route: a prefix, and the AS that originates it. */
 typedef struct {
+  /** Address of the prefix, as in a VRP. */
   uint8_t address[16];
+  /** AS number, in host byte order. Use AS 0 if the path of the route ends in an AS_SET. RFC 6811, 2 calls the origin
+   * of such a route "NONE". No VRP matches AS 0. If the path is empty, or ends in a confederation segment, use the
+   * router's own AS. */
   uint32_t asn;
+  /** PIGY_IPV4 or PIGY_IPV6. */
   uint8_t family;
+  /** Length of the prefix in bits, as in a VRP. */
   uint8_t len;
 } pigy_route;
 
-/* A VRP of a table that covers a route.
- *
- * - vrp: The VRP.
- * - mismatch: A bit mask of PIGY_OTHER_AS and PIGY_TOO_LONG, which say why the VRP does not match the route. If it is
- *   0, the VRP matches. */
+/** A VRP of a table that covers a route. */
 typedef struct {
+  /** The VRP. */
   pigy_vrp vrp;
+  /** A bit mask of PIGY_OTHER_AS and PIGY_TOO_LONG, which say why the VRP does not match the route. If it is 0, the VRP
+   * matches. */
   uint32_t mismatch;
 } pigy_covering;
 
-/* A set of resources. The caller owns it until pigy_resources_free. */
+/** A set of resources. The caller owns it until pigy_resources_free. */
 typedef struct pigy_resources pigy_resources;
 
-/* A table of VRPs. The caller owns it until pigy_table_free. */
+/** A table of VRPs. The caller owns it until pigy_table_free. */
 typedef struct pigy_table pigy_table;
 
-/* The compiler checks the layouts. */
+/** The compiler checks the layouts. */
 #define PIGY_LAYOUT(name, is) typedef char pigy_layout_##name[(is) ? 1 : -1]
 PIGY_LAYOUT(set, sizeof(pigy_set) == 4 * sizeof(size_t));
 PIGY_LAYOUT(set_ip, offsetof(pigy_set, ip) == 2 * sizeof(size_t));
@@ -493,8 +505,10 @@ PIGY_LAYOUT(covering, sizeof(pigy_covering) == 28 && offsetof(pigy_covering, mis
 /* ---- Version and texts of statuses ---- */
 
 /**
- * Returns the version of the linked library: the PIGY_VERSION_NUMBER of its own header. If it is at least
- * PIGY_VERSION_NUMBER, the library has all calls of this header.
+ * Returns the version of the linked library.
+ *
+ * @return the PIGY_VERSION_NUMBER of the library's own header. If it is at least PIGY_VERSION_NUMBER, the library has
+ * all calls of this header.
  */
 uint32_t pigy_version(void);
 

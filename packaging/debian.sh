@@ -4,8 +4,8 @@
 #
 #   pigyelund           the programs, their man pages, and the prover's verdicts on them and on the library
 #   libpigyelund1       the shared library, by the number of its ABI
-#   libpigyelund-dev    the header, the static library, the link for the linker, pigyelund.pc, the examples, the guide
-#                       and what its links lead to
+#   libpigyelund-dev    the header, the static library, the link for the linker, pigyelund.pc, a manual page of each call,
+#                       the examples, the guide and what its links lead to
 #   python3-pigyelund   the Python package
 #   pigyelund-vectors   the conformance vectors
 #
@@ -175,6 +175,9 @@ development_package() {
     install -m 644 "$work/pigyelund.pc" "$tree/usr/lib/$triplet/pkgconfig"
     ln -s "$soname" "$tree/usr/lib/$triplet/libpigyelund.so"
     install -m 644 foreign/c/example.c foreign/c/examples/* foreign/rtr/client.c "$doc/examples"
+    install -d "$tree/usr/share/man/man3"
+    "$packaging/man.py" "$tree/usr/share/man/man3" "$(git log -1 --format=%cs)"
+    gzip -9n "$tree/usr/share/man/man3/"*
     put_guide "$doc"
     build_package libpigyelund-dev "$architecture" libdevel "Multi-Arch: same" \
         "Depends: libpigyelund1 (= $version)" <<END_OF_TEXT
@@ -186,7 +189,7 @@ Description: RPKI resource sets and route origin validation (development files)
  answers is formally verified.
  .
  This package has the header, the static library, the file that pkg-config
- reads, a guide, and examples in C.
+ reads, manual pages of the calls, a guide, and examples in C.
 END_OF_TEXT
 }
 

@@ -1,8 +1,9 @@
 #!/usr/bin/env bash
 # foreign.sh [LIBRARY [ARM64_LIBRARY]]: tests the static library from C, Rust and Python. It builds the library by rt lib
-# for x86-64 and for ARM64, or takes the files. Programs for ARM64 run under qemu. The tests are the rows that tests/run/foreign_rows.py makes, names, numbers and texts, the programs of
-# the pages, and packages that are installed. The script names the tools that are missing, and leaves out the tests that
-# need them. The status is 0 if nothing failed.
+# for x86-64 and for ARM64, or takes the files. Programs for ARM64 run under qemu. The tests are the rows that
+# tests/run/foreign_rows.py makes, names, numbers and texts, the programs of the pages, and packages that are installed.
+# The script names the tools that are missing, and leaves out the tests that need them. The status is 0 if nothing
+# failed.
 cd "$(dirname "$0")/../.." || exit 1
 export KIT=${KIT:-$(dirname "$(dirname "$(readlink -f "$(command -v rt)")")")}
 export LIB=${1:-$PWD/crates/pigyelund_c/out/libpigyelund_c.a}
@@ -79,6 +80,15 @@ of_header() {
         fail "the header defines a type without pigy_"
 }
 
+# doxygen finds no fault in the comments of the header, and one if a parameter has no comment.
+of_comments() {
+    has "the comments of the header" doxygen || return
+    cp foreign/Doxyfile foreign/pigyelund.h "$out" && echo "OUTPUT_DIRECTORY=doxygen" >>"$out/Doxyfile"
+    (cd "$out" && doxygen >log 2>&1) || { cat "$out/log"; fail "the comments of the header"; }
+    sed -i '/@param answer /d' "$out/pigyelund.h"
+    (cd "$out" && doxygen >log 2>&1) && fail "doxygen refuses a parameter without a comment"
+}
+
 # arrays.c compiles without warnings, by each compiler. It passes each argument on.
 of_arrays() {
     for language in c99 c11 c17; do
@@ -124,6 +134,7 @@ of_c() {
     made all || fail "C is compiled"
     made check || fail "make check: the example and the test in C"
     of_header
+    of_comments
     of_symbols
     of_arrays
     of_collisions
@@ -148,8 +159,8 @@ example() {
         diff "foreign/c/examples/$1.txt" "$out/example.txt" || fail "the example $1"
 }
 
-# target TARGET LIBRARY RUN COMPILER [OPTION]: the tests in C, and the examples by this compiler. RUN runs a program, and
-# the option is for programs.
+# target TARGET LIBRARY RUN COMPILER [OPTION]: the tests in C, and the examples by this compiler. RUN runs a program. The
+# option is for programs.
 target() {
     folder="$spaced/$1"
     for words in install "check LDFLAGS=${5-}"; do

@@ -312,6 +312,10 @@ try_packages() {
         dpkg-deb -x "$made"/libpigyelund-dev_*.deb "$out/lib" || fail "the files of the library"
     lib=$out/lib/usr/lib/$(gcc -print-multiarch)
     guide_leads "$out/lib/usr/share/doc/libpigyelund-dev/docs/C.md"
+    for name in $(sed -n 's/^ *\(pigy_[a-z_]*\);.*/\1/p' foreign/c/exports.map) pigyelund; do
+        gzip -dc "$out/lib/usr/share/man/man3/$name.3.gz" | sed -n '/^.SH NAME/{n;p}' | grep -q "^$name ..[- ]*[a-zR]" ||
+            fail "the manual page $name"
+    done
     [ "$(objdump -p "$lib/$so" | sed -n 's/^  SONAME *//p')" = "$so" ] || fail "the soname"
     [ "$(readlink "$lib/libpigyelund.so")" = "$so" ] || fail "the link for the linker"
     grep -qx "Version: $version" "$lib/pkgconfig/pigyelund.pc" || fail "the version of pigyelund.pc"

@@ -3,7 +3,7 @@
 //! - If `PIGYELUND_LIB` is set and not empty, it is the absolute path of the library's folder.
 //! - Otherwise `pkg-config` names the folder, if it knows the package `pigyelund` of this version or a later one.
 //!   `PKG_CONFIG` is another name for this program.
-//! - Otherwise the folder is the first of `USUAL` that has the library.
+//! - Otherwise the folder is the first of `usual` that has the library.
 //!
 //! The library is the static one, `libpigyelund.a`. With the feature `dynamic` it is the shared one, `libpigyelund.so`.
 //! The build fails and prints the reason if the library is not there, or if `PIGYELUND_LIB` is not such a path.
@@ -23,20 +23,24 @@ use std::fs::{canonicalize, read_to_string};
 use std::path::Path;
 use std::process::Command;
 
-/// The folders into which `make install` and packages put the library, in the order in which they are searched.
-pub(crate) const USUAL: [&str; 5] = [
-    "/usr/local/lib",
-    "/usr/local/lib64",
-    "/usr/lib/x86_64-linux-gnu",
-    "/usr/lib64",
-    "/usr/lib",
-];
+/// Returns the folders into which `make install` and packages put the library for a processor, in the order in which
+/// they are searched. Debian has a folder for each processor.
+pub(crate) fn usual(processor: &str) -> [String; 5] {
+    [
+        String::from("/usr/local/lib"),
+        String::from("/usr/local/lib64"),
+        format!("/usr/lib/{processor}-linux-gnu"),
+        String::from("/usr/lib64"),
+        String::from("/usr/lib"),
+    ]
+}
 
 /// The variables that switch off the search. Cargo sets the second one if `rustc` gets `--cfg docsrs`.
 const DOCS: [&str; 2] = ["DOCS_RS", "CARGO_CFG_DOCSRS"];
 
-/// The other variables that the search reads.
-const SEARCH: [&str; 5] = [
+/// The other variables that the search reads. Cargo sets the first one, to the processor of the program.
+const SEARCH: [&str; 6] = [
+    "CARGO_CFG_TARGET_ARCH",
     "PIGYELUND_LIB",
     "PKG_CONFIG",
     "PKG_CONFIG_PATH",
@@ -150,7 +154,8 @@ fn search(library: &str) -> Result<String, String> {
         true => packaged(&program, env!("CARGO_PKG_VERSION")),
         false => None,
     };
-    let others: Vec<&str> = packaged.as_deref().into_iter().chain(USUAL).collect();
+    let usual = usual(&var("CARGO_CFG_TARGET_ARCH").unwrap_or_default());
+    let others: Vec<&str> = packaged.iter().chain(&usual).map(String::as_str).collect();
     folder_of(&named, &others, library)
 }
 

@@ -29,7 +29,7 @@
 //!
 //! - No call is made in a signal handler, or in the forked child of a process with threads.
 //! - `malloc`, `realloc` and `free` of the process belong to one allocator. The C library's allocator is right.
-//! - The processor has the instructions of x86-64-v2.
+//! - A processor for x86-64 has the instructions of x86-64-v2.
 //! - The stack has 128 KiB left.
 //!
 //! # Example

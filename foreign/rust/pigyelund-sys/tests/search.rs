@@ -4,7 +4,7 @@
 #[path = "../build.rs"]
 mod build;
 
-use build::{folder_of, metadata_of, packaged, LIBRARIES, USUAL};
+use build::{folder_of, metadata_of, packaged, usual, LIBRARIES};
 use std::fs;
 use std::os::unix::fs::PermissionsExt;
 use std::path::{Path, PathBuf};
@@ -82,7 +82,8 @@ fn usual_folders() {
         "/usr/lib64",
         "/usr/lib",
     ];
-    assert_eq!(USUAL, wanted);
+    assert_eq!(usual("x86_64"), wanted);
+    assert_eq!(usual("aarch64")[2], "/usr/lib/aarch64-linux-gnu");
 }
 
 /// The folder is that of pkg-config, if it knows a version that is new enough. It prints a backslash before a space.

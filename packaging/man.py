@@ -1,8 +1,8 @@
 #!/usr/bin/env python3
 """Writes manual pages from the comments of foreign/pigyelund.h: man.py FOLDER DATE. ./release --deb calls it.
 
-Each call of the header has a page in section 3. pigyelund.3 has the comment of the file, and the constants and structs
-with their comments. DATE is the date of the pages.
+Each call of foreign/c/exports.map has a page in section 3. pigyelund.3 has the comment of the file, and the constants
+and structs with their comments. DATE is the date of the pages.
 """
 
 import re
@@ -124,6 +124,9 @@ def main(folder: Path, date: str) -> int:
     for comment, declaration in ITEM.findall(text):
         if name := re.match(r"[\w ]+?\*?(pigy_\w+)\(", declaration):
             found[name[1]] = comment, re.sub(r"\s+PIGY_[A-Z]+(\([\d, ]*\))?", "", declaration)
+    exported = re.findall(r"^ *(pigy_\w+);", (TOP / "foreign" / "c" / "exports.map").read_text(), re.MULTILINE)
+    if {*exported} != found.keys():
+        raise SystemExit(f"man.py: exports.map and comments of calls in pigyelund.h: {sorted({*exported} ^ found.keys())}")
     pages = {name: page_of(name, *it, date) for name, it in found.items()}
     for name, lines in {"pigyelund": overview(text, [*found], date), **pages}.items():
         (folder / f"{name}.3").write_text("\n".join(lines) + "\n")

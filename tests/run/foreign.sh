@@ -1,9 +1,8 @@
 #!/usr/bin/env bash
-# foreign.sh [LIBRARY [ARM64_LIBRARY]]: tests the static library from C, Rust and Python. It builds the library by rt lib
-# for x86-64 and for ARM64, or takes the files. Programs for ARM64 run under qemu. The tests are the rows that
-# tests/run/foreign_rows.py makes, names, numbers and texts, the programs of the pages, and packages that are installed.
-# The script names the tools that are missing, and leaves out the tests that need them. The status is 0 if nothing
-# failed.
+# foreign.sh [LIBRARY [ARM64_LIBRARY]]: tests the static library from C, Rust and Python, and from C on ARM64 and musl. It
+# builds the libraries by rt lib, or takes the files. The tests are the rows that tests/run/foreign_rows.py makes, names,
+# numbers and texts, the programs of the pages, and packages that are installed. The script names the tools that are
+# missing, and leaves out the tests that need them. The status is 0 if nothing failed.
 cd "$(dirname "$0")/../.." || exit 1
 export KIT=${KIT:-$(dirname "$(dirname "$(readlink -f "$(command -v rt)")")")}
 export LIB=${1:-$PWD/crates/pigyelund_c/out/libpigyelund_c.a}
@@ -23,11 +22,10 @@ same() {
 python3 -c 'import sys; sys.exit(sys.version_info < (3, 10))' 2>/dev/null ||
     { echo "foreign.sh: python3 is missing, or older than 3.10"; exit 1; }
 
-arm64=aarch64-unknown-linux-gnu
-library_arm64=${2-$out/libpigyelund_c.a}
+arm64=${2-$out/libpigyelund_c.a} arguments=$#
 if [ $# -eq 0 ]; then
-    # All targets have one file. The second proof takes what the first one kept.
-    (cd crates/pigyelund_c && rt lib --target "$arm64" && mv out/libpigyelund_c.a "$library_arm64" && rt lib) \
+    # rt lib has one file for all targets. The second proof takes what the first one kept.
+    (cd crates/pigyelund_c && rt lib --target aarch64-unknown-linux-gnu && mv out/libpigyelund_c.a "$arm64" && rt lib) \
         >"$out/log" 2>&1 || { tail -n 20 "$out/log"; echo "FAILED: rt lib"; exit 1; }
 fi
 
@@ -162,6 +160,7 @@ example() {
 # target TARGET LIBRARY RUN COMPILER [OPTION]: the tests in C, and the examples by this compiler. RUN runs a program. The
 # option is for programs.
 target() {
+    echo "$1: the library $2$([ "$arguments" -eq 0 ] || echo ", whose proof is not known")"
     folder="$spaced/$1"
     for words in install "check LDFLAGS=${5-}"; do
         # shellcheck disable=SC2086 # one word or two
@@ -172,11 +171,9 @@ target() {
 }
 
 of_targets() {
-    if [ ! -f "$library_arm64" ]; then
-        echo "left out: ARM64 needs its library"
-    elif has "ARM64" aarch64-linux-gnu-gcc qemu-aarch64; then
-        target "$arm64" "$library_arm64" "qemu-aarch64 -L /usr/aarch64-linux-gnu" aarch64-linux-gnu-gcc
-    fi
+    [ -f "$arm64" ] || echo "left out: ARM64 needs its library"
+    [ -f "$arm64" ] && has "ARM64" aarch64-linux-gnu-gcc qemu-aarch64 &&
+        target aarch64-unknown-linux-gnu "$arm64" "qemu-aarch64 -L /usr/aarch64-linux-gnu" aarch64-linux-gnu-gcc
     has "musl" musl-gcc && target x86_64-unknown-linux-musl "$LIB" "" musl-gcc -static
 }
 
@@ -314,7 +311,8 @@ of_each_python() {
 of_wheels() {
     for python in python3 /usr/bin/python3; do
         if "$python" -c 'import ensurepip, setuptools, venv, wheel' 2>/dev/null; then
-            "$python" foreign/python/tests/test_wheel.py "$prefix/lib/libpigyelund.so" || fail "the wheels"
+            find "$prefix" "$spaced"/aarch64* -path '*/usr*/libpigyelund.so' -print0 2>/dev/null |
+                xargs -0 "$python" foreign/python/tests/test_wheel.py || fail "the wheels"
             "$python" foreign/python/tests/test_install.py "$prefix/lib" || fail "installations of the package"
             return
         fi
@@ -458,10 +456,10 @@ tests/run/foreign_rows.py || fail "the rows are made"
 if has "C, and all that is installed," gcc make ar objcopy nm readelf; then
     of_c
     of_install
+    of_targets
     on_page C.md "First program"; on_page C.md "Verify a path"; of_python
     for name in update table set; do example "$name"; done
     has "the example in C++" g++ && example table_cpp
-    of_targets
     of_openssl
     has "Rust" cargo cc tar && of_rust
 fi

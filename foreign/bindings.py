@@ -1,9 +1,10 @@
 #!/usr/bin/env python3
-"""bindings.py --write|--check: makes foreign/python/src/pigyelund/_bindings.py from foreign/pigyelund.h.
+"""bindings.py --write|--check: makes the bindings of Python and of JavaScript from foreign/pigyelund.h.
 
-The file has the numbers, structs and prototypes of the header, for ctypes. The texts of statuses come from the library
-(pigy_status_text) when a program runs. With --check the script writes nothing, and the status is 1 if the file differs
-from what the script would write.
+foreign/python/src/pigyelund/_bindings.py has the numbers, structs and prototypes of the header, for ctypes. Two lines
+of foreign/js/pigyelund.js have the numbers. The texts of statuses come from the library (pigy_status_text) when a
+program runs. With --check the script writes nothing, and the status is 1 if a file differs from what the script would
+write.
 """
 
 import re
@@ -14,6 +15,7 @@ from pathlib import Path
 
 HERE = Path(__file__).resolve().parent
 HEADER, MADE = HERE / "pigyelund.h", HERE / "python" / "src" / "pigyelund" / "_bindings.py"
+SCRIPT, MARKS = HERE / "js" / "pigyelund.js", r"(  // made by foreign/bindings\.py: begin\n).*?(  // .*: end\n)"
 TYPES = {
     "uint8_t": "c_uint8",
     "uint32_t": "c_uint32",
@@ -133,17 +135,30 @@ def made() -> str:
     return "\n".join(parts) + "\n"
 
 
+def script() -> str:
+    """Returns the script for JavaScript with the numbers of the header."""
+    statuses, *others = enumerations(HEADER.read_text())
+    lines = []
+    for name, group in (("STATUS", statuses), ("NUMBER", [it for other in others for it in other])):
+        text = ", ".join(f"{constant}: {number}" for constant, number, _ in group)
+        lines += textwrap.wrap(f"const {name} = {{ {text} }};", 120, initial_indent="  ", subsequent_indent="    ")
+    return re.sub(MARKS, lambda it: it[1] + "\n".join(lines) + "\n" + it[2], SCRIPT.read_text(), flags=re.DOTALL)
+
+
 def main() -> int:
-    """Writes the file, or compares it."""
+    """Writes the files, or compares them."""
     match sys.argv[1:]:
         case ["--write"]:
             MADE.write_text(made())
+            SCRIPT.write_text(script())
             return 0
         case ["--check"]:
-            if MADE.exists() and MADE.read_text() == made():
-                return 0
-            print(f"{MADE}: not the calls of pigyelund.h; run foreign/bindings.py --write")
-            return 1
+            status = 0
+            for file, text in ((MADE, made()), (SCRIPT, script())):
+                if not file.exists() or file.read_text() != text:
+                    print(f"{file}: not the calls of pigyelund.h; run foreign/bindings.py --write")
+                    status = 1
+            return status
     print("usage: bindings.py --write|--check", file=sys.stderr)
     return 2
 

@@ -1,0 +1,768 @@
+/* Pigyelund for JavaScript: sets of RPKI resources, and route origin validation. README.md is the guide.
+ *
+ * This classic script sets `globalThis.Pigyelund`. index.mjs exports its names. `Pigyelund.load` makes an instance of the
+ * WebAssembly module, whose code comes from a proved library. The script itself is tested, and is not proved: it copies
+ * arguments into the memory of the module and results out of it, and reads no text and no DER.
+ *
+ * In the module an address and a length have 64 bits. They are numbers here, and BigInt only in the arguments of a
+ * call. The memory may grow in each call, so each view of it is made for one use. */
+globalThis.Pigyelund = (() => {
+  "use strict";
+
+  // made by foreign/bindings.py: begin
+  const STATUS = { OK: 0x0, TOO_SMALL: 0x100, MEMORY: 0x200, BAD_ARGUMENT: 0x400, BAD_ENCODING: 0x401, BAD_MODE: 0x402,
+    BAD_PRESENT: 0x403, BAD_FAMILY: 0x404, BAD_KIND: 0x405, BAD_PREFIX: 0x406, BAD_MAX_LEN: 0x407, OUTSIDE: 0x408,
+    NO_HANDLE: 0x409, BAD_AS: 0x800, BAD_IP: 0x1000, INHERITED: 0x2000, ABSENT: 0x4000, OVERCLAIM: 0x8000, OVERCLAIM_V4:
+    0x8004, OVERCLAIM_AS: 0x8005, OVERCLAIM_V6: 0x8006, BAD_CHANGE: 0x10000, UNKNOWN_WITHDRAWAL: 0x10006,
+    DUPLICATE_ANNOUNCEMENT: 0x10007, BAD_LINE: 0x20000, BAD_ITEM: 0x40000, BAD_FILE: 0x80000, BAD_TEXT: 0x100000,
+    BAD_QUERY: 0x200000, SECOND: 0x1000000 };
+  const NUMBER = { HAS_AS: 1, HAS_IP: 2, HAS_BOTH: 3, IPV4: 4, IPV6: 6, ASN: 5, LENIENT: 16, STRICT: 17, REFUSE: 32,
+    TRIM: 33, VALID: 0, NOT_FOUND: 1, INVALID: 2, NO_VALIDITY: 0xff, INVALID_AS: 1, INVALID_LENGTH: 2, OTHER_AS: 1,
+    TOO_LONG: 2 };
+  // made by foreign/bindings.py: end
+
+  const STRUCT = 24; // octets of a VRP and of a route
+  const MODES = { refuse: NUMBER.REFUSE, trim: NUMBER.TRIM };
+  const ENCODINGS = { strict: NUMBER.STRICT, lenient: NUMBER.LENIENT };
+  const FAMILIES = { ipv4: NUMBER.IPV4, ipv6: NUMBER.IPV6 };
+  const KINDS = { asn: NUMBER.ASN, ...FAMILIES };
+  const NEEDS =
+    "Pigyelund needs an engine with WebAssembly, BigInt and bulk memory: Chrome 91, Firefox 90, Safari 15, Node 16.9, " +
+    "or a later version";
+  const CLOSED_BY_TRAP = "the module stopped by a trap, and its memory is not used any more; call Pigyelund.load again";
+
+  let current = null; // the instance that load made last
+
+  /** The error of each call that fails. `code` is the name of a status of pigyelund.h, or a name of this file. */
+  class PigyelundError extends Error {
+    constructor(code, message, more = {}) {
+      super(message);
+      this.name = "Pigyelund.Error";
+      this.code = code;
+      Object.assign(this, more);
+    }
+  }
+
+  const wrong = (message) => new PigyelundError("ARGUMENT", message);
+
+  /** Returns the number for a word, such as "strict". */
+  function numberFor(words, word, what) {
+    if (typeof word === "string" && Object.keys(words).includes(word)) return words[word];
+    throw wrong(`${what}: ${shown(word)} is none of ${Object.keys(words).join(", ")}`);
+  }
+
+  /** Returns a short text of any value, which calls no code of the value. */
+  function shown(value) {
+    if (typeof value === "string") return JSON.stringify(value.length > 60 ? `${value.slice(0, 60)}..` : value);
+    return value === null || typeof value !== "object" ? typeof value === "symbol" ? "a symbol" : String(value)
+      : "an object";
+  }
+
+  /** Returns an AS number or a length. It has to be an integer from 0 to a greatest one. */
+  function integer(value, greatest, what) {
+    if (typeof value === "number" && Number.isInteger(value) && value >= 0 && value <= greatest) return value;
+    throw wrong(`${what}: ${shown(value)} is no integer from 0 to ${greatest}`);
+  }
+
+  // ---- Octets of the caller ----
+
+  const getter = (of, name) => Object.getOwnPropertyDescriptor(of, name).get;
+  const arrays = Object.getPrototypeOf(Uint8Array.prototype);
+  const GETTERS = [arrays, DataView.prototype].map((of) =>
+    ["buffer", "byteOffset", "byteLength"].map((name) => getter(of, name)));
+
+  /** Returns whether a value is an ArrayBuffer, or one that threads share. */
+  function isBuffer(value) {
+    const tag = Object.prototype.toString.call(value);
+    return value instanceof ArrayBuffer || tag === "[object ArrayBuffer]" || tag === "[object SharedArrayBuffer]";
+  }
+
+  /** Returns whether a value has octets. */
+  const hasOctets = (value) => ArrayBuffer.isView(value) || isBuffer(value);
+
+  /** Returns a view of the octets of a buffer, of a typed array or of a DataView. */
+  function octetsOf(value, what) {
+    try {
+      if (isBuffer(value)) return new Uint8Array(value);
+      if (ArrayBuffer.isView(value)) {
+        const getters = GETTERS[value instanceof DataView ? 1 : 0];
+        return new Uint8Array(...getters.map((get) => get.call(value)));
+      }
+    } catch (reason) {
+      throw wrong(`${what}: the buffer is detached, or its view is outside of it`);
+    }
+    throw wrong(`${what}: ${shown(value)} has no octets; a Uint8Array or an ArrayBuffer is expected`);
+  }
+
+  /** Returns the octets of a text in UTF-8. */
+  function encoded(text, what) {
+    if (typeof text !== "string") throw wrong(`${what}: ${shown(text)} is no string`);
+    return new TextEncoder().encode(text);
+  }
+
+  // ---- The module ----
+
+  /** An instance of the module. */
+  class Instance {
+    constructor(exports) {
+      this.exports = exports;
+      this.hasTrapped = false;
+    }
+
+    /** Makes a call of the module. An exception from the module ends the instance. */
+    call(name, ...words) {
+      if (this.hasTrapped) throw new PigyelundError("TRAPPED", CLOSED_BY_TRAP);
+      try {
+        return this.exports[name](...words);
+      } catch (reason) {
+        this.hasTrapped = true;
+        throw new PigyelundError("TRAPPED", `${CLOSED_BY_TRAP} (${reason})`);
+      }
+    }
+
+    /** Returns a view of octets of the memory, for one use. */
+    octets(at, length) {
+      return new Uint8Array(this.exports.memory.buffer, at, length);
+    }
+
+    /** Returns an address of the memory that is stored at an address. */
+    word(at) {
+      return Number(new DataView(this.exports.memory.buffer).getBigUint64(at, true));
+    }
+
+    /** Returns the text that ends with NUL at an address. */
+    text(at) {
+      const rest = this.octets(at, Math.min(4096, this.exports.memory.buffer.byteLength - at));
+      return new TextDecoder().decode(rest.slice(0, rest.indexOf(0)));
+    }
+  }
+
+  /** Returns the instance that load made. */
+  function loaded() {
+    if (current === null) throw new PigyelundError("NOT_LOADED", "call await Pigyelund.load() first");
+    return current;
+  }
+
+  /** The memory that one call takes from the module, and gives back at its end. */
+  class Frame {
+    constructor(instance) {
+      this.instance = instance;
+      this.taken = [];
+    }
+
+    /** Returns the address of so many octets. A call never gets NULL. */
+    room(count) {
+      const at = Number(this.instance.call("malloc", BigInt(count)));
+      if (at === 0) throw errorFor(this.instance, STATUS.MEMORY);
+      this.taken.push(at);
+      return at;
+    }
+
+    /** Returns the address of a word of 64 bits, which a call writes. */
+    word() {
+      return this.room(8);
+    }
+
+    /** Returns the address and the length of octets, as two arguments of a call. */
+    given(octets) {
+      const at = this.room(octets.byteLength);
+      this.instance.octets(at, octets.byteLength).set(octets);
+      return [BigInt(at), BigInt(octets.byteLength)];
+    }
+
+    end() {
+      if (!this.instance.hasTrapped) for (const at of this.taken) this.instance.call("free", BigInt(at));
+      this.taken = [];
+    }
+  }
+
+  /** Runs a function with a frame. */
+  function framed(instance, run) {
+    const frame = new Frame(instance);
+    try {
+      return run(frame);
+    } finally {
+      frame.end();
+    }
+  }
+
+  const NAMES = new Map(Object.entries(STATUS).map(([name, number]) => [number, name]));
+
+  /** Returns the error for a status of the module. */
+  function errorFor(instance, status, more = {}) {
+    status >>>= 0;
+    const exact = NAMES.get(status & ~STATUS.SECOND), kind = NAMES.get(status & ~(0xff | STATUS.SECOND));
+    const text = instance.hasTrapped ? exact : instance.text(Number(instance.call("pigy_status_text", status)));
+    const places = Object.entries({ ...more, excess: undefined }).filter(([, value]) => value !== undefined);
+    const place = places.map(([name, value]) => `${name} ${value}`).join(", ");
+    const fault = exact === undefined ? { fault: status & 0xff } : {};
+    const isSecond = (status & STATUS.SECOND) !== 0;
+    return new PigyelundError(exact ?? kind ?? "UNKNOWN", place ? `${text} (${place})` : text,
+      { status, ...fault, ...(isSecond ? { isSecond } : {}), ...more });
+  }
+
+  /** Runs a call that lists items: first with room for so many, and then with the room that it needs. Returns the
+   * octets of the items. */
+  function listed(instance, size, room, run, more = () => ({})) {
+    for (let count = room; ; ) {
+      const found = framed(instance, (frame) => {
+        const out = frame.room(count * size), length = frame.word();
+        const status = run(frame, BigInt(out), BigInt(count), BigInt(length));
+        const needed = instance.word(length);
+        if (status === STATUS.OK) return instance.octets(out, needed * size).slice();
+        if (status !== STATUS.TOO_SMALL) throw errorFor(instance, status, more());
+        return needed;
+      });
+      if (typeof found !== "number") return found;
+      count = found;
+    }
+  }
+
+  // ---- Handles ----
+
+  /** Frees the object of the module that a collected object had. */
+  const registry = typeof FinalizationRegistry === "undefined" ? null : new FinalizationRegistry((held) => free(held));
+
+  function free(held) {
+    const at = held.at;
+    held.at = 0;
+    if (at !== 0 && !held.instance.hasTrapped) held.instance.call(held.free, BigInt(at));
+  }
+
+  /** An object of the module: a set or a table. */
+  class Handle {
+    #held;
+
+    constructor(instance, at, name) {
+      this.#held = { instance, at, free: name };
+      registry?.register(this, this.#held, this.#held);
+    }
+
+    /** The instance and the address of an object of a class that is not closed. */
+    static of(value, kind, what) {
+      if (!(value instanceof kind) || !(#held in value)) throw wrong(`${what}: ${shown(value)} is no ${kind.name}`);
+      const { instance, at } = value.#held;
+      if (instance.hasTrapped) throw new PigyelundError("TRAPPED", CLOSED_BY_TRAP);
+      if (at === 0) throw new PigyelundError("CLOSED", `${what}: the ${kind.name} is closed`);
+      return { instance, at: BigInt(at) };
+    }
+
+    /** Frees the object. A second call does nothing. */
+    close() {
+      registry?.unregister(this.#held);
+      free(this.#held);
+    }
+  }
+
+  /** The two operands of a call, which are of one instance. */
+  function both(a, b, kind, what) {
+    const first = Handle.of(a, kind, "this"), second = Handle.of(b, kind, what);
+    if (first.instance !== second.instance) throw wrong(`${what}: it is of another call of Pigyelund.load`);
+    return [first.instance, first.at, second.at];
+  }
+
+  // ---- Addresses, prefixes, VRPs and routes ----
+
+  /** Returns the text of an address of 4 or 16 octets (RFC 5952). */
+  function addressText(octets) {
+    if (octets.length === 4) return octets.join(".");
+    const words = Array.from({ length: 8 }, (_, at) => ((octets[2 * at] << 8) | octets[2 * at + 1]).toString(16));
+    if (words.slice(0, 5).every((it) => it === "0") && words[5] === "ffff") return `::ffff:${octets.slice(12).join(".")}`;
+    let first = 0, most = 1; // the first of the longest runs of at least two words that are 0
+    for (let at = 0, count = 0; at < 8; at += 1) {
+      count = words[at] === "0" ? count + 1 : 0;
+      if (count > most) [first, most] = [at - count + 1, count];
+    }
+    if (most === 1) return words.join(":");
+    return `${words.slice(0, first).join(":")}::${words.slice(first + most).join(":")}`;
+  }
+
+  /** Returns the text of the prefix of a struct. */
+  function prefixText(octets, family, length) {
+    return `${addressText(octets.slice(0, family === NUMBER.IPV4 ? 4 : 16))}/${length}`;
+  }
+
+  const asnAt = (octets) => new DataView(octets.buffer, octets.byteOffset).getUint32(16, true);
+
+  function vrpOf(octets) {
+    return { prefix: prefixText(octets, octets[20], octets[21]), maxLength: octets[22], asn: asnAt(octets) };
+  }
+
+  function routeOf(octets) {
+    return { prefix: prefixText(octets, octets[20], octets[21]), asn: asnAt(octets) };
+  }
+
+  /** A list of VRPs or of routes in one array of structs, in the layout of pigyelund.h. */
+  class Structs {
+    #item;
+
+    constructor(octets, item) {
+      this.octets = octets;
+      this.#item = item;
+    }
+
+    get length() {
+      return this.octets.byteLength / STRUCT;
+    }
+
+    /** Returns an item, or undefined if no item has this index. */
+    at(index) {
+      const from = integer(index, Number.MAX_SAFE_INTEGER, "index") * STRUCT;
+      return from < this.octets.byteLength ? this.#item(this.octets.subarray(from, from + STRUCT)) : undefined;
+    }
+
+    *[Symbol.iterator]() {
+      for (let at = 0; at < this.length; at += 1) yield this.at(at);
+    }
+  }
+
+  /** Returns an AS number of an object: a number, or a text that the module reads. */
+  function asnText(asn, what) {
+    return typeof asn === "string" ? word(asn, what) : String(integer(asn, 0xffffffff, what));
+  }
+
+  /** Returns a word that is one field of CSV. */
+  function word(text, what) {
+    if (typeof text === "string" && /^[0-9A-Za-z:./]*$/.test(text)) return text;
+    throw wrong(`${what}: ${shown(text)} is no prefix and no AS number`);
+  }
+
+  /** Returns the line of CSV for a VRP: a text such as "10.0.0.0/8-16 AS64496", or an object. */
+  function vrpLine(vrp, what) {
+    const parts = typeof vrp === "string" ? /^(\S+?)(?:-([0-9]+))? (\S+)$/.exec(vrp) : null;
+    if (typeof vrp === "string") {
+      if (parts === null) throw wrong(`${what}: ${shown(vrp)} is no VRP such as "10.0.0.0/8-16 AS64496"`);
+      return `${word(parts[3], what)},${word(parts[1], what)},${parts[2] ?? ""}`;
+    }
+    if (vrp === null || typeof vrp !== "object") throw wrong(`${what}: ${shown(vrp)} is no VRP`);
+    const { prefix, maxLength, asn } = vrp;
+    const most = maxLength === undefined || maxLength === null ? "" : integer(maxLength, 255, `${what}.maxLength`);
+    return `${asnText(asn, `${what}.asn`)},${word(prefix, `${what}.prefix`)},${most}`;
+  }
+
+  /** Returns the line of CSV for a route: a text such as "10.0.0.0/8 AS64496", or an object. */
+  function routeLine(route, what) {
+    if (typeof route === "string") {
+      const words = route.split(" ");
+      if (words.length !== 2) throw wrong(`${what}: ${shown(route)} is no route such as "10.0.0.0/8 AS64496"`);
+      return `${word(words[1], what)},${word(words[0], what)},`;
+    }
+    if (route === null || typeof route !== "object") throw wrong(`${what}: ${shown(route)} is no route`);
+    return `${asnText(route.asn, `${what}.asn`)},${word(route.prefix, `${what}.prefix`)},`;
+  }
+
+  const isOne = (value) => typeof value === "string" || (value !== null && typeof value === "object" &&
+    !hasOctets(value) && !(value instanceof Structs) && typeof value[Symbol.iterator] !== "function");
+
+  /** Returns structs for a buffer of structs, or for texts and objects, which the module reads as lines of CSV. A route
+   * has the layout of a VRP without its maximum length. */
+  function structsOf(instance, given, lineOf, what) {
+    if (given instanceof Structs) given = given.octets;
+    if (hasOctets(given)) {
+      const octets = octetsOf(given, what);
+      if (octets.byteLength % STRUCT === 0) return octets;
+      throw wrong(`${what}: ${octets.byteLength} octets are no structs of ${STRUCT} octets`);
+    }
+    if (isOne(given) || typeof given?.[Symbol.iterator] !== "function")
+      throw wrong(`${what}: ${shown(given)} is neither a list nor a buffer`);
+    const lines = [];
+    for (const item of given) lines.push(lineOf(item, `${what}[${lines.length}]`));
+    if (lines.length === 0) return new Uint8Array(0);
+    return readStructs(instance, encoded(`${lines.join("\n")}\n`, what), (line) => ({ index: line - 1 }));
+  }
+
+  /** Reads a file of VRPs into structs. */
+  function readStructs(instance, file, placeOf) {
+    let line = 0;
+    return listed(instance, STRUCT, Math.ceil(file.byteLength / STRUCT) + 1, (frame, out, capacity, length) => {
+      const at = frame.word();
+      const status = instance.call("pigy_vrps_read", ...frame.given(file), out, capacity, length, BigInt(at));
+      line = instance.word(at);
+      return status;
+    }, () => placeOf(line));
+  }
+
+  // ---- Sets ----
+
+  const FREE_SET = "pigy_resources_free";
+
+  /** Returns the two arguments of each extension, which may be absent, and the bit mask of those that are present. */
+  function extensions(frame, asDer, ipDer) {
+    const isAbsent = (der) => der === null || der === undefined;
+    const octets = [[asDer, "asDer"], [ipDer, "ipDer"]].map(([der, what]) =>
+      isAbsent(der) ? new Uint8Array(0) : octetsOf(der, what));
+    const present = (isAbsent(asDer) ? 0 : NUMBER.HAS_AS) | (isAbsent(ipDer) ? 0 : NUMBER.HAS_IP);
+    return { octets, present, words: octets.flatMap((it) => frame.given(it)) };
+  }
+
+  /** A set of AS numbers, IPv4 addresses and IPv6 addresses. It never changes. */
+  class Resources extends Handle {
+    constructor(instance, at) {
+      if (!(instance instanceof Instance)) throw wrong("use Resources.read or Resources.fromText");
+      super(instance, at, FREE_SET);
+    }
+
+    /** Makes a call that returns a set, and returns the set. */
+    static #made(instance, run) {
+      return framed(instance, (frame) => {
+        const out = frame.word(), status = run(frame, BigInt(out));
+        if (status !== STATUS.OK) throw errorFor(instance, status);
+        return new Resources(instance, instance.word(out));
+      });
+    }
+
+    /** Makes a call that verifies, and returns the set. The error has what `placeOf` makes of the number of verified
+     * certificates, and the overclaimed resources. */
+    static #verified(instance, run, placeOf) {
+      return framed(instance, (frame) => {
+        const outs = [frame.word(), frame.word(), frame.word()];
+        const status = run(frame, ...outs.map(BigInt)), [made, excess, verified] = outs.map((at) => instance.word(at));
+        if (status === STATUS.OK) return new Resources(instance, made);
+        const more = status === STATUS.MEMORY ? {} : placeOf(verified);
+        throw errorFor(instance, status, excess === 0 ? more : { ...more, excess: new Resources(instance, excess) });
+      });
+    }
+
+    static read(asDer, ipDer, encoding = "strict") {
+      const instance = loaded(), number = numberFor(ENCODINGS, encoding, "encoding");
+      return Resources.#made(instance, (frame, out) => {
+        const { octets, present, words } = extensions(frame, asDer, ipDer);
+        if (present & NUMBER.HAS_AS && octets[0].byteLength === 0) return STATUS.BAD_AS + 1;
+        if (present & NUMBER.HAS_IP && octets[1].byteLength === 0) return STATUS.BAD_IP + 1;
+        return instance.call("pigy_resources_read", ...words, number, out);
+      });
+    }
+
+    static fromText(text, kind) {
+      const instance = loaded(), number = numberFor(KINDS, kind, "kind"), octets = encoded(text, "text");
+      return Resources.#made(instance, (frame, out) =>
+        instance.call("pigy_resources_from_text", ...frame.given(octets), number, out));
+    }
+
+    verify(asDer, ipDer, encoding = "strict", mode = "refuse") {
+      const { instance, at } = Handle.of(this, Resources, "this");
+      const numbers = [numberFor(ENCODINGS, encoding, "encoding"), numberFor(MODES, mode, "mode")];
+      return Resources.#verified(instance, (frame, out, excess) => {
+        const { present, words } = extensions(frame, asDer, ipDer);
+        return instance.call("pigy_resources_verify", at, ...words, present, ...numbers, out, excess);
+      }, () => ({}));
+    }
+
+    verifyPath(certificates, encoding = "strict") {
+      const { instance, at } = Handle.of(this, Resources, "this");
+      const number = numberFor(ENCODINGS, encoding, "encoding"), { run, places } = concatenated(certificates);
+      return Resources.#verified(instance, (frame, out, excess, verified) =>
+        instance.call("pigy_resources_verify_path", at, ...frame.given(run), frame.given(places)[0],
+          BigInt(places.byteLength / CERTIFICATE), number, out, excess, verified), (verified) => ({ verified }));
+    }
+
+    static #operation(name, a, b) {
+      const [instance, first, second] = both(a, b, Resources, "other");
+      return Resources.#made(instance, (frame, out) => instance.call(name, first, second, out));
+    }
+
+    union(other) {
+      return Resources.#operation("pigy_resources_union", this, other);
+    }
+
+    intersection(other) {
+      return Resources.#operation("pigy_resources_intersection", this, other);
+    }
+
+    difference(other) {
+      return Resources.#operation("pigy_resources_difference", this, other);
+    }
+
+    symmetricDifference(other) {
+      return Resources.#operation("pigy_resources_symmetric_difference", this, other);
+    }
+
+    /** Makes a call with an answer of one octet. */
+    static #answer(instance, run) {
+      return framed(instance, (frame) => {
+        const at = frame.room(1), status = run(frame, BigInt(at));
+        if (status !== STATUS.OK) throw errorFor(instance, status);
+        return instance.octets(at, 1)[0] === 1;
+      });
+    }
+
+    contains(other) {
+      const [instance, first, second] = both(this, other, Resources, "other");
+      return Resources.#answer(instance, (frame, out) => instance.call("pigy_resources_contains", first, second, out));
+    }
+
+    equal(other) {
+      const [instance, first, second] = both(this, other, Resources, "other");
+      return Resources.#answer(instance, (frame, out) => instance.call("pigy_resources_equal", first, second, out));
+    }
+
+    containsAsn(asn) {
+      const { instance, at } = Handle.of(this, Resources, "this"), number = integer(asn, 0xffffffff, "asn");
+      return Resources.#answer(instance, (frame, out) =>
+        instance.call("pigy_resources_contains_asn", at, number, out));
+    }
+
+    containsPrefix(prefix) {
+      const { instance, at } = Handle.of(this, Resources, "this");
+      const route = structsOf(instance, [{ prefix, asn: 0 }], routeLine, "prefix");
+      const struct = new Uint8Array([...route.subarray(0, 16), route[20], route[21]]);
+      return Resources.#answer(instance, (frame, out) =>
+        instance.call("pigy_resources_contains_prefix", at, frame.given(struct)[0], out));
+    }
+
+    #list(name, size, words) {
+      const { instance, at } = Handle.of(this, Resources, "this");
+      return listed(instance, size, 64, (frame, out, capacity, length) =>
+        instance.call(name, at, ...words, out, capacity, length));
+    }
+
+    prefixes(family) {
+      const number = numberFor(FAMILIES, family, "family");
+      const octets = this.#list("pigy_resources_prefixes", 18, [number]);
+      return parts(octets, 18).map((it) => prefixText(it, it[16], it[17]));
+    }
+
+    asRanges() {
+      const view = new DataView(this.#list("pigy_resources_as_ranges", 8, []).buffer);
+      return Array.from({ length: view.byteLength / 8 }, (_, at) => ({
+        min: view.getUint32(8 * at, true), max: view.getUint32(8 * at + 4, true),
+      }));
+    }
+
+    ipRanges(family) {
+      const number = numberFor(FAMILIES, family, "family"), length = family === "ipv4" ? 4 : 16;
+      return parts(this.#list("pigy_resources_ip_ranges", 32, [number]), 32).map((it) => {
+        const [minOctets, maxOctets] = [it.slice(0, length), it.slice(16, 16 + length)];
+        return { min: addressText(minOctets), max: addressText(maxOctets), minOctets, maxOctets };
+      });
+    }
+
+    /** Returns the DER of both extensions, null for one without resources. */
+    der() {
+      const { instance, at } = Handle.of(this, Resources, "this");
+      for (let rooms = [256, 256]; ; ) {
+        const found = framed(instance, (frame) => {
+          const outs = rooms.map((it) => frame.room(it)), lengths = [frame.word(), frame.word()];
+          const words = outs.flatMap((it, index) => [BigInt(it), BigInt(rooms[index])]);
+          const status = instance.call("pigy_resources_der", at, ...words, ...lengths.map(BigInt));
+          const needed = lengths.map((it) => instance.word(it));
+          if (status === STATUS.OK) return needed.map((it, index) => instance.octets(outs[index], it).slice());
+          if (status !== STATUS.TOO_SMALL) throw errorFor(instance, status);
+          rooms = needed;
+          return null;
+        });
+        if (found) return { as: found[0].length ? found[0] : null, ip: found[1].length ? found[1] : null };
+      }
+    }
+
+    text(kind) {
+      const number = numberFor(KINDS, kind, "kind");
+      return new TextDecoder().decode(this.#list("pigy_resources_text", 1, [number]));
+    }
+  }
+
+  const parts = (octets, size) =>
+    Array.from({ length: octets.byteLength / size }, (_, at) => octets.slice(at * size, (at + 1) * size));
+
+  const CERTIFICATE = 40; // octets of the struct of a certificate
+
+  /** Returns the DER of all certificates in one array, and the struct of each certificate. */
+  function concatenated(certificates) {
+    if (typeof certificates?.[Symbol.iterator] !== "function" || typeof certificates === "string")
+      throw wrong(`certificates: ${shown(certificates)} is no list`);
+    const pieces = [], structs = [];
+    let total = 0;
+    const added = (der, what) => {
+      const octets = der === null || der === undefined ? new Uint8Array(0) : octetsOf(der, what).slice();
+      pieces.push(octets);
+      total += octets.byteLength;
+      return octets.byteLength;
+    };
+    for (const it of certificates) {
+      const what = `certificates[${structs.length}]`;
+      if (it === null || typeof it !== "object" || hasOctets(it)) throw wrong(`${what}: ${shown(it)} is no certificate`);
+      const { as, ip, mode = "refuse" } = it, start = total;
+      const lengths = [added(as, `${what}.as`), added(ip, `${what}.ip`)];
+      const present = (as === null || as === undefined ? 0 : NUMBER.HAS_AS) |
+        (ip === null || ip === undefined ? 0 : NUMBER.HAS_IP);
+      structs.push([start, lengths[0], start + lengths[0], lengths[1], present, numberFor(MODES, mode, `${what}.mode`)]);
+    }
+    const run = new Uint8Array(total), places = new DataView(new ArrayBuffer(structs.length * CERTIFICATE));
+    let from = 0;
+    for (const it of pieces) run.set(it, from), from += it.byteLength;
+    structs.forEach((words, at) => {
+      words.slice(0, 4).forEach((it, index) => places.setBigUint64(at * CERTIFICATE + 8 * index, BigInt(it), true));
+      words.slice(4).forEach((it, index) => places.setUint32(at * CERTIFICATE + 32 + 4 * index, it, true));
+    });
+    return { run, places: new Uint8Array(places.buffer) };
+  }
+
+  // ---- Tables ----
+
+  const WORDS = ["valid", "not-found", "invalid"];
+
+  /** Returns the word of a validity and of its reason, as the program origins prints it. */
+  function validityText(validity, reason) {
+    if (validity !== NUMBER.INVALID) return WORDS[validity];
+    return reason === NUMBER.INVALID_AS ? "invalid-as" : "invalid-length";
+  }
+
+  /** A table of VRPs (RFC 6811). It never changes. */
+  class Table extends Handle {
+    constructor(vrps) {
+      const made = vrps instanceof Made ? vrps : Table.#new(loaded(), vrps);
+      super(made.instance, made.at, "pigy_table_free");
+    }
+
+    static #new(instance, vrps) {
+      const structs = structsOf(instance, vrps, vrpLine, "vrps");
+      return Table.#made(instance, (frame, out, index) =>
+        instance.call("pigy_table_new", ...counted(frame, structs), out, index));
+    }
+
+    static #made(instance, run) {
+      return framed(instance, (frame) => {
+        const [out, index] = [frame.word(), frame.word()], status = run(frame, BigInt(out), BigInt(index));
+        if (status === STATUS.OK) return new Made(instance, instance.word(out));
+        throw errorFor(instance, status, status === STATUS.MEMORY ? {} : { index: instance.word(index) });
+      });
+    }
+
+    /** The number of VRPs. */
+    get length() {
+      const { instance, at } = Handle.of(this, Table, "this");
+      return framed(instance, (frame) => {
+        const length = frame.word();
+        instance.call("pigy_table_len", at, BigInt(length));
+        return instance.word(length);
+      });
+    }
+
+    validate(routes) {
+      const { instance, at } = Handle.of(this, Table, "this");
+      const isSingle = isOne(routes), structs = structsOf(instance, isSingle ? [routes] : routes, routeLine, "routes");
+      const count = structs.byteLength / STRUCT;
+      const found = framed(instance, (frame) => {
+        const [out, reasons, length, index] = [frame.room(count), frame.room(count), frame.word(), frame.word()];
+        const outs = [out, count, reasons, count, length, index].map(BigInt);
+        const status = instance.call("pigy_table_validate_routes", at, ...counted(frame, structs), ...outs);
+        if (status !== STATUS.OK) throw errorFor(instance, status, { index: instance.word(index) });
+        return { validities: instance.octets(out, count).slice(), reasons: instance.octets(reasons, count).slice() };
+      });
+      if (hasOctets(routes) || routes instanceof Structs) return found;
+      const words = Array.from(found.validities, (it, index) => validityText(it, found.reasons[index]));
+      return isSingle ? words[0] : words;
+    }
+
+    /** Returns for each route whether its validity differs in the next table. */
+    revalidate(next, routes) {
+      const [instance, first, second] = both(this, next, Table, "next");
+      const structs = structsOf(instance, routes, routeLine, "routes"), count = structs.byteLength / STRUCT;
+      const found = framed(instance, (frame) => {
+        const [out, length, index] = [frame.room(count), frame.word(), frame.word()];
+        const outs = [out, count, length, index].map(BigInt);
+        const status = instance.call("pigy_table_revalidate", first, second, ...counted(frame, structs), ...outs);
+        if (status !== STATUS.OK) throw errorFor(instance, status, { index: instance.word(index) });
+        return instance.octets(out, count).slice();
+      });
+      return hasOctets(routes) || routes instanceof Structs ? found : Array.from(found, (it) => it === 1);
+    }
+
+    withChanges(announced, withdrawn) {
+      const { instance, at } = Handle.of(this, Table, "this");
+      const lists = [[announced, "announced"], [withdrawn, "withdrawn"]].map(([vrps, what]) =>
+        structsOf(instance, vrps, vrpLine, what));
+      return new Table(Table.#made(instance, (frame, out, index) =>
+        instance.call("pigy_table_with_changes", at, ...lists.flatMap((it) => counted(frame, it)), out, index)));
+    }
+
+    /** Returns the VRPs that only the next table has, and those that only this one has. */
+    changes(next) {
+      const [instance, first, second] = both(this, next, Table, "next");
+      for (let rooms = [64, 64]; ; ) {
+        const found = framed(instance, (frame) => {
+          const outs = rooms.map((it) => frame.room(it * STRUCT)), lengths = [frame.word(), frame.word()];
+          const words = outs.flatMap((it, index) => [it, rooms[index], lengths[index]].map(BigInt));
+          const status = instance.call("pigy_table_changes", first, second, ...words);
+          const needed = lengths.map((it) => instance.word(it));
+          if (status === STATUS.OK)
+            return needed.map((it, index) => new Structs(instance.octets(outs[index], it * STRUCT).slice(), vrpOf));
+          if (status !== STATUS.TOO_SMALL) throw errorFor(instance, status);
+          rooms = needed;
+          return null;
+        });
+        if (found) return { announced: found[0], withdrawn: found[1] };
+      }
+    }
+
+    /** Returns the VRPs that cover a route, each with the reasons why it does not match. */
+    covering(route) {
+      const { instance, at } = Handle.of(this, Table, "this");
+      const struct = structsOf(instance, hasOctets(route) ? route : [route], routeLine, "route");
+      if (struct.byteLength !== STRUCT) throw wrong("route: one route is expected");
+      const octets = listed(instance, 28, 64, (frame, out, capacity, length) =>
+        instance.call("pigy_table_covering", at, frame.given(struct)[0], out, capacity, length));
+      return parts(octets, 28).map((it) => ({
+        vrp: vrpOf(it), otherAs: (it[24] & NUMBER.OTHER_AS) !== 0, tooLong: (it[24] & NUMBER.TOO_LONG) !== 0,
+      }));
+    }
+
+    /** Returns all VRPs of the table. */
+    vrps() {
+      const { instance, at } = Handle.of(this, Table, "this"), count = this.length;
+      return new Structs(listed(instance, STRUCT, count, (frame, out, capacity, length) =>
+        instance.call("pigy_table_vrps", at, out, capacity, length)), vrpOf);
+    }
+  }
+
+  /** The handle of a table that a call made. */
+  class Made {
+    constructor(instance, at) {
+      this.instance = instance;
+      this.at = at;
+    }
+  }
+
+  /** Returns the address of structs and their count, as two arguments of a call. */
+  const counted = (frame, structs) => [frame.given(structs)[0], BigInt(structs.byteLength / STRUCT)];
+
+  /** Reads the VRPs of a validator's file. */
+  function readVrps(file) {
+    const octets = octetsOf(file, "file");
+    return new Structs(readStructs(loaded(), octets, (line) => (line === 0 ? {} : { line })), vrpOf);
+  }
+
+  /** Returns the answer of respath to a line. */
+  function answer(line) {
+    const instance = loaded(), octets = encoded(line, "line");
+    return new TextDecoder().decode(listed(instance, 1, 256, (frame, out, capacity, length) =>
+      instance.call("pigy_answer", ...frame.given(octets), out, capacity, length)));
+  }
+
+  // ---- Loading ----
+
+  /** Returns the octets of text in base64. */
+  function decoded(base64) {
+    return Uint8Array.from(atob(base64), (it) => it.charCodeAt(0));
+  }
+
+  /** Makes an instance of the module, which all calls use from then on. Without an argument the module is that of
+   * module.js. Returns the facts about the module that module.js has. */
+  async function load(given) {
+    if (typeof WebAssembly !== "object" || typeof BigInt !== "function") throw new PigyelundError("ENGINE", NEEDS);
+    const stored = globalThis.PigyelundModule;
+    if (given === undefined && stored === undefined)
+      throw new PigyelundError("NOT_LOADED", "module.js is not loaded; load it, or pass the octets of the module");
+    let module = given;
+    if (!(given instanceof WebAssembly.Module)) {
+      const octets = given === undefined ? decoded(stored.base64) : octetsOf(given, "module").slice();
+      if (!WebAssembly.validate(octets)) throw new PigyelundError("ENGINE", `${NEEDS}; this one refuses the module`);
+      module = await WebAssembly.compile(octets);
+    }
+    current = new Instance((await WebAssembly.instantiate(module, {})).exports);
+    const { base64, ...facts } = stored ?? {};
+    return given === undefined ? facts : {};
+  }
+
+  return Object.freeze({ Error: PigyelundError, Resources, Table, addressText, answer, load, readVrps, validityText });
+})();

@@ -6,7 +6,7 @@
  *
  * In the module an address and a length have 64 bits. They are numbers here, and BigInt only in the arguments of a
  * call. The memory may grow in each call, so each view of it is made for one use. */
-globalThis.Pigyelund = (() => {
+globalThis.Pigyelund = (function make() {
   "use strict";
 
   // made by foreign/bindings.py: begin
@@ -764,5 +764,7 @@ globalThis.Pigyelund = (() => {
     return given === undefined ? facts : {};
   }
 
-  return Object.freeze({ Error: PigyelundError, Resources, Table, addressText, answer, load, readVrps, validityText });
+  const names = { Error: PigyelundError, Resources, Table, addressText, answer, load, readVrps, validityText };
+  // a page that was opened as a file can start a worker only from a text
+  return Object.freeze(Object.defineProperty(names, "source", { value: `globalThis.Pigyelund = (${make})();\n` }));
 })();

@@ -1,8 +1,8 @@
 /* Pigyelund for JavaScript: sets of RPKI resources, and route origin validation. README.md is the guide.
  *
- * This classic script sets `globalThis.Pigyelund`. index.mjs exports its names. `Pigyelund.load` makes an instance of the
- * WebAssembly module, whose code comes from a proved library. The script itself is tested, and is not proved: it copies
- * arguments into the memory of the module and results out of it, and reads no text and no DER.
+ * This classic script sets `globalThis.Pigyelund`. index.mjs exports its names. `Pigyelund.load` makes an instance of
+ * the WebAssembly module, whose code comes from a proved library. The script itself is tested, and is not proved: it
+ * copies arguments into the memory of the module and results out of it. The module reads all texts and all DER.
  *
  * In the module an address and a length have 64 bits. They are numbers here, and BigInt only in the arguments of a
  * call. The memory may grow in each call, so each view of it is made for one use. */
@@ -27,8 +27,8 @@ globalThis.Pigyelund = (function make() {
   const FAMILIES = { ipv4: NUMBER.IPV4, ipv6: NUMBER.IPV6 };
   const KINDS = { asn: NUMBER.ASN, ...FAMILIES };
   const NEEDS =
-    "Pigyelund needs an engine with WebAssembly, BigInt and bulk memory: Chrome 91, Firefox 90, Safari 15, Node 16.9, " +
-    "or a later version";
+    "Pigyelund needs an engine with WebAssembly, BigInt and bulk memory: Chrome 91, Firefox 90, Safari 15, " +
+    "Node 16.9, or a later version";
   const CLOSED_BY_TRAP = "the module stopped by a trap, and its memory is not used any more; call Pigyelund.load again";
 
   let current = null; // the instance that load made last
@@ -54,8 +54,8 @@ globalThis.Pigyelund = (function make() {
   /** Returns a short text of any value, which calls no code of the value. */
   function shown(value) {
     if (typeof value === "string") return JSON.stringify(value.length > 60 ? `${value.slice(0, 60)}..` : value);
-    return value === null || typeof value !== "object" ? typeof value === "symbol" ? "a symbol" : String(value)
-      : "an object";
+    const isPlain = value === null || !["object", "function", "symbol"].includes(typeof value);
+    return isPlain ? String(value) : typeof value === "object" ? "an object" : `a ${typeof value}`;
   }
 
   /** Returns an AS number or a length. It has to be an integer from 0 to a greatest one. */
@@ -83,7 +83,7 @@ globalThis.Pigyelund = (function make() {
   /** Returns a view of the octets of a buffer, of a typed array or of a DataView. */
   function octetsOf(value, what) {
     try {
-      if (isBuffer(value)) return new Uint8Array(value);
+      if (isBuffer(value)) return new Uint8Array(value, 0, new Uint8Array(value).byteLength); // it may grow later
       if (ArrayBuffer.isView(value)) {
         const getters = GETTERS[value instanceof DataView ? 1 : 0];
         return new Uint8Array(...getters.map((get) => get.call(value)));
@@ -267,7 +267,8 @@ globalThis.Pigyelund = (function make() {
   function addressText(octets) {
     if (octets.length === 4) return octets.join(".");
     const words = Array.from({ length: 8 }, (_, at) => ((octets[2 * at] << 8) | octets[2 * at + 1]).toString(16));
-    if (words.slice(0, 5).every((it) => it === "0") && words[5] === "ffff") return `::ffff:${octets.slice(12).join(".")}`;
+    const isMapped = words.slice(0, 5).every((it) => it === "0") && words[5] === "ffff";
+    if (isMapped) return `::ffff:${octets.slice(12).join(".")}`;
     let first = 0, most = 1; // the first of the longest runs of at least two words that are 0
     for (let at = 0, count = 0; at < 8; at += 1) {
       count = words[at] === "0" ? count + 1 : 0;
@@ -316,28 +317,29 @@ globalThis.Pigyelund = (function make() {
     }
   }
 
-  /** Returns an AS number of an object: a number, or a text that the module reads. */
-  function asnText(asn, what) {
-    return typeof asn === "string" ? word(asn, what) : String(integer(asn, 0xffffffff, what));
+  /** Returns a field of CSV: a text that has only characters of these. The module reads it. */
+  function field(text, characters, what) {
+    if (typeof text === "string" && characters.test(text)) return text;
+    throw wrong(`${what}: ${shown(text)} is invalid`);
   }
 
-  /** Returns a word that is one field of CSV. */
-  function word(text, what) {
-    if (typeof text === "string" && /^[0-9A-Za-z:./]*$/.test(text)) return text;
-    throw wrong(`${what}: ${shown(text)} is no prefix and no AS number`);
-  }
+  const prefixField = (text, what) => field(text, /^[0-9A-Fa-f:./]+$/, what);
+
+  /** Returns the field of an AS number: a number, or a text such as "AS64496". */
+  const asnField = (asn, what) =>
+    typeof asn === "number" ? String(integer(asn, 0xffffffff, what)) : field(asn, /^[Aa]?[Ss]?[0-9]+$/, what);
 
   /** Returns the line of CSV for a VRP: a text such as "10.0.0.0/8-16 AS64496", or an object. */
   function vrpLine(vrp, what) {
     const parts = typeof vrp === "string" ? /^(\S+?)(?:-([0-9]+))? (\S+)$/.exec(vrp) : null;
     if (typeof vrp === "string") {
       if (parts === null) throw wrong(`${what}: ${shown(vrp)} is no VRP such as "10.0.0.0/8-16 AS64496"`);
-      return `${word(parts[3], what)},${word(parts[1], what)},${parts[2] ?? ""}`;
+      return `${asnField(parts[3], what)},${prefixField(parts[1], what)},${parts[2] ?? ""}`;
     }
     if (vrp === null || typeof vrp !== "object") throw wrong(`${what}: ${shown(vrp)} is no VRP`);
     const { prefix, maxLength, asn } = vrp;
     const most = maxLength === undefined || maxLength === null ? "" : integer(maxLength, 255, `${what}.maxLength`);
-    return `${asnText(asn, `${what}.asn`)},${word(prefix, `${what}.prefix`)},${most}`;
+    return `${asnField(asn, `${what}.asn`)},${prefixField(prefix, `${what}.prefix`)},${most}`;
   }
 
   /** Returns the line of CSV for a route: a text such as "10.0.0.0/8 AS64496", or an object. */
@@ -345,10 +347,10 @@ globalThis.Pigyelund = (function make() {
     if (typeof route === "string") {
       const words = route.split(" ");
       if (words.length !== 2) throw wrong(`${what}: ${shown(route)} is no route such as "10.0.0.0/8 AS64496"`);
-      return `${word(words[1], what)},${word(words[0], what)},`;
+      return `${asnField(words[1], what)},${prefixField(words[0], what)},`;
     }
     if (route === null || typeof route !== "object") throw wrong(`${what}: ${shown(route)} is no route`);
-    return `${asnText(route.asn, `${what}.asn`)},${word(route.prefix, `${what}.prefix`)},`;
+    return `${asnField(route.asn, `${what}.asn`)},${prefixField(route.prefix, `${what}.prefix`)},`;
   }
 
   const isOne = (value) => typeof value === "string" || (value !== null && typeof value === "object" &&
@@ -365,10 +367,10 @@ globalThis.Pigyelund = (function make() {
     }
     if (isOne(given) || typeof given?.[Symbol.iterator] !== "function")
       throw wrong(`${what}: ${shown(given)} is neither a list nor a buffer`);
-    const lines = [];
-    for (const item of given) lines.push(lineOf(item, `${what}[${lines.length}]`));
-    if (lines.length === 0) return new Uint8Array(0);
-    return readStructs(instance, encoded(`${lines.join("\n")}\n`, what), (line) => ({ index: line - 1 }));
+    const lines = ["ASN,Prefix,Max Length"];
+    for (const item of given) lines.push(lineOf(item, `${what}[${lines.length - 1}]`));
+    if (lines.length === 1) return new Uint8Array(0);
+    return readStructs(instance, encoded(lines.join("\n"), what), (line) => ({ index: line - 2 }));
   }
 
   /** Reads a file of VRPs into structs. */
@@ -580,12 +582,14 @@ globalThis.Pigyelund = (function make() {
     };
     for (const it of certificates) {
       const what = `certificates[${structs.length}]`;
-      if (it === null || typeof it !== "object" || hasOctets(it)) throw wrong(`${what}: ${shown(it)} is no certificate`);
+      const isObject = it !== null && typeof it === "object" && !hasOctets(it);
+      if (!isObject) throw wrong(`${what}: ${shown(it)} is no certificate`);
       const { as, ip, mode = "refuse" } = it, start = total;
       const lengths = [added(as, `${what}.as`), added(ip, `${what}.ip`)];
       const present = (as === null || as === undefined ? 0 : NUMBER.HAS_AS) |
         (ip === null || ip === undefined ? 0 : NUMBER.HAS_IP);
-      structs.push([start, lengths[0], start + lengths[0], lengths[1], present, numberFor(MODES, mode, `${what}.mode`)]);
+      const number = numberFor(MODES, mode, `${what}.mode`);
+      structs.push([start, lengths[0], start + lengths[0], lengths[1], present, number]);
     }
     const run = new Uint8Array(total), places = new DataView(new ArrayBuffer(structs.length * CERTIFICATE));
     let from = 0;

@@ -1,0 +1,210 @@
+// Arguments at their limits, and what happens after an error: each call is refused by an error with a code.
+import assert from "node:assert/strict";
+import test from "node:test";
+import { MODULE, Pigyelund, STATUS, errorOf } from "./support.mjs";
+
+const { Resources, Table } = Pigyelund;
+const NUMBERS = [2 ** 53, 2 ** 32, NaN, -1, -0.5, Infinity, "5x", "", 5n, null, undefined, {}, [], true, Symbol("5")];
+const ROUTE = "10.0.0.0/16 AS64496";
+
+test("no call before load", async () => {
+  for (const run of [() => new Table([]), () => Pigyelund.answer("x"), () => Resources.fromText("", "asn")])
+    assert.equal(errorOf(run).code, "NOT_LOADED");
+  await Pigyelund.load();
+});
+
+const refused = (run, code = "ARGUMENT") => assert.equal(errorOf(run).code, code, String(run));
+
+test("numbers that are none", () => {
+  const set = Resources.fromText("0-4294967295", "asn"), table = new Table(["10.0.0.0/8 AS1"]);
+  assert.ok(set.containsAsn(2 ** 32 - 1) && set.containsAsn(0) && set.containsAsn(-0));
+  for (const it of NUMBERS) {
+    refused(() => set.containsAsn(it));
+    refused(() => new Table([{ prefix: "10.0.0.0/8", asn: it }]));
+    refused(() => table.validate({ prefix: "10.0.0.0/8", asn: it }));
+    if (it !== 2 ** 32) refused(() => table.vrps().at(it));
+    if (it !== null && it !== undefined) refused(() => new Table([{ prefix: "10.0.0.0/8", maxLength: it, asn: 1 }]));
+  }
+  assert.equal(table.vrps().at(1), undefined);
+  assert.equal(table.vrps().at(Number.MAX_SAFE_INTEGER), undefined);
+});
+
+test("words that are none", () => {
+  const set = Resources.fromText("AS1", "asn");
+  for (const it of ["", "STRICT", "toString", "__proto__", "constructor", 16, null, {}, ["strict"], Symbol("strict")]) {
+    refused(() => Resources.read(null, null, it));
+    refused(() => set.verify(new Uint8Array(1), null, it));
+    refused(() => set.verify(new Uint8Array(1), null, "strict", it));
+    refused(() => set.verifyPath([], it));
+    refused(() => set.verifyPath([{ mode: it }]));
+    refused(() => Resources.fromText("", it));
+    refused(() => set.text(it));
+    refused(() => set.prefixes(it));
+    refused(() => set.ipRanges(it));
+  }
+});
+
+test("what is no text, no list and no object of ours", () => {
+  const set = Resources.fromText("AS1", "asn"), table = new Table([]);
+  for (const it of [5, null, undefined, {}, new Uint8Array(3), Symbol("x"), () => 1]) {
+    refused(() => Pigyelund.answer(it));
+    refused(() => Resources.fromText(it, "asn"));
+    refused(() => set.containsPrefix(it));
+    refused(() => set.union(it));
+    refused(() => set.contains(it));
+    refused(() => table.changes(it));
+    refused(() => table.revalidate(it, []));
+    refused(() => new Resources(it));
+    if (!(it instanceof Uint8Array)) refused(() => Pigyelund.readVrps(it));
+    refused(() => new Table(it));
+    refused(() => table.validate([it]));
+    refused(() => set.verifyPath(it));
+  }
+  refused(() => new Table("10.0.0.0/8 AS1"));
+  refused(() => set.verifyPath("x"));
+  refused(() => set.union(table));
+  refused(() => table.changes(set));
+  for (const run of [() => Resources.prototype.text.call(table, "asn"), () => Resources.prototype.close.call({})])
+    assert.throws(run, TypeError);
+});
+
+test("texts that could be other lines of a file", () => {
+  const table = new Table([]);
+  for (const it of ["10.0.0.0/8,24", "10.0.0.0/8\n", "\n", ",", "", " 10.0.0.0/8", "10.0.0.0/8\r", '"10.0.0.0/8"', "Prefix"]) {
+    refused(() => new Table([{ prefix: it, asn: 1 }]));
+    refused(() => table.validate([{ prefix: it, asn: 1 }, ROUTE]));
+    refused(() => new Table([`${it} AS1 AS2`]));
+    refused(() => table.validate(`${it}  AS1`));
+  }
+  for (const asn of ["ASN", "AS1,10.0.0.0/8", "AS1\n", "", "-1", "+1", "1.5", "1e3", "0x1"])
+    refused(() => new Table([{ prefix: "10.0.0.0/8", asn }]));
+  for (const [prefix, code] of [["10.0.0.1/8", "BAD_LINE"], ["10.0.0.0/33", "BAD_LINE"], ["::/129", "BAD_LINE"]]) {
+    const error = errorOf(() => new Table([ROUTE, { prefix, asn: 1 }, ROUTE]));
+    assert.deepEqual([error.code, error.index], [code, 1]);
+  }
+  assert.equal(errorOf(() => new Table([{ prefix: "f", asn: "AS99999999999" }])).index, 0);
+});
+
+test("buffers of structs", () => {
+  const table = new Table([]), octets = new Table(["10.0.0.0/8-16 AS64496"]).vrps().octets;
+  for (const length of [1, 23, 25, 47]) refused(() => table.validate(new Uint8Array(length)));
+  assert.deepEqual(table.validate(new Uint8Array(0)), { validities: new Uint8Array(0), reasons: new Uint8Array(0) });
+  const error = errorOf(() => table.validate(new Uint8Array(48)));
+  assert.deepEqual([error.code, error.index, error.isSecond], ["BAD_FAMILY", 0, true]);
+  const wide = new Uint8Array(100);
+  wide.set(octets, 7);
+  for (const it of [new Uint8Array(wide.buffer, 7, 24), new DataView(wide.buffer, 7, 24), octets.buffer.slice(0, 24)])
+    assert.equal(new Table(it).validate(ROUTE), "valid");
+  const words = new Uint32Array(octets.buffer.slice(0, 24));
+  assert.equal(new Table(words).validate(ROUTE), "valid");
+});
+
+test("subclasses with other lengths", () => {
+  class Longer extends Uint8Array {
+    get length() {
+      return 2 ** 53;
+    }
+    get byteLength() {
+      return 2 ** 53;
+    }
+  }
+  const it = new Longer(24);
+  assert.equal(errorOf(() => new Table(it)).code, "BAD_FAMILY");
+  refused(() => new Table({ length: 2 ** 53 }));
+  refused(() => new Table({ length: -1, 0: ROUTE }));
+});
+
+test("detached buffers", () => {
+  const buffer = new ArrayBuffer(24), view = new Uint8Array(buffer), data = new DataView(buffer);
+  const set = Resources.fromText("AS1", "asn");
+  structuredClone(buffer, { transfer: [buffer] });
+  for (const it of [buffer, view, data]) {
+    refused(() => new Table(it));
+    refused(() => Pigyelund.readVrps(it));
+    refused(() => Resources.read(null, it));
+    refused(() => set.verify(it, null));
+    refused(() => set.verifyPath([{ as: it }]));
+  }
+});
+
+test("shared buffers", async () => {
+  const shared = new SharedArrayBuffer(24), octets = new Table(["10.0.0.0/8-16 AS64496"]).vrps().octets;
+  new Uint8Array(shared).set(octets);
+  for (const it of [shared, new Uint8Array(shared), new DataView(shared)])
+    assert.equal(new Table(it).validate(ROUTE), "valid");
+  const der = Resources.fromText("10.0.0.0/8", "ipv4").der().ip, place = new Uint8Array(new SharedArrayBuffer(der.length));
+  place.set(der);
+  assert.equal(Resources.read(null, place).text("ipv4"), "10.0.0.0/8");
+});
+
+test("no call after close", () => {
+  const set = Resources.fromText("10.0.0.0/8", "ipv4"), other = set.union(set), table = new Table([ROUTE]);
+  set.close(), set.close(), table.close(), table.close();
+  const calls = [() => set.text("asn"), () => set.der(), () => set.asRanges(), () => set.union(other),
+    () => other.contains(set), () => set.equal(set), () => set.verify(null, null), () => set.verifyPath([]),
+    () => set.containsAsn(1), () => set.containsPrefix("10.0.0.0/8"), () => set.prefixes("ipv4"), () => table.length,
+    () => table.validate([]), () => table.vrps(), () => table.changes(table), () => table.covering(ROUTE),
+    () => table.withChanges([], []), () => table.revalidate(new Table([]), [])];
+  for (const run of calls) refused(run, "CLOSED");
+  assert.equal(other.text("ipv4"), "10.0.0.0/8");
+});
+
+test("handles of two loads", async () => {
+  const old = Resources.fromText("10.0.0.0/8", "ipv4"), table = new Table([ROUTE]);
+  await Pigyelund.load(MODULE);
+  const set = Resources.fromText("10.0.0.0/8", "ipv4");
+  for (const run of [() => old.union(set), () => set.contains(old), () => table.changes(new Table([]))]) refused(run);
+  assert.equal(old.text("ipv4"), set.text("ipv4"));
+  assert.equal(table.validate(ROUTE), "valid");
+  assert.equal(Resources.read(old.der().as, old.der().ip).equal(set), true);
+});
+
+test("modules that are none", async () => {
+  for (const [given, code] of [[new Uint8Array(8), "ENGINE"], ["x", "ARGUMENT"], [null, "ARGUMENT"]])
+    await assert.rejects(Pigyelund.load(given), (error) => error.code === code && error instanceof Pigyelund.Error);
+});
+
+/** Returns a module whose malloc traps. */
+async function trapping() {
+  const text = "0061736d01000000" + "010601" + "60017e017e"; // a type: i64 to i64
+  const memory = "03020100" + "0503010001" + "0713" + "02" + "066d656d6f7279" + "0200" + "066d616c6c6f63" + "0000";
+  return WebAssembly.compile(Buffer.from(text + memory + "0a05" + "01" + "0300000b", "hex"));
+}
+
+test("a trap ends the instance", async () => {
+  const before = Resources.fromText("AS1", "asn");
+  assert.deepEqual(await Pigyelund.load(await trapping()), {});
+  for (let call = 0; call < 2; call += 1) {
+    const error = errorOf(() => new Table([ROUTE]));
+    assert.equal(error.code, "TRAPPED");
+    assert.match(error.message, /call Pigyelund.load again/);
+  }
+  assert.equal(before.text("asn"), "AS1");
+  await Pigyelund.load();
+  assert.equal(new Table(["10.0.0.0/16 AS64496"]).validate(ROUTE), "valid");
+});
+
+test("an empty extension is invalid, and an absent one is not", () => {
+  const none = new Uint8Array(0), anchor = Resources.fromText("10.0.0.0/8", "ipv4");
+  assert.equal(Resources.read(null, undefined).text("ipv4"), "");
+  for (const [words, status] of [[[none, null], STATUS.BAD_AS + 1], [[null, none], STATUS.BAD_IP + 1]]) {
+    assert.equal(errorOf(() => Resources.read(...words)).status, status);
+    assert.equal(errorOf(() => anchor.verify(...words)).status, STATUS.SECOND + status);
+    assert.equal(errorOf(() => anchor.verifyPath([{ as: words[0], ip: words[1] }])).status, STATUS.SECOND + status);
+  }
+  assert.equal(errorOf(() => anchor.verify(null, null)).code, "ABSENT");
+});
+
+test("addresses as the module prints them", () => {
+  let state = 1;
+  const next = () => (state = (state * 48271) % 2147483647);
+  for (let count = 0; count < 5000; count += 1) {
+    const octets = Uint8Array.from({ length: 16 }, () => 0);
+    for (let at = 0; at < 16; at += 2)
+      if (next() % 2) octets[at + 1] = next() % 3 ? next() % 256 : 0, octets[at] = next() % 4 ? 0 : next() % 256;
+    if (count % 50 === 0) octets.fill(0, 0, 10), octets.fill(255, 10, 12);
+    const text = Pigyelund.addressText(octets), set = Resources.fromText(text, "ipv6");
+    assert.equal(set.text("ipv6"), text);
+    assert.deepEqual(set.ipRanges("ipv6")[0].minOctets, octets);
+  }
+});

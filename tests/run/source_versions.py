@@ -25,6 +25,8 @@ PLACES = (
     ("version", "foreign/python/src/pigyelund/__init__.py", r'^__version__ = "(.*)"$'),
     ("version", "foreign/python/pyproject.toml", r'^version = "(.*)"$'),
     ("version", "foreign/rust/Cargo.toml", r'^version = "(.*)"$'),
+    ("version", "foreign/js/package.json", r'^  "version": "(.*)",$'),
+    ("version", "web/module.js", r'^  "version": "(.*)",$'),
     *(("version", f"vectors/{it.name}", r'^ "version": "(.*)"$') for it in sorted((TOP / "vectors").glob("*.json"))),
     ("made", "foreign/pigyelund.pc", r"^Version: (.*)$"),
     ("made", "docs/origins.1", MANUAL),

@@ -451,6 +451,19 @@ of_rust() {
     of_rust_package
 }
 
+# The package of JavaScript in Node, with the module of the library that was proved. If LIBRARY is named, the module is
+# built without proof.
+of_js() {
+    gcc -O2 -Wall -Wextra -Werror foreign/js/test/memory.c -o "$out/memory" && "$out/memory" || fail "memory.c"
+    has "JavaScript" node wasm-opt || return
+    # shellcheck disable=SC2086 # one option or none
+    web/make ${1:+--try} --to "$out/module.js" >"$out/log" || { cat "$out/log"; fail "web/make"; return; }
+    cat "$out/log"
+    PIGYELUND_MODULE="$out/module.js" node --expose-gc --test foreign/js/test >"$out/log" ||
+        { grep -A 12 '^ *not ok' "$out/log"; fail "the tests in Node"; }
+    sed -n 's/^.* # SKIP //p' "$out/log"
+}
+
 tests/run/foreign_page.py || fail "numbers and names"
 tests/run/foreign_rows.py || fail "the rows are made"
 if has "C, and all that is installed," gcc make ar objcopy nm readelf; then
@@ -462,6 +475,7 @@ if has "C, and all that is installed," gcc make ar objcopy nm readelf; then
     has "the example in C++" g++ && example table_cpp
     of_openssl
     has "Rust" cargo cc tar && of_rust
+    of_js "$@"
 fi
 if [ $# -eq 0 ]; then
     tests/run/release.sh || fail "a release"

@@ -5,9 +5,9 @@
  * address and its size are multiples of 16. `before` is the size of the block in front of it. The last header of the
  * heap has size 0. No two free blocks are neighbours: free joins them.
  *
- * A free block is in the list of its bin. Below 1024 octets a bin has one size. Above, eight bins are between two powers
- * of 2. `filled` has a bit for each bin that is not empty. A search tries the blocks of its own bin, and then takes the
- * first block of the next bin that is not empty.
+ * A free block is in the list of its bin. Below 1024 octets a bin has one size. Above, eight bins are between two
+ * powers of 2. `filled` has a bit for each bin that is not empty. A search tries the blocks of its own bin, and then
+ * takes the first block of the next bin that is not empty.
  *
  * A block in use is split if the rest has at least 32 octets. realloc first takes the free block behind its block, or
  * grows the heap if no other block is there. malloc of 0 octets returns a block.

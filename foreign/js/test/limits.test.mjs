@@ -70,7 +70,8 @@ test("what is no text, no list and no object of ours", () => {
 
 test("texts that could be other lines of a file", () => {
   const table = new Table([]);
-  for (const it of ["10.0.0.0/8,24", "10.0.0.0/8\n", "\n", ",", "", " 10.0.0.0/8", "10.0.0.0/8\r", '"10.0.0.0/8"', "Prefix"]) {
+  const prefix = "10.0.0.0/8";
+  for (const it of [`${prefix},24`, `${prefix}\n`, "\n", ",", "", ` ${prefix}`, `${prefix}\r`, `"${prefix}"`, "P"]) {
     refused(() => new Table([{ prefix: it, asn: 1 }]));
     refused(() => table.validate([{ prefix: it, asn: 1 }, ROUTE]));
     refused(() => new Table([`${it} AS1 AS2`]));
@@ -132,7 +133,8 @@ test("shared buffers", async () => {
   new Uint8Array(shared).set(octets);
   for (const it of [shared, new Uint8Array(shared), new DataView(shared)])
     assert.equal(new Table(it).validate(ROUTE), "valid");
-  const der = Resources.fromText("10.0.0.0/8", "ipv4").der().ip, place = new Uint8Array(new SharedArrayBuffer(der.length));
+  const der = Resources.fromText("10.0.0.0/8", "ipv4").der().ip;
+  const place = new Uint8Array(new SharedArrayBuffer(der.length));
   place.set(der);
   assert.equal(Resources.read(null, place).text("ipv4"), "10.0.0.0/8");
 });

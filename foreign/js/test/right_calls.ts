@@ -16,7 +16,8 @@ export async function calls(der: Uint8Array, file: ArrayBuffer): Promise<number>
   const word: string = first === "valid" ? table.validate({ prefix: "10.0.0.0/8", asn: "AS1" }) : answer("norm as 1");
   const next = table.withChanges(readVrps(file), table.vrps());
   const isOther: boolean[] = table.revalidate(next, new Set(["10.0.0.0/8 AS1"]));
-  for (const { prefix, asn } of table.changes(next).announced) console.log(prefix, asn.toFixed(), isOther, word, version);
+  for (const { prefix, asn } of table.changes(next).announced) console.log(prefix, asn.toFixed(), isOther, word);
+  console.log(version);
   next.close();
   return validities[0] + set.asRanges()[0].min + set.ipRanges("ipv6").length + Pigyelund.source.length;
 }

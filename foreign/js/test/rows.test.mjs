@@ -81,7 +81,8 @@ function both(row) {
 }
 
 /** The struct of a VRP (23 octets) or of a route (22), which has its AS number in network byte order in a row. */
-const struct = (it) => joined([it.subarray(0, 16), it.slice(16, 20).reverse(), it.subarray(20), new Uint8Array(24 - it.length)]);
+const struct = (it) =>
+  joined([it.subarray(0, 16), it.slice(16, 20).reverse(), it.subarray(20), new Uint8Array(24 - it.length)]);
 const structs = (octets, size) => joined(cut(octets, size).map(struct));
 const inRow = (octets, size) =>
   joined(cut(octets, 24).map((it) => joined([it.subarray(0, 16), it.slice(16, 20).reverse(), it.subarray(20, size)])));
@@ -184,11 +185,12 @@ const GLUE = {
       for (const routes of forms(row.second[0], 22))
         same(row, () => closing(new Table(vrps), (table) => validated(table, routes)));
     if (row.status === 0)
-      closing(new Table(structs(row.first[0], 23)), (table) => cut(row.second[0], 22).map(objectOf).forEach((it, at) => {
-        const word = ["valid", "not-found", ERRORS[row.expected[1][at]]][row.expected[0][at]];
-        assert.equal(table.validate(it), word, row.line);
-        assert.equal(table.validate(textOf(it)), word, row.line);
-      }));
+      closing(new Table(structs(row.first[0], 23)), (table) =>
+        cut(row.second[0], 22).map(objectOf).forEach((it, at) => {
+          const word = ["valid", "not-found", ERRORS[row.expected[1][at]]][row.expected[0][at]];
+          assert.equal(table.validate(it), word, row.line);
+          assert.equal(table.validate(textOf(it)), word, row.line);
+        }));
   },
   covering(row) {
     const [route, object] = [struct(row.second[0]), objectOf(row.second[0])];
@@ -217,7 +219,8 @@ const GLUE = {
   differ(row) {
     for (const routes of forms(row.second[0], 22))
       same(row, () => closing(new Table(structs(row.first[0], 23)), (old) =>
-        closing(new Table(structs(row.first[1], 23)), (next) => [Array.from(old.revalidate(next, routes), Number), []])));
+        closing(new Table(structs(row.first[1], 23)), (next) =>
+          [Array.from(old.revalidate(next, routes), Number), []])));
   },
   changes(row) {
     same(row, () => closing(new Table(structs(row.first[0], 23)), (old) =>
@@ -304,7 +307,8 @@ function sameVerified(row, name, words, numbers) {
   for (const capacities of [[AMPLE, AMPLE], row.expected.map((it) => it.length), [0, 0]]) {
     const outs = [...capacities, ...capacities].map((it) => raw.room(it, 0xa5));
     const lengths = outs.map(() => raw.room(8, 7)), others = numbers.map(() => raw.room(8, 7));
-    const group = (at) => [outs[at], BigInt(capacities[0]), outs[at + 1], BigInt(capacities[1]), lengths[at], lengths[at + 1]];
+    const [as, ip] = capacities.map(BigInt);
+    const group = (at) => [outs[at], as, outs[at + 1], ip, lengths[at], lengths[at + 1]];
     const status = raw.exports[name](...words(), ...group(0), ...group(2), ...others) >>> 0;
     const fits = row.expected.every((it, at) => it.length <= capacities[at]);
     assert.equal(status, fits ? row.status : STATUS.TOO_SMALL, row.line);

@@ -112,8 +112,10 @@ globalThis.Pigyelund = (function make() {
     /** Makes a call of the module. An exception from the module ends the instance. */
     call(name, ...words) {
       if (this.hasTrapped) throw new PigyelundError("TRAPPED", CLOSED_BY_TRAP);
+      const run = this.exports[name];
+      if (run === undefined) throw new PigyelundError("NOT_LOADED", `the module is of another version: no ${name}`);
       try {
-        return this.exports[name](...words);
+        return run(...words);
       } catch (reason) {
         this.hasTrapped = true;
         throw new PigyelundError("TRAPPED", `${CLOSED_BY_TRAP} (${reason})`);

@@ -2,5 +2,7 @@
 import "./module.js";
 import "./pigyelund.js";
 
-export const { Error, Resources, Table, addressText, answer, load, readVrps, validityText } = globalThis.Pigyelund;
+export const {
+  Error, Resources, Table, addressText, answer, load, readRoutes, readVrps, validityText,
+} = globalThis.Pigyelund;
 export default globalThis.Pigyelund;

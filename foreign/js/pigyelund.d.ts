@@ -170,6 +170,8 @@ export function addressText(octets: Uint8Array): string;
 export function answer(line: string): string;
 /** Reads the VRPs of a validator's file. */
 export function readVrps(file: Octets): Structs<Vrp>;
+/** Reads the routes of lines, as the program origins does: also lines of `bgpdump -m`. */
+export function readRoutes(lines: Octets): Structs<Route>;
 /** Returns the word of a validity and of its reason. */
 export function validityText(validity: number, reason: number): Validity;
 
@@ -180,6 +182,7 @@ declare const Pigyelund: {
   readonly addressText: typeof addressText;
   readonly answer: typeof answer;
   readonly load: typeof load;
+  readonly readRoutes: typeof readRoutes;
   readonly readVrps: typeof readVrps;
   readonly validityText: typeof validityText;
   /** The text of the script, for a worker. */

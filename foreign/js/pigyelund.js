@@ -15,7 +15,7 @@ globalThis.Pigyelund = (function make() {
     NO_HANDLE: 0x409, BAD_AS: 0x800, BAD_IP: 0x1000, INHERITED: 0x2000, ABSENT: 0x4000, OVERCLAIM: 0x8000, OVERCLAIM_V4:
     0x8004, OVERCLAIM_AS: 0x8005, OVERCLAIM_V6: 0x8006, BAD_CHANGE: 0x10000, UNKNOWN_WITHDRAWAL: 0x10006,
     DUPLICATE_ANNOUNCEMENT: 0x10007, BAD_LINE: 0x20000, BAD_ITEM: 0x40000, BAD_FILE: 0x80000, BAD_TEXT: 0x100000,
-    BAD_QUERY: 0x200000, SECOND: 0x1000000 };
+    BAD_QUERY: 0x200000, BAD_ROUTE: 0x800000, SECOND: 0x1000000 };
   const NUMBER = { HAS_AS: 1, HAS_IP: 2, HAS_BOTH: 3, IPV4: 4, IPV6: 6, ASN: 5, LENIENT: 16, STRICT: 17, REFUSE: 32,
     TRIM: 33, VALID: 0, NOT_FOUND: 1, INVALID: 2, NO_VALIDITY: 0xff, INVALID_AS: 1, INVALID_LENGTH: 2, OTHER_AS: 1,
     TOO_LONG: 2 };
@@ -319,48 +319,30 @@ globalThis.Pigyelund = (function make() {
     }
   }
 
-  /** Returns a field of CSV: a text that has only characters of these. The module reads it. */
-  function field(text, characters, what) {
+  /** Returns a word of the text of a VRP or of a route. It has only these characters, so it stays one word. */
+  function wordOf(text, characters, what) {
     if (typeof text === "string" && characters.test(text)) return text;
     throw wrong(`${what}: ${shown(text)} is invalid`);
   }
 
-  const prefixField = (text, what) => field(text, /^[0-9A-Fa-f:./]+$/, what);
-
-  /** Returns the field of an AS number: a number, or a text such as "AS64496". */
-  const asnField = (asn, what) =>
-    typeof asn === "number" ? String(integer(asn, 0xffffffff, what)) : field(asn, /^[Aa]?[Ss]?[0-9]+$/, what);
-
-  /** Returns the line of CSV for a VRP: a text such as "10.0.0.0/8-16 AS64496", or an object. */
-  function vrpLine(vrp, what) {
-    const parts = typeof vrp === "string" ? /^(\S+?)(?:-([0-9]+))? (\S+)$/.exec(vrp) : null;
-    if (typeof vrp === "string") {
-      if (parts === null) throw wrong(`${what}: ${shown(vrp)} is no VRP such as "10.0.0.0/8-16 AS64496"`);
-      return `${asnField(parts[3], what)},${prefixField(parts[1], what)},${parts[2] ?? ""}`;
-    }
-    if (vrp === null || typeof vrp !== "object") throw wrong(`${what}: ${shown(vrp)} is no VRP`);
-    const { prefix, maxLength, asn } = vrp;
-    const most = maxLength === undefined || maxLength === null ? "" : integer(maxLength, 255, `${what}.maxLength`);
-    return `${asnField(asn, `${what}.asn`)},${prefixField(prefix, `${what}.prefix`)},${most}`;
+  /** Returns the text of an object with a prefix, an AS number and, for a VRP, perhaps a maximum length. */
+  function objectText(item, { hasMost }, what) {
+    if (item === null || typeof item !== "object") throw wrong(`${what}: ${shown(item)} is no text and no object`);
+    const { prefix, maxLength, asn } = item, isNumber = typeof asn === "number";
+    const isLong = hasMost && maxLength !== undefined && maxLength !== null;
+    const most = isLong ? `-${integer(maxLength, 255, `${what}.maxLength`)}` : "";
+    const number = isNumber ? integer(asn, 0xffffffff, `${what}.asn`) : wordOf(asn, /^[ASas0-9]+$/, `${what}.asn`);
+    return `${wordOf(prefix, /^[0-9A-Fa-f:./]+$/, `${what}.prefix`)}${most} ${number}`;
   }
 
-  /** Returns the line of CSV for a route: a text such as "10.0.0.0/8 AS64496", or an object. */
-  function routeLine(route, what) {
-    if (typeof route === "string") {
-      const words = route.split(" ");
-      if (words.length !== 2) throw wrong(`${what}: ${shown(route)} is no route such as "10.0.0.0/8 AS64496"`);
-      return `${asnField(words[1], what)},${prefixField(words[0], what)},`;
-    }
-    if (route === null || typeof route !== "object") throw wrong(`${what}: ${shown(route)} is no route`);
-    return `${asnField(route.asn, `${what}.asn`)},${prefixField(route.prefix, `${what}.prefix`)},`;
-  }
+  const VRPS = { call: "pigy_vrp_from_text", hasMost: true };
+  const ROUTES = { call: "pigy_route_from_text", hasMost: false };
 
   const isOne = (value) => typeof value === "string" || (value !== null && typeof value === "object" &&
     !hasOctets(value) && !(value instanceof Structs) && typeof value[Symbol.iterator] !== "function");
 
-  /** Returns structs for a buffer of structs, or for texts and objects, which the module reads as lines of CSV. A route
-   * has the layout of a VRP without its maximum length. */
-  function structsOf(instance, given, lineOf, what) {
+  /** Returns structs for a buffer of structs, or for texts and objects, each of which the module reads as a text. */
+  function structsOf(instance, given, kind, what) {
     if (given instanceof Structs) given = given.octets;
     if (hasOctets(given)) {
       const octets = octetsOf(given, what);
@@ -369,21 +351,42 @@ globalThis.Pigyelund = (function make() {
     }
     if (isOne(given) || typeof given?.[Symbol.iterator] !== "function")
       throw wrong(`${what}: ${shown(given)} is neither a list nor a buffer`);
-    const lines = ["ASN,Prefix,Max Length"];
-    for (const item of given) lines.push(lineOf(item, `${what}[${lines.length - 1}]`));
-    if (lines.length === 1) return new Uint8Array(0);
-    return readStructs(instance, encoded(lines.join("\n"), what), (line) => ({ index: line - 2 }));
+    const texts = [];
+    for (const item of given)
+      texts.push(typeof item === "string" ? item : objectText(item, kind, `${what}[${texts.length}]`));
+    return framed(instance, (frame) => textStructs(frame, texts, kind.call));
   }
 
-  /** Reads a file of VRPs into structs. */
-  function readStructs(instance, file, placeOf) {
-    let line = 0;
-    return listed(instance, STRUCT, Math.ceil(file.byteLength / STRUCT) + 1, (frame, out, capacity, length) => {
-      const at = frame.word();
-      const status = instance.call("pigy_vrps_read", ...frame.given(file), out, capacity, length, BigInt(at));
-      line = instance.word(at);
+  /** Returns the structs of texts, of which each is read by a call. */
+  function textStructs(frame, texts, call) {
+    const { instance } = frame, found = new Uint8Array(texts.length * STRUCT), encoder = new TextEncoder();
+    let room = 0, at = 0;
+    const out = frame.room(STRUCT);
+    texts.forEach((text, index) => {
+      if (3 * text.length > room) at = frame.room(room = Math.max(256, 6 * text.length));
+      const { written } = encoder.encodeInto(text, instance.octets(at, room));
+      const status = instance.call(call, BigInt(at), BigInt(written), BigInt(out));
+      if (status !== STATUS.OK) throw errorFor(instance, status, { index });
+      found.set(instance.octets(out, STRUCT), index * STRUCT);
+    });
+    return found;
+  }
+
+  /** Reads a file into structs, by a call that stores further numbers after the length. Returns the structs, and all
+   * numbers but the last, which is a line. */
+  function readStructs(name, file, itemOf, words, count) {
+    const instance = loaded(), octets = octetsOf(file, "file");
+    let numbers = [];
+    const placeOf = () => (numbers[count - 1] === 0 ? {} : { line: numbers[count - 1] });
+    const room = Math.ceil(octets.byteLength / STRUCT) + 1;
+    const found = listed(instance, STRUCT, room, (frame, out, capacity, length) => {
+      const places = Array.from({ length: count }, () => frame.word());
+      const given = [...frame.given(octets), ...words, out, capacity, length, ...places.map(BigInt)];
+      const status = instance.call(name, ...given);
+      numbers = places.map((at) => instance.word(at));
       return status;
-    }, () => placeOf(line));
+    }, placeOf);
+    return [new Structs(found, itemOf), ...numbers.slice(0, -1)];
   }
 
   // ---- Sets ----
@@ -508,7 +511,7 @@ globalThis.Pigyelund = (function make() {
 
     containsPrefix(prefix) {
       const { instance, at } = Handle.of(this, Resources, "this");
-      const route = structsOf(instance, [{ prefix, asn: 0 }], routeLine, "prefix");
+      const route = structsOf(instance, [{ prefix, asn: 0 }], ROUTES, "prefix");
       const struct = new Uint8Array([...route.subarray(0, 16), route[20], route[21]]);
       return Resources.#answer(instance, (frame, out) =>
         instance.call("pigy_resources_contains_prefix", at, frame.given(struct)[0], out));
@@ -613,6 +616,23 @@ globalThis.Pigyelund = (function make() {
     return reason === NUMBER.INVALID_AS ? "invalid-as" : "invalid-length";
   }
 
+  /** Validates routes by a call whose first arguments are those of `wordsOf`. Returns two arrays of numbers for a
+   * buffer, a word for one route, and a list of words for a list. */
+  function validated(instance, routes, name, wordsOf) {
+    const isSingle = isOne(routes), structs = structsOf(instance, isSingle ? [routes] : routes, ROUTES, "routes");
+    const count = structs.byteLength / STRUCT;
+    const found = framed(instance, (frame) => {
+      const [out, reasons, length, index] = [frame.room(count), frame.room(count), frame.word(), frame.word()];
+      const outs = [out, count, reasons, count, length, index].map(BigInt);
+      const status = instance.call(name, ...wordsOf(frame), ...counted(frame, structs), ...outs);
+      if (status !== STATUS.OK) throw errorFor(instance, status, { index: instance.word(index) });
+      return { validities: instance.octets(out, count).slice(), reasons: instance.octets(reasons, count).slice() };
+    });
+    if (hasOctets(routes) || routes instanceof Structs) return found;
+    const words = Array.from(found.validities, (it, index) => validityText(it, found.reasons[index]));
+    return isSingle ? words[0] : words;
+  }
+
   /** A table of VRPs (RFC 6811). It never changes. */
   class Table extends Handle {
     constructor(vrps) {
@@ -621,7 +641,7 @@ globalThis.Pigyelund = (function make() {
     }
 
     static #new(instance, vrps) {
-      const structs = structsOf(instance, vrps, vrpLine, "vrps");
+      const structs = structsOf(instance, vrps, VRPS, "vrps");
       return Table.#made(instance, (frame, out, index) =>
         instance.call("pigy_table_new", ...counted(frame, structs), out, index));
     }
@@ -646,24 +666,13 @@ globalThis.Pigyelund = (function make() {
 
     validate(routes) {
       const { instance, at } = Handle.of(this, Table, "this");
-      const isSingle = isOne(routes), structs = structsOf(instance, isSingle ? [routes] : routes, routeLine, "routes");
-      const count = structs.byteLength / STRUCT;
-      const found = framed(instance, (frame) => {
-        const [out, reasons, length, index] = [frame.room(count), frame.room(count), frame.word(), frame.word()];
-        const outs = [out, count, reasons, count, length, index].map(BigInt);
-        const status = instance.call("pigy_table_validate_routes", at, ...counted(frame, structs), ...outs);
-        if (status !== STATUS.OK) throw errorFor(instance, status, { index: instance.word(index) });
-        return { validities: instance.octets(out, count).slice(), reasons: instance.octets(reasons, count).slice() };
-      });
-      if (hasOctets(routes) || routes instanceof Structs) return found;
-      const words = Array.from(found.validities, (it, index) => validityText(it, found.reasons[index]));
-      return isSingle ? words[0] : words;
+      return validated(instance, routes, "pigy_table_validate_routes", () => [at]);
     }
 
     /** Returns for each route whether its validity differs in the next table. */
     revalidate(next, routes) {
       const [instance, first, second] = both(this, next, Table, "next");
-      const structs = structsOf(instance, routes, routeLine, "routes"), count = structs.byteLength / STRUCT;
+      const structs = structsOf(instance, routes, ROUTES, "routes"), count = structs.byteLength / STRUCT;
       const found = framed(instance, (frame) => {
         const [out, length, index] = [frame.room(count), frame.word(), frame.word()];
         const outs = [out, count, length, index].map(BigInt);
@@ -677,7 +686,7 @@ globalThis.Pigyelund = (function make() {
     withChanges(announced, withdrawn) {
       const { instance, at } = Handle.of(this, Table, "this");
       const lists = [[announced, "announced"], [withdrawn, "withdrawn"]].map(([vrps, what]) =>
-        structsOf(instance, vrps, vrpLine, what));
+        structsOf(instance, vrps, VRPS, what));
       return new Table(Table.#made(instance, (frame, out, index) =>
         instance.call("pigy_table_with_changes", at, ...lists.flatMap((it) => counted(frame, it)), out, index)));
     }
@@ -704,7 +713,7 @@ globalThis.Pigyelund = (function make() {
     /** Returns the VRPs that cover a route, each with the reasons why it does not match. */
     covering(route) {
       const { instance, at } = Handle.of(this, Table, "this");
-      const struct = structsOf(instance, hasOctets(route) ? route : [route], routeLine, "route");
+      const struct = structsOf(instance, hasOctets(route) ? route : [route], ROUTES, "route");
       if (struct.byteLength !== STRUCT) throw wrong("route: one route is expected");
       const octets = listed(instance, 28, 64, (frame, out, capacity, length) =>
         instance.call("pigy_table_covering", at, frame.given(struct)[0], out, capacity, length));
@@ -733,10 +742,10 @@ globalThis.Pigyelund = (function make() {
   const counted = (frame, structs) => [frame.given(structs)[0], BigInt(structs.byteLength / STRUCT)];
 
   /** Reads the VRPs of a validator's file. */
-  function readVrps(file) {
-    const octets = octetsOf(file, "file");
-    return new Structs(readStructs(loaded(), octets, (line) => (line === 0 ? {} : { line })), vrpOf);
-  }
+  const readVrps = (file) => readStructs("pigy_vrps_read", file, vrpOf, [], 1)[0];
+
+  /** Reads the routes of lines, as the program origins does. */
+  const readRoutes = (lines) => readStructs("pigy_routes_read", lines, routeOf, [], 1)[0];
 
   /** Returns the answer of respath to a line. */
   function answer(line) {
@@ -770,7 +779,8 @@ globalThis.Pigyelund = (function make() {
     return given === undefined ? facts : {};
   }
 
-  const names = { Error: PigyelundError, Resources, Table, addressText, answer, load, readVrps, validityText };
+  const names = { Error: PigyelundError, Resources, Table, addressText, answer, load, readRoutes,
+    readVrps, validityText };
   // a page that was opened as a file can start a worker only from a text
   return Object.freeze(Object.defineProperty(names, "source", { value: `globalThis.Pigyelund = (${make})();\n` }));
 })();

@@ -247,6 +247,25 @@ const GLUE = {
   },
 };
 
+Object.assign(GLUE, {
+  routes(row) {
+    same(row, () => [inRow(Pigyelund.readRoutes(row.first[0]).octets, 22), []]);
+  },
+  vrp_from_text(row) {
+    const text = decoded(row.first[0]);
+    if (text !== null) same(row, () => [inRow(new Table([text]).vrps().octets, 23), []]);
+  },
+  route_from_text(row) {
+    const text = decoded(row.first[0]);
+    if (text === null) return;
+    if (row.status !== 0) return same(row, () => new Table([]).validate(text));
+    const same = joined([row.expected[0], [row.expected[0][21]]]); // the VRP of the same prefix and AS
+    assert.equal(new Table([objectOf(same)]).covering(text).length, 1, row.line);
+  },
+  vrp_text() {},
+  route_text() {},
+});
+
 for (const name of ["union", "intersection", "difference", "symmetric_difference"]) {
   const method = name.replace(/_(.)/, (_, letter) => letter.toUpperCase());
   GLUE[name] = (row) => {
@@ -363,6 +382,35 @@ const RAW = {
     row.expected),
   answer: (row) => sameRaw(row, "pigy_answer", () => raw.given(row.first[0]), [1], [row.expected[0]]),
 };
+for (const [name, size] of [["vrp", 23], ["route", 22]]) {
+  RAW[`${name}_from_text`] = (row) => {
+    const at = raw.room(24, 0xa5), status = raw.exports[`pigy_${name}_from_text`](...raw.given(row.first[0]), at) >>> 0;
+    const expected = row.status === 0 ? struct(row.expected[0]).subarray(0, size) : new Uint8Array(size);
+    assert.deepEqual([status, hex(raw.octets(at, size))], [row.status, hex(expected)], row.line);
+    raw.end();
+  };
+  RAW[`${name}_text`] = (row) => sameRaw(row, `pigy_${name}_text`, () => [raw.given(struct(row.first[0]))[0]], [1],
+    [row.expected[0]]);
+}
+
+/** Compares a call that reads structs, without their padding, for ample, exact and no capacity. */
+function sameStructs(row, name, size, words, numbers) {
+  const count = row.expected[0].length / size;
+  const bare = (octets) => cut(octets, 24).map((it) => hex(it.subarray(0, size)));
+  for (const capacity of [count + 3, count, 0]) {
+    const out = raw.room(capacity * 24, 0xa5), places = [count, ...numbers].map(() => raw.room(8, 7));
+    const status = raw.exports[name](...raw.given(row.first[0]), ...words, out, BigInt(capacity), ...places) >>> 0;
+    assert.equal(status, count <= capacity ? row.status : STATUS.TOO_SMALL, row.line);
+    assert.deepEqual(places.map((at) => raw.word(at)), [count, ...numbers], row.line);
+    const found = bare(raw.octets(out, capacity * 24)), written = count <= capacity ? count : 0;
+    assert.deepEqual(found.slice(0, written), bare(structs(row.expected[0], size)).slice(0, written), row.line);
+    assert.ok(found.slice(written).every((it) => /^(a5)*$/.test(it)), row.line);
+    raw.end();
+  }
+}
+
+RAW.read = (row) => sameStructs(row, "pigy_vrps_read", 23, [], [row.number]);
+RAW.routes = (row) => sameStructs(row, "pigy_routes_read", 22, [], [row.number]);
 for (const name of ["union", "intersection", "difference"])
   RAW[name] = (row) => sameRaw(row, `pigy_${name}`, () => [...set(row.first), ...set(row.second), row.numbers[0]],
     [1, 1], row.expected);

@@ -1,5 +1,7 @@
 // Wrong calls: tsc --strict refuses each line that begins with a call.
-import { Resources, Table, answer, load, readVrps, validityText } from "../pigyelund";
+import {
+  Resources, Table, answer, load, readRoutes, readVrps, validityText,
+} from "../pigyelund";
 
 declare const set: Resources;
 declare const table: Table;
@@ -44,3 +46,4 @@ readVrps(der)[0];
 answer(der);
 load("module.wasm");
 validityText("valid", 0);
+readRoutes("10.0.0.0/8 AS1");

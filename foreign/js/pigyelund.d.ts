@@ -170,8 +170,14 @@ export function addressText(octets: Uint8Array): string;
 export function answer(line: string): string;
 /** Reads the VRPs of a validator's file. */
 export function readVrps(file: Octets): Structs<Vrp>;
+/** Reads the VRPs of a validator's file that have not expired. The time is in seconds since 1970-01-01 UTC. */
+export function readUnexpiredVrps(file: Octets, time: number): { vrps: Structs<Vrp>; expired: number };
 /** Reads the routes of lines, as the program origins does: also lines of `bgpdump -m`. */
 export function readRoutes(lines: Octets): Structs<Route>;
+/** Validates routes by the VRPs of all tables together. */
+export function validateRoutes(tables: Iterable<Table>, routes: RouteStructs): Validities;
+export function validateRoutes(tables: Iterable<Table>, route: GivenRoute): Validity;
+export function validateRoutes(tables: Iterable<Table>, routes: Iterable<GivenRoute>): Validity[];
 /** Returns the word of a validity and of its reason. */
 export function validityText(validity: number, reason: number): Validity;
 
@@ -183,7 +189,9 @@ declare const Pigyelund: {
   readonly answer: typeof answer;
   readonly load: typeof load;
   readonly readRoutes: typeof readRoutes;
+  readonly readUnexpiredVrps: typeof readUnexpiredVrps;
   readonly readVrps: typeof readVrps;
+  readonly validateRoutes: typeof validateRoutes;
   readonly validityText: typeof validityText;
   /** The text of the script, for a worker. */
   readonly source: string;

@@ -744,8 +744,26 @@ globalThis.Pigyelund = (function make() {
   /** Reads the VRPs of a validator's file. */
   const readVrps = (file) => readStructs("pigy_vrps_read", file, vrpOf, [], 1)[0];
 
+  /** Reads the VRPs of a validator's file that have not expired at a time in seconds since 1970. */
+  function readUnexpiredVrps(file, time) {
+    const words = [BigInt(integer(time, Number.MAX_SAFE_INTEGER, "time"))];
+    const [vrps, expired] = readStructs("pigy_vrps_read_unexpired", file, vrpOf, words, 2);
+    return { vrps, expired };
+  }
+
   /** Reads the routes of lines, as the program origins does. */
   const readRoutes = (lines) => readStructs("pigy_routes_read", lines, routeOf, [], 1)[0];
+
+  /** Validates routes by several tables at once. */
+  function validateRoutes(tables, routes) {
+    if (typeof tables?.[Symbol.iterator] !== "function") throw wrong(`tables: ${shown(tables)} is no list`);
+    const held = [...tables].map((it, at) => Handle.of(it, Table, `tables[${at}]`));
+    const instance = held[0]?.instance ?? loaded();
+    if (held.some((it) => it.instance !== instance)) throw wrong("tables: they are of several calls of Pigyelund.load");
+    const handles = new BigUint64Array(held.map((it) => it.at));
+    return validated(instance, routes, "pigy_tables_validate_routes", (frame) =>
+      [frame.given(new Uint8Array(handles.buffer))[0], BigInt(held.length)]);
+  }
 
   /** Returns the answer of respath to a line. */
   function answer(line) {
@@ -780,7 +798,7 @@ globalThis.Pigyelund = (function make() {
   }
 
   const names = { Error: PigyelundError, Resources, Table, addressText, answer, load, readRoutes,
-    readVrps, validityText };
+    readUnexpiredVrps, readVrps, validateRoutes, validityText };
   // a page that was opened as a file can start a worker only from a text
   return Object.freeze(Object.defineProperty(names, "source", { value: `globalThis.Pigyelund = (${make})();\n` }));
 })();

@@ -184,6 +184,14 @@ const GLUE = {
     for (const vrps of forms(row.first[0], 23))
       for (const routes of forms(row.second[0], 22))
         same(row, () => closing(new Table(vrps), (table) => validated(table, routes)));
+    const vrps = cut(structs(row.first[0], 23), 24);
+    const halves = [0, 1].map((half) => joined(vrps.filter((_, at) => at % 2 === half)));
+    if (row.status === 0 && raw.exports.pigy_tables_validate_routes)
+      closing(new Table(halves[0]), (even) => closing(new Table(halves[1]), (odd) =>
+        same(row, () => {
+          const both = { validate: (it) => Pigyelund.validateRoutes([even, odd], it) };
+          return validated(both, structs(row.second[0], 22));
+        })));
     if (row.status === 0)
       closing(new Table(structs(row.first[0], 23)), (table) =>
         cut(row.second[0], 22).map(objectOf).forEach((it, at) => {
@@ -250,6 +258,15 @@ const GLUE = {
 Object.assign(GLUE, {
   routes(row) {
     same(row, () => [inRow(Pigyelund.readRoutes(row.first[0]).octets, 22), []]);
+  },
+  unexpired(row) {
+    const [high, low] = row.numbers, time = high * 2 ** 32 + low;
+    if (!Number.isSafeInteger(time)) return;
+    same(row, () => {
+      const { vrps, expired } = Pigyelund.readUnexpiredVrps(row.first[0], time);
+      assert.equal(expired, row.number, row.line);
+      return [inRow(vrps.octets, 23), []];
+    });
   },
   vrp_from_text(row) {
     const text = decoded(row.first[0]);
@@ -411,6 +428,10 @@ function sameStructs(row, name, size, words, numbers) {
 
 RAW.read = (row) => sameStructs(row, "pigy_vrps_read", 23, [], [row.number]);
 RAW.routes = (row) => sameStructs(row, "pigy_routes_read", 22, [], [row.number]);
+RAW.unexpired = (row) => {
+  const [high, low] = row.numbers.map(BigInt), last = row.status === 0 ? [row.number, 0] : [0, row.number];
+  sameStructs(row, "pigy_vrps_read_unexpired", 23, [high << 32n | low], last);
+};
 for (const name of ["union", "intersection", "difference"])
   RAW[name] = (row) => sameRaw(row, `pigy_${name}`, () => [...set(row.first), ...set(row.second), row.numbers[0]],
     [1, 1], row.expected);

@@ -1,6 +1,6 @@
 // Wrong calls: tsc --strict refuses each line that begins with a call.
 import {
-  Resources, Table, answer, load, readRoutes, readVrps, validityText,
+  Resources, Table, answer, load, readRoutes, readUnexpiredVrps, readVrps, validateRoutes, validityText,
 } from "../pigyelund";
 
 declare const set: Resources;
@@ -46,4 +46,8 @@ readVrps(der)[0];
 answer(der);
 load("module.wasm");
 validityText("valid", 0);
+readUnexpiredVrps(der);
+readUnexpiredVrps(der, new Date());
 readRoutes("10.0.0.0/8 AS1");
+validateRoutes(table, []);
+validateRoutes([set], []);

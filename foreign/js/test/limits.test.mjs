@@ -68,22 +68,25 @@ test("what is no text, no list and no object of ours", () => {
     assert.throws(run, TypeError);
 });
 
-test("texts that could be other lines of a file", () => {
-  const table = new Table([]);
-  const prefix = "10.0.0.0/8";
-  for (const it of [`${prefix},24`, `${prefix}\n`, "\n", ",", "", ` ${prefix}`, `${prefix}\r`, `"${prefix}"`, "P"]) {
+test("texts of VRPs and of routes", () => {
+  const table = new Table([]), prefix = "10.0.0.0/8";
+  for (const it of [`${prefix},24`, `${prefix}\n`, `${prefix}-24`, ",", "", ` ${prefix}`, `${prefix} AS1`, "P"]) {
     refused(() => new Table([{ prefix: it, asn: 1 }]));
     refused(() => table.validate([{ prefix: it, asn: 1 }, ROUTE]));
-    refused(() => new Table([`${it} AS1 AS2`]));
-    refused(() => table.validate(`${it}  AS1`));
   }
-  for (const asn of ["ASN", "AS1,10.0.0.0/8", "AS1\n", "", "-1", "+1", "1.5", "1e3", "0x1"])
-    refused(() => new Table([{ prefix: "10.0.0.0/8", asn }]));
-  for (const [prefix, code] of [["10.0.0.1/8", "BAD_LINE"], ["10.0.0.0/33", "BAD_LINE"], ["::/129", "BAD_LINE"]]) {
-    const error = errorOf(() => new Table([ROUTE, { prefix, asn: 1 }, ROUTE]));
-    assert.deepEqual([error.code, error.index], [code, 1]);
+  for (const asn of ["ASN", `AS1 ${prefix}`, "AS1\n", "", "-1", "+1", "1.5", "1e3", "0x1"])
+    refused(() => new Table([{ prefix, asn }]));
+  const long = `${prefix} AS${"0".repeat(100_000)}1`;
+  assert.equal(new Table([long, { prefix, asn: "as1" }]).length, 2);
+  for (const it of ["", "\n", prefix, "AS1", `${prefix},AS1`, `${prefix} AS1 AS2`, `${prefix} AS1\n${prefix} AS2`,
+    "10.0.0.1/8 AS1", "\ud800 AS1", "x".repeat(100_000)]) {
+    for (const [run, code] of [[() => new Table([ROUTE, it, ROUTE]), "BAD_LINE"],
+      [() => table.validate([ROUTE, it, ROUTE]), "BAD_ROUTE"]]) {
+      const error = errorOf(run);
+      assert.deepEqual([error.code, error.index], [code, 1], it.slice(0, 60));
+    }
+    assert.equal(errorOf(() => table.validate(it)).index, 0);
   }
-  assert.equal(errorOf(() => new Table([{ prefix: "f", asn: "AS99999999999" }])).index, 0);
 });
 
 test("buffers of structs", () => {

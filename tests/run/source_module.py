@@ -1,8 +1,7 @@
 #!/usr/bin/env python3
 """source_module.py: finds a web/module.js whose octets and verdict are not in docs/VERDICTS, or with other exports.
 
-web/make writes both files. The exports are the calls of foreign/c/exports.map, the memory, malloc and free. Sources
-that have changed since are no finding, since module.js names its commit. The status is 1 if there is a finding.
+The exports are the calls of foreign/c/exports.map, memory, malloc and free. The status is 1 if there is a finding.
 """
 
 import base64

@@ -128,6 +128,18 @@ test("a memory of a fixed size ends in errors", async () => {
   assert.equal(errorOf(() => Pigyelund.answer("norm as " + "1,".repeat(1 << 20))).code, "MEMORY");
 });
 
+test("an overflow of the stack traps", async () => {
+  const module = Buffer.from(MODULE), pointer = Buffer.from("428080c0000b", "hex"); // i64.const 1048576 as a global
+  const at = module.indexOf(pointer);
+  assert.ok(at > 0 && module.indexOf(pointer, at + 1) < 0);
+  Buffer.from("42809080000b", "hex").copy(module, at); // 2048
+  const deep = Buffer.from(`{"x":${"[".repeat(120)}${"]".repeat(120)},"roas":[]}`);
+  await Pigyelund.load(MODULE);
+  assert.deepEqual([errorOf(() => Pigyelund.readVrps(deep))].map((it) => [it.code, it.fault]), [["BAD_FILE", 6]]);
+  await Pigyelund.load(module);
+  assert.equal(errorOf(() => Pigyelund.readVrps(deep)).code, "TRAPPED");
+});
+
 test("malloc of the module at its limits", async () => {
   const { exports } = await Raw.of(MODULE);
   for (const size of [2n ** 63n, 2n ** 63n - 1n, 2n ** 64n - 1n, 2n ** 32n, 2n ** 46n, 2n ** 32n - 2n ** 20n])

@@ -1,0 +1,131 @@
+"use strict";
+/* The cards of the part "Resources": the text and the mode of the anchor and of each certificate, and dropped files. */
+const MOST_CERTIFICATE = 1 << 20;
+
+const cards = () => [...by("claims").children];
+const textOf = (card) => card.querySelector("textarea");
+const modeOf = (card) => card.querySelector("input[type=radio]:checked")?.value ?? "anchor";
+
+/** Numbers the cards, and names their controls: a path may have any number of certificates. */
+function nameCards() {
+  cards().forEach((card, index) => {
+    const name = index ? `Certificate ${index}` : "Trust anchor";
+    card.querySelector("legend").textContent = name;
+    textOf(card).setAttribute("aria-label", `Resources of ${name}`);
+    card.querySelector("input[type=file]").setAttribute("aria-label", `File for ${name}`);
+    card.querySelectorAll(".actions button").forEach((it) => it.setAttribute("aria-label", `${it.textContent} ${name}`));
+    card.querySelectorAll("input[type=radio]").forEach((it) => (it.name = `mode-${index}`));
+    card.querySelector(".up")?.toggleAttribute("disabled", index < 2);
+    textOf(card).disabled = modeOf(card) === "inherit";
+  });
+}
+
+/** Adds a card at the end of the path. The first card is the anchor's, which has no mode and stays. */
+function addCard(mode, text) {
+  const card = by("claim").content.firstElementChild.cloneNode(true);
+  textOf(card).value = text;
+  if (!cards().length) card.querySelectorAll(".modes, .actions button").forEach((it) => it.remove());
+  else for (const it of card.querySelectorAll("input[type=radio]")) it.checked = it.value === mode;
+  card.addEventListener("input", (event) => {
+    if (event.target === textOf(card)) note(card, "");
+    pathChanged();
+  });
+  card.querySelector("input[type=file]").addEventListener("change", (event) => fillCard(card, event.target.files[0]));
+  onDrop(card, (files) => fillCard(card, files[0]));
+  const act = (name, call) => card.querySelector(name)?.addEventListener("click", () => (call(), pathChanged()));
+  act(".up", () => card.previousElementSibling.before(card));
+  act(".remove", () => (card.remove(), by("add").focus()));
+  by("claims").append(card);
+  return card;
+}
+
+function note(card, text) {
+  const place = card.querySelector(".note");
+  place.textContent = text;
+  place.hidden = !text;
+}
+
+/** Fills a card with the resource extensions of a certificate, as DER in hexadecimal. */
+async function fillCard(card, file) {
+  if (!file) return;
+  try {
+    if (file.size > MOST_CERTIFICATE) throw new Error("the file is above 1 MiB");
+    const found = resourceExtensions(new Uint8Array(await file.arrayBuffer()));
+    textOf(card).value = [found.as, found.ip].filter(Boolean).map(hexOf).join("\n");
+    const mode = card.querySelector(`input[type=radio][value=${found.mode}]`);
+    if (mode) mode.checked = true;
+    note(card, `From ${file.name}. JavaScript found its extensions; this step is tested, not proved.`);
+  } catch (fault) {
+    textOf(card).value = "";
+    note(card, `${file.name}: ${fault.message}. A certificate in DER is expected.`);
+  }
+  pathChanged();
+}
+
+/** Adds a card for each file. If the anchor is empty, the first file fills it. */
+async function addFiles(files) {
+  for (const file of files) {
+    const [anchor] = cards(), isFree = cards().length === 1 && !textOf(anchor).value.trim();
+    await fillCard(isFree ? anchor : addCard("refuse", ""), file);
+  }
+}
+
+/** Returns the input as pairs of a mode and a text, as a link has them. */
+const pathPairs = () => [...(by("lenient").checked ? [["lenient", "1"]] : []),
+  ...cards().map((card) => [modeOf(card), textOf(card).value])];
+
+/** Puts pairs of a mode and a text into the cards. */
+function setPath(pairs) {
+  by("claims").replaceChildren();
+  by("lenient").checked = pairs.some(([mode]) => mode === "lenient");
+  addCard("anchor", pairs.find(([mode]) => mode === "anchor")?.[1] ?? "");
+  for (const [mode, text] of pairs) if (["refuse", "trim", "inherit"].includes(mode)) addCard(mode, text);
+  pathChanged();
+}
+
+/** Reads the cards, and shows the answer, or at each card what is wrong with it. */
+function answerPath() {
+  const claims = cards().map((card) => {
+    const place = card.querySelector(".fault"), mode = modeOf(card);
+    place.textContent = "";
+    try {
+      return { mode, ...(mode === "inherit" ? inheritClaim() : claimOf(textOf(card).value)) };
+    } catch (fault) {
+      place.textContent = fault.message;
+      return null;
+    }
+  });
+  try {
+    const wrong = claims.findIndex((it) => !it);
+    if (wrong >= 0) throw new Error(`${wrong ? `Certificate ${wrong}` : "The trust anchor"} has an error`);
+    showPath(claims[0], claims.slice(1), by("lenient").checked);
+  } catch (fault) {
+    show("verdict", element("strong", {}, "No answer. "), fault.message);
+    by("verdict").className = "card verdict bad";
+    show("pictures");
+    show("remains");
+  }
+}
+
+let changed = 0;
+function pathChanged() {
+  nameCards();
+  clearTimeout(changed);
+  changed = setTimeout(answerPath, 150);
+}
+
+function startResources(pairs) {
+  setPath(pairs.length ? pairs : EXAMPLE);
+  by("add").addEventListener("click", () => (textOf(addCard("refuse", "")).focus(), pathChanged()));
+  by("clear").addEventListener("click", () => setPath([]));
+  by("lenient").addEventListener("change", pathChanged);
+  by("path").addEventListener("submit", (event) => event.preventDefault());
+  by("certificates").addEventListener("change", (event) => addFiles([...event.target.files]));
+  onDrop(by("drop-certificates"), addFiles);
+  by("ask").addEventListener("submit", (event) => {
+    event.preventDefault();
+    by("answer").textContent = orNull(() => engine.answer(by("line").value)) ??
+      "error: this is no line of respath. It has norm, der, read, cover or path in front, and then as, v4 or v6.";
+  });
+  new ResizeObserver(pathChanged).observe(by("pictures"));
+}

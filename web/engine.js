@@ -28,7 +28,7 @@ const engine = {
       Pigyelund.Resources.read(as, ip, "lenient");
       return "valid";
     } catch (fault) {
-      return fault.message;
+      return plain(fault);
     }
   },
 

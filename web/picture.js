@@ -99,7 +99,7 @@ function labelsOf(steps, top, right, nameOf) {
     const next = steps[index + 1];
     if (!step.out && (!next || next.out)) write(nameOf(step.end), step.left + step.width);
   });
-  return labels;
+  return { labels, lines: ends.filter((end) => end > -Infinity).length };
 }
 
 /**
@@ -109,13 +109,14 @@ function labelsOf(steps, top, right, nameOf) {
 function pictureOf(rows, { title, width, nameOf, id }) {
   const steps = stepsOf(rows), bottom = 8 + rows.length * ROW.height, right = Math.max(width, 300);
   const at = placed(steps, right - ROW.label - 14);
-  const height = bottom + 8 + ROW.lines * ROW.line;
+  const { labels, lines } = labelsOf(at, bottom, right, nameOf);
+  const height = bottom + 8 + lines * ROW.line;
   const svg = drawn("svg", { viewBox: `0 0 ${right} ${height}`, width: right, height, role: "img", "aria-label": title });
-  for (const [name, lines] of Object.entries(PATTERNS)) {
+  for (const [name, mark] of Object.entries(PATTERNS)) {
     const pattern = { id: `${id}-${name}`, width: 7, height: 7, patternUnits: "userSpaceOnUse" };
     if (name !== "inherited") pattern.patternTransform = "rotate(45)";
     const ground = drawn("rect", { width: 7, height: 7, class: `ground ${name}` });
-    svg.append(drawn("pattern", pattern, ground, drawn("path", { d: lines, class: `mark ${name}` })));
+    svg.append(drawn("pattern", pattern, ground, drawn("path", { d: mark, class: `mark ${name}` })));
   }
   const edges = at.flatMap((step) => [step.left, step.left + step.width]);
   svg.append(drawn("path", { class: "steps", d: edges.map((x) => `M${x.toFixed(1)} 4V${bottom}`).join("") }));
@@ -129,6 +130,6 @@ function pictureOf(rows, { title, width, nameOf, id }) {
       svg.append(drawn("rect", { ...box, class: `bar ${bar.state}` }, said));
     }
   });
-  svg.append(...labelsOf(at, bottom, right, nameOf));
+  svg.append(...labels);
   return { svg, out: at.reduce((sum, step) => sum + (step.out ?? 0), 0), steps: steps.length };
 }

@@ -21,6 +21,7 @@ const REMEDIES = {
   7: "Write the lower address first.",
 };
 
+const plain = (fault) => fault.message.replace(/ \([a-z]+ [0-9]+\)$/, "");
 const octetsOf = (hex) => Uint8Array.from(hex.match(/../g) ?? [], (it) => parseInt(it, 16));
 const setOf = (kind, text) => Pigyelund.Resources.fromText(text, NAMES[kind]);
 const orNull = (call) => {
@@ -48,7 +49,7 @@ function faultOf(line, number) {
   const at = elements.findIndex((it) => !orNull(() => setOf(kind, it)));
   const element = at < 0 ? line : elements[at].trim();
   const where = `line ${number}, element ${Math.max(at, 0) + 1}: ${element.slice(0, 80)}`;
-  return new Error(`${where}: ${faults[kind].message}. ${REMEDIES[faults[kind]?.fault] ?? ""}`);
+  return new Error(`${where}: ${plain(faults[kind])}. ${REMEDIES[faults[kind]?.fault] ?? ""}`);
 }
 
 /** Reads a line as DER in hexadecimal: AS identifiers, or else IP address blocks. Returns null for any other line. */
@@ -143,7 +144,7 @@ function pictureCard(kind, rows, width) {
   const states = [...new Set(rows.flatMap((row) => row.parts.map((it) => it.state)))];
   const legend = states.map((it) => element("span", { className: `key ${it}` }, STATES[it]));
   return element("div", { className: "card" },
-    element("h2", {}, KINDS[kind], element("small", {}, "each step of the axis is a bound that occurs")), svg,
+    element("h2", {}, KINDS[kind], element("small", {}, "each step of the axis is a bound that occurs; widths by the logarithm of the size")), svg,
     element("p", { className: "legend" }, ...legend),
     out ? element("p", {}, `${out} of ${steps} steps of the axis are left out; those next to overclaimed resources stay.`) : "",
     element("details", {}, element("summary", {}, "The picture as a table"), element("div", { className: "wide" }, table)));
@@ -166,14 +167,14 @@ function setCard(title, set) {
 function refusal(path, certificates, lenient) {
   const { sets, refused: { at, fault } } = path, issuer = sets[at], name = `certificate ${at + 1}`;
   if (!fault.excess) {
-    return [element("strong", {}, `Refused at ${name}.`), ` ${fault.message}. Its resources are not read.`];
+    return [element("strong", {}, `Refused at ${name}.`), ` ${plain(fault)}.`];
   }
   const parts = Object.keys(KINDS).flatMap((kind) => rowsOf(kind, path, certificates)[at + 1].parts.filter(
     (it) => it.state === "overclaimed").map((it) => engine.text(it.set, kind)));
   const rest = engine.verify(issuer, { ...certificates[at], mode: "trim" }, lenient);
   const left = Object.keys(KINDS).map((kind) => engine.text(rest, kind)).filter(Boolean).join(", ");
   return [element("strong", {}, `Refused at ${name}.`), " It claims what its issuer does not hold: ",
-    codeOf(parts.join(", ")), ` (${fault.message}). `, element("small", {}, "RFC 6487, 7.2. With trim (RFC 8360) ",
+    codeOf(parts.join(", ")), ". ", element("small", {}, "RFC 6487, 7.2. With trim (RFC 8360) ",
       left ? codeOf(left) : "nothing", " would remain.")];
 }
 

@@ -1,8 +1,7 @@
 "use strict";
 /* The part "Routes": gives files to the worker, and shows the states of their lines. */
 const MOST_FILE = 512 * 2 ** 20, ROWS = 500;
-const LINE_STATES = [["valid", ""], ["not-found", ""], ["invalid", "as"], ["invalid", "length"], ["skipped", ""], ["error", ""]];
-const STATE_NAMES = LINE_STATES.map(([state, reason]) => (reason ? `${state}-${reason}` : state));
+const STATE_NAMES = ["valid", "not-found", "invalid-as", "invalid-length", "skipped", "error"];
 const REASONS = {
   "not-found": "no VRP covers the route",
   "invalid-as": "no covering VRP has its AS",
@@ -88,9 +87,13 @@ function take(data) {
 }
 
 function showResults({ files, vrps }) {
-  const counts = new Array(LINE_STATES.length).fill(0);
-  for (const file of files) for (const state of file.states) counts[state]++;
-  const all = counts.reduce((sum, it) => sum + it, 0);
+  const counts = STATE_NAMES.map(() => 0);
+  let all = 0;
+  for (const file of files) {
+    file.first = all;
+    all += file.states.length;
+    for (const state of file.states) counts[state]++;
+  }
   results = { files, counts, all, rows: null, page: 0 };
   by("stop").disabled = true;
   by("validate").disabled = false;
@@ -110,31 +113,36 @@ function showResults({ files, vrps }) {
   filter();
 }
 
-/** Calls `each` with the file and the index of each line that has the state and the text. */
-function select(only, text, each) {
-  const wanted = STATE_NAMES.indexOf(only);
+/** Returns the numbers of the lines of all files that have the state `only` and the text. */
+function select(only, text) {
+  const wanted = STATE_NAMES.indexOf(only), rows = new Uint32Array(wanted < 0 ? results.all : results.counts[wanted]);
   const needle = text && Array.from(new TextEncoder().encode(text), (it) => String.fromCharCode(it)).join("");
-  for (const file of results.files) {
-    const whole = needle && new TextDecoder("latin1").decode(file.octets);
-    for (let line = 0, at = 0; line < file.states.length; line++) {
-      if (wanted >= 0 && file.states[line] !== wanted) continue;
+  let count = 0;
+  for (const { first, octets, starts, states } of results.files) {
+    const whole = needle && new TextDecoder("latin1").decode(octets);
+    for (let line = 0, at = -1; line < states.length; line++) {
+      if (wanted >= 0 && states[line] !== wanted) continue;
       if (needle) {
-        if (at < file.starts[line]) at = whole.indexOf(needle, file.starts[line]);
+        if (at < starts[line]) at = whole.indexOf(needle, starts[line]);
         if (at < 0) break;
-        if (at >= file.starts[line + 1]) continue;
+        if (at >= starts[line + 1]) continue;
       }
-      each(file, line);
+      rows[count++] = first + line;
     }
   }
+  return rows.subarray(0, count);
 }
 
-const textOfLine = (file, line) => decoder.decode(file.octets.subarray(file.starts[line], file.starts[line + 1])).trimEnd();
-const reasonOf = (file, line) => file.faults.get(line) ?? REASONS[STATE_NAMES[file.states[line]]] ?? "";
+/** Returns what is known of a line: its file, its number in the file, its text, its state and the reason. */
+function lineOf(row) {
+  const file = results.files.findLast((it) => it.first <= row), line = row - file.first;
+  const text = decoder.decode(file.octets.subarray(file.starts[line], file.starts[line + 1])).trimEnd();
+  const name = STATE_NAMES[file.states[line]];
+  return { file, number: line + 1, text, name, reason: file.faults.get(line) ?? REASONS[name] ?? "" };
+}
 
 function filter() {
-  const rows = [];
-  select(by("only").value, by("with").value, (file, line) => rows.push([file, line]));
-  results.rows = rows;
+  results.rows = select(by("only").value, by("with").value);
   showPage(0);
 }
 
@@ -146,24 +154,22 @@ function showPage(page) {
   by("after").disabled = results.page === pages - 1;
   show("page", `${rows.length} rows, page ${results.page + 1} of ${pages}`);
   const head = ["line", "route", "state", "reason"].map((it) => element("th", {}, it));
-  show("rows", element("tr", {}, ...head), ...rows.slice(results.page * ROWS, (results.page + 1) * ROWS).map(([file, line]) => {
-    const [state, reason] = LINE_STATES[file.states[line]], name = STATE_NAMES[file.states[line]];
-    const cells = [String(line + 1), element("code", {}, textOfLine(file, line).slice(0, 300)),
-      element("span", { className: `key ${name}` }, name), reasonOf(file, line)];
-    return element("tr", {}, ...cells.map((it) => element("td", {}, it)));
+  const shown = Array.from(rows.subarray(results.page * ROWS, (results.page + 1) * ROWS), lineOf);
+  show("rows", element("tr", {}, ...head), ...shown.map(({ number, text, name, reason }) => {
+    const cells = [String(number), element("code", {}, text.slice(0, 300)), element("span", { className: `key ${name}` }, name)];
+    return element("tr", {}, ...[...cells, reason].map((it) => element("td", {}, it)));
   }));
 }
 
 /** Saves all lines with their states as CSV. */
 function save() {
   const field = (text) => `"${text.replaceAll('"', '""')}"`, pieces = ["file,line,route,state,reason\r\n"];
-  let piece = [];
-  select("", "", (file, line) => {
-    const name = STATE_NAMES[file.states[line]];
-    piece.push(`${field(file.name)},${line + 1},${field(textOfLine(file, line))},${name},${field(reasonOf(file, line))}\r\n`);
-    if (piece.length === 20000) pieces.push(piece.splice(0).join(""));
-  });
-  const address = URL.createObjectURL(new Blob([...pieces, piece.join("")], { type: "text/csv" }));
+  for (let row = 0, piece = []; row < results.all; row++) {
+    const { file, number, text, name, reason } = lineOf(row);
+    piece.push(`${field(file.name)},${number},${field(text)},${name},${field(reason)}\r\n`);
+    if (piece.length === 20000 || row === results.all - 1) pieces.push(piece.splice(0).join(""));
+  }
+  const address = URL.createObjectURL(new Blob(pieces, { type: "text/csv" }));
   element("a", { href: address, download: "routes.csv" }).click();
   setTimeout(() => URL.revokeObjectURL(address), 60000);
 }

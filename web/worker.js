@@ -71,11 +71,9 @@ function routesWorker() {
       let end = starts[line + 1];
       while (end > start && (octets[end - 1] === 10 || octets[end - 1] === 13)) end--;
       if (space >= end || next(file, COMMA, start) < end) break;
-      csv.set(octets.subarray(space + 1, end), out);
-      out += end - space - 1;
+      for (let at = space + 1; at < end; at++) csv[out++] = octets[at];
       csv[out++] = COMMA;
-      csv.set(octets.subarray(start, space), out);
-      out += space - start;
+      for (let at = start; at < space; at++) csv[out++] = octets[at];
       csv[out++] = COMMA;
       csv[out++] = 10;
     }

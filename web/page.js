@@ -74,16 +74,26 @@ function readFragment() {
   return fragment.length > MOST_LINK ? [] : [...new URLSearchParams(fragment)];
 }
 
+/** Says what the module is: its version, its commit and whether it was proved. */
+function showFacts({ version, commit, proved, ...facts }) {
+  show("built", `${version} · ${proved ? "proved" : "built without proof"} · nothing leaves this page`);
+  show("proved", proved ? "It comes from the proved library of Pigyelund: each function meets its contract for every input." :
+    "This module was built without proof, with checks at run time. So its answers are tested, and not proved.");
+  show("module", ...Object.entries({ version, "built from commit": commit, ...facts }).map(([name, value]) =>
+    element("tr", {}, element("th", { scope: "row" }, name), element("td", {}, codeOf(String(value))))));
+}
+
 async function start() {
   for (const part of ["resources", "routes", "proof"]) by(`show-${part}`).addEventListener("click", () => showPart(part));
   for (const name of ["dragover", "drop"]) addEventListener(name, (event) => event.preventDefault());
   try {
     await engine.start();
   } catch (fault) {
-    show("engine", "This browser cannot run the module: ", fault.message);
+    show("engine", element("strong", {}, "No answers here. "), `${fault.message} ${by("works").textContent}`);
     return;
   }
   by("engine").hidden = true;
+  showFacts(engine.facts);
   const pairs = readFragment(), isOfRoutes = pairs.some(([name]) => name === "routes" || name === "vrps");
   startResources(isOfRoutes ? [] : pairs);
   startRoutes(isOfRoutes ? pairs : []);

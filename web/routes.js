@@ -8,6 +8,21 @@ const REASONS = {
   "invalid-length": "longer than the maximum length of the VRPs with its AS",
   skipped: "withdraws a route, or is no route",
 };
+/* What to do after the fault n of a line of CSV, of an item of JSON, or of a whole file of VRPs. */
+const FIELDS = {
+  4: "Write a number from 0 to 4294967295, with or without AS in front.",
+  5: "Write a prefix such as 192.0.2.0/24, without bits after its length.",
+  6: "Write a decimal number.",
+  7: "The maximum length is at least the prefix length, and at most 32 for IPv4 or 128 for IPv6.",
+};
+const FILE_REMEDIES = {
+  BAD_LINE: { 1: "Save the line as UTF-8.", 2: "A line end was lost, or a field has a comma.",
+    3: "The line was cut, or is a comment.", ...FIELDS },
+  BAD_ITEM: FIELDS,
+  BAD_FILE: { 1: 'Put the array into an object: {"roas": [..]}.', 2: "The file was cut, or is no JSON: export it again.",
+    6: "Run the validator again.", 7: "Write a first line such as ASN,IP Prefix,Max Length, or run rpki-client -c." },
+};
+const ITEMS = "An item has each of asn, prefix and maxLength once; roas is an array.";
 const ROUTES_EXAMPLE = {
   vrps: "ASN,IP Prefix,Max Length\nAS64496,192.0.2.0/23,24",
   routes: "192.0.2.0/24 AS64496\n192.0.2.0/25 AS64496\n192.0.3.0/24 AS64511\n198.51.100.0/24 AS64496",
@@ -82,7 +97,8 @@ function take(data) {
   else if (data.fault) {
     stop();
     progress("");
-    show("state", element("strong", {}, "No answer. "), data.fault);
+    const remedies = FILE_REMEDIES[data.code], remedy = remedies && (remedies[data.number] ?? ITEMS);
+    show("state", element("strong", {}, "No answer. "), remedy ? `${data.fault}. ${remedy}` : data.fault);
   } else if (data.files) showResults(data);
 }
 

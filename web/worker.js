@@ -132,5 +132,5 @@ function routesWorker() {
     postMessage({ files, vrps: table.length }, buffers);
   }
 
-  onmessage = ({ data }) => run(data).catch((fault) => postMessage({ fault: fault.message, code: fault.code }));
+  onmessage = ({ data }) => run(data).catch((fault) => postMessage({ fault: fault.message, code: fault.code, number: fault.number }));
 }

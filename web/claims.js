@@ -1,7 +1,11 @@
 "use strict";
 /* The cards of the part "Resources": the text and the mode of the anchor and of each certificate, and dropped files. */
 const MOST_CERTIFICATE = 1 << 20;
-
+const EXAMPLE = [
+  ["anchor", "AS64496-AS64511\n10.0.0.0/8, 192.0.2.0/24\n2001:db8::/32"],
+  ["refuse", "AS64496\n10.0.0.0/9\n2001:db8:1::/48"],
+  ["refuse", "10.2.0.0/16, 10.200.0.0/14"],
+];
 const cards = () => [...by("claims").children];
 const textOf = (card) => card.querySelector("textarea");
 const modeOf = (card) => card.querySelector("input[type=radio]:checked")?.value ?? "anchor";
@@ -10,10 +14,11 @@ const modeOf = (card) => card.querySelector("input[type=radio]:checked")?.value 
 function nameCards() {
   cards().forEach((card, index) => {
     const name = index ? `Certificate ${index}` : "Trust anchor";
+    const call = (it, text) => it.setAttribute("aria-label", text);
     card.querySelector("legend").textContent = name;
-    textOf(card).setAttribute("aria-label", `Resources of ${name}`);
-    card.querySelector("input[type=file]").setAttribute("aria-label", `File for ${name}`);
-    card.querySelectorAll(".actions button").forEach((it) => it.setAttribute("aria-label", `${it.textContent} ${name}`));
+    call(textOf(card), `Resources of ${name}`);
+    call(card.querySelector("input[type=file]"), `File for ${name}`);
+    card.querySelectorAll(".actions button").forEach((it) => call(it, `${it.textContent} ${name}`));
     card.querySelectorAll("input[type=radio]").forEach((it) => (it.name = `mode-${index}`));
     card.querySelector(".up")?.toggleAttribute("disabled", index < 2);
     textOf(card).disabled = modeOf(card) === "inherit";
@@ -25,7 +30,7 @@ function addCard(mode, text) {
   const card = by("claim").content.firstElementChild.cloneNode(true);
   textOf(card).value = text;
   if (!cards().length) card.querySelectorAll(".modes, .actions button").forEach((it) => it.remove());
-  else for (const it of card.querySelectorAll("input[type=radio]")) it.checked = it.value === mode;
+  card.querySelectorAll("input[type=radio]").forEach((it) => (it.checked = it.value === mode));
   card.addEventListener("input", (event) => {
     if (event.target === textOf(card)) note(card, "");
     pathChanged();
@@ -40,9 +45,7 @@ function addCard(mode, text) {
 }
 
 function note(card, text) {
-  const place = card.querySelector(".note");
-  place.textContent = text;
-  place.hidden = !text;
+  card.querySelector(".note").textContent = text;
 }
 
 /** Fills a card with the resource extensions of a certificate, as DER in hexadecimal. */
@@ -52,8 +55,7 @@ async function fillCard(card, file) {
     if (file.size > MOST_CERTIFICATE) throw new Error("the file is above 1 MiB");
     const found = resourceExtensions(new Uint8Array(await file.arrayBuffer()));
     textOf(card).value = [found.as, found.ip].filter(Boolean).map(hexOf).join("\n");
-    const mode = card.querySelector(`input[type=radio][value=${found.mode}]`);
-    if (mode) mode.checked = true;
+    card.querySelectorAll("input[type=radio]").forEach((it) => (it.checked = it.value === found.mode));
     note(card, `From ${file.name}. JavaScript found its extensions; this step is tested, not proved.`);
   } catch (fault) {
     textOf(card).value = "";
@@ -62,11 +64,11 @@ async function fillCard(card, file) {
   pathChanged();
 }
 
-/** Adds a card for each file. If the anchor is empty, the first file fills it. */
+/** Adds a card for each file. If the anchor is empty and alone, the first file fills it. */
 async function addFiles(files) {
   for (const file of files) {
-    const [anchor] = cards(), isFree = cards().length === 1 && !textOf(anchor).value.trim();
-    await fillCard(isFree ? anchor : addCard("refuse", ""), file);
+    const [anchor, other] = cards();
+    await fillCard(other || textOf(anchor).value.trim() ? addCard("refuse", "") : anchor, file);
   }
 }
 
@@ -87,17 +89,18 @@ function setPath(pairs) {
 function answerPath() {
   const claims = cards().map((card) => {
     const place = card.querySelector(".fault"), mode = modeOf(card);
-    place.textContent = "";
     try {
-      return { mode, ...(mode === "inherit" ? inheritClaim() : claimOf(textOf(card).value)) };
+      const claim = mode === "inherit" ? inheritClaim() : claimOf(textOf(card).value);
+      place.textContent = "";
+      return { ...claim, mode: mode === "trim" ? "trim" : "refuse" };
     } catch (fault) {
       place.textContent = fault.message;
       return null;
     }
   });
   try {
-    const wrong = claims.findIndex((it) => !it);
-    if (wrong >= 0) throw new Error(`${wrong ? `Certificate ${wrong}` : "The trust anchor"} has an error`);
+    const wrong = claims.indexOf(null);
+    if (wrong >= 0) throw new Error(`${wrong ? `Certificate ${wrong}` : "The trust anchor"} has an error.`);
     showPath(claims[0], claims.slice(1), by("lenient").checked);
   } catch (fault) {
     show("verdict", element("strong", {}, "No answer. "), fault.message);
@@ -107,11 +110,10 @@ function answerPath() {
   }
 }
 
-let changed = 0;
 function pathChanged() {
   nameCards();
-  clearTimeout(changed);
-  changed = setTimeout(answerPath, 150);
+  clearTimeout(pathChanged.later);
+  pathChanged.later = setTimeout(answerPath, 150);
 }
 
 function startResources(pairs) {
@@ -124,8 +126,8 @@ function startResources(pairs) {
   onDrop(by("drop-certificates"), addFiles);
   by("ask").addEventListener("submit", (event) => {
     event.preventDefault();
-    by("answer").textContent = orNull(() => engine.answer(by("line").value)) ??
-      "error: this is no line of respath. It has norm, der, read, cover or path in front, and then as, v4 or v6.";
+    by("answer").textContent = tried(() => Pigyelund.answer(by("line").value)).value ??
+      "error: no answer. A line has norm, der, read, cover or path in front, then as, v4 or v6, and a valid list.";
   });
-  new ResizeObserver(pathChanged).observe(by("pictures"));
+  addEventListener("resize", pathChanged);
 }

@@ -1,22 +1,27 @@
 "use strict";
 /* The frame of the page: elements, the module, the parts, links and the clipboard. No value becomes HTML. */
-const MOST_LINK = 2000;
+const MOST_LINK = 2000, PARTS = ["resources", "routes", "proof"];
 const by = (id) => document.getElementById(id);
 const show = (id, ...inside) => by(id).replaceChildren(...inside);
 
 /** Makes an element with properties, and with texts or other elements inside. */
 function element(name, properties = {}, ...inside) {
-  const { scope, ...rest } = properties, made = Object.assign(document.createElement(name), rest);
-  if (scope) made.setAttribute("scope", scope);
+  const made = Object.assign(document.createElement(name), properties);
   made.append(...inside);
   return made;
 }
 
-function button(text, call, label = text) {
-  const made = element("button", { type: "button", onclick: call }, text);
+function button(text, onclick, label = text) {
+  const made = element("button", { type: "button", onclick }, text);
   made.setAttribute("aria-label", label);
   return made;
 }
+
+/** Makes a table of rows. The first cell of each row is its head. */
+const tableOf = (rows, head = []) => element("table", {},
+  head.length ? element("tr", {}, ...head.map((it) => element("th", { scope: "col" }, it))) : "",
+  ...rows.map(([first, ...rest]) => element("tr", {}, element("th", { scope: "row" }, first),
+    ...rest.map((it) => element("td", {}, it)))));
 
 /** Shows a text as code, and of a long text only the front. Its button copies all of it. */
 const codeOf = (text) => element("code", {}, text.length <= 2000 ? text :
@@ -43,9 +48,9 @@ async function copy(text) {
 
 /** Copies a link whose fragment has pairs of a name and a text. */
 function copyLink(pairs) {
-  const fragment = `#${new URLSearchParams(pairs)}`;
-  if (fragment.length > MOST_LINK) return say(`A link has at most ${MOST_LINK} characters; this has ${fragment.length}.`);
-  return copy(location.href.split("#")[0] + fragment);
+  const fragment = `#${new URLSearchParams(pairs)}`, isLong = fragment.length > MOST_LINK;
+  if (isLong) say(`A link has at most ${MOST_LINK} characters, and this input needs ${fragment.length}.`);
+  else copy(location.href.split("#")[0] + fragment);
 }
 
 /** Calls `take` with the files that are dropped on an element. */
@@ -61,40 +66,43 @@ function onDrop(place, take) {
 }
 
 function showPart(name) {
-  for (const part of ["resources", "routes", "proof"]) {
+  for (const part of PARTS) {
     by(part).hidden = part !== name;
-    by(`show-${part}`).toggleAttribute("aria-current", part === name);
+    if (part === name) by(`show-${part}`).setAttribute("aria-current", "page");
+    else by(`show-${part}`).removeAttribute("aria-current");
   }
-}
-
-/** Reads the fragment of the address: pairs that the part "Resources" or "Routes" takes. */
-function readFragment() {
-  const fragment = location.hash.slice(1);
-  if (fragment.length > MOST_LINK) say(`The link is longer than ${MOST_LINK} characters, and is not used.`);
-  return fragment.length > MOST_LINK ? [] : [...new URLSearchParams(fragment)];
 }
 
 /** Says what the module is: its version, its commit and whether it was proved. */
 function showFacts({ version, commit, proved, ...facts }) {
   show("built", `${version} · ${proved ? "proved" : "built without proof"} · nothing leaves this page`);
-  show("proved", proved ? "It comes from the proved library of Pigyelund: each function meets its contract for every input." :
+  show("proved", proved ? "It is the proved library of Pigyelund: each function meets its contract for every input." :
     "This module was built without proof, with checks at run time. So its answers are tested, and not proved.");
-  show("module", ...Object.entries({ version, "built from commit": commit, ...facts }).map(([name, value]) =>
-    element("tr", {}, element("th", { scope: "row" }, name), element("td", {}, codeOf(String(value))))));
+  show("module", tableOf(Object.entries({ version, "built from commit": commit, ...facts }).map(
+    ([name, value]) => [name, codeOf(String(value))])));
+}
+
+/** Loads the module, and has it answer one line: a browser in which it computes something else is not used. */
+async function loadModule() {
+  if (!globalThis.Pigyelund) throw new Error("A file of the page is missing, or the browser is too old to read it.");
+  showFacts(await Pigyelund.load());
+  const said = Pigyelund.answer("path v4 10.0.0.0/8 | refuse 12.0.0.0/24");
+  if (said !== "refused at step 0: overclaimed IPv4 resources: 12.0.0.0/24") throw new Error("Its answers are wrong.");
 }
 
 async function start() {
-  for (const part of ["resources", "routes", "proof"]) by(`show-${part}`).addEventListener("click", () => showPart(part));
+  for (const part of PARTS) by(`show-${part}`).addEventListener("click", () => showPart(part));
   for (const name of ["dragover", "drop"]) addEventListener(name, (event) => event.preventDefault());
   try {
-    await engine.start();
+    await loadModule();
   } catch (fault) {
     show("engine", element("strong", {}, "No answers here. "), `${fault.message} ${by("works").textContent}`);
     return;
   }
   by("engine").hidden = true;
-  showFacts(engine.facts);
-  const pairs = readFragment(), isOfRoutes = pairs.some(([name]) => name === "routes" || name === "vrps");
+  const isLong = location.hash.length > MOST_LINK, pairs = isLong ? [] : [...new URLSearchParams(location.hash.slice(1))];
+  if (isLong) say(`The link is longer than ${MOST_LINK} characters, and is not used.`);
+  const isOfRoutes = pairs.some(([name]) => name === "routes" || name === "vrps");
   startResources(isOfRoutes ? [] : pairs);
   startRoutes(isOfRoutes ? pairs : []);
   showPart(isOfRoutes ? "routes" : "resources");

@@ -3,70 +3,57 @@
 const MOST_STEPS = 60;
 /* What the states of a part say, and which of them have a pattern of lines. */
 const STATES = {
-  held: "holds",
-  verified: "claims, and its issuer holds",
-  inherited: "inherits",
-  overclaimed: "overclaims",
-  removed: "overclaims, and is reduced by",
-  unchecked: "claims, not checked",
+  held: "holds", verified: "claims, and its issuer holds", inherited: "inherits", overclaimed: "overclaims",
+  removed: "overclaims, and is reduced by", unchecked: "claims, not checked",
 };
 const PATTERNS = { overclaimed: "M0 0V7", removed: "M0 0V7M0 0H7", inherited: "M3 3h1" };
-const ROW = { label: 92, height: 34, bar: 18, letter: 6.3, line: 14, lines: 3 };
+const LABEL = 92, HEIGHT = 34, LETTER = 6.3, LINE = 14, LINES = 3;
 
 /** Makes an element of SVG with attributes, and with texts or other elements inside. */
-function drawn(name, attributes = {}, ...inside) {
+function drawn(name, attributes, ...inside) {
   const made = document.createElementNS("http://www.w3.org/2000/svg", name);
   for (const [key, value] of Object.entries(attributes)) made.setAttribute(key, value);
   made.append(...inside);
   return made;
 }
 
-/** Returns the steps of an axis: neighbours in the ascending list of all bounds of all rows. */
+/** Returns the steps of an axis, and at each step the state of each row that covers it. */
 function stepsOf(rows) {
-  const ranges = rows.flatMap((row) => row.parts.flatMap((part) => part.ranges));
-  const bounds = [...new Set(ranges.flatMap(([first, last]) => [first, last + 1n]))];
-  bounds.sort((a, b) => (a < b ? -1 : 1));
+  const all = rows.flatMap((row, number) => row.parts.flatMap(({ state, ranges }) =>
+    ranges.map(([first, last]) => ({ number, state, first, end: last + 1n }))));
+  const bounds = [...new Set(all.flatMap(({ first, end }) => [first, end]))].sort((a, b) => (a < b ? -1 : 1));
   const at = new Map(bounds.map((bound, index) => [bound, index]));
   const steps = bounds.slice(1).map((end, index) => ({ start: bounds[index], end, states: {} }));
-  rows.forEach((row, number) => {
-    for (const part of row.parts) {
-      for (const [first, last] of part.ranges) {
-        for (let it = at.get(first); it < at.get(last + 1n); it++) steps[it].states[number] = part.state;
-      }
-    }
-  });
+  for (const { number, state, first, end } of all) {
+    for (let it = at.get(first); it < at.get(end); it++) steps[it].states[number] = state;
+  }
   return steps;
 }
 
 /** Returns the indexes of the steps to draw: at most MOST_STEPS, the nearest to what is overclaimed. */
 function stepsToDraw(steps) {
-  const all = steps.map((_, index) => index);
-  if (steps.length <= MOST_STEPS) return all;
-  const isOver = (step) => Object.values(step.states).some((it) => it === "overclaimed" || it === "removed");
-  const distance = new Array(steps.length).fill(Infinity);
-  const walk = (index, from) => (distance[index] = isOver(steps[index]) ? 0 : Math.min(distance[index], from + 1));
-  all.reduce((from, index) => walk(index, from), Infinity);
-  all.reduceRight((from, index) => walk(index, from), Infinity);
-  const near = [...all].sort((a, b) => (distance[a] === distance[b] ? a - b : distance[a] - distance[b]));
-  return near.slice(0, MOST_STEPS).sort((a, b) => a - b);
+  const all = steps.map((_, index) => index), isOver = (it) => it === "overclaimed" || it === "removed";
+  const distance = steps.map(({ states }) => (Object.values(states).some(isOver) ? 0 : steps.length));
+  for (const it of all.slice(1)) distance[it] = Math.min(distance[it], distance[it - 1] + 1);
+  for (const it of all.slice(0, -1).reverse()) distance[it] = Math.min(distance[it], distance[it + 1] + 1);
+  return all.sort((a, b) => distance[a] - distance[b] || a - b).slice(0, MOST_STEPS).sort((a, b) => a - b);
 }
 
-/** Gives each drawn step its place: `left` and `width`. The steps that are left out make one narrow step together. */
+/** Gives each drawn step its place: `left` and `width`. Neighbours that are left out make one narrow step together. */
 function placed(steps, width) {
-  const drawnSteps = [];
-  let before = -1;
-  for (const index of stepsToDraw(steps)) {
-    if (index > before + 1) drawnSteps.push({ out: index - before - 1, states: {} });
-    drawnSteps.push(steps[index]);
-    before = index;
+  const chosen = [];
+  let next = 0;
+  for (const index of [...stepsToDraw(steps), steps.length]) {
+    if (index > next) chosen.push({ out: index - next, states: {} });
+    if (index < steps.length) chosen.push(steps[index]);
+    next = index + 1;
   }
-  if (before < steps.length - 1) drawnSteps.push({ out: steps.length - 1 - before, states: {} });
-  const weight = (step) =>
-    step.out || !Object.keys(step.states).length ? 3 : 3 + Math.log2(Number(step.end - step.start));
-  const unit = width / drawnSteps.reduce((sum, step) => sum + weight(step), 0);
-  let left = ROW.label;
-  return drawnSteps.map((step) => {
-    const at = { ...step, left, width: weight(step) * unit };
+  const isEmpty = (step) => step.out || !Object.keys(step.states).length;
+  const weights = chosen.map((it) => 3 + (isEmpty(it) ? 0 : Math.log2(Number(it.end - it.start))));
+  const unit = width / weights.reduce((sum, it) => sum + it, 0);
+  let left = LABEL;
+  return chosen.map((step, index) => {
+    const at = { ...step, left, width: weights[index] * unit };
     left += at.width;
     return at;
   });
@@ -75,61 +62,56 @@ function placed(steps, width) {
 /** Returns the bars of a row: neighbours of the same state are one bar. */
 function barsOf(steps, number) {
   const bars = [];
-  for (const step of steps) {
-    const state = step.states[number], last = bars[bars.length - 1];
-    if (state && last?.state === state && last.left + last.width > step.left - 0.01) last.width += step.width;
-    else if (state) bars.push({ state, left: step.left, width: step.width });
-  }
+  steps.forEach(({ states: { [number]: state }, left, width }, index) => {
+    if (state && steps[index - 1]?.states[number] === state) bars.at(-1).width += width;
+    else if (state) bars.push({ state, left, width });
+  });
   return bars;
 }
 
 /** Writes the bounds below the axis, each in the first line that has room. The table has all bounds. */
 function labelsOf(steps, top, right, nameOf) {
-  const ends = new Array(ROW.lines).fill(-Infinity), labels = [];
+  const ends = new Array(LINES).fill(0), labels = [];
   const write = (text, x) => {
-    const half = (text.length * ROW.letter) / 2, middle = Math.min(Math.max(x, half), right - half);
-    const line = ends.findIndex((end) => end < middle - half);
+    const half = (text.length * LETTER) / 2, middle = Math.min(Math.max(x, half), right - half);
+    const line = ends.findIndex((end) => end <= middle - half);
     if (line < 0) return;
     ends[line] = middle + half + 6;
-    labels.push(drawn("text", { x: middle, y: top + 12 + line * ROW.line, "text-anchor": "middle" }, text));
+    labels.push(drawn("text", { x: middle, y: top + 12 + line * LINE, "text-anchor": "middle" }, text));
   };
   steps.forEach((step, index) => {
-    if (step.out) write(`… ${step.out} …`, step.left + step.width / 2);
-    else write(nameOf(step.start), step.left);
     const next = steps[index + 1];
+    write(step.out ? `… ${step.out} …` : nameOf(step.start), step.left + (step.out ? step.width / 2 : 0));
     if (!step.out && (!next || next.out)) write(nameOf(step.end), step.left + step.width);
   });
-  return { labels, lines: ends.filter((end) => end > -Infinity).length };
+  return { labels, lines: ends.filter(Boolean).length };
 }
 
 /**
- * Draws rows. Each row has a name and parts; a part has a state and ranges, pairs of a first and a last number.
- * `nameOf` gives the text of a bound. Returns the picture, and the number of steps that are left out.
+ * Draws rows. A row has a name and parts; a part has a state and ranges, pairs of a first and a last number. `nameOf`
+ * gives the text of a bound. Returns the picture, the number of steps, and how many of them are left out.
  */
 function pictureOf(rows, { title, width, nameOf, id }) {
-  const steps = stepsOf(rows), bottom = 8 + rows.length * ROW.height, right = Math.max(width, 300);
-  const at = placed(steps, right - ROW.label - 14);
-  const { labels, lines } = labelsOf(at, bottom, right, nameOf);
-  const height = bottom + 8 + lines * ROW.line;
+  const steps = stepsOf(rows), bottom = 8 + rows.length * HEIGHT, right = Math.max(width, 260);
+  const at = placed(steps, right - LABEL - 14), { labels, lines } = labelsOf(at, bottom, right, nameOf);
+  const height = bottom + 8 + lines * LINE;
   const svg = drawn("svg", { viewBox: `0 0 ${right} ${height}`, width: right, height, role: "img", "aria-label": title });
-  for (const [name, mark] of Object.entries(PATTERNS)) {
+  for (const [name, d] of Object.entries(PATTERNS)) {
     const pattern = { id: `${id}-${name}`, width: 7, height: 7, patternUnits: "userSpaceOnUse" };
     if (name !== "inherited") pattern.patternTransform = "rotate(45)";
     const ground = drawn("rect", { width: 7, height: 7, class: `ground ${name}` });
-    svg.append(drawn("pattern", pattern, ground, drawn("path", { d: mark, class: `mark ${name}` })));
+    svg.append(drawn("pattern", pattern, ground, drawn("path", { d, class: `mark ${name}` })));
   }
   const edges = at.flatMap((step) => [step.left, step.left + step.width]);
-  svg.append(drawn("path", { class: "steps", d: edges.map((x) => `M${x.toFixed(1)} 4V${bottom}`).join("") }));
-  rows.forEach((row, number) => {
-    const y = 8 + number * ROW.height;
-    svg.append(drawn("text", { x: 0, y: y + 17 }, row.name));
-    for (const bar of barsOf(at, number)) {
-      const box = { x: bar.left, y: y + 4, width: Math.max(bar.width, 2), height: ROW.bar, rx: 3 };
-      if (bar.state in PATTERNS) box.fill = `url(#${id}-${bar.state})`;
-      const said = drawn("title", {}, `${row.name} ${STATES[bar.state]} this`);
-      svg.append(drawn("rect", { ...box, class: `bar ${bar.state}` }, said));
+  svg.append(drawn("path", { class: "steps", d: edges.map((x) => `M${x.toFixed(1)} 4V${bottom}`).join("") }), ...labels);
+  rows.forEach(({ name }, number) => {
+    const y = 8 + number * HEIGHT;
+    svg.append(drawn("text", { x: 0, y: y + 17 }, name));
+    for (const { state, left, width: wide } of barsOf(at, number)) {
+      const box = { x: left, y: y + 4, width: Math.max(wide, 2), height: 18, rx: 3, class: `bar ${state}` };
+      if (state in PATTERNS) box.fill = `url(#${id}-${state})`;
+      svg.append(drawn("rect", box, drawn("title", {}, `${name} ${STATES[state]} this`)));
     }
   });
-  svg.append(...labels);
-  return { svg, out: at.reduce((sum, step) => sum + (step.out ?? 0), 0), steps: steps.length };
+  return { svg, steps: steps.length, out: at.reduce((sum, step) => sum + (step.out ?? 0), 0) };
 }

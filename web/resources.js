@@ -1,13 +1,7 @@
 "use strict";
 /* The part "Resources": reads the claims of a path, has the module verify them, and shows the verdict and pictures. */
-const KINDS = { as: "AS numbers", v4: "IPv4", v6: "IPv6" };
-const NAMES = { as: "asn", v4: "ipv4", v6: "ipv6" };
+const KINDS = { as: "AS numbers", v4: "IPv4", v6: "IPv6" }, NAMES = { as: "asn", v4: "ipv4", v6: "ipv6" };
 const UNCHECKED = "Signatures, dates and revocation are not checked; the order is yours.";
-const EXAMPLE = [
-  ["anchor", "AS64496-AS64511\n10.0.0.0/8, 192.0.2.0/24\n2001:db8::/32"],
-  ["refuse", "AS64496\n10.0.0.0/9\n2001:db8:1::/48"],
-  ["refuse", "10.2.0.0/16, 10.200.0.0/14"],
-];
 /* The DER of a certificate that inherits AS numbers, IPv4 and IPv6 addresses (RFC 3779, 2.2.3.5 and 3.2.3.3). */
 const INHERIT = { as: "3004a0020500", ip: "301030060402000105003006040200020500" };
 /* What to do after the fault n of a text, PIGY_BAD_TEXT + n. */
@@ -24,44 +18,40 @@ const REMEDIES = {
 const plain = (fault) => fault.message.replace(/ \([a-z]+ [0-9]+\)$/, "");
 const octetsOf = (hex) => Uint8Array.from(hex.match(/../g) ?? [], (it) => parseInt(it, 16));
 const setOf = (kind, text) => Pigyelund.Resources.fromText(text, NAMES[kind]);
-const orNull = (call) => {
+const textOfSet = (set, kind) => set.text(NAMES[kind]);
+const only = (set, kind) => setOf(kind, textOfSet(set, kind));
+const encoding = (lenient) => (lenient ? "lenient" : "strict");
+const verify = (set, { as, ip }, lenient, mode) => set.verify(as, ip, encoding(lenient), mode);
+
+/** Returns the result of a call, or its error if the module refuses a text, a line or DER. */
+function tried(call) {
   try {
-    return call();
+    return { value: call() };
   } catch (fault) {
-    if (!engine.isRefusal(fault)) throw fault;
-    return null;
+    if (["BAD_TEXT", "BAD_QUERY", "BAD_AS", "BAD_IP", "INHERITED"].includes(fault.code)) return { fault };
+    throw fault;
   }
-};
+}
 
 /** Returns the error of a line that the module refuses as a list of each kind. It names the wrong element. */
 function faultOf(line, number) {
-  const faults = {};
-  for (const kind of Object.keys(KINDS)) {
-    try {
-      setOf(kind, line);
-    } catch (fault) {
-      faults[kind] = fault;
-    }
-  }
-  const other = (kind) => faults[kind]?.fault === 6;
-  const kind = other("v4") ? "v6" : other("v6") ? "v4" : "as";
-  const elements = line.split(",");
-  const at = elements.findIndex((it) => !orNull(() => setOf(kind, it)));
-  const element = at < 0 ? line : elements[at].trim();
-  const where = `line ${number}, element ${Math.max(at, 0) + 1}: ${element.slice(0, 80)}`;
-  return new Error(`${where}: ${plain(faults[kind])}. ${REMEDIES[faults[kind]?.fault] ?? ""}`);
+  const fault = (kind) => tried(() => setOf(kind, line)).fault;
+  const kind = fault("v4")?.fault === 6 ? "v6" : fault("v6")?.fault === 6 ? "v4" : "as", elements = line.split(",");
+  const at = Math.max(0, elements.findIndex((it) => tried(() => setOf(kind, it)).fault));
+  const where = `line ${number}, element ${at + 1}: ${elements[at].trim().slice(0, 80)}`;
+  return new Error(`${where}: ${plain(fault(kind))}. ${REMEDIES[fault(kind).fault] ?? ""}`);
 }
 
 /** Reads a line as DER in hexadecimal: AS identifiers, or else IP address blocks. Returns null for any other line. */
 function derOf(line, number) {
-  const hex = line.replace(/[\s:]/g, "").toLowerCase();
+  const hex = line.replace(/[\s:]/g, "").toLowerCase(), der = octetsOf(hex);
   if (!/^30([0-9a-f]{2}){2,}$/.test(hex)) return null;
-  const textAs = (kind) => orNull(() => engine.answer(`read ${kind} ${hex}`)), der = octetsOf(hex);
-  const [as, v4, v6] = Object.keys(KINDS).map(textAs);
-  if (as !== null) return { as: der, kinds: { as } };
-  if (v4 !== null && v6 !== null) return { ip: der, kinds: { v4, v6 } };
-  const why = `${engine.derFault(der, null)}; ${engine.derFault(null, der)}`;
-  throw new Error(`line ${number}: this is DER neither of AS identifiers nor of IP address blocks: ${why}`);
+  const [as, v4, v6] = Object.keys(KINDS).map((kind) => tried(() => Pigyelund.answer(`read ${kind} ${hex}`)).value);
+  if (as !== undefined) return { as: der, kinds: { as } };
+  if (v4 !== undefined && v6 !== undefined) return { ip: der, kinds: { v4, v6 } };
+  const why = [[der, null], [null, der]].map((it) => tried(() => Pigyelund.Resources.read(...it, "lenient")).fault);
+  const texts = why.map((it) => (it ? plain(it) : "valid")).join("; ");
+  throw new Error(`line ${number}: this is DER neither of AS identifiers nor of IP address blocks: ${texts}`);
 }
 
 /** Returns the extensions that the lines of a claim make, and for each kind its text: a list, inherit or missing. */
@@ -69,15 +59,18 @@ function claimOf(text) {
   const lists = {}, made = {}, kinds = {};
   text.split("\n").forEach((line, index) => {
     if (!line.trim()) return;
-    const kind = Object.keys(KINDS).find((it) => orNull(() => setOf(it, line)));
+    const kind = Object.keys(KINDS).find((it) => tried(() => setOf(it, line)).value);
     const read = kind ? { kinds: { [kind]: line } } : derOf(line, index + 1);
     if (!read) throw faultOf(line, index + 1);
-    const isTwice = kind ? made[kind === "as" ? "as" : "ip"] : (read.as ? kinds.as : kinds.v4 ?? kinds.v6) !== undefined;
-    if (isTwice) throw new Error(`line ${index + 1}: DER has all of an extension; another line has resources of it too`);
+    const before = kind ? made[kind === "as" ? "as" : "ip"] : read.as ? kinds.as : kinds.v4 ?? kinds.v6;
+    if (before !== undefined) {
+      throw new Error(`line ${index + 1}: DER has all of an extension, and another line has resources of it too`);
+    }
     if (kind) lists[kind] = kinds[kind] = lists[kind] === undefined ? line : `${lists[kind]},${line}`;
-    else Object.assign(made, { as: read.as ?? made.as, ip: read.ip ?? made.ip }), Object.assign(kinds, read.kinds);
+    else Object.assign(made, read), Object.assign(kinds, read.kinds);
   });
-  const listed = engine.extensions(Object.entries(lists));
+  const sets = Object.entries(lists).map(([kind, it]) => setOf(kind, it));
+  const listed = sets.length ? sets.reduce((sum, it) => sum.union(it)).der() : { as: null, ip: null };
   return { as: made.as ?? listed.as, ip: made.ip ?? listed.ip,
     kinds: { as: "missing", v4: "missing", v6: "missing", ...kinds } };
 }
@@ -88,108 +81,100 @@ const inheritClaim = () => ({
 
 /** Has the module verify a path. Returns the sets after each verified certificate, and what was refused, if anything. */
 function verifiedPath(anchor, certificates, lenient) {
-  const sets = [engine.read(anchor, lenient)];
+  const sets = [Pigyelund.Resources.read(anchor.as, anchor.ip, encoding(lenient))];
   let refused = null;
   try {
-    engine.verifyPath(sets[0], certificates, lenient);
+    sets[0].verifyPath(certificates.map(({ as, ip, mode }) => ({ as, ip, mode })), encoding(lenient));
   } catch (fault) {
     if (fault.verified === undefined) throw fault;
     refused = { at: fault.verified, fault };
   }
-  for (const it of certificates.slice(0, refused?.at)) sets.push(engine.verify(sets[sets.length - 1], it, lenient));
+  for (const it of certificates.slice(0, refused?.at)) sets.push(verify(sets.at(-1), it, lenient, it.mode));
   return { sets, refused };
+}
+
+/** Returns a part of a row: a state, a set, and the set's ranges of a kind as numbers for the picture. */
+function partOf(state, set, kind) {
+  const number = (octets) => BigInt(`0x${hexOf(octets)}`);
+  const ranges = kind === "as" ? set.asRanges().map(({ min, max }) => [BigInt(min), BigInt(max)]) :
+    set.ipRanges(NAMES[kind]).map(({ minOctets, maxOctets }) => [number(minOctets), number(maxOctets)]);
+  return { state, ranges, text: textOfSet(set, kind) };
 }
 
 /** Returns the rows of a picture: what the anchor holds of a kind, and what each certificate claims of it. */
 function rowsOf(kind, { sets, refused }, certificates) {
-  const part = (state, set) => ({ state, set, ranges: engine.ranges(set, kind) });
-  const rows = [{ name: "anchor", parts: [part("held", engine.only(sets[0], kind))] }];
-  certificates.forEach((certificate, index) => {
-    const text = certificate.kinds[kind], issuer = sets[index] && engine.only(sets[index], kind);
-    const row = { name: `cert. ${index + 1}`, parts: [] };
-    rows.push(row);
-    if (text === "missing" || (text === "inherit" && !issuer)) return;
-    if (text === "inherit") row.parts.push(part("inherited", issuer));
-    else if (!issuer || (refused && index > refused.at)) row.parts.push(part("unchecked", setOf(kind, text)));
-    else {
-      const claim = setOf(kind, text);
-      row.parts.push(part("verified", claim.intersection(issuer)));
-      row.parts.push(part(certificate.mode === "trim" ? "removed" : "overclaimed", claim.difference(issuer)));
-    }
+  const rows = certificates.map(({ kinds: { [kind]: text }, mode }, index) => {
+    const issuer = sets[index] && only(sets[index], kind), isChecked = issuer && !(refused && index > refused.at);
+    const claim = text === "missing" || text === "inherit" ? null : setOf(kind, text);
+    const parts = !claim ? (text === "inherit" && issuer ? [partOf("inherited", issuer, kind)] : []) :
+      !isChecked ? [partOf("unchecked", claim, kind)] : [partOf("verified", claim.intersection(issuer), kind),
+        partOf(mode === "trim" ? "removed" : "overclaimed", claim.difference(issuer), kind)];
+    return { name: `cert. ${index + 1}`, parts: parts.filter((it) => it.ranges.length) };
   });
-  for (const row of rows) row.parts = row.parts.filter((it) => it.ranges.length);
-  return rows;
+  return [{ name: "anchor", parts: [partOf("held", only(sets[0], kind), kind)].filter((it) => it.ranges.length) }, ...rows];
 }
 
 /** Returns the text of the bound `number` of a kind. The module writes the addresses. */
 function boundName(kind, number) {
   if (number >= (kind === "v6" ? 1n << 128n : 1n << 32n)) return "end";
   if (kind === "as") return `AS${number}`;
-  const digits = number.toString(16).padStart(kind === "v4" ? 8 : 32, "0");
-  const parts = digits.match(kind === "v4" ? /../g : /..../g);
+  const parts = number.toString(16).padStart(kind === "v4" ? 8 : 32, "0").match(kind === "v4" ? /../g : /..../g);
   const text = kind === "v4" ? parts.map((it) => parseInt(it, 16)).join(".") : parts.join(":");
-  return engine.answer(`norm ${kind} ${text}`);
+  return Pigyelund.answer(`norm ${kind} ${text}`);
 }
 
 /** Returns the card with the picture of a kind, and the same as a table. */
 function pictureCard(kind, rows, width) {
-  const over = rows.flatMap((row) => row.parts.filter((it) => it.state === "overclaimed" || it.state === "removed"));
-  const title = `${KINDS[kind]}: ${rows.length - 1} certificates, ${over.length ? "some overclaim" : "none overclaims"}`;
-  const { svg, out, steps } = pictureOf(rows, { title, width, nameOf: (it) => boundName(kind, it), id: `fill-${kind}` });
-  const lines = rows.flatMap((row) => row.parts.length ? row.parts.map((it) => [row.name, STATES[it.state], it]) :
-    [[row.name, "claims nothing", null]]);
-  const table = element("table", {}, element("tr", {}, ...["row", "state", KINDS[kind]].map((it) => element("th", {}, it))),
-    ...lines.map(([name, state, it]) => element("tr", {}, element("th", { scope: "row" }, name), element("td", {}, state),
-      element("td", {}, it ? codeOf(engine.text(it.set, kind)) : ""))));
   const states = [...new Set(rows.flatMap((row) => row.parts.map((it) => it.state)))];
-  const legend = states.map((it) => element("span", { className: `key ${it}` }, STATES[it]));
-  return element("div", { className: "card" },
-    element("h2", {}, KINDS[kind], element("small", {}, "each step of the axis is a bound that occurs; widths by the logarithm of the size")), svg,
-    element("p", { className: "legend" }, ...legend),
-    out ? element("p", {}, `${out} of ${steps} steps of the axis are left out; those next to overclaimed resources stay.`) : "",
-    element("details", {}, element("summary", {}, "The picture as a table"), element("div", { className: "wide" }, table)));
+  const isOver = states.some((it) => it === "overclaimed" || it === "removed");
+  const title = `${KINDS[kind]} of ${rows.length - 1} certificates: ${isOver ? "one overclaims" : "none overclaims"}`;
+  const { svg, out, steps } =
+    pictureOf(rows, { title, width, nameOf: (it) => boundName(kind, it), id: `fill-${kind}` });
+  const lines = rows.flatMap(({ name, parts }) => (parts.length ? parts : [null]).map((it) =>
+    [name, it ? STATES[it.state] : "claims nothing", it ? codeOf(it.text) : ""]));
+  const left = `${out} of ${steps} steps of the axis are left out. Those next to overclaimed resources stay.`;
+  return element("div", { className: "card" }, element("h2", {}, KINDS[kind], element("small", {},
+    "each step of the axis is a bound that occurs; widths by the logarithm of the size")), svg,
+  element("p", { className: "legend" }, ...states.map((it) => element("span", { className: `key ${it}` }, STATES[it]))),
+  out ? element("p", {}, left) : "", element("details", {}, element("summary", {}, "The picture as a table"),
+    element("div", { className: "wide" }, tableOf(lines, ["row", "state", KINDS[kind]]))));
 }
 
 /** Returns the card with a set: its texts, its canonical DER and its shortest prefixes, each with a button to copy it. */
 function setCard(title, set) {
-  const der = engine.der(set);
-  const values = [...Object.keys(KINDS).map((kind) => [KINDS[kind], engine.text(set, kind)]),
-    ["IPv4 prefixes", engine.prefixes(set, "v4")], ["IPv6 prefixes", engine.prefixes(set, "v6")],
+  const der = set.der(), prefixes = (kind) => set.prefixes(NAMES[kind]).join(", ");
+  const values = [...Object.keys(KINDS).map((kind) => [KINDS[kind], textOfSet(set, kind)]),
+    ["IPv4 prefixes", prefixes("v4")], ["IPv6 prefixes", prefixes("v6")],
     ["DER, AS identifiers", hexOf(der.as ?? [])], ["DER, IP addresses", hexOf(der.ip ?? [])]];
-  const rows = values.map(([name, text]) => element("tr", {}, element("th", { scope: "row" }, name),
-    element("td", {}, text ? codeOf(text) : element("small", {}, "none")),
-    element("td", {}, text ? button("Copy", () => copy(text), `Copy ${name}`) : "")));
-  return element("div", { className: "card" }, element("h2", {}, title), element("div", { className: "wide" },
-    element("table", { className: "values" }, ...rows)));
+  const rows = values.map(([name, text]) => [name, text ? codeOf(text) : element("small", {}, "none"),
+    text ? button("Copy", () => copy(text), `Copy ${name}`) : ""]);
+  return element("div", { className: "card" }, element("h2", {}, title),
+    element("div", { className: "wide" }, tableOf(rows)));
 }
 
 /** Says that a certificate was refused: which one, for what, and what the other mode would leave. */
 function refusal(path, certificates, lenient) {
-  const { sets, refused: { at, fault } } = path, issuer = sets[at], name = `certificate ${at + 1}`;
-  if (!fault.excess) {
-    return [element("strong", {}, `Refused at ${name}.`), ` ${plain(fault)}.`];
-  }
-  const parts = Object.keys(KINDS).flatMap((kind) => rowsOf(kind, path, certificates)[at + 1].parts.filter(
-    (it) => it.state === "overclaimed").map((it) => engine.text(it.set, kind)));
-  const rest = engine.verify(issuer, { ...certificates[at], mode: "trim" }, lenient);
-  const left = Object.keys(KINDS).map((kind) => engine.text(rest, kind)).filter(Boolean).join(", ");
-  return [element("strong", {}, `Refused at ${name}.`), " It claims what its issuer does not hold: ",
-    codeOf(parts.join(", ")), ". ", element("small", {}, "RFC 6487, 7.2. With trim (RFC 8360) ",
-      left ? codeOf(left) : "nothing", " would remain.")];
+  const { sets, refused: { at, fault } } = path, strong = element("strong", {}, `Refused at certificate ${at + 1}.`);
+  if (!fault.excess) return [strong, ` ${plain(fault)}.`];
+  const over = Object.keys(KINDS).flatMap((kind) => rowsOf(kind, path, certificates)[at + 1].parts)
+    .filter((it) => it.state === "overclaimed").map((it) => it.text).join(", ");
+  const rest = verify(sets[at], certificates[at], lenient, "trim");
+  const left = Object.keys(KINDS).map((kind) => textOfSet(rest, kind)).filter(Boolean).join(", ");
+  return [strong, " It claims what its issuer does not hold: ", codeOf(over), ". ", element("small", {},
+    "RFC 6487, 7.2. With trim (RFC 8360) ", left ? codeOf(left) : "nothing", " would remain.")];
 }
 
 /** Shows the verdict on a path, its pictures, and what remains. */
 function showPath(anchor, certificates, lenient) {
   const path = verifiedPath(anchor, certificates, lenient), { sets, refused } = path, last = sets.length - 1;
-  const said = refused ? refusal(path, certificates, lenient) : [element("strong", {}, last ?
-    `Verified: ${last} certificate${last === 1 ? " claims" : "s claim"} only what the issuer holds, or are trimmed.` :
-    "There is no certificate yet."), last ? "" : " Below is the anchor's set."];
+  const good = last ? "Verified. Each certificate claims what its issuer holds, or its claim is reduced to that." :
+    "There is no certificate yet. Below is what the anchor holds.";
+  const said = refused ? refusal(path, certificates, lenient) : [element("strong", {}, good)];
   show("verdict", ...said, element("br"), element("small", {}, UNCHECKED));
   by("verdict").className = `card verdict ${refused ? "bad" : "good"}`;
-  const width = by("pictures").clientWidth - 30;
   const pictures = Object.keys(KINDS).map((kind) => [kind, rowsOf(kind, path, certificates)]);
   show("pictures", ...pictures.filter(([, rows]) => rows.some((row) => row.parts.length)).map(
-    ([kind, rows]) => pictureCard(kind, rows, width)));
-  show("remains", setCard(last ? `What remains after certificate ${last}` : "What the anchor holds", sets[last]),
-    element("p", { className: "row" }, button("Copy a link to this input", () => copyLink(pathPairs()))));
+    ([kind, rows]) => pictureCard(kind, rows, by("pictures").clientWidth - 30)));
+  show("remains", setCard(last ? `What remains after certificate ${last}` : "What the anchor holds", sets.at(-1)),
+    element("p", {}, button("Copy a link to this input", () => copyLink(pathPairs()))));
 }

@@ -3,10 +3,8 @@
 const MOST_FILE = 512 * 2 ** 20, ROWS = 500;
 const STATE_NAMES = ["valid", "not-found", "invalid-as", "invalid-length", "skipped", "error"];
 const REASONS = {
-  "not-found": "no VRP covers the route",
-  "invalid-as": "no covering VRP has its AS",
-  "invalid-length": "longer than the maximum length of the VRPs with its AS",
-  skipped: "withdraws a route, or is no route",
+  "not-found": "no VRP covers the route", "invalid-as": "no covering VRP has its AS",
+  "invalid-length": "longer than the maximum length of the VRPs with its AS", skipped: "withdraws a route, or has none",
 };
 /* What to do after the fault n of a line of CSV, of an item of JSON, or of a whole file of VRPs. */
 const FIELDS = {
@@ -28,78 +26,79 @@ const ROUTES_EXAMPLE = {
   routes: "192.0.2.0/24 AS64496\n192.0.2.0/25 AS64496\n192.0.3.0/24 AS64511\n198.51.100.0/24 AS64496",
 };
 const chosen = { vrps: [], lines: [] };
-const decoder = new TextDecoder();
-let worker = null, results = null, began = 0;
+let worker = null, results = null, began = 0, shown = 0;
 
 /** Keeps the chosen files of an input, and names them. Files above MOST_FILE are refused by name. */
 function choose(what, files) {
-  const large = files.filter((it) => it.size > MOST_FILE);
   chosen[what] = files.filter((it) => it.size <= MOST_FILE);
-  const named = chosen[what].map((it) => `${it.name} (${(it.size / 1e6).toFixed(1)} MB)`);
-  const refused = large.map((it) => `${it.name} is refused: it has ${Math.ceil(it.size / 2 ** 20)} MiB, at most 512 are read`);
-  by(`drop-${what}`).querySelector(".files").replaceChildren([...named, ...refused].join("; "));
+  by(`drop-${what}`).querySelector(".files").textContent = files.map((it) => (it.size <= MOST_FILE ?
+    `${it.name} (${(it.size / 1e6).toFixed(1)} MB)` :
+    `${it.name} is refused: it has ${Math.ceil(it.size / 2 ** 20)} MiB, and at most 512 are read`)).join("; ");
 }
 
-const pasted = (id, name) => (by(id).value.trim() ? [new File([by(id).value], name)] : []);
+/** Reads the chosen files and the pasted lines. A file that cannot be read, such as a folder, makes an error. */
+const octetsOfFiles = (what, id) => Promise.all(
+  [...chosen[what], ...(by(id).value.trim() ? [new File([by(id).value], `pasted ${what}`)] : [])].map(async (file) => {
+    try {
+      return { name: file.name, octets: new Uint8Array(await file.arrayBuffer()) };
+    } catch {
+      throw new Error(`${file.name}: the file cannot be read, or is a folder`);
+    }
+  }));
 
-/** Reads files. A file that cannot be read, such as a folder, makes an error with its name. */
-const octetsOfFiles = (files) => Promise.all(files.map(async (file) => {
-  try {
-    return { name: file.name, octets: new Uint8Array(await file.arrayBuffer()) };
-  } catch {
-    throw new Error(`${file.name}: the file cannot be read, or is a folder`);
-  }
-}));
-
-function progress(text, done = null) {
+function progress(done, ...texts) {
   by("done").hidden = done === null;
-  if (done !== null) by("done").value = done;
-  show("state", text);
+  by("done").value = done ?? 0;
+  show("state", ...texts);
+}
+
+function setRunning(isRunning) {
+  by("stop").disabled = !isRunning;
+  by("validate").disabled = isRunning;
 }
 
 function stop() {
   worker?.terminate();
   worker = null;
-  by("stop").disabled = true;
-  by("validate").disabled = false;
+  setRunning(false);
 }
 
 /** Starts the worker with the chosen files. */
 async function validate() {
   stop();
+  setRunning(true);
   show("counts");
   by("found").hidden = true;
-  results = null;
   began = performance.now();
-  by("stop").disabled = false;
-  by("validate").disabled = true;
-  progress("Reading the files", 0);
+  progress(0, "Reading the files");
   try {
-    const vrps = await octetsOfFiles([...chosen.vrps, ...pasted("pasted-vrps", "pasted VRPs")]);
-    const lines = await octetsOfFiles([...chosen.lines, ...pasted("pasted", "pasted routes")]);
-    if (!vrps.length) throw new Error("There is no file of VRPs. Choose or paste one.");
+    const vrps = await octetsOfFiles("vrps", "pasted-vrps"), lines = await octetsOfFiles("lines", "pasted");
+    if (!vrps.length) throw new Error("There are no VRPs. Choose a file, or write lines such as AS64496,192.0.2.0/23,24.");
     if (!lines.length) throw new Error("There are no routes. Choose a file, or write lines such as 192.0.2.0/24 AS64496.");
-    worker = engine.worker(routesWorker);
+    const source = new Blob([`${Pigyelund.source}(${routesWorker})();`], { type: "text/javascript" });
+    worker = new Worker(URL.createObjectURL(source));
     worker.onmessage = ({ data }) => take(data);
-    worker.onerror = (event) => take({ fault: `the worker ended: ${event.message}` });
-    const module = engine.octets();
-    const all = [...vrps, ...lines].map((it) => it.octets.buffer);
-    worker.postMessage({ module, vrps, lines }, [module.buffer, ...all]);
+    worker.onerror = (event) => take({ failed: `the worker ended: ${event.message}` });
+    const module = Uint8Array.from(atob(PigyelundModule.base64), (it) => it.charCodeAt(0));
+    const buffers = [...vrps, ...lines].map((it) => it.octets.buffer);
+    worker.postMessage({ module, vrps, lines }, [module.buffer, ...buffers]);
   } catch (fault) {
-    take({ fault: fault.message });
+    take({ failed: fault.message });
   }
 }
 
 /** Takes a message of the worker. */
 function take(data) {
-  if (data.step) progress(`${data.step} …`, by("done").value);
-  else if (data.done) progress(`${data.done} of ${data.of} routes`, data.done / data.of);
-  else if (data.fault) {
-    stop();
-    progress("");
-    const remedies = FILE_REMEDIES[data.code], remedy = remedies && (remedies[data.number] ?? ITEMS);
-    show("state", element("strong", {}, "No answer. "), remedy ? `${data.fault}. ${remedy}` : data.fault);
-  } else if (data.files) showResults(data);
+  if (data.step) progress(by("done").value, `${data.step} …`);
+  if (data.done) progress(data.done / data.of, `${data.done} of ${data.of} routes`);
+  if (data.files) showResults(data);
+  if (data.covering && data.page === shown) {
+    data.covering.forEach((text, index) => (by("rows").rows[index + 1].cells[4].textContent = text));
+  }
+  if (!data.failed) return;
+  const remedies = FILE_REMEDIES[data.code], remedy = remedies && `. ${remedies[data.number] ?? ITEMS}`;
+  stop();
+  progress(null, element("strong", {}, "No answer. "), data.failed, remedy ?? "");
 }
 
 function showResults({ files, vrps }) {
@@ -111,50 +110,47 @@ function showResults({ files, vrps }) {
     for (const state of file.states) counts[state]++;
   }
   results = { files, counts, all, rows: null, page: 0 };
-  by("stop").disabled = true;
-  by("validate").disabled = false;
-  const seconds = ((performance.now() - began) / 1000).toFixed(2);
-  progress(`${all} routes by ${vrps} VRPs, in ${seconds} seconds.`);
+  setRunning(false);
+  progress(null, `${all} routes by ${vrps} VRPs, in ${((performance.now() - began) / 1000).toFixed(2)} seconds.`);
   const there = STATE_NAMES.map((name, it) => ({ name, count: counts[it] })).filter((it) => it.count);
-  const bar = element("div", { className: "counts" }, ...there.map(({ name, count }) => {
+  const bar = there.map(({ name, count }) => {
     const made = element("span", { className: name, title: `${name}: ${count}` });
     made.style.flexGrow = count;
     return made;
-  }));
-  show("counts", bar, element("table", {}, ...there.map(({ name, count }) => element("tr", {},
-    element("th", { scope: "row" }, element("span", { className: `key ${name}` }, name)), element("td", {}, String(count)),
-    element("td", {}, `${((100 * count) / all).toFixed(1)} %`), element("td", {}, REASONS[name] ?? "")))));
-  show("only", element("option", { value: "" }, "all routes"), ...there.map(({ name }) => element("option", { value: name }, name)));
+  });
+  show("counts", element("div", { className: "counts" }, ...bar), tableOf(there.map(({ name, count }) =>
+    [keyOf(name), String(count), `${((100 * count) / all).toFixed(1)} %`, REASONS[name] ?? ""])));
+  show("only", element("option", { value: "" }, "all routes"),
+    ...there.map(({ name }) => element("option", { value: name }, name)));
   by("found").hidden = false;
   filter();
 }
 
+const keyOf = (name) => element("span", { className: `key ${name}` }, name);
+
 /** Returns the numbers of the lines of all files that have the state `only` and the text. */
 function select(only, text) {
   const wanted = STATE_NAMES.indexOf(only), rows = new Uint32Array(wanted < 0 ? results.all : results.counts[wanted]);
-  const needle = text && Array.from(new TextEncoder().encode(text), (it) => String.fromCharCode(it)).join("");
+  const latin = new TextDecoder("latin1"), needle = latin.decode(new TextEncoder().encode(text));
   let count = 0;
   for (const { first, octets, starts, states } of results.files) {
-    const whole = needle && new TextDecoder("latin1").decode(octets);
+    const whole = needle && latin.decode(octets);
     for (let line = 0, at = -1; line < states.length; line++) {
       if (wanted >= 0 && states[line] !== wanted) continue;
-      if (needle) {
-        if (at < starts[line]) at = whole.indexOf(needle, starts[line]);
-        if (at < 0) break;
-        if (at >= starts[line + 1]) continue;
-      }
-      rows[count++] = first + line;
+      if (needle && at < starts[line]) at = whole.indexOf(needle, starts[line]);
+      if (needle && at < 0) break;
+      if (!needle || at < starts[line + 1]) rows[count++] = first + line;
     }
   }
   return rows.subarray(0, count);
 }
 
-/** Returns what is known of a line: its file, its number in the file, its text, its state and the reason. */
+/** Returns what is known of a line: its file, its number in the file, its octets, its text, its state and the reason. */
 function lineOf(row) {
-  const file = results.files.findLast((it) => it.first <= row), line = row - file.first;
-  const text = decoder.decode(file.octets.subarray(file.starts[line], file.starts[line + 1])).trimEnd();
-  const name = STATE_NAMES[file.states[line]];
-  return { file, number: line + 1, text, name, reason: file.faults.get(line) ?? REASONS[name] ?? "" };
+  const file = results.files.filter((it) => it.first <= row).pop(), line = row - file.first;
+  const octets = file.octets.slice(file.starts[line], file.starts[line + 1]), name = STATE_NAMES[file.states[line]];
+  const text = new TextDecoder().decode(octets).trimEnd();
+  return { file, octets, number: line + 1, text, name, reason: file.faults.get(line) ?? REASONS[name] ?? "" };
 }
 
 function filter() {
@@ -162,19 +158,19 @@ function filter() {
   showPage(0);
 }
 
-/** Shows a page of at most ROWS rows. */
+/** Shows a page of at most ROWS rows, and asks the worker for the VRPs that cover their routes. */
 function showPage(page) {
-  const { rows } = results, pages = Math.max(1, Math.ceil(rows.length / ROWS));
-  results.page = Math.min(Math.max(page, 0), pages - 1);
-  by("before").disabled = results.page === 0;
-  by("after").disabled = results.page === pages - 1;
-  show("page", `${rows.length} rows, page ${results.page + 1} of ${pages}`);
-  const head = ["line", "route", "state", "reason"].map((it) => element("th", {}, it));
-  const shown = Array.from(rows.subarray(results.page * ROWS, (results.page + 1) * ROWS), lineOf);
-  show("rows", element("tr", {}, ...head), ...shown.map(({ number, text, name, reason }) => {
-    const cells = [String(number), element("code", {}, text.slice(0, 300)), element("span", { className: `key ${name}` }, name)];
-    return element("tr", {}, ...[...cells, reason].map((it) => element("td", {}, it)));
-  }));
+  const { rows } = results, last = Math.max(0, Math.ceil(rows.length / ROWS) - 1);
+  results.page = page;
+  by("before").disabled = page === 0;
+  by("after").disabled = page === last;
+  show("page", `${rows.length} rows, page ${page + 1} of ${last + 1}`);
+  const lines = Array.from(rows.subarray(page * ROWS, (page + 1) * ROWS), lineOf);
+  const made = tableOf(lines.map(({ number, text, name, reason }) =>
+    [String(number), element("code", {}, text.slice(0, 300)), keyOf(name), reason, ""]),
+  ["line", "route", "state", "reason", "VRPs that cover it"]);
+  show("rows", ...made.childNodes);
+  worker?.postMessage({ cover: lines.map(({ octets }) => octets), page: ++shown });
 }
 
 /** Saves all lines with their states as CSV. */
@@ -191,21 +187,22 @@ function save() {
 }
 
 function startRoutes(pairs) {
-  const given = Object.fromEntries(pairs);
   const fill = ({ vrps = "", routes = "" }) => ((by("pasted-vrps").value = vrps), (by("pasted").value = routes));
-  fill(given);
+  const on = (id, event, call) => by(id).addEventListener(event, (it) => (it.preventDefault(), call(it)));
   for (const what of Object.keys(chosen)) {
-    by(what).addEventListener("change", (event) => choose(what, [...event.target.files]));
+    on(what, "change", ({ target }) => choose(what, [...target.files]));
     onDrop(by(`drop-${what}`), (files) => choose(what, files));
   }
-  by("inputs").addEventListener("submit", (event) => (event.preventDefault(), validate()));
-  by("stop").addEventListener("click", () => (stop(), progress(`Stopped: ${by("state").textContent}`)));
-  by("example").addEventListener("click", () => (fill(ROUTES_EXAMPLE), validate()));
-  by("link").addEventListener("click", () => copyLink({ vrps: by("pasted-vrps").value, routes: by("pasted").value }));
-  by("filters").addEventListener("submit", (event) => (event.preventDefault(), filter()));
-  by("only").addEventListener("change", filter);
-  by("before").addEventListener("click", () => showPage(results.page - 1));
-  by("after").addEventListener("click", () => showPage(results.page + 1));
-  by("save").addEventListener("click", save);
-  if (given.vrps && given.routes) validate();
+  on("inputs", "submit", validate);
+  on("stop", "click", () => (stop(), progress(null, `Stopped: ${by("state").textContent}`)));
+  on("example", "click", () => (fill(ROUTES_EXAMPLE), validate()));
+  on("link", "click", () => copyLink({ vrps: by("pasted-vrps").value, routes: by("pasted").value }));
+  on("filters", "submit", filter);
+  on("only", "change", filter);
+  on("before", "click", () => showPage(results.page - 1));
+  on("after", "click", () => showPage(results.page + 1));
+  on("save", "click", save);
+  if (!pairs.length) return;
+  fill(Object.fromEntries(pairs));
+  validate();
 }

@@ -3,134 +3,117 @@
  * since Chromium starts no worker from a file. So this function uses nothing of the page.
  *
  * It takes one message: the octets of the module, of the files of VRPs and of routes. It posts the step that it is at,
- * after each piece the number of lines that are done, and at the end the state of each line, or a fault. */
+ * after each piece the number of lines that are done, and at the end the state of each line, or a fault. Then it takes
+ * messages with lines, and posts the VRPs that cover the route of each. */
 function routesWorker() {
-  const PIECE = 50000;
   /* The states of lines have the order of STATE_NAMES: valid, not-found, invalid-as, invalid-length, skipped, error. */
-  const INVALID_AS = 2, ERROR = 5, SPACE = 32, COMMA = 44;
-  /* A first line that is a VRP, so that no line of routes can name columns. Its struct is dropped. */
-  const FIRST = new TextEncoder().encode("AS0,0.0.0.0/0,\n");
+  const PIECE = 50000, STRUCT = 24, INVALID = 2, SKIPPED = 4, ERROR = 5;
+  const decoder = new TextDecoder("latin1"), encoder = new TextEncoder();
+  let table = null;
 
   /** Returns the index of the first octet of each line, and behind the last one the end. */
   function startsOf(octets) {
-    let count = 0, next = 0;
-    for (let at = 0; at < octets.length; at = next, count++) next = octets.indexOf(10, at) + 1 || octets.length;
+    let count = 0;
+    for (let at = 0; at < octets.length; count++) at = octets.indexOf(10, at) + 1 || octets.length;
     const starts = new Uint32Array(count + 1);
     for (let line = 1; line < count; line++) starts[line] = octets.indexOf(10, starts[line - 1]) + 1;
     starts[count] = octets.length;
     return starts;
   }
 
-  /** Returns an error that names the file, the line or item that is wrong, and its fault. */
-  function withFile(fault, name) {
-    const isItem = fault.code === "BAD_ITEM";
-    const place = fault.line ? `${isItem ? "item" : "line"} ${fault.line}: ` : "";
-    const text = fault.message.replace(/ \([a-z]+ [0-9]+\)$/, "");
-    return Object.assign(new Error(`${name}: ${place}${text}`), { code: fault.code, number: fault.fault });
-  }
-
-  /** Reads the files of VRPs, and makes their table. */
-  function tableOf(P, vrps) {
-    const lists = vrps.map(({ name, octets }) => {
+  /** Reads the files of VRPs, and makes their table. An error names the file, and the line or item that is wrong. */
+  function makeTable(files) {
+    const lists = files.map(({ name, octets }) => {
       postMessage({ step: `Reading the VRPs of ${name}` });
       try {
-        return P.readVrps(octets).octets;
-      } catch (fault) {
-        throw withFile(fault, name);
+        return Pigyelund.readVrps(octets).octets;
+      } catch ({ message, code, fault, line }) {
+        const place = line ? `${code === "BAD_ITEM" ? "item" : "line"} ${line}: ` : "";
+        const text = message.replace(/^(line|file|item) of [A-Za-z]+: | \([a-z]+ [0-9]+\)$/g, "");
+        throw { message: `${name}: ${place}${text}`, code, fault };
       }
     });
     postMessage({ step: "Making the table of VRPs" });
-    return new P.Table(joined(lists));
-  }
-
-  function joined(lists) {
-    if (lists.length === 1) return lists[0];
     const all = new Uint8Array(lists.reduce((sum, it) => sum + it.length, 0));
     lists.reduce((at, it) => (all.set(it, at), at + it.length), 0);
-    return all;
+    table = new Pigyelund.Table(all);
   }
 
-  /** Returns the index of the next octet `octet`. A search goes on where the last one ended, so all take one pass. */
-  function next(file, octet, from) {
-    if (!(file.next[octet] >= from)) {
-      const at = file.octets.indexOf(octet, from);
-      file.next[octet] = at < 0 ? file.octets.length : at;
-    }
-    return file.next[octet];
-  }
-
-  /** Writes lines such as "192.0.2.0/24 AS64496" as lines of CSV, which the module reads: the words change places. It
-   * stops in front of a line without a space or with a comma. Returns the CSV and how many lines it has. */
-  function csvOf(file, from, to) {
-    const { octets, starts } = file;
-    const csv = new Uint8Array(FIRST.length + starts[to] - starts[from] + 3 * (to - from));
-    csv.set(FIRST);
-    let out = FIRST.length, line = from;
-    for (; line < to; line++) {
-      const start = starts[line], space = next(file, SPACE, start);
-      let end = starts[line + 1];
-      while (end > start && (octets[end - 1] === 10 || octets[end - 1] === 13)) end--;
-      if (space >= end || next(file, COMMA, start) < end) break;
-      for (let at = space + 1; at < end; at++) csv[out++] = octets[at];
-      csv[out++] = COMMA;
-      for (let at = start; at < space; at++) csv[out++] = octets[at];
-      csv[out++] = COMMA;
-      csv[out++] = 10;
-    }
-    return { csv: csv.subarray(0, out), count: line - from };
+  /** Returns the structs of the routes of lines. A glue without a reader of routes reads them as CSV: the words of a line
+   * change places, and a first line keeps other lines from naming columns. */
+  function readRoutes(octets) {
+    if (Pigyelund.readRoutes) return Pigyelund.readRoutes(octets).octets;
+    const text = decoder.decode(octets).replace(/\n$/, "").replace(/,/g, ";").replace(/\r/g, " ");
+    const csv = `AS0,0.0.0.0/0,\n${text.replace(/^([^ \n]*) ?(.*)$/gm, "$2,$1,")}`;
+    return Pigyelund.readVrps(encoder.encode(csv)).octets.subarray(STRUCT);
   }
 
   /** Finds the states of the lines from `from` to `end`. A wrong line ends a piece, and the next pieces are shorter, so
    * that many wrong lines stay quick. */
-  function validateLines(P, table, file, from, end) {
+  function validateLines(file, from, end) {
     for (let size = end - from; from < end; ) {
-      const to = Math.min(end, from + size), { csv, count } = csvOf(file, from, to);
+      const to = Math.min(end, from + size);
       try {
-        if (count) record(file, from, table.validate(P.readVrps(csv).octets.subarray(24)));
-        from += count;
-        if (from < to) mark(file, from++, "expected: PREFIX AS");
+        record(file, from, to, readRoutes(file.octets.subarray(file.starts[from], file.starts[to])));
+        from = to;
         size *= 2;
       } catch (fault) {
-        if (!(fault.line > 1)) throw fault;
-        if (fault.line === 2) mark(file, from++, fault.message.replace(/^[^:]*: | \(line.*/g, ""));
-        size = fault.line === 2 ? Math.max(1, size >> 1) : fault.line - 2;
+        const right = fault.line - (Pigyelund.readRoutes ? 1 : 2);
+        if (!(right >= 0)) throw fault;
+        size = right || Math.max(1, size >> 1);
+        if (right > 0) continue;
+        file.states[from] = ERROR;
+        file.faults.set(from++, fault.message.replace(/^[^:]*: | \(line [0-9]+\)$/g, ""));
       }
     }
   }
 
-  function mark(file, line, text) {
-    file.states[line] = ERROR;
-    file.faults.set(line, text);
-  }
-
-  function record(file, from, { validities, reasons }) {
-    validities.forEach((it, index) => {
-      file.states[from + index] = it === 2 ? INVALID_AS + reasons[index] - 1 : it;
-    });
+  /** Stores the states of valid lines. If there are fewer routes than lines, some lines are skipped: halves find them. */
+  function record(file, from, to, routes) {
+    const count = routes.length / STRUCT, middle = (from + to) >> 1;
+    if (count === 0) file.states.fill(SKIPPED, from, to);
+    else if (count < to - from) {
+      validateLines(file, from, middle);
+      validateLines(file, middle, to);
+    } else {
+      const { validities, reasons } = table.validate(routes);
+      validities.forEach((it, index) => (file.states[from + index] = it === INVALID ? it + reasons[index] - 1 : it));
+    }
   }
 
   async function run({ module, vrps, lines }) {
     await Pigyelund.load(module);
-    const P = Pigyelund;
+    makeTable(vrps);
     postMessage({ step: "Counting the routes" });
-    const files = lines.map(({ name, octets }) => ({ name, octets, starts: startsOf(octets), next: [] }));
+    const files = lines.map((it) => ({ ...it, starts: startsOf(it.octets), faults: new Map() }));
     const of = files.reduce((sum, it) => sum + it.starts.length - 1, 0);
-    const table = tableOf(P, vrps);
     let done = 0;
     for (const file of files) {
       const count = file.starts.length - 1;
       file.states = new Uint8Array(count);
-      file.faults = new Map();
       for (let from = 0; from < count; from += PIECE) {
         const to = Math.min(count, from + PIECE);
-        validateLines(P, table, file, from, to);
-        done += to - from;
-        postMessage({ done, of });
+        validateLines(file, from, to);
+        postMessage({ done: (done += to - from), of });
       }
     }
     const buffers = files.flatMap((it) => [it.octets.buffer, it.starts.buffer, it.states.buffer]);
     postMessage({ files, vrps: table.length }, buffers);
   }
 
-  onmessage = ({ data }) => run(data).catch((fault) => postMessage({ fault: fault.message, code: fault.code, number: fault.number }));
+  /** Returns the VRPs that cover the route of a line, each with the reason why it does not match. */
+  function coveringOf(octets) {
+    try {
+      const found = table.covering(readRoutes(octets)).map(({ vrp, otherAs, tooLong }) =>
+        `${otherAs ? "as" : tooLong ? "length" : "match"}:${vrp.prefix}-${vrp.maxLength}:AS${vrp.asn}`);
+      return found.slice(0, 20).join(" ") + (found.length > 20 ? ` and ${found.length - 20} more` : "");
+    } catch {
+      return "";
+    }
+  }
+
+  onmessage = ({ data }) => {
+    if (data.cover) postMessage({ covering: data.cover.map(coveringOf), page: data.page });
+    else run(data).catch(({ message, code, fault }) => postMessage({ failed: message, code, number: fault }));
+  };
 }

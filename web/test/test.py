@@ -42,7 +42,8 @@ class Quiet(http.server.SimpleHTTPRequestHandler):
 
 
 class Trap:
-    """A port that no page may reach. It counts connections."""
+    """A port to which no page may send anything. It counts the connections that send octets. Chromium opens some for
+    refused frames and forms, and sends nothing."""
 
     def __init__(self):
         self.count, self.socket = 0, socket.create_server(("127.0.0.1", 0))
@@ -51,8 +52,12 @@ class Trap:
 
     def take(self):
         while True:
-            self.socket.accept()[0].close()
-            self.count += 1
+            with self.socket.accept()[0] as taken:
+                taken.settimeout(2)
+                try:
+                    self.count += bool(taken.recv(1))
+                except OSError:
+                    pass
 
 
 def check(what, seen, wanted=True):
@@ -90,7 +95,7 @@ def of_recipes(browser, url):
     recipes = (TOP / "docs" / "RECIPES.md").read_text(encoding="utf-8")
     section = recipes.split("\n## Validate routes\n")[1].split("\n## ")[0]
     block = section.split("```sh\n")[1].split("```")[0]
-    csv, routes = (re.findall(r"'([^%'][^']*)'", it) for it in block.split(">csv"))
+    csv, routes = ([text for text in re.findall(r"'([^']*)'", it) if "%s" not in text] for it in block.split(">csv"))
     browser.load(url)
     browser.fill("#pasted-vrps", "\n".join(csv))
     browser.fill("#pasted", "\n".join(routes))
@@ -158,18 +163,18 @@ def of_large(browser, url, folder):
     check("the second page", browser.run("return document.querySelector('#rows tr:nth-child(2) td').innerText"), "501")
     browser.run("const it = document.getElementById('only'); it.value = 'invalid-as'; it.dispatchEvent(new Event('change'))")
     check("a filter", set(browser.run("return [...document.querySelectorAll('#rows tr')].slice(1).map((it) => it.cells[2].innerText)")), {"invalid-as"})
-    browser.run("""globalThis.kept = null; const made = URL.createObjectURL;
-        URL.createObjectURL = (blob) => (blob.text().then((text) => (globalThis.kept = text)), made.call(URL, blob))""")
+    browser.run("""const made = window.URL.createObjectURL; window.kept = null; window.URL.createObjectURL = (blob) =>
+        (blob.text().then((text) => (window.kept = text)), made.call(window.URL, blob))""")
     browser.click("#save")
-    browser.wait("return globalThis.kept?.length > 0")
-    counted = browser.run("const all = {}; for (const it of kept.split('\\r\\n').slice(1, -1)) { const name = it.split('\",')[2].split(',')[0];"
+    browser.wait("return window.kept?.length > 0")
+    counted = browser.run("const all = {}; for (const it of window.kept.split('\\r\\n').slice(1, -1)) { const name = it.split('\",')[2].split(',')[0];"
                           "all[name] = (all[name] ?? 0) + 1; } return all")
     check("the routes of the CSV", counted, json.loads((folder / "counts").read_text()))
     browser.choose("#vrps", folder / "too-large")
     check("a file above 512 MB", "too-large is refused" in browser.text("#drop-vrps"))
 
 
-HOSTILE = """<img src=x onerror="globalThis.hacked=1">"""
+HOSTILE = """<img src=x onerror="window.hacked=1">"""
 
 
 def of_hostile(browser, url, folder):
@@ -181,13 +186,13 @@ def of_hostile(browser, url, folder):
     browser.click("#validate")
     browser.wait(DONE)
     check("the lines of a hostile file", browser.run(STATES), json.loads((folder / "hostile-counts").read_text()))
-    check("texts of a file make no elements", browser.run("return [document.images.length, globalThis.hacked ?? 0]"), [0, 0])
+    check("texts of a file make no elements", browser.run("return [document.images.length, window.hacked ?? 0]"), [0, 0])
     from urllib.parse import quote
     for fragment in (f"anchor={quote(HOSTILE)}&refuse={quote(HOSTILE)}", "%", "anchor=%FF%00&x=y&__proto__=1&constructor=2",
                      "&".join(["refuse=AS1"] * 150), f"routes={quote(HOSTILE)}&vrps={quote(HOSTILE)}", "anchor=" + "1" * 3000):
         browser.load(f"{url}#{fragment}")
         time.sleep(0.4)
-        check("texts of a fragment make no elements", browser.run("return [document.images.length, globalThis.hacked ?? 0]"), [0, 0])
+        check("texts of a fragment make no elements", browser.run("return [document.images.length, window.hacked ?? 0]"), [0, 0])
         check("a hostile fragment leaves a page", "Pigyelund" in browser.text("body") and len(browser.text("body")) > 200)
     check("a link has at most 2,000 characters", "longer than 2000" in browser.text("#said"))
 
@@ -216,24 +221,25 @@ def of_keyboard(browser, url):
         check(f"{part}: Tab reaches each control", len(reached), count)
 
 
-def of_policy(browser, url, traps):
+def of_policy(browser, url, trap):
     """The policy refuses what an injected script would try, and no request leaves the page."""
     browser.load(url)
     names = browser.run("return performance.getEntriesByType('resource').map((it) => it.name).filter((it) => !it.startsWith('blob:'))")
     strange = [it for it in names if not it.startswith(url.rsplit("/", 2)[0])]
     check("requests of the page", strange, [])
-    browser.run("""globalThis.refused = []; document.addEventListener('securitypolicyviolation', (it) => refused.push(it.effectiveDirective));
-        const at = arguments[0], put = (name, words) => document.body.append(Object.assign(document.createElement(name), words));
-        fetch('http://' + at).catch(() => 0); try { new WebSocket('ws://' + at); } catch {}
-        put('img', { src: 'http://' + at }); put('script', { textContent: 'globalThis.hacked = 1' });
-        put('script', { src: 'http://' + at }); put('iframe', { src: 'http://' + at }); put('link', { rel: 'stylesheet', href: 'http://' + at });
-        put('form', { id: 'sent', action: 'http://' + at, method: 'post' }); navigator.sendBeacon('http://' + at, 'x');
-        try { (0, eval)('globalThis.hacked = 1'); } catch {} document.getElementById('sent').submit();""", f"127.0.0.1:{traps.port}")
+    # The timer makes the calls the page's own: those of a driver may be free of the policy.
+    browser.run("""window.refused = []; document.addEventListener('securitypolicyviolation', (it) => window.refused.push(it.effectiveDirective));
+        const at = 'http://' + arguments[0], put = (name, words) => document.body.append(Object.assign(document.createElement(name), words));
+        const all = [() => window.fetch(at).catch(() => 0), () => new window.WebSocket(at.replace('http', 'ws')), () => put('img', { src: at }),
+            () => put('script', { textContent: 'window.hacked = 1' }), () => put('script', { src: at }), () => put('iframe', { src: at }),
+            () => put('link', { rel: 'stylesheet', href: at }), () => navigator.sendBeacon(at, 'x'), () => window.eval('window.hacked = 1'),
+            () => put('form', { id: 'sent', action: at, method: 'post' }), () => document.getElementById('sent').submit()];
+        for (const it of all) setTimeout(it, 0);""", f"127.0.0.1:{trap.port}")
     time.sleep(1)
-    seen = set(browser.run("return globalThis.refused"))
+    seen = set(browser.run("return window.refused"))
     check("directives that refused", {"connect-src", "img-src", "script-src-elem", "frame-src", "style-src-elem", "form-action"} - seen, set())
-    check("an injected script", browser.run("return globalThis.hacked ?? 0"), 0)
-    check("connections", traps.count, 0)
+    check("an injected script", browser.run("return window.hacked ?? 0"), 0)
+    check("connections that send something", trap.count, 0)
 
 
 def of_certificates(browser, url, folder):

@@ -38,7 +38,7 @@ function choose(what, files) {
 
 /** Reads the chosen files and the pasted lines. A file that cannot be read, such as a folder, makes an error. */
 const octetsOfFiles = (what, id) => Promise.all(
-  [...chosen[what], ...(by(id).value.trim() ? [new File([by(id).value], `pasted ${what}`)] : [])].map(async (file) => {
+  [...chosen[what], ...(by(id).value.trim() ? [new File([by(id).value], "pasted lines")] : [])].map(async (file) => {
     try {
       return { name: file.name, octets: new Uint8Array(await file.arrayBuffer()) };
     } catch {

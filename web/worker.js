@@ -43,7 +43,7 @@ function routesWorker() {
    * change places, and a first line keeps other lines from naming columns. */
   function readRoutes(octets) {
     if (Pigyelund.readRoutes) return Pigyelund.readRoutes(octets).octets;
-    const text = decoder.decode(octets).replace(/\n$/, "").replace(/,/g, ";").replace(/\r/g, " ");
+    const text = decoder.decode(octets).replace(/\n$/, "").replace(/[,"']/g, ";").replace(/\r/g, " ");
     const csv = `AS0,0.0.0.0/0,\n${text.replace(/^([^ \n]*) ?(.*)$/gm, "$2,$1,")}`;
     return Pigyelund.readVrps(encoder.encode(csv)).octets.subarray(STRUCT);
   }

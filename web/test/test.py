@@ -126,16 +126,17 @@ def of_errors(browser, url):
     browser.click("#show-routes")
     browser.click("#validate")
     browser.wait(DONE)
-    check("the error of a file", "pasted VRPs: line 2: " in browser.text("#state") and "Write a prefix" in browser.text("#state"))
+    check("the error of a file", "pasted lines: line 2: " in browser.text("#state") and "Write a prefix" in browser.text("#state"))
 
 
 def of_formats(browser, url):
     """The cases of vectors/vrp_files.json, read by the module of the page."""
     cases = json.loads((TOP / "vectors" / "vrp_files.json").read_text(encoding="utf-8"))["tests"]
     browser.load(url)
-    script = """return arguments[0].map(({ text, octets }) => { try {
-        return Pigyelund.readVrps(text === undefined ? octetsOf(octets) : new TextEncoder().encode(text)).length;
-    } catch (fault) { if (!(fault instanceof Pigyelund.Error)) throw fault; return fault.line ?? 0; } })"""
+    script = """const { Pigyelund } = window, read = (hex) => Uint8Array.from(hex.match(/../g) ?? [], (it) => parseInt(it, 16));
+        return arguments[0].map(({ text, octets }) => { try {
+            return Pigyelund.readVrps(text === undefined ? read(octets) : new TextEncoder().encode(text)).length;
+        } catch (fault) { if (!(fault instanceof Pigyelund.Error)) throw fault; return fault.line ?? 0; } })"""
     found = [it for at in range(0, len(cases), 500) for it in browser.run(script, [one["input"] for one in cases[at:at + 500]])]
     for case, seen in zip(cases, found, strict=True):
         wanted = case["expected"]
@@ -160,7 +161,7 @@ def of_large(browser, url, folder):
     check("the states of many routes", browser.run(STATES), json.loads((folder / "counts").read_text()))
     check("rows in the document", browser.run("return document.querySelectorAll('#rows tr').length - 1"), 500)
     browser.click("#after")
-    check("the second page", browser.run("return document.querySelector('#rows tr:nth-child(2) td').innerText"), "501")
+    check("the second page", browser.run("return document.querySelector('#rows tr:nth-child(2) th').innerText"), "501")
     browser.run("const it = document.getElementById('only'); it.value = 'invalid-as'; it.dispatchEvent(new Event('change'))")
     check("a filter", set(browser.run("return [...document.querySelectorAll('#rows tr')].slice(1).map((it) => it.cells[2].innerText)")), {"invalid-as"})
     browser.run("""const made = window.URL.createObjectURL; window.kept = null; window.URL.createObjectURL = (blob) =>
@@ -253,9 +254,11 @@ def of_certificates(browser, url, folder):
     check("the mode of a file", browser.run("return document.querySelectorAll('#claims input[value=trim]:checked').length"), 1)
     check("a file's note", "not proved" in browser.text("#claims .note"))
     made = [it.hex() for it in mutated([it.read_bytes() for it in sorted(folder.glob("*.cer"))], 10000)]
-    script = """return arguments[0].map((hex) => { try { const it = resourceExtensions(octetsOf(hex));
-        return [it.as && hexOf(it.as), it.ip && hexOf(it.ip), it.mode]; } catch (fault) {
-        if (fault.constructor !== Error) throw fault; return null; } })"""
+    script = """const read = (hex) => Uint8Array.from(hex.match(/../g), (it) => parseInt(it, 16));
+        const hex = (octets) => octets && Array.from(octets, (it) => it.toString(16).padStart(2, '0')).join('');
+        return arguments[0].map((text) => { try { const it = window.resourceExtensions(read(text));
+        return [hex(it.as), hex(it.ip), it.mode]; } catch (fault) {
+        if (fault.name !== 'Error') throw fault; return null; } })"""
     found = [it for at in range(0, len(made), 1000) for it in browser.run(script, made[at:at + 1000])]
     wanted = [reference(bytes.fromhex(it)) for it in made]
     check("mutated certificates", [at for at, it in enumerate(found) if it != wanted[at]], [])

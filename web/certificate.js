@@ -8,7 +8,6 @@ const RESOURCE_OIDS = {
   "2b0601050507011d": ["as", "trim"], // 1.3.6.1.5.5.7.1.29, AS identifiers of RFC 8360
 };
 const hexOf = (octets) => Array.from(octets, (it) => it.toString(16).padStart(2, "0")).join("");
-
 /** Reads the value at `at`, which has to end at `end` or before. Returns its tag, its place and that of its content. */
 function derValue(octets, at, end) {
   const size = octets[at + 1] - 0x80, start = at + 2 + Math.max(size, 0);
@@ -18,7 +17,6 @@ function derValue(octets, at, end) {
   if (start + length > end) throw new Error(`octet ${at}: the certificate is truncated`);
   return { tag: octets[at], at, start, end: start + length };
 }
-
 /** Returns the values in the value from `at` to `end`, whose tag has to be `tag`. */
 function derValues(octets, { at, end }, tag, what) {
   const outer = derValue(octets, at, end), inner = [];
@@ -27,7 +25,6 @@ function derValues(octets, { at, end }, tag, what) {
   for (let next = outer.start; next < outer.end; next = inner.at(-1).end) inner.push(derValue(octets, next, outer.end));
   return inner;
 }
-
 /** Returns the extensions `as` and `ip` of a certificate, null for an absent one, and the mode that their OIDs name. */
 function resourceExtensions(octets) {
   const found = { as: null, ip: null, mode: null };

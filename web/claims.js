@@ -1,36 +1,32 @@
 "use strict";
 /* The cards of the part "Resources": the text and the mode of the anchor and of each certificate, and dropped files. */
-const MOST_CERTIFICATE = 1 << 20;
-const EXAMPLE = [
-  ["anchor", "AS64496-AS64511\n10.0.0.0/8, 192.0.2.0/24\n2001:db8::/32"],
-  ["refuse", "AS64496\n10.0.0.0/9\n2001:db8:1::/48"],
-  ["refuse", "10.2.0.0/16, 10.200.0.0/14"],
-];
+const EXAMPLE = [["anchor", "AS64496-AS64511\n10.0.0.0/8, 192.0.2.0/24\n2001:db8::/32"],
+  ["refuse", "AS64496\n10.0.0.0/9\n2001:db8:1::/48"], ["refuse", "10.2.0.0/16, 10.200.0.0/14"]];
 const cards = () => [...by("claims").children];
 const textOf = (card) => card.querySelector("textarea");
-const modeOf = (card) => card.querySelector("input[type=radio]:checked")?.value ?? "anchor";
-
+const modesOf = (card) => [...card.querySelectorAll("input[type=radio]")];
+const modeOf = (card) => modesOf(card).find((it) => it.checked)?.value ?? "anchor";
+const setMode = (card, mode) => modesOf(card).forEach((it) => (it.checked = it.value === mode));
+const note = (card, text) => (card.querySelector(".note").textContent = text);
 /** Numbers the cards, and names their controls: a path may have any number of certificates. */
 function nameCards() {
   cards().forEach((card, index) => {
     const name = index ? `Certificate ${index}` : "Trust anchor";
-    const call = (it, text) => it.setAttribute("aria-label", text);
     card.querySelector("legend").textContent = name;
-    call(textOf(card), `Resources of ${name}`);
-    call(card.querySelector("input[type=file]"), `File for ${name}`);
-    card.querySelectorAll(".actions button").forEach((it) => call(it, `${it.textContent} ${name}`));
-    card.querySelectorAll("input[type=radio]").forEach((it) => (it.name = `mode-${index}`));
+    for (const it of card.querySelectorAll("textarea, .actions *")) {
+      it.setAttribute("aria-label", `${it.textContent || (it.type === "file" ? "File" : "Resources")}: ${name}`);
+    }
+    modesOf(card).forEach((it) => (it.name = `mode-${index}`));
     card.querySelector(".up")?.toggleAttribute("disabled", index < 2);
     textOf(card).disabled = modeOf(card) === "inherit";
   });
 }
-
 /** Adds a card at the end of the path. The first card is the anchor's, which has no mode and stays. */
 function addCard(mode, text) {
   const card = by("claim").content.firstElementChild.cloneNode(true);
   textOf(card).value = text;
   if (!cards().length) card.querySelectorAll(".modes, .actions button").forEach((it) => it.remove());
-  card.querySelectorAll("input[type=radio]").forEach((it) => (it.checked = it.value === mode));
+  setMode(card, mode);
   card.addEventListener("input", (event) => {
     if (event.target === textOf(card)) note(card, "");
     pathChanged();
@@ -43,19 +39,14 @@ function addCard(mode, text) {
   by("claims").append(card);
   return card;
 }
-
-function note(card, text) {
-  card.querySelector(".note").textContent = text;
-}
-
 /** Fills a card with the resource extensions of a certificate, as DER in hexadecimal. */
 async function fillCard(card, file) {
   if (!file) return;
   try {
-    if (file.size > MOST_CERTIFICATE) throw new Error("the file is above 1 MiB");
+    if (file.size > 1 << 20) throw new Error("the file is above 1 MiB");
     const found = resourceExtensions(new Uint8Array(await file.arrayBuffer()));
     textOf(card).value = [found.as, found.ip].filter(Boolean).map(hexOf).join("\n");
-    card.querySelectorAll("input[type=radio]").forEach((it) => (it.checked = it.value === found.mode));
+    setMode(card, found.mode);
     note(card, `From ${file.name}. JavaScript found its extensions; this step is tested, not proved.`);
   } catch (fault) {
     textOf(card).value = "";
@@ -63,7 +54,6 @@ async function fillCard(card, file) {
   }
   pathChanged();
 }
-
 /** Adds a card for each file. If the anchor is empty and alone, the first file fills it. */
 async function addFiles(files) {
   for (const file of files) {
@@ -71,11 +61,9 @@ async function addFiles(files) {
     await fillCard(other || textOf(anchor).value.trim() ? addCard("refuse", "") : anchor, file);
   }
 }
-
 /** Returns the input as pairs of a mode and a text, as a link has them. */
 const pathPairs = () => [...(by("lenient").checked ? [["lenient", "1"]] : []),
   ...cards().map((card) => [modeOf(card), textOf(card).value])];
-
 /** Puts pairs of a mode and a text into the cards. */
 function setPath(pairs) {
   by("claims").replaceChildren();
@@ -84,29 +72,26 @@ function setPath(pairs) {
   for (const [mode, text] of pairs) if (["refuse", "trim", "inherit"].includes(mode)) addCard(mode, text);
   pathChanged();
 }
-
 /** Reads the cards, and shows the answer, or at each card what is wrong with it. */
 function answerPath() {
-  const claims = cards().map((card) => {
-    const place = card.querySelector(".fault"), mode = modeOf(card);
-    try {
-      const claim = mode === "inherit" ? inheritClaim() : claimOf(textOf(card).value);
-      place.textContent = "";
-      return { ...claim, mode: mode === "trim" ? "trim" : "refuse" };
-    } catch (fault) {
-      place.textContent = fault.message;
-      return null;
-    }
-  });
+  const claims = [];
   try {
-    const wrong = claims.indexOf(null);
-    if (wrong >= 0) throw new Error(`${wrong ? `Certificate ${wrong}` : "The trust anchor"} has an error.`);
+    for (const card of cards()) {
+      const place = card.querySelector(".fault"), mode = modeOf(card);
+      place.textContent = "";
+      try {
+        const claim = mode === "inherit" ? INHERIT : claimOf(textOf(card).value);
+        claims.push({ ...claim, mode: mode === "trim" ? "trim" : "refuse" });
+      } catch (fault) {
+        place.textContent = fault.message;
+        throw new Error(`${card.querySelector("legend").textContent} has an error.`);
+      }
+    }
     showPath(claims[0], claims.slice(1), by("lenient").checked);
   } catch (fault) {
-    show("verdict", element("strong", {}, "No answer. "), fault.message);
     by("verdict").className = "card verdict bad";
-    show("pictures");
-    show("remains");
+    show("verdict", element("strong", {}, "No answer. "), fault.message);
+    for (const it of ["pictures", "remains"]) show(it);
   }
 }
 
@@ -121,13 +106,7 @@ function startResources(pairs) {
   by("add").addEventListener("click", () => (textOf(addCard("refuse", "")).focus(), pathChanged()));
   by("clear").addEventListener("click", () => setPath([]));
   by("lenient").addEventListener("change", pathChanged);
-  by("path").addEventListener("submit", (event) => event.preventDefault());
   by("certificates").addEventListener("change", (event) => addFiles([...event.target.files]));
   onDrop(by("drop-certificates"), addFiles);
-  by("ask").addEventListener("submit", (event) => {
-    event.preventDefault();
-    by("answer").textContent = tried(() => Pigyelund.answer(by("line").value)).value ??
-      "error: no answer. A line has norm, der, read, cover or path in front, then as, v4 or v6, and a valid list.";
-  });
   addEventListener("resize", pathChanged);
 }

@@ -3,7 +3,6 @@
 const MOST_LINK = 2000, PARTS = ["resources", "routes", "proof"];
 const by = (id) => document.getElementById(id);
 const show = (id, ...inside) => by(id).replaceChildren(...inside);
-
 /** Makes an element with properties, and with texts or other elements inside. */
 function element(name, properties = {}, ...inside) {
   const made = Object.assign(document.createElement(name), properties);
@@ -16,43 +15,29 @@ function button(text, onclick, label = text) {
   made.setAttribute("aria-label", label);
   return made;
 }
-
 /** Makes a table of rows. The first cell of each row is its head. */
 const tableOf = (rows, head = []) => element("table", {},
   head.length ? element("tr", {}, ...head.map((it) => element("th", { scope: "col" }, it))) : "",
   ...rows.map(([first, ...rest]) => element("tr", {}, element("th", { scope: "row" }, first),
     ...rest.map((it) => element("td", {}, it)))));
-
-/** Shows a text as code, and of a long text only the front. Its button copies all of it. */
-const codeOf = (text) => element("code", {}, text.length <= 2000 ? text :
-  `${text.slice(0, 2000)} … and ${text.length - 2000} characters more`);
+/** Shows a text as code, and of a long text only the front. */
+const codeOf = (text, most = 2000) => element("code", {}, text.length <= most ? text :
+  `${text.slice(0, most)} … and ${text.length - most} characters more`);
 
 function say(text) {
   show("said", text);
   clearTimeout(say.later);
-  say.later = setTimeout(() => show("said"), 6000);
+  say.later = setTimeout(() => show("said"), 9000);
 }
-
-async function copy(text) {
-  try {
-    await navigator.clipboard.writeText(text);
-    say("Copied.");
-  } catch {
-    const area = element("textarea", { value: text, readOnly: true });
-    document.body.append(area);
-    area.select();
-    say(document.execCommand("copy") ? "Copied." : "The browser refuses to copy: select the text.");
-    area.remove();
-  }
-}
-
+/** Copies a text. Where the browser gives no access to the clipboard, it shows the text, to be copied by hand. */
+const copy = async (text) =>
+  say(await navigator.clipboard?.writeText(text).then(() => "Copied.", () => null) ?? `Copy this: ${text}`);
 /** Copies a link whose fragment has pairs of a name and a text. */
 function copyLink(pairs) {
-  const fragment = `#${new URLSearchParams(pairs)}`, isLong = fragment.length > MOST_LINK;
-  if (isLong) say(`A link has at most ${MOST_LINK} characters, and this input needs ${fragment.length}.`);
-  else copy(location.href.split("#")[0] + fragment);
+  const fragment = `${new URLSearchParams(pairs)}`;
+  if (fragment.length <= MOST_LINK) copy(`${location.href.split("#")[0]}#${fragment}`);
+  else say(`A link has at most ${MOST_LINK} characters, and this input needs ${fragment.length}.`);
 }
-
 /** Calls `take` with the files that are dropped on an element. */
 function onDrop(place, take) {
   for (const name of ["dragover", "dragleave", "drop"]) {
@@ -68,20 +53,17 @@ function onDrop(place, take) {
 function showPart(name) {
   for (const part of PARTS) {
     by(part).hidden = part !== name;
-    if (part === name) by(`show-${part}`).setAttribute("aria-current", "page");
-    else by(`show-${part}`).removeAttribute("aria-current");
+    by(`show-${part}`).setAttribute("aria-current", part === name ? "page" : "false");
   }
 }
-
 /** Says what the module is: its version, its commit and whether it was proved. */
 function showFacts({ version, commit, proved, ...facts }) {
   show("built", `${version} · ${proved ? "proved" : "built without proof"} · nothing leaves this page`);
   show("proved", proved ? "It is the proved library of Pigyelund: each function meets its contract for every input." :
     "This module was built without proof, with checks at run time. So its answers are tested, and not proved.");
-  show("module", tableOf(Object.entries({ version, "built from commit": commit, ...facts }).map(
-    ([name, value]) => [name, codeOf(String(value))])));
+  show("module", tableOf(Object.entries({ version, "built from commit": commit, ...facts }).filter(([, it]) => it)
+    .map(([name, value]) => [name, codeOf(String(value))])));
 }
-
 /** Loads the module, and has it answer one line: a browser in which it computes something else is not used. */
 async function loadModule() {
   if (!globalThis.Pigyelund) throw new Error("A file of the page is missing, or the browser is too old to read it.");
@@ -100,7 +82,8 @@ async function start() {
     return;
   }
   by("engine").hidden = true;
-  const isLong = location.hash.length > MOST_LINK, pairs = isLong ? [] : [...new URLSearchParams(location.hash.slice(1))];
+  const fragment = location.hash.slice(1), isLong = fragment.length > MOST_LINK;
+  const pairs = isLong ? [] : [...new URLSearchParams(fragment)];
   if (isLong) say(`The link is longer than ${MOST_LINK} characters, and is not used.`);
   const isOfRoutes = pairs.some(([name]) => name === "routes" || name === "vrps");
   startResources(isOfRoutes ? [] : pairs);

@@ -2,13 +2,10 @@
 /* Draws the rows of a path over an axis. The steps of the axis lie between the bounds that occur in the rows. */
 const MOST_STEPS = 60;
 /* What the states of a part say, and which of them have a pattern of lines. */
-const STATES = {
-  held: "holds", verified: "claims, and its issuer holds", inherited: "inherits", overclaimed: "overclaims",
-  removed: "overclaims, and is reduced by", unchecked: "claims, not checked",
-};
+const STATES = { held: "holds", verified: "claims, and its issuer holds", inherited: "inherits",
+  overclaimed: "overclaims", removed: "overclaims, and is reduced by", unchecked: "claims, not checked" };
 const PATTERNS = { overclaimed: "M0 0V7", removed: "M0 0V7M0 0H7", inherited: "M3 3h1" };
 const LABEL = 92, HEIGHT = 34, LETTER = 6.3, LINE = 14, LINES = 3;
-
 /** Makes an element of SVG with attributes, and with texts or other elements inside. */
 function drawn(name, attributes, ...inside) {
   const made = document.createElementNS("http://www.w3.org/2000/svg", name);
@@ -16,7 +13,6 @@ function drawn(name, attributes, ...inside) {
   made.append(...inside);
   return made;
 }
-
 /** Returns the steps of an axis, and at each step the state of each row that covers it. */
 function stepsOf(rows) {
   const all = rows.flatMap((row, number) => row.parts.flatMap(({ state, ranges }) =>
@@ -29,7 +25,6 @@ function stepsOf(rows) {
   }
   return steps;
 }
-
 /** Returns the indexes of the steps to draw: at most MOST_STEPS, the nearest to what is overclaimed. */
 function stepsToDraw(steps) {
   const all = steps.map((_, index) => index), isOver = (it) => it === "overclaimed" || it === "removed";
@@ -38,7 +33,6 @@ function stepsToDraw(steps) {
   for (const it of all.slice(0, -1).reverse()) distance[it] = Math.min(distance[it], distance[it + 1] + 1);
   return all.sort((a, b) => distance[a] - distance[b] || a - b).slice(0, MOST_STEPS).sort((a, b) => a - b);
 }
-
 /** Gives each drawn step its place: `left` and `width`. Neighbours that are left out make one narrow step together. */
 function placed(steps, width) {
   const chosen = [];
@@ -58,7 +52,6 @@ function placed(steps, width) {
     return at;
   });
 }
-
 /** Returns the bars of a row: neighbours of the same state are one bar. */
 function barsOf(steps, number) {
   const bars = [];
@@ -68,7 +61,6 @@ function barsOf(steps, number) {
   });
   return bars;
 }
-
 /** Writes the bounds below the axis, each in the first line that has room. The table has all bounds. */
 function labelsOf(steps, top, right, nameOf) {
   const ends = new Array(LINES).fill(0), labels = [];
@@ -86,7 +78,6 @@ function labelsOf(steps, top, right, nameOf) {
   });
   return { labels, lines: ends.filter(Boolean).length };
 }
-
 /**
  * Draws rows. A row has a name and parts; a part has a state and ranges, pairs of a first and a last number. `nameOf`
  * gives the text of a bound. Returns the picture, the number of steps, and how many of them are left out.
@@ -95,15 +86,16 @@ function pictureOf(rows, { title, width, nameOf, id }) {
   const steps = stepsOf(rows), bottom = 8 + rows.length * HEIGHT, right = Math.max(width, 260);
   const at = placed(steps, right - LABEL - 14), { labels, lines } = labelsOf(at, bottom, right, nameOf);
   const height = bottom + 8 + lines * LINE;
-  const svg = drawn("svg", { viewBox: `0 0 ${right} ${height}`, width: right, height, role: "img", "aria-label": title });
+  const size = { viewBox: `0 0 ${right} ${height}`, width: right, height };
+  const svg = drawn("svg", { ...size, role: "img", "aria-label": title });
   for (const [name, d] of Object.entries(PATTERNS)) {
     const pattern = { id: `${id}-${name}`, width: 7, height: 7, patternUnits: "userSpaceOnUse" };
     if (name !== "inherited") pattern.patternTransform = "rotate(45)";
     const ground = drawn("rect", { width: 7, height: 7, class: `ground ${name}` });
     svg.append(drawn("pattern", pattern, ground, drawn("path", { d, class: `mark ${name}` })));
   }
-  const edges = at.flatMap((step) => [step.left, step.left + step.width]);
-  svg.append(drawn("path", { class: "steps", d: edges.map((x) => `M${x.toFixed(1)} 4V${bottom}`).join("") }), ...labels);
+  const edges = at.flatMap((step) => [step.left, step.left + step.width]).map((x) => `M${x.toFixed(1)} 4V${bottom}`);
+  svg.append(drawn("path", { class: "steps", d: edges.join("") }), ...labels);
   rows.forEach(({ name }, number) => {
     const y = 8 + number * HEIGHT;
     svg.append(drawn("text", { x: 0, y: y + 17 }, name));

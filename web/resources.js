@@ -2,18 +2,13 @@
 /* The part "Resources": reads the claims of a path, has the module verify them, and shows the verdict and pictures. */
 const KINDS = { as: "AS numbers", v4: "IPv4", v6: "IPv6" }, NAMES = { as: "asn", v4: "ipv4", v6: "ipv6" };
 const UNCHECKED = "Signatures, dates and revocation are not checked; the order is yours.";
-/* The DER of a certificate that inherits AS numbers, IPv4 and IPv6 addresses (RFC 3779, 2.2.3.5 and 3.2.3.3). */
-const INHERIT = { as: "3004a0020500", ip: "301030060402000105003006040200020500" };
 /* What to do after the fault n of a text, PIGY_BAD_TEXT + n. */
-const REMEDIES = {
-  1: "Save the text as UTF-8.",
+const REMEDIES = { 1: "Save the text as UTF-8.", 7: "Write the lower address first.",
   2: "Write a number from 0 to 4294967295, with or without AS in front, and commas between elements.",
   3: "Write two AS numbers in ascending order, with a dash and no spaces between them.",
   4: "Write an address such as 192.0.2.1 or 2001:db8::1, and commas between elements.",
   5: "Write a length up to 32 for IPv4 or 128 for IPv6, and no netmask.",
-  6: "Write AS numbers, IPv4 and IPv6 addresses on lines of their own.",
-  7: "Write the lower address first.",
-};
+  6: "Write AS numbers, IPv4 and IPv6 addresses on lines of their own." };
 
 const plain = (fault) => fault.message.replace(/ \([a-z]+ [0-9]+\)$/, "");
 const octetsOf = (hex) => Uint8Array.from(hex.match(/../g) ?? [], (it) => parseInt(it, 16));
@@ -22,7 +17,6 @@ const textOfSet = (set, kind) => set.text(NAMES[kind]);
 const only = (set, kind) => setOf(kind, textOfSet(set, kind));
 const encoding = (lenient) => (lenient ? "lenient" : "strict");
 const verify = (set, { as, ip }, lenient, mode) => set.verify(as, ip, encoding(lenient), mode);
-
 /** Returns the result of a call, or its error if the module refuses a text, a line or DER. */
 function tried(call) {
   try {
@@ -32,7 +26,6 @@ function tried(call) {
     throw fault;
   }
 }
-
 /** Returns the error of a line that the module refuses as a list of each kind. It names the wrong element. */
 function faultOf(line, number) {
   const fault = (kind) => tried(() => setOf(kind, line)).fault;
@@ -41,7 +34,6 @@ function faultOf(line, number) {
   const where = `line ${number}, element ${at + 1}: ${elements[at].trim().slice(0, 80)}`;
   return new Error(`${where}: ${plain(fault(kind))}. ${REMEDIES[fault(kind).fault] ?? ""}`);
 }
-
 /** Reads a line as DER in hexadecimal: AS identifiers, or else IP address blocks. Returns null for any other line. */
 function derOf(line, number) {
   const hex = line.replace(/[\s:]/g, "").toLowerCase(), der = octetsOf(hex);
@@ -50,10 +42,9 @@ function derOf(line, number) {
   if (as !== undefined) return { as: der, kinds: { as } };
   if (v4 !== undefined && v6 !== undefined) return { ip: der, kinds: { v4, v6 } };
   const why = [[der, null], [null, der]].map((it) => tried(() => Pigyelund.Resources.read(...it, "lenient")).fault);
-  const texts = why.map((it) => (it ? plain(it) : "valid")).join("; ");
-  throw new Error(`line ${number}: this is DER neither of AS identifiers nor of IP address blocks: ${texts}`);
+  throw new Error(`line ${number}: this is DER neither of AS identifiers nor of IP address blocks: ${
+    why.map((it) => it && plain(it)).join("; ")}`);
 }
-
 /** Returns the extensions that the lines of a claim make, and for each kind its text: a list, inherit or missing. */
 function claimOf(text) {
   const lists = {}, made = {}, kinds = {};
@@ -75,11 +66,10 @@ function claimOf(text) {
     kinds: { as: "missing", v4: "missing", v6: "missing", ...kinds } };
 }
 
-const inheritClaim = () => ({
-  as: octetsOf(INHERIT.as), ip: octetsOf(INHERIT.ip), kinds: { as: "inherit", v4: "inherit", v6: "inherit" },
-});
-
-/** Has the module verify a path. Returns the sets after each verified certificate, and what was refused, if anything. */
+/* The claim of a certificate that inherits AS numbers, IPv4 and IPv6 addresses (RFC 3779, 2.2.3.5 and 3.2.3.3). */
+const INHERIT = { as: octetsOf("3004a0020500"), ip: octetsOf("301030060402000105003006040200020500"),
+  kinds: { as: "inherit", v4: "inherit", v6: "inherit" } };
+/** Has the module verify a path. Returns the sets after each verified certificate, and what was refused, or null. */
 function verifiedPath(anchor, certificates, lenient) {
   const sets = [Pigyelund.Resources.read(anchor.as, anchor.ip, encoding(lenient))];
   let refused = null;
@@ -92,7 +82,6 @@ function verifiedPath(anchor, certificates, lenient) {
   for (const it of certificates.slice(0, refused?.at)) sets.push(verify(sets.at(-1), it, lenient, it.mode));
   return { sets, refused };
 }
-
 /** Returns a part of a row: a state, a set, and the set's ranges of a kind as numbers for the picture. */
 function partOf(state, set, kind) {
   const number = (octets) => BigInt(`0x${hexOf(octets)}`);
@@ -100,7 +89,6 @@ function partOf(state, set, kind) {
     set.ipRanges(NAMES[kind]).map(({ minOctets, maxOctets }) => [number(minOctets), number(maxOctets)]);
   return { state, ranges, text: textOfSet(set, kind) };
 }
-
 /** Returns the rows of a picture: what the anchor holds of a kind, and what each certificate claims of it. */
 function rowsOf(kind, { sets, refused }, certificates) {
   const rows = certificates.map(({ kinds: { [kind]: text }, mode }, index) => {
@@ -111,18 +99,15 @@ function rowsOf(kind, { sets, refused }, certificates) {
         partOf(mode === "trim" ? "removed" : "overclaimed", claim.difference(issuer), kind)];
     return { name: `cert. ${index + 1}`, parts: parts.filter((it) => it.ranges.length) };
   });
-  return [{ name: "anchor", parts: [partOf("held", only(sets[0], kind), kind)].filter((it) => it.ranges.length) }, ...rows];
+  const held = partOf("held", only(sets[0], kind), kind);
+  return [{ name: "anchor", parts: held.ranges.length ? [held] : [] }, ...rows];
 }
-
-/** Returns the text of the bound `number` of a kind. The module writes the addresses. */
+/** Returns the text of the bound `number` of a kind. */
 function boundName(kind, number) {
   if (number >= (kind === "v6" ? 1n << 128n : 1n << 32n)) return "end";
   if (kind === "as") return `AS${number}`;
-  const parts = number.toString(16).padStart(kind === "v4" ? 8 : 32, "0").match(kind === "v4" ? /../g : /..../g);
-  const text = kind === "v4" ? parts.map((it) => parseInt(it, 16)).join(".") : parts.join(":");
-  return Pigyelund.answer(`norm ${kind} ${text}`);
+  return Pigyelund.addressText(octetsOf(number.toString(16).padStart(kind === "v4" ? 8 : 32, "0")));
 }
-
 /** Returns the card with the picture of a kind, and the same as a table. */
 function pictureCard(kind, rows, width) {
   const states = [...new Set(rows.flatMap((row) => row.parts.map((it) => it.state)))];
@@ -139,8 +124,7 @@ function pictureCard(kind, rows, width) {
   out ? element("p", {}, left) : "", element("details", {}, element("summary", {}, "The picture as a table"),
     element("div", { className: "wide" }, tableOf(lines, ["row", "state", KINDS[kind]]))));
 }
-
-/** Returns the card with a set: its texts, its canonical DER and its shortest prefixes, each with a button to copy it. */
+/** Returns the card with a set: its texts, its canonical DER and its shortest prefixes, each with a button to copy. */
 function setCard(title, set) {
   const der = set.der(), prefixes = (kind) => set.prefixes(NAMES[kind]).join(", ");
   const values = [...Object.keys(KINDS).map((kind) => [KINDS[kind], textOfSet(set, kind)]),
@@ -151,7 +135,6 @@ function setCard(title, set) {
   return element("div", { className: "card" }, element("h2", {}, title),
     element("div", { className: "wide" }, tableOf(rows)));
 }
-
 /** Says that a certificate was refused: which one, for what, and what the other mode would leave. */
 function refusal(path, certificates, lenient) {
   const { sets, refused: { at, fault } } = path, strong = element("strong", {}, `Refused at certificate ${at + 1}.`);
@@ -161,9 +144,8 @@ function refusal(path, certificates, lenient) {
   const rest = verify(sets[at], certificates[at], lenient, "trim");
   const left = Object.keys(KINDS).map((kind) => textOfSet(rest, kind)).filter(Boolean).join(", ");
   return [strong, " It claims what its issuer does not hold: ", codeOf(over), ". ", element("small", {},
-    "RFC 6487, 7.2. With trim (RFC 8360) ", left ? codeOf(left) : "nothing", " would remain.")];
+    "RFC 6487, 7.2. With trim (RFC 8360) ", left ? codeOf(left, 300) : "nothing", " would remain.")];
 }
-
 /** Shows the verdict on a path, its pictures, and what remains. */
 function showPath(anchor, certificates, lenient) {
   const path = verifiedPath(anchor, certificates, lenient), { sets, refused } = path, last = sets.length - 1;

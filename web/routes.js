@@ -2,32 +2,24 @@
 /* The part "Routes": gives files to the worker, and shows the states of their lines. */
 const MOST_FILE = 512 * 2 ** 20, ROWS = 500;
 const STATE_NAMES = ["valid", "not-found", "invalid-as", "invalid-length", "skipped", "error"];
-const REASONS = {
-  "not-found": "no VRP covers the route", "invalid-as": "no covering VRP has its AS",
-  "invalid-length": "longer than the maximum length of the VRPs with its AS", skipped: "withdraws a route, or has none",
-};
+const REASONS = { "not-found": "no VRP covers the route", "invalid-as": "no covering VRP has its AS",
+  "invalid-length": "longer than the maximum length of the VRPs with its AS", skipped: "withdraws or has no route" };
 /* What to do after the fault n of a line of CSV, of an item of JSON, or of a whole file of VRPs. */
-const FIELDS = {
-  4: "Write a number from 0 to 4294967295, with or without AS in front.",
-  5: "Write a prefix such as 192.0.2.0/24, without bits after its length.",
-  6: "Write a decimal number.",
-  7: "The maximum length is at least the prefix length, and at most 32 for IPv4 or 128 for IPv6.",
-};
+const FIELDS = { 4: "Write a number from 0 to 4294967295, with or without AS in front.",
+  5: "Write a prefix such as 192.0.2.0/24, without bits after its length.", 6: "Write a decimal number.",
+  7: "The maximum length is at least the prefix length, and at most 32 for IPv4 or 128 for IPv6." };
 const FILE_REMEDIES = {
   BAD_LINE: { 1: "Save the line as UTF-8.", 2: "A line end was lost, or a field has a comma.",
     3: "The line was cut, or is a comment.", ...FIELDS },
   BAD_ITEM: FIELDS,
-  BAD_FILE: { 1: 'Put the array into an object: {"roas": [..]}.', 2: "The file was cut, or is no JSON: export it again.",
+  BAD_FILE: { 1: 'Put the array into an object: {"roas": [..]}.', 2: "The file was cut, or is no JSON.",
     6: "Run the validator again.", 7: "Write a first line such as ASN,IP Prefix,Max Length, or run rpki-client -c." },
 };
 const ITEMS = "An item has each of asn, prefix and maxLength once; roas is an array.";
-const ROUTES_EXAMPLE = {
-  vrps: "ASN,IP Prefix,Max Length\nAS64496,192.0.2.0/23,24",
-  routes: "192.0.2.0/24 AS64496\n192.0.2.0/25 AS64496\n192.0.3.0/24 AS64511\n198.51.100.0/24 AS64496",
-};
+const ROUTES_EXAMPLE = { vrps: "ASN,IP Prefix,Max Length\nAS64496,192.0.2.0/23,24",
+  routes: "192.0.2.0/24 AS64496\n192.0.2.0/25 AS64496\n192.0.3.0/24 AS64511\n198.51.100.0/24 AS64496" };
 const chosen = { vrps: [], lines: [] };
 let worker = null, results = null, began = 0, shown = 0;
-
 /** Keeps the chosen files of an input, and names them. Files above MOST_FILE are refused by name. */
 function choose(what, files) {
   chosen[what] = files.filter((it) => it.size <= MOST_FILE);
@@ -35,20 +27,14 @@ function choose(what, files) {
     `${it.name} (${(it.size / 1e6).toFixed(1)} MB)` :
     `${it.name} is refused: it has ${Math.ceil(it.size / 2 ** 20)} MiB, and at most 512 are read`)).join("; ");
 }
-
 /** Reads the chosen files and the pasted lines. A file that cannot be read, such as a folder, makes an error. */
 const octetsOfFiles = (what, id) => Promise.all(
-  [...chosen[what], ...(by(id).value.trim() ? [new File([by(id).value], "pasted lines")] : [])].map(async (file) => {
-    try {
-      return { name: file.name, octets: new Uint8Array(await file.arrayBuffer()) };
-    } catch {
-      throw new Error(`${file.name}: the file cannot be read, or is a folder`);
-    }
-  }));
+  [...chosen[what], ...(by(id).value.trim() ? [new File([by(id).value], "pasted lines")] : [])].map((file) =>
+    file.arrayBuffer().then((it) => ({ name: file.name, octets: new Uint8Array(it) }),
+      () => Promise.reject(new Error(`${file.name}: the file cannot be read, or is a folder`)))));
 
 function progress(done, ...texts) {
-  by("done").hidden = done === null;
-  by("done").value = done ?? 0;
+  Object.assign(by("done"), { hidden: done === null, value: done ?? 0 });
   show("state", ...texts);
 }
 
@@ -62,7 +48,6 @@ function stop() {
   worker = null;
   setRunning(false);
 }
-
 /** Starts the worker with the chosen files. */
 async function validate() {
   stop();
@@ -73,8 +58,8 @@ async function validate() {
   progress(0, "Reading the files");
   try {
     const vrps = await octetsOfFiles("vrps", "pasted-vrps"), lines = await octetsOfFiles("lines", "pasted");
-    if (!vrps.length) throw new Error("There are no VRPs. Choose a file, or write lines such as AS64496,192.0.2.0/23,24.");
-    if (!lines.length) throw new Error("There are no routes. Choose a file, or write lines such as 192.0.2.0/24 AS64496.");
+    if (!vrps.length) throw new Error("There are no VRPs. Choose a file or write AS64496,192.0.2.0/23,24.");
+    if (!lines.length) throw new Error("There are no routes. Choose a file or write 192.0.2.0/24 AS64496.");
     const source = new Blob([`${Pigyelund.source}(${routesWorker})();`], { type: "text/javascript" });
     worker = new Worker(URL.createObjectURL(source));
     worker.onmessage = ({ data }) => take(data);
@@ -86,7 +71,6 @@ async function validate() {
     take({ failed: fault.message });
   }
 }
-
 /** Takes a message of the worker. */
 function take(data) {
   if (data.step) progress(by("done").value, `${data.step} …`);
@@ -96,9 +80,9 @@ function take(data) {
     data.covering.forEach((text, index) => (by("rows").rows[index + 1].cells[4].textContent = text));
   }
   if (!data.failed) return;
-  const remedies = FILE_REMEDIES[data.code], remedy = remedies && `. ${remedies[data.number] ?? ITEMS}`;
   stop();
-  progress(null, element("strong", {}, "No answer. "), data.failed, remedy ?? "");
+  const remedies = FILE_REMEDIES[data.code], said = remedies ? `. ${remedies[data.number] ?? ITEMS}` : "";
+  progress(null, element("strong", {}, "No answer. "), data.failed, said);
 }
 
 function showResults({ files, vrps }) {
@@ -111,14 +95,12 @@ function showResults({ files, vrps }) {
   }
   results = { files, counts, all, rows: null, page: 0 };
   setRunning(false);
-  progress(null, `${all} routes by ${vrps} VRPs, in ${((performance.now() - began) / 1000).toFixed(2)} seconds.`);
+  const seconds = ((performance.now() - began) / 1000).toFixed(2);
+  progress(null, `${all} routes by ${vrps} VRP${vrps === 1 ? "" : "s"}, in ${seconds} seconds.`);
   const there = STATE_NAMES.map((name, it) => ({ name, count: counts[it] })).filter((it) => it.count);
-  const bar = there.map(({ name, count }) => {
-    const made = element("span", { className: name, title: `${name}: ${count}` });
-    made.style.flexGrow = count;
-    return made;
-  });
-  show("counts", element("div", { className: "counts" }, ...bar), tableOf(there.map(({ name, count }) =>
+  const bar = element("div", { className: "counts" }, ...there.map(({ name }) => element("span", { className: name })));
+  there.forEach(({ count }, index) => (bar.children[index].style.flexGrow = count));
+  show("counts", bar, tableOf(there.map(({ name, count }) =>
     [keyOf(name), String(count), `${((100 * count) / all).toFixed(1)} %`, REASONS[name] ?? ""])));
   show("only", element("option", { value: "" }, "all routes"),
     ...there.map(({ name }) => element("option", { value: name }, name)));
@@ -126,8 +108,8 @@ function showResults({ files, vrps }) {
   filter();
 }
 
+const filter = () => showPage(0, select(by("only").value, by("with").value));
 const keyOf = (name) => element("span", { className: `key ${name}` }, name);
-
 /** Returns the numbers of the lines of all files that have the state `only` and the text. */
 function select(only, text) {
   const wanted = STATE_NAMES.indexOf(only), rows = new Uint32Array(wanted < 0 ? results.all : results.counts[wanted]);
@@ -144,35 +126,26 @@ function select(only, text) {
   }
   return rows.subarray(0, count);
 }
-
-/** Returns what is known of a line: its file, its number in the file, its octets, its text, its state and the reason. */
+/** Returns what is known of a line: its file, its number there, its octets, its text, its state and the reason. */
 function lineOf(row) {
   const file = results.files.filter((it) => it.first <= row).pop(), line = row - file.first;
   const octets = file.octets.slice(file.starts[line], file.starts[line + 1]), name = STATE_NAMES[file.states[line]];
   const text = new TextDecoder().decode(octets).trimEnd();
   return { file, octets, number: line + 1, text, name, reason: file.faults.get(line) ?? REASONS[name] ?? "" };
 }
-
-function filter() {
-  results.rows = select(by("only").value, by("with").value);
-  showPage(0);
-}
-
 /** Shows a page of at most ROWS rows, and asks the worker for the VRPs that cover their routes. */
-function showPage(page) {
-  const { rows } = results, last = Math.max(0, Math.ceil(rows.length / ROWS) - 1);
-  results.page = page;
+function showPage(page, rows = results.rows) {
+  const last = Math.max(0, Math.ceil(rows.length / ROWS) - 1);
+  Object.assign(results, { page, rows });
   by("before").disabled = page === 0;
   by("after").disabled = page === last;
   show("page", `${rows.length} rows, page ${page + 1} of ${last + 1}`);
   const lines = Array.from(rows.subarray(page * ROWS, (page + 1) * ROWS), lineOf);
-  const made = tableOf(lines.map(({ number, text, name, reason }) =>
-    [String(number), element("code", {}, text.slice(0, 300)), keyOf(name), reason, ""]),
-  ["line", "route", "state", "reason", "VRPs that cover it"]);
-  show("rows", ...made.childNodes);
+  const cells = lines.map(({ number, text, name, reason }) =>
+    [String(number), element("code", {}, text.slice(0, 300)), keyOf(name), reason, ""]);
+  show("rows", ...tableOf(cells, ["line", "route", "state", "reason", "VRPs that cover it"]).childNodes);
   worker?.postMessage({ cover: lines.map(({ octets }) => octets), page: ++shown });
 }
-
 /** Saves all lines with their states as CSV. */
 function save() {
   const field = (text) => `"${text.replaceAll('"', '""')}"`, pieces = ["file,line,route,state,reason\r\n"];
@@ -181,9 +154,9 @@ function save() {
     piece.push(`${field(file.name)},${number},${field(text)},${name},${field(reason)}\r\n`);
     if (piece.length === 20000 || row === results.all - 1) pieces.push(piece.splice(0).join(""));
   }
-  const address = URL.createObjectURL(new Blob(pieces, { type: "text/csv" }));
-  element("a", { href: address, download: "routes.csv" }).click();
-  setTimeout(() => URL.revokeObjectURL(address), 60000);
+  const href = URL.createObjectURL(new Blob(pieces, { type: "text/csv" }));
+  element("a", { href, download: "routes.csv" }).click();
+  setTimeout(() => URL.revokeObjectURL(href), 60000);
 }
 
 function startRoutes(pairs) {

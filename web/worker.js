@@ -2,15 +2,14 @@
 /* The worker of the part "Routes". The page starts it from a Blob of the glue's source and of this function's source,
  * since Chromium starts no worker from a file. So this function uses nothing of the page.
  *
- * It takes one message: the octets of the module, of the files of VRPs and of routes. It posts the step that it is at,
- * after each piece the number of lines that are done, and at the end the state of each line, or a fault. Then it takes
- * messages with lines, and posts the VRPs that cover the route of each. */
+ * Its first message has the octets of the module and of all files. It posts each step, after each piece the number of
+ * lines that are done, and at the end the states, or a fault. A later message has lines: it posts the VRPs that cover
+ * their routes. */
 function routesWorker() {
   /* The states of lines have the order of STATE_NAMES: valid, not-found, invalid-as, invalid-length, skipped, error. */
   const PIECE = 50000, STRUCT = 24, INVALID = 2, SKIPPED = 4, ERROR = 5;
   const decoder = new TextDecoder("latin1"), encoder = new TextEncoder();
   let table = null;
-
   /** Returns the index of the first octet of each line, and behind the last one the end. */
   function startsOf(octets) {
     let count = 0;
@@ -20,7 +19,6 @@ function routesWorker() {
     starts[count] = octets.length;
     return starts;
   }
-
   /** Reads the files of VRPs, and makes their table. An error names the file, and the line or item that is wrong. */
   function makeTable(files) {
     const lists = files.map(({ name, octets }) => {
@@ -38,16 +36,14 @@ function routesWorker() {
     lists.reduce((at, it) => (all.set(it, at), at + it.length), 0);
     table = new Pigyelund.Table(all);
   }
-
-  /** Returns the structs of the routes of lines. A glue without a reader of routes reads them as CSV: the words of a line
-   * change places, and a first line keeps other lines from naming columns. */
+  /** Returns the structs of the routes of lines. A module without a reader of routes reads them as CSV: the words of a
+   * line change places, and a first line keeps other lines from naming columns. */
   function readRoutes(octets) {
     if (Pigyelund.readRoutes) return Pigyelund.readRoutes(octets).octets;
     const text = decoder.decode(octets).replace(/\n$/, "").replace(/[,"']/g, ";").replace(/\r/g, " ");
     const csv = `AS0,0.0.0.0/0,\n${text.replace(/^([^ \n]*) ?(.*)$/gm, "$2,$1,")}`;
     return Pigyelund.readVrps(encoder.encode(csv)).octets.subarray(STRUCT);
   }
-
   /** Finds the states of the lines from `from` to `end`. A wrong line ends a piece, and the next pieces are shorter, so
    * that many wrong lines stay quick. */
   function validateLines(file, from, end) {
@@ -67,8 +63,7 @@ function routesWorker() {
       }
     }
   }
-
-  /** Stores the states of valid lines. If there are fewer routes than lines, some lines are skipped: halves find them. */
+  /** Stores the states of valid lines. With fewer routes than lines, some lines are skipped: halves find them. */
   function record(file, from, to, routes) {
     const count = routes.length / STRUCT, middle = (from + to) >> 1;
     if (count === 0) file.states.fill(SKIPPED, from, to);
@@ -100,7 +95,6 @@ function routesWorker() {
     const buffers = files.flatMap((it) => [it.octets.buffer, it.starts.buffer, it.states.buffer]);
     postMessage({ files, vrps: table.length }, buffers);
   }
-
   /** Returns the VRPs that cover the route of a line, each with the reason why it does not match. */
   function coveringOf(octets) {
     try {

@@ -65,7 +65,7 @@ class Chromium(Browser):
         self.driver.find_element("css selector", selector).send_keys("\n".join(map(str, paths)))
 
     def tab(self):
-        """Presses Tab. Returns the role and the name of the element that has the focus then, as a screen reader gets."""
+        """Presses Tab. Returns the role and the name of the element that has the focus then."""
         from selenium.webdriver.common.action_chains import ActionChains
 
         ActionChains(self.driver).send_keys(TAB).perform()

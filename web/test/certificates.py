@@ -8,21 +8,23 @@ from pathlib import Path
 
 OIDS = {"06082b06010505070107": ("ip", "refuse"), "06082b06010505070108": ("as", "refuse"),
         "06082b0601050507011c": ("ip", "trim"), "06082b0601050507011d": ("as", "trim")}
-# AS64496-AS64511 with 10.0.0.0/8; AS64496 with 10.0.0.0/9; AS64496 with 10.2.0.0/16 and 12.0.0.0/8
+BASE = "1.3.6.1.5.5.7.1."
+# For each certificate the OIDs of its extensions, and their values in DER: AS64496-AS64511 and 10.0.0.0/8; AS64496 and
+# 10.0.0.0/9; AS64496, 10.2.0.0/16 and 12.0.0.0/8.
 CERTIFICATES = {
-    "anchor": ("1.3.6.1.5.5.7.1.", 8, 7, "3010a00e300c300a020300fbf0020300fbff", "300c300a04020001300403020 00a".replace(" ", "")),
-    "good": ("1.3.6.1.5.5.7.1.", 8, 7, "3009a0073005020300fbf0", "300d300b040200013005030307 0a00".replace(" ", "")),
-    "trimmed": ("1.3.6.1.5.5.7.1.", 29, 28, "3009a0073005020300fbf0", "3011300f0402000130090303000a020302000c".replace(" ", "")),
+    "anchor": ((8, "3010a00e300c300a020300fbf0020300fbff"), (7, "300c300a0402000130040302000a")),
+    "good": ((8, "3009a0073005020300fbf0"), (7, "300d300b0402000130050303070a00")),
+    "trimmed": ((29, "3009a0073005020300fbf0"), (28, "3011300f0402000130090303000a020302000c")),
 }
 
 
 def write(folder):
     """Writes the certificates as files of DER."""
-    for name, (base, asn, ip, as_der, ip_der) in CERTIFICATES.items():
-        words = ["openssl", "req", "-x509", "-newkey", "ec", "-pkeyopt", "ec_paramgen_curve:prime256v1", "-nodes", "-keyout",
-                 "/dev/null", "-subj", f"/CN={name}", "-days", "9", "-outform", "DER", "-out", folder / f"{name}.cer"]
-        for oid, der in ((asn, as_der), (ip, ip_der)):
-            words += ["-addext", f"{base}{oid}=critical,DER:{':'.join(der[at:at + 2] for at in range(0, len(der), 2))}"]
+    made = "openssl req -x509 -newkey ec -pkeyopt ec_paramgen_curve:prime256v1 -nodes -keyout /dev/null -days 9"
+    for name, extensions in CERTIFICATES.items():
+        words = [*made.split(), "-subj", f"/CN={name}", "-outform", "DER", "-out", folder / f"{name}.cer"]
+        for oid, der in extensions:
+            words += ["-addext", f"{BASE}{oid}=critical,DER:{bytes.fromhex(der).hex(':')}"]
         subprocess.run(words, check=True, capture_output=True)
 
 

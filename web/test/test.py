@@ -1,20 +1,24 @@
 #!/usr/bin/python3
-"""test.py [FILE]: tests the page in Chromium and Firefox, opened as a file and from 127.0.0.1.
+"""test.py [--times]: tests web/index.html in Chromium and Firefox, opened as a file and from 127.0.0.1.
 
-FILE is web/index.html, or pigyelund.html of a release. A browser that is missing is left out by name. The status is 1
-if a test failed. Debian's selenium is for /usr/bin/python3."""
+It also tries the one file that web/one_file makes. A browser that is missing is left out by name. With --times it
+prints the seconds from the drop of 500,000 VRPs and 1,000,000 routes to their counts, of five runs each. The status is
+1 if a test failed. Debian's selenium is for /usr/bin/python3.
+"""
 
 import http.server
 import json
 import random
 import re
 import socket
+import statistics
 import subprocess
 import sys
 import tempfile
 import threading
 import time
 from pathlib import Path
+from urllib.parse import quote
 
 TOP = Path(__file__).resolve().parent.parent.parent
 sys.path[:0] = [str(TOP / "bench"), str(Path(__file__).parent)]
@@ -23,13 +27,22 @@ import origins  # noqa: E402
 from browsers import browsers  # noqa: E402
 from certificates import mutated, reference  # noqa: E402
 
-PAGE = Path(sys.argv[1] if sys.argv[1:] else TOP / "web" / "index.html").resolve()
-STATES = "const all = {}; for (const row of document.querySelectorAll('#counts tr')) " \
-    "all[row.cells[0].innerText] = Number(row.cells[1].innerText); return all"
+PAGE = TOP / "web" / "index.html"
 DONE = "return /seconds|No answer/.test(document.getElementById('state').innerText)"
+VERDICT = "return document.getElementById('verdict').innerText"
+HELD = "return [...document.querySelectorAll('#remains code')].map((it) => it.innerText)"
+ROWS = """return [...document.querySelectorAll('#rows tr')].slice(1).map((row) =>
+    [...row.cells].map((it) => it.innerText))"""
+COUNTS = """return Object.fromEntries([...document.querySelectorAll('#counts tr')].map(({ cells: [name, count] }) =>
+    [name.innerText, Number(count.innerText)]))"""
+# Drops texts as files on an element.
+DROP = """const [selector, files] = arguments, dataTransfer = new window.DataTransfer();
+    for (const [name, text] of files) dataTransfer.items.add(new window.File([text], name));
+    const event = new window.DragEvent('drop', { dataTransfer, bubbles: true, cancelable: true });
+    document.querySelector(selector).dispatchEvent(event);"""
 
 
-class Quiet(http.server.SimpleHTTPRequestHandler):
+class Server(http.server.SimpleHTTPRequestHandler):
     """Serves the folder above the page, and notes the path of each request."""
 
     paths: list[str] = []
@@ -37,7 +50,7 @@ class Quiet(http.server.SimpleHTTPRequestHandler):
     def __init__(self, *words):
         super().__init__(*words, directory=str(PAGE.parent.parent))
 
-    def log_message(self, *_):
+    def log_request(self, *_):
         self.paths.append(self.path)
 
 
@@ -61,86 +74,98 @@ class Trap:
 
 
 def check(what, seen, wanted=True):
-    """Prints a failure if two values differ."""
+    """Counts a comparison, and prints a failure if two values differ."""
+    check.count += 1
     if seen != wanted:
         print(f"FAILED  {what}: saw {str(seen)[:400]!r}, wanted {str(wanted)[:400]!r}")
         check.failed += 1
-    check.count += 1
 
 
 check.failed = check.count = 0
 
 
+def validated(browser, vrps="", routes=""):
+    """Shows the part of routes, pastes lines if there are any, and waits for the answer. Returns its rows."""
+    browser.click("#show-routes")
+    if vrps:
+        browser.fill("#pasted-vrps", vrps)
+        browser.fill("#pasted", routes)
+    browser.click("#validate")
+    browser.wait(DONE, seconds=180)
+    return browser.run(ROWS)
+
+
 def of_readme(browser, url):
-    """The worked examples of README.md: both have the answers that the page of the repository shows."""
+    """The worked examples of README.md have the answers that README.md shows."""
     readme = (TOP / "README.md").read_text(encoding="utf-8")
     browser.load(f"{url}#anchor=10.0.0.0%2F8&refuse=12.0.0.0%2F24")
-    verdict = browser.wait("return document.getElementById('verdict').innerText")
-    check("the certificate of README", "Refused at certificate 1. It claims what its issuer does not hold: 12.0.0.0/24" in verdict)
-    check("beside the verdict", "Signatures, dates and revocation are not checked; the order is yours." in verdict)
+    said = browser.wait(VERDICT)
+    refused = "Refused at certificate 1. It claims what its issuer does not hold: 12.0.0.0/24."
+    check("the certificate of README", refused in said)
+    check("beside it", "Signatures, dates and revocation are not checked; the order is yours." in said)
     covered = re.search(r"cover v4 ([^']+)'", readme)[1]
     browser.load(f"{url}#anchor={covered}")
-    check("the prefixes of README", browser.wait("return [...document.querySelectorAll('#remains code')].map((it) => it.innerText)")[1], "192.0.2.0/24")
+    check("the prefixes of README", browser.wait(HELD)[1], "192.0.2.0/24")
     browser.load(url)
     browser.click("#show-routes")
     browser.click("#example")
-    browser.wait(DONE)
-    rows = browser.run("return [...document.querySelectorAll('#rows tr')].slice(1).map((it) => it.cells[1].innerText + ' ' + it.cells[2].innerText)")
-    check("the routes of README", rows, re.findall(r"^(\S+ AS\d+ (?:valid|invalid-\w+|not-found))\b", readme, re.M))
+    browser.wait("return document.querySelector('#rows tr:nth-child(2)')?.cells[4].innerText")
+    rows = [" ".join((it[1], it[2], it[4])).strip() for it in browser.run(ROWS)]
+    check("the routes of README", rows, re.findall(r"^(\S+ AS\d+ (?:valid|invalid-\w+|not-found).*)$", readme, re.M))
 
 
 def of_recipes(browser, url):
     """Files and lines of docs/RECIPES.md."""
     recipes = (TOP / "docs" / "RECIPES.md").read_text(encoding="utf-8")
-    section = recipes.split("\n## Validate routes\n")[1].split("\n## ")[0]
-    block = section.split("```sh\n")[1].split("```")[0]
-    csv, routes = ([text for text in re.findall(r"'([^']*)'", it) if "%s" not in text] for it in block.split(">csv"))
+    block = recipes.split("\n## Validate routes\n")[1].split("```sh\n")[1].split("```")[0]
+    files = ([text for text in re.findall(r"'([^']*)'", it) if "%s" not in text] for it in block.split(">csv"))
     browser.load(url)
-    browser.fill("#pasted-vrps", "\n".join(csv))
-    browser.fill("#pasted", "\n".join(routes))
-    browser.click("#show-routes")
-    browser.click("#validate")
-    browser.wait(DONE)
-    states = browser.run("return [...document.querySelectorAll('#rows tr')].slice(1).map((it) => it.cells[2].innerText)")
+    states = [it[2] for it in validated(browser, *("\n".join(it) for it in files))]
     check("the routes of RECIPES", states, re.findall(r"^# (\S+)$", block, re.M))
-    difference = re.search(r"without v4 '(10.2[^']+)' '([^']+)'\n", recipes)
-    browser.load(f"{url}#anchor={difference[2]}&refuse={difference[1]}")
-    check("the difference of RECIPES", "does not hold: 12.0.0.0." in browser.wait("return document.getElementById('verdict').innerText"))
+    claim, issuer = re.search(r"without v4 '(10.2[^']+)' '([^']+)'\n", recipes).groups()
+    browser.load(f"{url}#anchor={issuer}&refuse={claim}")
+    check("the difference of RECIPES", "does not hold: 12.0.0.0." in browser.wait(VERDICT))
 
 
 def of_errors(browser, url):
     """An invalid text, DER or file: the page names the line, the element and what to write."""
-    for text, wanted in (("AS1\n10.0.0.0/8, 10.0.0.0/33", "line 2, element 2: 10.0.0.0/33"), ("AS1 AS2", "line 1, element 1: AS1 AS2"),
-                         ("2001:db8::/32, 10.0.0.0/8", "line 1, element 2: 10.0.0.0/8"), ("3007a005300302", "line 1: this is DER neither")):
+    for text, wanted in {
+        "AS1\n10.0.0.0/8, 10.0.0.0/33": "line 2, element 2: 10.0.0.0/33: ",
+        "AS1 AS2": "line 1, element 1: AS1 AS2: ",
+        "2001:db8::/32, 10.0.0.0/8": "line 1, element 2: 10.0.0.0/8: ",
+        "3007a005300302": "line 1: this is DER neither ",
+        "3004a0020500\nAS1": "line 2: DER has all of an extension, ",
+    }.items():
         browser.load(f"{url}#")
         browser.fill("#claims textarea", text)
-        said = browser.wait("return document.querySelector('#claims .fault').innerText")
-        check(f"the error of {text!r}", said.startswith(wanted), True)
-    browser.fill("#pasted-vrps", "AS1,10.0.0.0/8,8\nAS1,10.0.0.1/8,8")
-    browser.fill("#pasted", "10.0.0.0/8 AS1")
-    browser.click("#show-routes")
-    browser.click("#validate")
-    browser.wait(DONE)
-    check("the error of a file", "pasted lines: line 2: " in browser.text("#state") and "Write a prefix" in browser.text("#state"))
+        said = browser.wait("return document.querySelector('.fault').innerText")
+        check(f"the error of {text!r}", said[: len(wanted)], wanted)
+    validated(browser, "AS1,10.0.0.0/8,8\nAS1,10.0.0.1/8,8", "10.0.0.0/8 AS1")
+    said = browser.text("#state")
+    check("the error of a file", "pasted lines: line 2: " in said and "Write a prefix" in said)
 
 
 def of_formats(browser, url):
     """The cases of vectors/vrp_files.json, read by the module of the page."""
     cases = json.loads((TOP / "vectors" / "vrp_files.json").read_text(encoding="utf-8"))["tests"]
     browser.load(url)
-    script = """const { Pigyelund } = window, read = (hex) => Uint8Array.from(hex.match(/../g) ?? [], (it) => parseInt(it, 16));
+    script = """const { Pigyelund } = window;
+        const read = (hex) => Uint8Array.from(hex.match(/../g) ?? [], (it) => parseInt(it, 16));
         return arguments[0].map(({ text, octets }) => { try {
             return Pigyelund.readVrps(text === undefined ? read(octets) : new TextEncoder().encode(text)).length;
         } catch (fault) { if (!(fault instanceof Pigyelund.Error)) throw fault; return fault.line ?? 0; } })"""
-    found = [it for at in range(0, len(cases), 500) for it in browser.run(script, [one["input"] for one in cases[at:at + 500]])]
+    inputs = [it["input"] for it in cases]
+    found = [it for at in range(0, len(inputs), 500) for it in browser.run(script, inputs[at: at + 500])]
     for case, seen in zip(cases, found, strict=True):
         wanted = case["expected"]
         line = re.match(r"(?:line|item) (\d+): (?!neither)", wanted.get("reason", ""))
-        check(f"vrp_files {case['tcId']}", seen, int(line[1]) if line else 0 if wanted["result"] == "invalid" else len(wanted["vrps"]))
+        count = 0 if wanted["result"] == "invalid" else len(wanted["vrps"])
+        check(f"vrp_files {case['tcId']}", seen, int(line[1]) if line else count)
 
 
 def of_large(browser, url, folder):
-    """A file of 22 MB, Stop, pages and filters, and a file that is too large."""
+    """A file of 22 MB, Stop, pages and filters, the CSV, and a file that is too large."""
+    counts = json.loads((folder / "counts").read_text())
     browser.load(url)
     browser.click("#show-routes")
     browser.choose("#vrps", folder / "vrps.csv")
@@ -149,53 +174,87 @@ def of_large(browser, url, folder):
     browser.wait("return /routes$/.test(document.getElementById('state').innerText)")
     began = time.monotonic()
     browser.click("#stop")
-    browser.wait("return document.getElementById('stop').disabled && /Stopped/.test(document.getElementById('state').innerText)")
+    browser.wait("return /Stopped/.test(document.getElementById('state').innerText)")
     check("Stop ends the work within 0.5 seconds", time.monotonic() - began < 0.5)
-    browser.click("#validate")
-    browser.wait(DONE, seconds=180)
-    check("the states of many routes", browser.run(STATES), json.loads((folder / "counts").read_text()))
-    check("rows in the document", browser.run("return document.querySelectorAll('#rows tr').length - 1"), 500)
+    rows = validated(browser)
+    check("the states of many routes", browser.run(COUNTS), counts)
+    check("rows in the document", [len(rows), rows[0][0]], [500, "1"])
     browser.click("#after")
-    check("the second page", browser.run("return document.querySelector('#rows tr:nth-child(2) th').innerText"), "501")
-    browser.run("const it = document.getElementById('only'); it.value = 'invalid-as'; it.dispatchEvent(new Event('change'))")
-    check("a filter", set(browser.run("return [...document.querySelectorAll('#rows tr')].slice(1).map((it) => it.cells[2].innerText)")), {"invalid-as"})
+    check("the second page", browser.run(ROWS)[0][0], "501")
+    browser.run("const it = document.getElementById('only'); it.value = 'invalid-as';"
+                "it.dispatchEvent(new Event('change'))")
+    check("a filter", {it[2] for it in browser.run(ROWS)}, {"invalid-as"})
+    browser.run("document.getElementById('only').value = ''")
+    browser.fill("#with", rows[7][1])
+    browser.click("#filters button")
+    check("a filter by text", rows[7][:4] in [it[:4] for it in browser.run(ROWS)])
     browser.run("""const made = window.URL.createObjectURL; window.kept = null; window.URL.createObjectURL = (blob) =>
         (blob.text().then((text) => (window.kept = text)), made.call(window.URL, blob))""")
     browser.click("#save")
     browser.wait("return window.kept?.length > 0")
-    counted = browser.run("const all = {}; for (const it of window.kept.split('\\r\\n').slice(1, -1)) { const name = it.split('\",')[2].split(',')[0];"
-                          "all[name] = (all[name] ?? 0) + 1; } return all")
-    check("the routes of the CSV", counted, json.loads((folder / "counts").read_text()))
+    saved = browser.run("""const all = {}; for (const it of window.kept.split('\\r\\n').slice(1, -1)) {
+        const name = it.split('",')[2].split(',')[0]; all[name] = (all[name] ?? 0) + 1; } return all""")
+    check("the routes of the CSV", saved, counts)
     browser.choose("#vrps", folder / "too-large")
     check("a file above 512 MB", "too-large is refused" in browser.text("#drop-vrps"))
 
 
 HOSTILE = """<img src=x onerror="window.hacked=1">"""
+MADE = "return [document.images.length, window.hacked ?? 0]"
 
 
 def of_hostile(browser, url, folder):
-    """Texts of a file and of a fragment are texts on the page."""
+    """Texts of a file, of a file's name and of a fragment are texts on the page."""
     browser.load(url)
-    browser.click("#show-routes")
-    browser.fill("#pasted-vrps", "AS1,10.0.0.0/8,8")
     browser.choose("#lines", folder / "hostile")
-    browser.click("#validate")
-    browser.wait(DONE)
-    check("the lines of a hostile file", browser.run(STATES), json.loads((folder / "hostile-counts").read_text()))
-    check("texts of a file make no elements", browser.run("return [document.images.length, window.hacked ?? 0]"), [0, 0])
-    from urllib.parse import quote
-    for fragment in (f"anchor={quote(HOSTILE)}&refuse={quote(HOSTILE)}", "%", "anchor=%FF%00&x=y&__proto__=1&constructor=2",
-                     "&".join(["refuse=AS1"] * 150), f"routes={quote(HOSTILE)}&vrps={quote(HOSTILE)}", "anchor=" + "1" * 3000):
+    browser.run(DROP, "#drop-vrps", [[HOSTILE, "AS1,10.0.0.0/8,8\n"]])
+    validated(browser)
+    check("the lines of a hostile file", browser.run(COUNTS), json.loads((folder / "hostile-counts").read_text()))
+    check("texts of a file make no elements", browser.run(MADE), [0, 0])
+    browser.run(DROP, "#drop-vrps", [[HOSTILE, HOSTILE]])
+    validated(browser)
+    check("a hostile name", HOSTILE in browser.text("#state") and browser.run(MADE) == [0, 0])
+    browser.click("#show-resources")
+    browser.run(DROP, "#drop-certificates", [[HOSTILE, HOSTILE]])
+    browser.wait("return [...document.querySelectorAll('.note')].some((it) => it.innerText.includes('onerror'))")
+    check("a hostile certificate", browser.run(MADE), [0, 0])
+    text = quote(HOSTILE)
+    for fragment in (f"anchor={text}&refuse={text}", "%", "anchor=%FF%00&x=y&__proto__=1&constructor=2",
+                     "&".join(["refuse=AS1"] * 150), f"routes={text}&vrps={text}", "anchor=" + "1" * 3000):
         browser.load(f"{url}#{fragment}")
         time.sleep(0.4)
-        check("texts of a fragment make no elements", browser.run("return [document.images.length, window.hacked ?? 0]"), [0, 0])
-        check("a hostile fragment leaves a page", "Pigyelund" in browser.text("body") and len(browser.text("body")) > 200)
+        check("texts of a fragment make no elements", browser.run(MADE), [0, 0])
+        check("a hostile fragment leaves a page", len(browser.text("body")) > 200)
     check("a link has at most 2,000 characters", "longer than 2000" in browser.text("#said"))
+
+
+def of_picture(browser, url):
+    """The picture has at most 60 steps, and the table beside it has the same states."""
+    many = ",".join(f"10.{2 * it}.0.0/16" for it in range(90))
+    browser.load(f"{url}#anchor=10.0.0.0/8&refuse={many},11.2.0.0/24")
+    browser.wait("return document.querySelector('svg')")
+    check("steps that are left out", "122 of 182 steps of the axis are left out." in browser.text("#pictures"))
+    check("an overclaim in the picture", browser.run("return document.querySelectorAll('.bar.overclaimed').length"), 1)
+    browser.load(f"{url}#anchor=10.0.0.0/8&trim=10.0.0.0/7&inherit=&refuse=10.0.0.0/9,11.0.0.0/8&refuse=10.0.0.0/10")
+    browser.wait("return document.querySelector('svg')")
+    script = ROWS.replace("#rows", "#pictures").replace("innerText", "textContent")
+    check("the picture as a table", browser.run(script), [
+        ["anchor", "holds", "10.0.0.0/8"], ["cert. 1", "claims, and its issuer holds", "10.0.0.0/8"],
+        ["cert. 1", "overclaims, and is reduced by", "11.0.0.0/8"], ["cert. 2", "inherits", "10.0.0.0/8"],
+        ["cert. 3", "claims, and its issuer holds", "10.0.0.0/9"], ["cert. 3", "overclaims", "11.0.0.0/8"],
+        ["cert. 4", "claims, not checked", "10.0.0.0/10"]])
+    bars = browser.run("return [...document.querySelectorAll('.bar')].map((it) => it.getAttribute('class').slice(4))")
+    check("the bars", bars, ["held", "verified", "removed", "inherited", "verified", "overclaimed", "unchecked"])
+
+
+CONTROLS = """document.body.tabIndex = -1; document.body.focus();
+    return [...document.querySelectorAll("button, input, select, textarea, summary, [tabindex='0']")].filter((it) =>
+        !it.disabled && it.offsetParent && !(it.type === 'radio' && !it.checked)).map((it, at) =>
+        (it.dataset.at = at)).length"""
 
 
 def of_keyboard(browser, url):
     """Tab reaches each control, which has a role and a name."""
-    roles = {"button", "textbox", "radio", "checkbox", "combobox", "searchbox", "link", "region", "DisclosureTriangle", "summary", "group"}
     for part in ("resources", "routes", "proof"):
         browser.load(url)
         browser.click(f"#show-{part}")
@@ -203,37 +262,42 @@ def of_keyboard(browser, url):
             browser.click("#example")
             browser.wait(DONE)
         time.sleep(0.4)
-        count = browser.run("document.body.tabIndex = -1; document.body.focus(); const names = new Set(); return [...document.querySelectorAll("
-                            "'button, input, select, textarea, summary, [tabindex=\"0\"]')].filter((it) => !it.disabled && it.offsetParent &&"
-                            " !(it.type === 'radio' && !it.checked)).map((it, at) => (it.dataset.at = at)).length")
-        reached = set()
+        count, reached = browser.run(CONTROLS), set()
         for _ in range(count + 5):
             role, name = browser.tab()
             at = browser.run("return document.activeElement.dataset.at ?? null")
             if at is None:
                 break
             reached.add(at)
-            check(f"{part}: control {at} has a role and a name: {role} {name!r}", bool(name) and (role in roles or not role), True)
+            check(f"{part}: control {at} has a role and a name: {role} {name!r}", bool(role) and bool(name))
         check(f"{part}: Tab reaches each control", len(reached), count)
 
 
-def of_policy(browser, url, trap):
-    """The policy refuses what an injected script would try, and no request leaves the page."""
+INJECTED = """window.refused = [];
+    document.addEventListener('securitypolicyviolation', (it) => window.refused.push(it.effectiveDirective));
+    const at = 'http://' + arguments[0];
+    const put = (name, words) => document.body.append(Object.assign(document.createElement(name), words));
+    const all = [() => window.fetch(at).catch(() => 0), () => new window.WebSocket(at.replace('http', 'ws')),
+        () => put('img', { src: at }), () => put('script', { textContent: 'window.hacked = 1' }),
+        () => put('script', { src: at }),
+        () => put('iframe', { src: at }), () => put('link', { rel: 'stylesheet', href: at }),
+        () => navigator.sendBeacon(at, 'x'), () => window.eval('window.hacked = 1'),
+        () => put('form', { id: 'sent', action: at, method: 'post' }), () => document.getElementById('sent').submit()];
+    for (const it of all) setTimeout(it, 0);"""
+
+
+def of_policy(browser, url):
+    """The policy refuses what an injected script would try, and the page asks for nothing but its own files."""
+    trap = Trap()
+    names = browser.run("return performance.getEntriesByType('resource').map((it) => it.name)")
+    base = url.rsplit("/", 2)[0]
+    check("requests of the page", [it for it in names if not it.startswith((f"{base}/", "blob:"))], [])
     browser.load(url)
-    names = browser.run("return performance.getEntriesByType('resource').map((it) => it.name).filter((it) => !it.startsWith('blob:'))")
-    strange = [it for it in names if not it.startswith(url.rsplit("/", 2)[0])]
-    check("requests of the page", strange, [])
-    # The timer makes the calls the page's own: those of a driver may be free of the policy.
-    browser.run("""window.refused = []; document.addEventListener('securitypolicyviolation', (it) => window.refused.push(it.effectiveDirective));
-        const at = 'http://' + arguments[0], put = (name, words) => document.body.append(Object.assign(document.createElement(name), words));
-        const all = [() => window.fetch(at).catch(() => 0), () => new window.WebSocket(at.replace('http', 'ws')), () => put('img', { src: at }),
-            () => put('script', { textContent: 'window.hacked = 1' }), () => put('script', { src: at }), () => put('iframe', { src: at }),
-            () => put('link', { rel: 'stylesheet', href: at }), () => navigator.sendBeacon(at, 'x'), () => window.eval('window.hacked = 1'),
-            () => put('form', { id: 'sent', action: at, method: 'post' }), () => document.getElementById('sent').submit()];
-        for (const it of all) setTimeout(it, 0);""", f"127.0.0.1:{trap.port}")
+    # Timers make the calls the page's own: a driver's calls may be free of the policy.
+    browser.run(INJECTED, f"127.0.0.1:{trap.port}")
     time.sleep(1)
-    seen = set(browser.run("return window.refused"))
-    check("directives that refused", {"connect-src", "img-src", "script-src-elem", "frame-src", "style-src-elem", "form-action"} - seen, set())
+    directives = {"connect-src", "img-src", "script-src-elem", "frame-src", "style-src-elem", "form-action"}
+    check("directives that refused nothing", directives - set(browser.run("return window.refused")), set())
     check("an injected script", browser.run("return window.hacked ?? 0"), 0)
     check("connections that send something", trap.count, 0)
 
@@ -242,39 +306,46 @@ def of_certificates(browser, url, folder):
     """Files of certificates, and the walk to their extensions in 10,000 mutated certificates beside a second one."""
     browser.load(f"{url}#")
     browser.click("#clear")
-    browser.choose("#certificates", folder / "anchor.cer", folder / "good.cer", folder / "trimmed.cer")
-    browser.wait("return document.querySelectorAll('#claims > *').length === 3 && /Verified/.test(document.getElementById('verdict').innerText)")
-    check("what remains of files", browser.run("return [...document.querySelectorAll('#remains code')].slice(0, 2).map((it) => it.innerText)"),
-          ["AS64496", "10.2.0.0/16"])
-    check("the mode of a file", browser.run("return document.querySelectorAll('#claims input[value=trim]:checked').length"), 1)
+    browser.choose("#certificates", *(folder / f"{it}.cer" for it in ("anchor", "good", "trimmed")))
+    browser.wait("return document.querySelectorAll('#claims > *').length === 3 && /Verified/.test("
+                 "document.getElementById('verdict').innerText)")
+    check("what remains of files", browser.run(HELD)[:2], ["AS64496", "10.2.0.0/16"])
+    modes = "return [...document.querySelectorAll('#claims input:checked')].map((it) => it.value)"
+    check("the modes of files", browser.run(modes), ["refuse", "trim"])
     check("a file's note", "not proved" in browser.text("#claims .note"))
     made = [it.hex() for it in mutated([it.read_bytes() for it in sorted(folder.glob("*.cer"))], 10000)]
-    script = """const read = (hex) => Uint8Array.from(hex.match(/../g), (it) => parseInt(it, 16));
+    script = """const read = (text) => Uint8Array.from(text.match(/../g), (it) => parseInt(it, 16));
         const hex = (octets) => octets && Array.from(octets, (it) => it.toString(16).padStart(2, '0')).join('');
         return arguments[0].map((text) => { try { const it = window.resourceExtensions(read(text));
-        return [hex(it.as), hex(it.ip), it.mode]; } catch (fault) {
-        if (fault.name !== 'Error') throw fault; return null; } })"""
-    found = [it for at in range(0, len(made), 1000) for it in browser.run(script, made[at:at + 1000])]
+            return [hex(it.as), hex(it.ip), it.mode];
+        } catch (fault) { if (fault.name !== 'Error') throw fault; return null; } })"""
+    found = [it for at in range(0, len(made), 1000) for it in browser.run(script, made[at: at + 1000])]
     wanted = [reference(bytes.fromhex(it)) for it in made]
     check("mutated certificates", [at for at, it in enumerate(found) if it != wanted[at]], [])
-    check("mutated certificates that have extensions, and that have none", min(sum(map(bool, wanted)), wanted.count(None)) > 1000)
+    check("enough of both kinds", min(sum(map(bool, wanted)), wanted.count(None)) > 1000)
 
 
-CONTRAST = """const channels = (text) => text.match(/[\\d.]+/g).map(Number), light = (rgb) => rgb.slice(0, 3).map((it) => it / 255).map((it) =>
-    it <= 0.04045 ? it / 12.92 : ((it + 0.055) / 1.055) ** 2.4).reduce((sum, it, at) => sum + it * [0.2126, 0.7152, 0.0722][at], 0);
-  const ground = (it) => { for (; it; it = it.parentElement) { const c = channels(getComputedStyle(it).backgroundColor); if (c.length < 4 || c[3] > 0) return c; }
-    return channels(getComputedStyle(document.body).backgroundColor); };
-  const bad = []; for (const it of document.querySelectorAll('body *')) { if (!it.checkVisibility() || it.disabled ||
-    ![...it.childNodes].some((node) => node.nodeType === 3 && node.data.trim())) continue; const style = getComputedStyle(it);
-    const pair = [light(channels(it.namespaceURI.endsWith('svg') ? style.fill : style.color)), light(ground(it))].sort((a, b) => b - a);
-    const ratio = (pair[0] + 0.05) / (pair[1] + 0.05); if (ratio < 4.5) bad.push(`${it.tagName} ${it.className} ${ratio.toFixed(2)}`); } return bad;"""
+CONTRAST = """const channels = (text) => text.match(/[\\d.]+/g).map(Number), part = (it) => it / 255;
+    const linear = (it) => it <= 0.04045 ? it / 12.92 : ((it + 0.055) / 1.055) ** 2.4;
+    const weights = [0.2126, 0.7152, 0.0722];
+    const light = (rgb) => rgb.slice(0, 3).map(part).map(linear).reduce((sum, it, at) => sum + it * weights[at], 0);
+    const ground = (it) => { for (; it; it = it.parentElement) {
+        const found = channels(getComputedStyle(it).backgroundColor);
+        if (found.length < 4 || found[3] > 0) return found; } };
+    const hasText = (it) => [...it.childNodes].some((node) => node.nodeType === 3 && node.data.trim());
+    const bad = []; for (const it of document.querySelectorAll('body *')) {
+        if (!it.checkVisibility() || it.disabled || !hasText(it)) continue;
+        const style = getComputedStyle(it), text = it.namespaceURI.endsWith('svg') ? style.fill : style.color;
+        const pair = [light(channels(text)), light(ground(it))].sort((a, b) => b - a);
+        const ratio = (pair[0] + 0.05) / (pair[1] + 0.05);
+        if (ratio < 4.5) bad.push(`${it.tagName} ${it.innerText} ${ratio.toFixed(2)}`); } return bad;"""
 
 
 def of_look(browser, url):
-    """The contrast of texts in light and dark, and a narrow window without a bar to scroll."""
+    """The contrast of texts in light and dark, the width of a narrow window, and a browser that is too old."""
     for dark in (False, True):
-        browser.look(1160, 900, dark)
         for part in ("resources", "routes", "proof"):
+            browser.look(1160, 900, dark)
             browser.load(url)
             browser.click(f"#show-{part}")
             if part == "routes":
@@ -283,11 +354,24 @@ def of_look(browser, url):
             time.sleep(0.4)
             check(f"contrast, {part}, {'dark' if dark else 'light'}", browser.run(CONTRAST), [])
             browser.look(360, 800, dark)
-            check(f"width, {part}", browser.run("return document.documentElement.scrollWidth <= 360"))
-            browser.look(1160, 900, dark)
+            check(f"width, {part}", browser.run("return document.documentElement.scrollWidth"), 360)
     browser.before("delete globalThis.WebAssembly")
     browser.load(url)
-    check("a browser without WebAssembly", "Chrome" in browser.text("#engine") and "No answers here" in browser.text("#engine"))
+    said = browser.text("#engine")
+    check("a browser without WebAssembly", "No answers here" in said and "Firefox" in said)
+
+
+def of_times(browser, url, folder):
+    """Prints the seconds from the drop of two files to the counts."""
+    seconds = []
+    for _ in range(5):
+        browser.load(url)
+        browser.click("#show-routes")
+        browser.choose("#vrps", folder / "vrps.csv")
+        browser.choose("#lines", folder / "routes")
+        validated(browser)
+        seconds.append(float(re.search(r"in ([\d.]+) seconds", browser.text("#state"))[1]))
+    print(f"{browser.name} {browser.version}: median {statistics.median(seconds)} s of {sorted(seconds)}")
 
 
 def write_files(folder):
@@ -295,8 +379,8 @@ def write_files(folder):
     made = random.Random(102)
     vrps = list(origins.flat(made, 500_000))
     routes = list(origins.routes_of(made, vrps, 1_000_000))
-    origins.write(folder / "vrps.csv", (it for it in ["ASN,IP Prefix,Max Length,Trust Anchor,Expires", *(
-        f"AS{one[4]},{origins.prefix(one)},{one[3]},ripe,1732600000" for one in vrps)]))
+    lines = [f"AS{one[4]},{origins.prefix(one)},{one[3]},ripe,1732600000" for one in vrps]
+    origins.write(folder / "vrps.csv", iter(["ASN,IP Prefix,Max Length,Trust Anchor,Expires", *lines]))
     origins.write(folder / "routes", (f"{origins.prefix(one)} AS{one[3]}" for one in routes))
     table = {}
     for bits, number, length, longest, asn in vrps:
@@ -307,21 +391,40 @@ def write_files(folder):
         over = [vrp for it in lengths[bits] if it <= length
                 for vrp in table.get((bits, it, number >> bits - it << bits - it), ())]
         own = [longest for longest, it in over if it == asn]
-        counts["not-found" if not over else "invalid-as" if not own else "valid" if max(own) >= length else "invalid-length"] += 1
+        invalid = "invalid-length" if own else "invalid-as" if over else "not-found"
+        counts["valid" if own and max(own) >= length else invalid] += 1
     (folder / "counts").write_text(json.dumps(counts))
     with open(folder / "too-large", "wb") as large:
         large.truncate((512 << 20) + 1)
-    hostile = [HOSTILE.encode(), b"10.0.0.0/8 AS1", b"\0\xff", b"10.0.0.0/8,9 AS1", b"10.0.0.0/8 AS1,8", b"", b" ", b"a" * 100_000,
-               b'"10.0.0.0/8" AS1', b"ASN,IP Prefix,Max Length", b"10.0.0.0/8 AS1\r"] + [b"x"] * 30_000 + [b"x y"] * 30_000
+    hostile = [HOSTILE.encode(), b"10.0.0.0/8 AS1", b"\0\xff", b"10.0.0.0/8,9 AS1", b"10.0.0.0/8 AS1,8", b"", b" ",
+               b"a" * 100_000, b'"10.0.0.0/8" AS1', b"ASN,IP Prefix,Max Length", b"10.0.0.0/8 AS1\r"]
+    hostile += [b"x", b"x y"] * 30_000
     (folder / "hostile").write_bytes(b"\n".join(hostile))
     (folder / "hostile-counts").write_text(json.dumps({"valid": 2, "error": len(hostile) - 2}))
 
 
+def try_page(browser, url, folder, is_served):
+    """Runs the tests in a browser that show the same from each place."""
+    began, before = time.monotonic(), check.failed
+    of_readme(browser, url)
+    of_recipes(browser, url)
+    of_errors(browser, url)
+    of_picture(browser, url)
+    of_large(browser, url, folder)
+    of_hostile(browser, url, folder)
+    of_keyboard(browser, url)
+    of_certificates(browser, url, folder)
+    of_policy(browser, url)
+    if is_served:
+        of_formats(browser, url)
+    failed, seconds = check.failed - before, time.monotonic() - began
+    print(f"{browser.name} {browser.version}, {url.split(':')[0]}: {failed} failed, {seconds:.0f} s", flush=True)
+
+
 def main():
-    handler = type("Handler", (Quiet,), {})
-    server = http.server.ThreadingHTTPServer(("127.0.0.1", 0), handler)
+    server = http.server.ThreadingHTTPServer(("127.0.0.1", 0), Server)
     threading.Thread(target=server.serve_forever, daemon=True).start()
-    served = f"http://127.0.0.1:{server.server_port}/{PAGE.parent.name}/{PAGE.name}"
+    place, served = f"/{PAGE.parent.name}/{PAGE.name}", f"http://127.0.0.1:{server.server_port}"
     with tempfile.TemporaryDirectory() as name:
         folder = Path(name)
         write_files(folder)
@@ -329,26 +432,22 @@ def main():
         for kind in browsers():
             browser = kind()
             try:
-                for url in (PAGE.as_uri(), served):
-                    began, before = time.monotonic(), check.failed
-                    of_readme(browser, url)
-                    of_recipes(browser, url)
-                    of_errors(browser, url)
-                    of_large(browser, url, folder)
-                    of_hostile(browser, url, folder)
-                    of_keyboard(browser, url)
-                    of_certificates(browser, url, folder)
-                    of_policy(browser, url, Trap())
-                    if url == served:
-                        of_formats(browser, url)
-                    print(f"{browser.name} {browser.version}, {url.split(':')[0]}: {check.failed - before} failed, "
-                          f"{time.monotonic() - began:.0f} s", flush=True)
+                if "--times" in sys.argv:
+                    of_times(browser, PAGE.as_uri(), folder)
+                    continue
+                try_page(browser, PAGE.as_uri(), folder, False)
+                try_page(browser, f"{served}{place}", folder, True)
                 if hasattr(browser, "look"):
                     of_look(browser, PAGE.as_uri())
+                subprocess.run([TOP / "web" / "one_file", folder / "pigyelund.html"], check=True)
+                for test in (of_readme, of_recipes, of_policy):
+                    test(browser, (folder / "pigyelund.html").as_uri())
             finally:
                 browser.close()
-    own = {f"/{PAGE.parent.name}/{it.name}" for it in PAGE.parent.glob("*.*")} | {"/foreign/js/pigyelund.js"}
-    check("paths of requests", sorted(set(re.sub(r".*GET (\S+) .*", r"\1", it) for it in handler.paths) - own), [])
+    text = PAGE.read_text(encoding="utf-8")
+    own = {str(Path(place).parent / it) for it in re.findall(r'(?:src|href)="([\w./]+)"', text)}
+    strange = {it for it in Server.paths if it.split("#")[0] != place} - {it.replace("/web/..", "") for it in own}
+    check("requests to the server", strange, set())
     print(f"{check.count} checks of the page, {check.failed} failed")
     return check.failed > 0
 

@@ -1,9 +1,10 @@
 #!/usr/bin/python3
-"""test.py [--times]: tests web/index.html in Chromium and Firefox, opened as a file and from 127.0.0.1.
+"""test.py [--times | --pictures]: tests web/index.html in Chromium and Firefox, opened as a file and from 127.0.0.1.
 
 It also tries the one file that web/one_file makes. A browser that is missing is left out by name. With --times it
-prints the seconds from the drop of 500,000 VRPs and 1,000,000 routes to their counts, of five runs each. The status is
-1 if a test failed. Debian's selenium is for /usr/bin/python3.
+prints the seconds from the drop of 500,000 VRPs and 1,000,000 routes to their counts, of five runs each. With
+--pictures it writes the pictures of docs/ by Chromium, and needs pngquant. The status is 1 if a test failed.
+Debian's selenium is for /usr/bin/python3.
 """
 
 import http.server
@@ -374,6 +375,21 @@ def of_times(browser, url, folder):
     print(f"{browser.name} {browser.version}: median {statistics.median(seconds)} s of {sorted(seconds)}")
 
 
+def write_pictures(browser):
+    """Writes the pictures of the page in docs/."""
+    for part, height in (("resources", 690), ("routes", 560)):
+        browser.look(1100, height)
+        browser.load(PAGE.as_uri())
+        if part == "routes":
+            browser.click("#show-routes")
+            browser.click("#example")
+            browser.wait("return document.querySelector('#rows tr:nth-child(2)')?.cells[4].innerText")
+        browser.wait("return document.querySelector('svg')")
+        file = TOP / "docs" / f"page-{part}.png"
+        browser.shot(file)
+        subprocess.run(["pngquant", "--force", "--ext", ".png", "--strip", "48", file], check=True)
+
+
 def write_files(folder):
     """Writes the files of VRPs and routes, with the counts that a search in a dictionary gives."""
     made = random.Random(102)
@@ -422,6 +438,10 @@ def try_page(browser, url, folder, is_served):
 
 
 def main():
+    if "--pictures" in sys.argv:
+        browser = browsers()[0]()
+        write_pictures(browser)
+        return browser.close()
     server = http.server.ThreadingHTTPServer(("127.0.0.1", 0), Server)
     threading.Thread(target=server.serve_forever, daemon=True).start()
     place, served = f"/{PAGE.parent.name}/{PAGE.name}", f"http://127.0.0.1:{server.server_port}"

@@ -457,11 +457,11 @@ def main():
                     continue
                 try_page(browser, PAGE.as_uri(), folder, False)
                 try_page(browser, f"{served}{place}", folder, True)
-                if hasattr(browser, "look"):
-                    of_look(browser, PAGE.as_uri())
                 subprocess.run([TOP / "web" / "one_file", folder / "pigyelund.html"], check=True)
                 for test in (of_readme, of_recipes, of_policy):
                     test(browser, (folder / "pigyelund.html").as_uri())
+                if hasattr(browser, "look"):
+                    of_look(browser, PAGE.as_uri())
             finally:
                 browser.close()
     text = PAGE.read_text(encoding="utf-8")

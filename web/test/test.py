@@ -146,22 +146,14 @@ def of_errors(browser, url):
     check("the error of a file", "pasted lines: line 2: " in said and "Write a prefix" in said)
 
 
-def of_formats(browser, url):
-    """The cases of vectors/vrp_files.json, read by the module of the page."""
-    cases = json.loads((TOP / "vectors" / "vrp_files.json").read_text(encoding="utf-8"))["tests"]
+def of_vectors(browser, url):
+    """All cases of vectors/, answered by the module of the page."""
     browser.load(url)
-    script = """const { Pigyelund } = window;
-        const read = (hex) => Uint8Array.from(hex.match(/../g) ?? [], (it) => parseInt(it, 16));
-        return arguments[0].map(({ text, octets }) => { try {
-            return Pigyelund.readVrps(text === undefined ? read(octets) : new TextEncoder().encode(text)).length;
-        } catch (fault) { if (!(fault instanceof Pigyelund.Error)) throw fault; return fault.line ?? 0; } })"""
-    inputs = [it["input"] for it in cases]
-    found = [it for at in range(0, len(inputs), 500) for it in browser.run(script, inputs[at: at + 500])]
-    for case, seen in zip(cases, found, strict=True):
-        wanted = case["expected"]
-        line = re.match(r"(?:line|item) (\d+): (?!neither)", wanted.get("reason", ""))
-        count = 0 if wanted["result"] == "invalid" else len(wanted["vrps"])
-        check(f"vrp_files {case['tcId']}", seen, int(line[1]) if line else count)
+    script = Path(__file__).with_name("vectors.js").read_text(encoding="utf-8")
+    for file in sorted((TOP / "vectors").glob("*.json")):
+        cases = json.loads(file.read_text(encoding="utf-8"))["tests"]
+        for at in range(0, len(cases), 500):
+            check(f"{file.stem} {at}", browser.run(script, file.stem, cases[at: at + 500]), [])
 
 
 def of_large(browser, url, folder):
@@ -432,7 +424,7 @@ def try_page(browser, url, folder, is_served):
     of_certificates(browser, url, folder)
     of_policy(browser, url)
     if is_served:
-        of_formats(browser, url)
+        of_vectors(browser, url)
     failed, seconds = check.failed - before, time.monotonic() - began
     print(f"{browser.name} {browser.version}, {url.split(':')[0]}: {failed} failed, {seconds:.0f} s", flush=True)
 

@@ -262,7 +262,9 @@ def of_keyboard(browser, url):
             if at is None:
                 break
             reached.add(at)
-            check(f"{part}: control {at} has a role and a name: {role} {name!r}", bool(role) and bool(name))
+            # Firefox gives no role for a summary, whose element has one of its own.
+            has_role = role or browser.run("return document.activeElement.tagName") == "SUMMARY"
+            check(f"{part}: control {at} has a role and a name: {role} {name!r}", bool(has_role and name))
         check(f"{part}: Tab reaches each control", len(reached), count)
 
 

@@ -94,13 +94,11 @@ function answerPath() {
     for (const it of ["pictures", "remains"]) show(it);
   }
 }
-
 function pathChanged() {
   nameCards();
   clearTimeout(pathChanged.later);
   pathChanged.later = setTimeout(answerPath, 150);
 }
-
 function startResources(pairs) {
   setPath(pairs.length ? pairs : EXAMPLE);
   by("add").addEventListener("click", () => (textOf(addCard("refuse", "")).focus(), pathChanged()));

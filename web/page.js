@@ -9,7 +9,6 @@ function element(name, properties = {}, ...inside) {
   made.append(...inside);
   return made;
 }
-
 function button(text, onclick, label = text) {
   const made = element("button", { type: "button", onclick }, text);
   made.setAttribute("aria-label", label);
@@ -23,7 +22,6 @@ const tableOf = (rows, head = []) => element("table", {},
 /** Shows a text as code, and of a long text only the front. */
 const codeOf = (text, most = 2000) => element("code", {}, text.length <= most ? text :
   `${text.slice(0, most)} … and ${text.length - most} characters more`);
-
 function say(text) {
   show("said", text);
   clearTimeout(say.later);
@@ -49,12 +47,12 @@ function onDrop(place, take) {
     });
   }
 }
-
 function showPart(name) {
   for (const part of PARTS) {
     by(part).hidden = part !== name;
     by(`show-${part}`).setAttribute("aria-current", part === name ? "page" : "false");
   }
+  dispatchEvent(new Event("resize")); // pictures that were drawn while they were hidden have no width
 }
 /** Says what the module is: its version, its commit and whether it was proved. */
 function showFacts({ version, commit, proved, ...facts }) {
@@ -71,9 +69,9 @@ async function loadModule() {
   const said = Pigyelund.answer("path v4 10.0.0.0/8 | refuse 12.0.0.0/24");
   if (said !== "refused at step 0: overclaimed IPv4 resources: 12.0.0.0/24") throw new Error("Its answers are wrong.");
 }
-
 async function start() {
   for (const part of PARTS) by(`show-${part}`).addEventListener("click", () => showPart(part));
+  addEventListener("hashchange", () => location.reload());
   for (const name of ["dragover", "drop"]) addEventListener(name, (event) => event.preventDefault());
   try {
     await loadModule();
@@ -90,5 +88,4 @@ async function start() {
   startRoutes(isOfRoutes ? pairs : []);
   showPart(isOfRoutes ? "routes" : "resources");
 }
-
 start();

@@ -9,7 +9,6 @@ const REMEDIES = { 1: "Save the text as UTF-8.", 7: "Write the lower address fir
   4: "Write an address such as 192.0.2.1 or 2001:db8::1, and commas between elements.",
   5: "Write a length up to 32 for IPv4 or 128 for IPv6, and no netmask.",
   6: "Write AS numbers, IPv4 and IPv6 addresses on lines of their own." };
-
 const plain = (fault) => fault.message.replace(/ \([a-z]+ [0-9]+\)$/, "");
 const octetsOf = (hex) => Uint8Array.from(hex.match(/../g) ?? [], (it) => parseInt(it, 16));
 const setOf = (kind, text) => Pigyelund.Resources.fromText(text, NAMES[kind]);
@@ -65,7 +64,6 @@ function claimOf(text) {
   return { as: made.as ?? listed.as, ip: made.ip ?? listed.ip,
     kinds: { as: "missing", v4: "missing", v6: "missing", ...kinds } };
 }
-
 /* The claim of a certificate that inherits AS numbers, IPv4 and IPv6 addresses (RFC 3779, 2.2.3.5 and 3.2.3.3). */
 const INHERIT = { as: octetsOf("3004a0020500"), ip: octetsOf("301030060402000105003006040200020500"),
   kinds: { as: "inherit", v4: "inherit", v6: "inherit" } };

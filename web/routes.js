@@ -19,7 +19,7 @@ const ITEMS = "An item has each of asn, prefix and maxLength once; roas is an ar
 const ROUTES_EXAMPLE = { vrps: "ASN,IP Prefix,Max Length\nAS64496,192.0.2.0/23,24",
   routes: "192.0.2.0/24 AS64496\n192.0.2.0/25 AS64496\n192.0.3.0/24 AS64511\n198.51.100.0/24 AS64496" };
 const chosen = { vrps: [], lines: [] };
-let worker = null, results = null, began = 0, shown = 0;
+let worker = null, results = null, began = 0, shown = 0, runs = 0;
 /** Keeps the chosen files of an input, and names them. Files above MOST_FILE are refused by name. */
 function choose(what, files) {
   chosen[what] = files.filter((it) => it.size <= MOST_FILE);
@@ -32,33 +32,33 @@ const octetsOfFiles = (what, id) => Promise.all(
   [...chosen[what], ...(by(id).value.trim() ? [new File([by(id).value], "pasted lines")] : [])].map((file) =>
     file.arrayBuffer().then((it) => ({ name: file.name, octets: new Uint8Array(it) }),
       () => Promise.reject(new Error(`${file.name}: the file cannot be read, or is a folder`)))));
-
 function progress(done, ...texts) {
   Object.assign(by("done"), { hidden: done === null, value: done ?? 0 });
   show("state", ...texts);
 }
-
 function setRunning(isRunning) {
   by("stop").disabled = !isRunning;
   by("validate").disabled = isRunning;
 }
-
 function stop() {
   worker?.terminate();
   worker = null;
+  runs++;
   setRunning(false);
 }
 /** Starts the worker with the chosen files. */
 async function validate() {
   stop();
   setRunning(true);
+  const run = runs;
   show("counts");
+  progress(0, "Reading the files");
   by("found").hidden = true;
   began = performance.now();
-  progress(0, "Reading the files");
   try {
     const vrps = await octetsOfFiles("vrps", "pasted-vrps"), lines = await octetsOfFiles("lines", "pasted");
     if (!vrps.length) throw new Error("There are no VRPs. Choose a file or write AS64496,192.0.2.0/23,24.");
+    if (run !== runs) return;
     if (!lines.length) throw new Error("There are no routes. Choose a file or write 192.0.2.0/24 AS64496.");
     const source = new Blob([`${Pigyelund.source}(${routesWorker})();`], { type: "text/javascript" });
     worker = new Worker(URL.createObjectURL(source));
@@ -84,7 +84,6 @@ function take(data) {
   const remedies = FILE_REMEDIES[data.code], said = remedies ? `. ${remedies[data.number] ?? ITEMS}` : "";
   progress(null, element("strong", {}, "No answer. "), data.failed, said);
 }
-
 function showResults({ files, vrps }) {
   const counts = STATE_NAMES.map(() => 0);
   let all = 0;
@@ -107,7 +106,6 @@ function showResults({ files, vrps }) {
   by("found").hidden = false;
   filter();
 }
-
 const filter = () => showPage(0, select(by("only").value, by("with").value));
 const keyOf = (name) => element("span", { className: `key ${name}` }, name);
 /** Returns the numbers of the lines of all files that have the state `only` and the text. */
@@ -158,11 +156,10 @@ function save() {
   element("a", { href, download: "routes.csv" }).click();
   setTimeout(() => URL.revokeObjectURL(href), 60000);
 }
-
 function startRoutes(pairs) {
   const fill = ({ vrps = "", routes = "" }) => ((by("pasted-vrps").value = vrps), (by("pasted").value = routes));
   const on = (id, event, call) => by(id).addEventListener(event, (it) => (it.preventDefault(), call(it)));
-  for (const what of Object.keys(chosen)) {
+  for (const what of ["vrps", "lines"]) {
     on(what, "change", ({ target }) => choose(what, [...target.files]));
     onDrop(by(`drop-${what}`), (files) => choose(what, files));
   }

@@ -75,7 +75,6 @@ function routesWorker() {
       validities.forEach((it, index) => (file.states[from + index] = it === INVALID ? it + reasons[index] - 1 : it));
     }
   }
-
   async function run({ module, vrps, lines }) {
     await Pigyelund.load(module);
     makeTable(vrps);
@@ -105,7 +104,6 @@ function routesWorker() {
       return "";
     }
   }
-
   onmessage = ({ data }) => {
     if (data.cover) postMessage({ covering: data.cover.map(coveringOf), page: data.page });
     else run(data).catch(({ message, code, fault }) => postMessage({ failed: message, code, number: fault }));

@@ -221,6 +221,22 @@ def of_hostile(browser, url, folder):
     check("a link has at most 2,000 characters", "longer than 2000" in browser.text("#said"))
 
 
+def of_link(browser, url):
+    """A link opens the same input. Without a clipboard the page shows the link."""
+    fields = "return [...document.querySelectorAll('#claims textarea, #claims input:checked')].map((it) => it.value)"
+    browser.load(url)
+    browser.wait("return document.querySelector('#remains p button')")
+    browser.run("Object.defineProperty(window.navigator, 'clipboard', { value: undefined })")
+    browser.click("#remains p button")
+    link, shown = browser.text("#said").removeprefix("Copy this: "), browser.run(fields)
+    browser.load(link)
+    check("the fields of a link", browser.run(fields), shown)
+    browser.fill("#claims textarea", "AS1," * 600)
+    browser.wait(r"return /AS1\s/.test(document.getElementById('remains').innerText)")
+    browser.click("#remains p button")
+    check("a long link", "at most 2000 characters" in browser.text("#said"))
+
+
 def of_picture(browser, url):
     """The picture has at most 60 steps, and the table beside it has the same states."""
     many = ",".join(f"10.{2 * it}.0.0/16" for it in range(90))
@@ -419,6 +435,7 @@ def try_page(browser, url, folder, is_served):
     of_readme(browser, url)
     of_recipes(browser, url)
     of_errors(browser, url)
+    of_link(browser, url)
     of_picture(browser, url)
     of_large(browser, url, folder)
     of_hostile(browser, url, folder)

@@ -18,7 +18,7 @@ const FILE_REMEDIES = {
 const ITEMS = "An item has each of asn, prefix and maxLength once; roas is an array.";
 const ROUTES_EXAMPLE = { vrps: "ASN,IP Prefix,Max Length\nAS64496,192.0.2.0/23,24",
   routes: "192.0.2.0/24 AS64496\n192.0.2.0/25 AS64496\n192.0.3.0/24 AS64511\n198.51.100.0/24 AS64496" };
-const chosen = { vrps: [], lines: [] };
+const chosen = { vrps: [], lines: [] }, decoder = new TextDecoder();
 let worker = null, results = null, began = 0, shown = 0, runs = 0;
 /** Keeps the chosen files of an input, and names them. Files above MOST_FILE are refused by name. */
 function choose(what, files) {
@@ -126,9 +126,9 @@ function select(only, text) {
 }
 /** Returns what is known of a line: its file, its number there, its octets, its text, its state and the reason. */
 function lineOf(row) {
-  const file = results.files.filter((it) => it.first <= row).pop(), line = row - file.first;
-  const octets = file.octets.slice(file.starts[line], file.starts[line + 1]), name = STATE_NAMES[file.states[line]];
-  const text = new TextDecoder().decode(octets).trimEnd();
+  const file = results.files.findLast((it) => it.first <= row), line = row - file.first;
+  const octets = file.octets.subarray(file.starts[line], file.starts[line + 1]), name = STATE_NAMES[file.states[line]];
+  const text = decoder.decode(octets).trimEnd();
   return { file, octets, number: line + 1, text, name, reason: file.faults.get(line) ?? REASONS[name] ?? "" };
 }
 /** Shows a page of at most ROWS rows, and asks the worker for the VRPs that cover their routes. */
@@ -142,15 +142,20 @@ function showPage(page, rows = results.rows) {
   const cells = lines.map(({ number, text, name, reason }) =>
     [String(number), element("code", {}, text.slice(0, 300)), keyOf(name), reason, ""]);
   show("rows", ...tableOf(cells, ["line", "route", "state", "reason", "VRPs that cover it"]).childNodes);
-  worker?.postMessage({ cover: lines.map(({ octets }) => octets), page: ++shown });
+  worker?.postMessage({ cover: lines.map(({ octets }) => octets.slice()), page: ++shown });
 }
-/** Saves all lines with their states as CSV. */
-function save() {
+/** Saves all lines with their states as CSV. It makes pauses, in which the page answers. */
+async function save() {
   const field = (text) => `"${text.replaceAll('"', '""')}"`, pieces = ["file,line,route,state,reason\r\n"];
-  for (let row = 0, piece = []; row < results.all; row++) {
+  const { all } = results, own = results;
+  for (let row = 0, piece = []; row < all; row++) {
     const { file, number, text, name, reason } = lineOf(row);
     piece.push(`${field(file.name)},${number},${field(text)},${name},${field(reason)}\r\n`);
-    if (piece.length === 20000 || row === results.all - 1) pieces.push(piece.splice(0).join(""));
+    if (piece.length < 20000 && row < all - 1) continue;
+    pieces.push(piece.splice(0).join(""));
+    say(`The CSV has ${row + 1} of ${all} routes.`);
+    await new Promise((done) => setTimeout(done));
+    if (results !== own) return;
   }
   const href = URL.createObjectURL(new Blob(pieces, { type: "text/csv" }));
   element("a", { href, download: "routes.csv" }).click();

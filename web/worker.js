@@ -8,7 +8,6 @@
 function routesWorker() {
   /* The states of lines have the order of STATE_NAMES: valid, not-found, invalid-as, invalid-length, skipped, error. */
   const PIECE = 50000, STRUCT = 24, INVALID = 2, SKIPPED = 4, ERROR = 5;
-  const decoder = new TextDecoder("latin1"), encoder = new TextEncoder();
   let table = null;
   /** Returns the index of the first octet of each line, and behind the last one the end. */
   function startsOf(octets) {
@@ -36,28 +35,20 @@ function routesWorker() {
     lists.reduce((at, it) => (all.set(it, at), at + it.length), 0);
     table = new Pigyelund.Table(all);
   }
-  /** Returns the structs of the routes of lines. A module without a reader of routes reads them as CSV: the words of a
-   * line change places, and a first line keeps other lines from naming columns. */
-  function readRoutes(octets) {
-    if (Pigyelund.readRoutes) return Pigyelund.readRoutes(octets).octets;
-    const text = decoder.decode(octets).replace(/\n$/, "").replace(/[,"']/g, ";").replace(/\r/g, " ");
-    const csv = `AS0,0.0.0.0/0,\n${text.replace(/^([^ \n]*) ?(.*)$/gm, "$2,$1,")}`;
-    return Pigyelund.readVrps(encoder.encode(csv)).octets.subarray(STRUCT);
-  }
   /** Finds the states of the lines from `from` to `end`. A wrong line ends a piece, and the next pieces are shorter, so
    * that many wrong lines stay quick. */
   function validateLines(file, from, end) {
     for (let size = end - from; from < end; ) {
       const to = Math.min(end, from + size);
       try {
-        record(file, from, to, readRoutes(file.octets.subarray(file.starts[from], file.starts[to])));
+        const lines = file.octets.subarray(file.starts[from], file.starts[to]);
+        record(file, from, to, Pigyelund.readRoutes(lines).octets);
         from = to;
         size *= 2;
       } catch (fault) {
-        const right = fault.line - (Pigyelund.readRoutes ? 1 : 2);
-        if (!(right >= 0)) throw fault;
-        size = right || Math.max(1, size >> 1);
-        if (right > 0) continue;
+        if (!fault.line) throw fault;
+        size = fault.line - 1 || Math.max(1, size >> 1);
+        if (fault.line > 1) continue;
         file.states[from] = ERROR;
         file.faults.set(from++, fault.message.replace(/^[^:]*: | \(line [0-9]+\)$/g, ""));
       }
@@ -97,7 +88,7 @@ function routesWorker() {
   /** Returns the VRPs that cover the route of a line, each with the reason why it does not match. */
   function coveringOf(octets) {
     try {
-      const found = table.covering(readRoutes(octets)).map(({ vrp, otherAs, tooLong }) =>
+      const found = table.covering(Pigyelund.readRoutes(octets).octets).map(({ vrp, otherAs, tooLong }) =>
         `${otherAs ? "as" : tooLong ? "length" : "match"}:${vrp.prefix}-${vrp.maxLength}:AS${vrp.asn}`);
       return found.slice(0, 20).join(" ") + (found.length > 20 ? ` and ${found.length - 20} more` : "");
     } catch {

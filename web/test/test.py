@@ -123,6 +123,11 @@ def of_recipes(browser, url):
     browser.load(url)
     states = [it[2] for it in validated(browser, *("\n".join(it) for it in files))]
     check("the routes of RECIPES", states, re.findall(r"^# (\S+)$", block, re.M))
+    updates = re.search(r"echo '([^']+)' >updates\n", recipes)[1]
+    answers = recipes.split(">updates\n")[1].split("```")[0]
+    browser.load(url)
+    states = [it[2] for it in validated(browser, "AS64496,192.0.2.0/23,24", updates)]
+    check("the updates of RECIPES", states, re.findall(r"^# (\S+) \d{9}", answers, re.M))
     claim, issuer = re.search(r"without v4 '(10.2[^']+)' '([^']+)'\n", recipes).groups()
     browser.load(f"{url}#anchor={issuer}&refuse={claim}")
     check("the difference of RECIPES", "does not hold: 12.0.0.0." in browser.wait(VERDICT))

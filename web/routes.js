@@ -7,7 +7,8 @@ const REASONS = { "not-found": "no VRP covers the route", "invalid-as": "no cove
 /* What to do after the fault n of a line of CSV, of an item of JSON, or of a whole file of VRPs. */
 const FIELDS = { 4: "Write a number from 0 to 4294967295, with or without AS in front.",
   5: "Write a prefix such as 192.0.2.0/24, without bits after its length.", 6: "Write a decimal number.",
-  7: "The maximum length is at least the prefix length, and at most 32 for IPv4 or 128 for IPv6." };
+  7: "The maximum length is at least the prefix length, and at most 32 for IPv4 or 128 for IPv6.",
+  18: "Write the expiry once.", 19: "Write the expiry as a number.", 20: "Write the expiry in seconds since 1970." };
 const FILE_REMEDIES = {
   BAD_LINE: { 1: "Save the line as UTF-8.", 2: "A line end was lost, or a field has a comma.",
     3: "The line was cut, or is a comment.", ...FIELDS },
@@ -66,7 +67,8 @@ async function validate() {
     worker.onerror = (event) => take({ failed: `the worker ended: ${event.message}` });
     const module = Uint8Array.from(atob(PigyelundModule.base64), (it) => it.charCodeAt(0));
     const buffers = [...vrps, ...lines].map((it) => it.octets.buffer);
-    worker.postMessage({ module, vrps, lines }, [module.buffer, ...buffers]);
+    const now = by("unexpired").checked ? Math.floor(Date.now() / 1000) : null;
+    worker.postMessage({ module, vrps, lines, now }, [module.buffer, ...buffers]);
   } catch (fault) {
     take({ failed: fault.message });
   }
@@ -84,7 +86,7 @@ function take(data) {
   const remedies = FILE_REMEDIES[data.code], said = remedies ? `. ${remedies[data.number] ?? ITEMS}` : "";
   progress(null, element("strong", {}, "No answer. "), data.failed, said);
 }
-function showResults({ files, vrps }) {
+function showResults({ files, vrps, expired }) {
   const counts = STATE_NAMES.map(() => 0);
   let all = 0;
   for (const file of files) {
@@ -95,7 +97,8 @@ function showResults({ files, vrps }) {
   results = { files, counts, all, rows: null, page: 0 };
   setRunning(false);
   const seconds = ((performance.now() - began) / 1000).toFixed(2);
-  progress(null, `${all} routes by ${vrps} VRP${vrps === 1 ? "" : "s"}, in ${seconds} seconds.`);
+  const left = by("unexpired").checked ? `; ${expired} expired` : "";
+  progress(null, `${all} routes by ${vrps} VRP${vrps === 1 ? "" : "s"}${left}, in ${seconds} seconds.`);
   const there = STATE_NAMES.map((name, it) => ({ name, count: counts[it] })).filter((it) => it.count);
   const bar = element("div", { className: "counts" }, ...there.map(({ name }) => element("span", { className: name })));
   there.forEach(({ count }, index) => (bar.children[index].style.flexGrow = count));

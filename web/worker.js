@@ -18,12 +18,17 @@ function routesWorker() {
     starts[count] = octets.length;
     return starts;
   }
-  /** Reads the files of VRPs, and makes their table. An error names the file, and the line or item that is wrong. */
-  function makeTable(files) {
+  /** Reads the files of VRPs, and makes their table. Returns how many VRPs expired before `now`, and are left out, if it
+   * is not null. An error names the file, and the line or item that is wrong. */
+  function makeTable(files, now) {
+    let left = 0;
     const lists = files.map(({ name, octets }) => {
       postMessage({ step: `Reading the VRPs of ${name}` });
       try {
-        return Pigyelund.readVrps(octets).octets;
+        if (now === null) return Pigyelund.readVrps(octets).octets;
+        const { vrps, expired } = Pigyelund.readUnexpiredVrps(octets, now);
+        left += expired;
+        return vrps.octets;
       } catch ({ message, code, fault, line }) {
         const place = line ? `${code === "BAD_ITEM" ? "item" : "line"} ${line}: ` : "";
         const text = message.replace(/^(line|file|item) of [A-Za-z]+: | \([a-z]+ [0-9]+\)$/g, "");
@@ -34,6 +39,7 @@ function routesWorker() {
     const all = new Uint8Array(lists.reduce((sum, it) => sum + it.length, 0));
     lists.reduce((at, it) => (all.set(it, at), at + it.length), 0);
     table = new Pigyelund.Table(all);
+    return left;
   }
   /** Finds the states of the lines from `from` to `end`. A wrong line ends a piece, and the next pieces are shorter, so
    * that many wrong lines stay quick. */
@@ -66,9 +72,9 @@ function routesWorker() {
       validities.forEach((it, index) => (file.states[from + index] = it === INVALID ? it + reasons[index] - 1 : it));
     }
   }
-  async function run({ module, vrps, lines }) {
+  async function run({ module, vrps, lines, now }) {
     await Pigyelund.load(module);
-    makeTable(vrps);
+    const expired = makeTable(vrps, now);
     postMessage({ step: "Counting the routes" });
     const files = lines.map((it) => ({ ...it, starts: startsOf(it.octets), faults: new Map() }));
     const of = files.reduce((sum, it) => sum + it.starts.length - 1, 0);
@@ -83,7 +89,7 @@ function routesWorker() {
       }
     }
     const buffers = files.flatMap((it) => [it.octets.buffer, it.starts.buffer, it.states.buffer]);
-    postMessage({ files, vrps: table.length }, buffers);
+    postMessage({ files, vrps: table.length, expired }, buffers);
   }
   /** Returns the VRPs that cover the route of a line, each with the reason why it does not match. */
   function coveringOf(octets) {

@@ -128,6 +128,11 @@ def of_recipes(browser, url):
     browser.load(url)
     states = [it[2] for it in validated(browser, "AS64496,192.0.2.0/23,24", updates)]
     check("the updates of RECIPES", states, re.findall(r"^# (\S+) \d{9}", answers, re.M))
+    with_expiries = re.search(r"echo '([^']+)' >json\n", recipes)[1]
+    browser.load(url)
+    browser.click("#unexpired")
+    states = [it[2] for it in validated(browser, with_expiries, "192.0.2.0/24 AS64496\n2001:db8::/32 AS64497")]
+    check("expired VRPs of RECIPES", [*states, "1 expired" in browser.text("#state")], ["not-found", "valid", True])
     claim, issuer = re.search(r"without v4 '(10.2[^']+)' '([^']+)'\n", recipes).groups()
     browser.load(f"{url}#anchor={issuer}&refuse={claim}")
     check("the difference of RECIPES", "does not hold: 12.0.0.0." in browser.wait(VERDICT))

@@ -57,7 +57,8 @@ function showPart(name) {
 /** Says what the module is: its version, its commit and whether it was proved. */
 function showFacts({ version, commit, proved, ...facts }) {
   show("built", `${version} · ${proved ? "proved" : "built without proof"} · nothing leaves this page`);
-  show("proved", proved ? "It is the proved library of Pigyelund: each function meets its contract for every input." :
+  show("proved", proved ? "It is compiled from the proved library of Pigyelund, each of whose functions meets its " +
+    "contract. The compiler, the linker and the browser are trusted." :
     "This module was built without proof, with checks at run time. So its answers are tested, and not proved.");
   show("module", tableOf(Object.entries({ version, "built from commit": commit, ...facts }).filter(([, it]) => it)
     .map(([name, value]) => [name, codeOf(String(value))])));

@@ -58,8 +58,8 @@ async function validate() {
   began = performance.now();
   try {
     const vrps = await octetsOfFiles("vrps", "pasted-vrps"), lines = await octetsOfFiles("lines", "pasted");
-    if (!vrps.length) throw new Error("There are no VRPs. Choose a file or write AS64496,192.0.2.0/23,24.");
     if (run !== runs) return;
+    if (!vrps.length) throw new Error("There are no VRPs. Choose a file or write AS64496,192.0.2.0/23,24.");
     if (!lines.length) throw new Error("There are no routes. Choose a file or write 192.0.2.0/24 AS64496.");
     const source = new Blob([`${Pigyelund.source}(${routesWorker})();`], { type: "text/javascript" });
     worker = new Worker(URL.createObjectURL(source));

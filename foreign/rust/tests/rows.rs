@@ -194,12 +194,6 @@ fn vrp_octets(vrp: &Vrp) -> Vec<u8> {
     octets
 }
 
-/// Returns the octets that `rows.txt` has for a VRP of C.
-fn c_vrp_octets(it: &sys::pigy_vrp) -> Vec<u8> {
-    let last = [it.family, it.len, it.max_len];
-    [&it.address[..], &it.asn.to_be_bytes(), &last].concat()
-}
-
 /// Returns the octets that `rows.txt` has for a route of C.
 fn c_route_octets(it: &sys::pigy_route) -> Vec<u8> {
     [&it.address[..], &it.asn.to_be_bytes(), &[it.family, it.len]].concat()

@@ -69,8 +69,8 @@ copy_needed() {
         $(needed_crates | sed 's,^,crates/,')) | tar -xf - -C "$work/copy"
 }
 
-# Proves and builds the program in the copy, and moves it to its place. rt ci stores the proof of each crate. The next
-# build and ./check use these proofs.
+# Proves and builds the program in the copy, and moves it to its place. If the kit stores proofs, the
+# next build and ./check use these.
 prove_copy() {
     made=$work/copy/crates/$program_crate/out/$program_crate
     run_rt "$work/copy" ci && [ -x "$made" ] && mkdir -p "${program%/*}" && mv "$made" "$program"
@@ -100,8 +100,8 @@ end_build() {
     exit "$1"
 }
 
-# Proves and builds the crates, independent ones side by side, and reports the progress. An interrupted build continues
-# where it stopped: rt ci keeps what was proved.
+# Proves and builds the crates, independent ones side by side, and reports the progress. If the kit stores proofs,
+# an interrupted build continues where it stopped.
 build() {
     began=$(date +%s)
     all=$(($(needed_crates | wc -l)))

@@ -115,10 +115,10 @@
  *   meet the rule too.
  * - A processor for x86-64 has the instructions of x86-64-v2: SSE3, SSSE3, SSE4.1, SSE4.2, POPCNT, CMPXCHG16B, LAHF and
  *   SAHF. A processor for ARM64 has those of ARMv8-A.
- * - The stack has 128 KiB left for each call that reads JSON (pigy_vrps_read and pigy_vrps_read_unexpired), and 16 KiB
- *   for each other call. In the tests a call that reads JSON uses less than 64 KiB for the deepest JSON that it reads,
- *   and each other call less than 8 KiB. This is measured on x86-64, and for ARM64 on an emulator, and is not proved.
- *   With musl a thread has 128 KiB in all, unless you ask for more by pthread_attr_setstacksize.
+ * - The stack has 128 KiB left for each call that reads JSON, and 16 KiB for each other call. pigy_vrps_read and
+ *   pigy_vrps_read_unexpired read JSON. In the tests a call that reads JSON uses less than 64 KiB for the deepest JSON
+ *   that it reads, and each other call less than 8 KiB. This is measured on x86-64, and for ARM64 on an emulator, and
+ *   is not proved. With musl a thread has 128 KiB in all, unless you ask for more by pthread_attr_setstacksize.
  * - No call is made in a signal handler, or in the forked child of a process with threads.
  *
  * THREADS. The calls share no state. Any number of them may run at the same time if each meets the obligations. Several

@@ -41,7 +41,7 @@ fn read_line(text: &str) -> Result<Vrp, VrpFault>
 fn vrp_of(prefix: &str, asn: &str) -> Result<Vrp, VrpFault>
     ensures { MatchResult result (AreVrpWords prefix.now asn.now) (HaveVrpWordsFault prefix.now asn.now) }
 {
-    let asn = Asn::from_str(asn)?;
+    let asn = Asn::from_str(asn).map_err(VrpFault::Asn)?;
     match MaxLenPrefix::from_str(prefix) {
         Ok(prefix) => Ok((prefix, asn)),
         Err(fault) => match fault {

@@ -92,7 +92,7 @@ def title_of(declaration: str) -> str:
     if declaration.startswith("#define"):
         return re.sub(r"#define (\w+(\([\w.]*\))?).*", r"\1", declaration)
     if declaration.startswith("typedef"):
-        return re.findall(r"(\w+);$", declaration)[0]
+        return str(re.findall(r"(\w+);$", declaration)[0])
     return ", ".join(re.findall(r"\bPIGY_\w+(?= =)", declaration))
 
 
@@ -126,10 +126,11 @@ def main(folder: Path, date: str) -> int:
             found[name[1]] = comment, re.sub(r"\s+PIGY_[A-Z]+(\([\d, ]*\))?", "", declaration)
     exported = re.findall(r"^ *(pigy_\w+);", (TOP / "foreign" / "c" / "exports.map").read_text(), re.MULTILINE)
     if {*exported} != found.keys():
-        raise SystemExit(f"man.py: exports.map and comments of calls in pigyelund.h: {sorted({*exported} ^ found.keys())}")
+        differing = ", ".join(sorted({*exported} ^ found.keys()))
+        raise SystemExit(f"man.py: in exports.map or with a comment in pigyelund.h, but not both: {differing}")
     pages = {name: page_of(name, *it, date) for name, it in found.items()}
-    for name, lines in {"pigyelund": overview(text, [*found], date), **pages}.items():
-        (folder / f"{name}.3").write_text("\n".join(lines) + "\n")
+    for page, lines in {"pigyelund": overview(text, [*found], date), **pages}.items():
+        (folder / f"{page}.3").write_text("\n".join(lines) + "\n")
     return 0
 
 

@@ -3,7 +3,7 @@
 const MOST_FILE = 512 * 2 ** 20, ROWS = 500;
 const STATE_NAMES = ["valid", "not-found", "invalid-as", "invalid-length", "skipped", "error"];
 const REASONS = { "not-found": "no VRP covers the route", "invalid-as": "no covering VRP has its AS",
-  "invalid-length": "longer than the maximum length of the VRPs with its AS", skipped: "withdraws or has no route" };
+  "invalid-length": "longer than the VRPs with its AS allow", skipped: "withdraws or has no route" };
 /* What to do after the fault n of a line of CSV, of an item of JSON, or of a whole file of VRPs. */
 const FIELDS = { 4: "Write a number from 0 to 4294967295, with or without AS in front.",
   5: "Write a prefix such as 192.0.2.0/24, without bits after its length.", 6: "Write a decimal number.",

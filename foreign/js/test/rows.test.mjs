@@ -276,8 +276,8 @@ Object.assign(GLUE, {
     const text = decoded(row.first[0]);
     if (text === null) return;
     if (row.status !== 0) return same(row, () => new Table([]).validate(text));
-    const same = joined([row.expected[0], [row.expected[0][21]]]); // the VRP of the same prefix and AS
-    assert.equal(new Table([objectOf(same)]).covering(text).length, 1, row.line);
+    const vrp = joined([row.expected[0], [row.expected[0][21]]]); // of the same prefix and AS
+    assert.equal(new Table([objectOf(vrp)]).covering(text).length, 1, row.line);
   },
   vrp_text() {},
   route_text() {},

@@ -5,7 +5,7 @@
 import { createRequire } from "node:module";
 
 const require = createRequire(import.meta.url);
-require("../web/module.js");
+require(process.env.PIGYELUND_MODULE ?? "../web/module.js");
 require("../foreign/js/pigyelund.js");
 const { Pigyelund } = globalThis;
 const [vrps, routes] = [process.argv[2] ?? 500000, process.argv[3] ?? 1000000].map(Number);

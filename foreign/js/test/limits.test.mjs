@@ -1,5 +1,6 @@
 // Arguments at their limits, and what happens after an error: each call is refused by an error with a code.
 import assert from "node:assert/strict";
+import { readFileSync } from "node:fs";
 import test from "node:test";
 import { MODULE, Pigyelund, STATUS, errorOf } from "./support.mjs";
 
@@ -212,4 +213,15 @@ test("addresses as the module prints them", () => {
     assert.equal(set.text("ipv6"), text);
     assert.deepEqual(set.ipRanges("ipv6")[0].minOctets, octets);
   }
+});
+
+test("the example of README.md prints what its comments say", async () => {
+  const page = readFileSync(new URL("../README.md", import.meta.url), "utf8");
+  const [, code] = /```js\n(.*?)```/s.exec(page), lines = [];
+  const expected = [...code.matchAll(/console\.log.*; \/\/ (.*)/g)].map((it) => it[1]);
+  const run = code.replace(/^import (.*) from "pigyelund";/, "const $1 = Pigyelund;");
+  const { constructor: Async } = Object.getPrototypeOf(async () => 1);
+  await new Async("Pigyelund", "console", run)(Pigyelund, { log: (...words) => lines.push(words.join(" ")) });
+  assert.ok(lines.length > 1);
+  assert.deepEqual(lines, expected);
 });

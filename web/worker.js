@@ -18,8 +18,8 @@ function routesWorker() {
     starts[count] = octets.length;
     return starts;
   }
-  /** Reads the files of VRPs, and makes their table. Returns how many VRPs expired before `now`, and are left out, if it
-   * is not null. An error names the file, and the line or item that is wrong. */
+  /** Reads the files of VRPs, and makes their table. Returns how many VRPs expired before `now`, and are left out. If
+   * `now` is null, none is. An error names the file, and the line or item that is wrong. */
   function makeTable(files, now) {
     let left = 0;
     const lists = files.map(({ name, octets }) => {

@@ -23,7 +23,8 @@ function readDer(name, octets) {
   const isRead = (it) => it instanceof Resources || it.code === "INHERITED";
   const result = !isRead(found) ? "invalid" : isRead(strict) ? "canonical" : "valid";
   const texts = found instanceof Resources ? kinds.map((it) => found.text(it)) : [];
-  return { result, texts, isInherited: found.code === "INHERITED", canonical: texts.length ? hex(found.der()[name]) : null };
+  const canonical = texts.length ? hex(found.der()[name]) : null;
+  return { result, texts, canonical, isInherited: found.code === "INHERITED" };
 }
 
 /** Compares what the module says of DER with the texts that are expected. */
@@ -41,7 +42,8 @@ function sameText(text, kind, expected) {
 
 function samePath({ kind, anchor, certificates }, expected) {
   const own = kind === "as" ? "as" : "ip", other = kind === "as" ? "ip" : "as";
-  const issuer = Resources.read(...["as", "ip"].map((it) => (it === own && anchor.octets ? read(anchor.octets) : null)));
+  const given = ["as", "ip"].map((it) => (it === own && anchor.octets ? read(anchor.octets) : null));
+  const issuer = Resources.read(...given);
   const path = certificates.map(({ octets, policy: mode }) =>
     ({ [own]: octets === null ? null : read(octets), [other]: INHERIT[other], mode }));
   const found = tried(() => issuer.verifyPath(path));
@@ -75,7 +77,8 @@ const SAME = {
     const found = tried(() => Pigyelund.readVrps(text === undefined ? read(octets) : new TextEncoder().encode(text)));
     const texts = found instanceof Pigyelund.Error ? null : [...found].map(vrpText).join();
     if (texts !== null) return vrps !== undefined && texts === vrps.map(vrpText).join();
-    return result === "invalid" && (found.line ?? 0) === Number(/^(?:line|item) (\d+): (?!neither)/.exec(reason)?.[1] ?? 0);
+    const line = /^(?:line|item) (\d+): (?!neither)/.exec(reason)?.[1] ?? 0;
+    return result === "invalid" && (found.line ?? 0) === Number(line);
   },
 };
 return cases.filter((it) => !SAME[subject](it.input, it.expected)).map((it) => it.tcId);

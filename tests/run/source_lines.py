@@ -2,8 +2,8 @@
 """source_lines.py: finds lines with more than 120 columns in `specs/`, `proofs/` and comments of sources.
 
 It also counts the lines of the scripts: each .py and .sh file below tests/ and bench/, and the scripts of the top
-folder. They have at most SCRIPTS lines. tests/reference and tests/vector_sources have no limit. The status is 1 if a
-line is too wide, or if the scripts have too many lines.
+folder. They have at most SCRIPTS lines. tests/reference and tests/vector_sources have no limit. The page in web/ has at
+most PAGE lines, without module.js. The status is 1 if a line is too wide, or if there are too many lines.
 """
 
 import re
@@ -14,7 +14,7 @@ from top import TOP
 from blocks import told
 
 WIDTH = 120
-SCRIPTS = 8500
+SCRIPTS, PAGE = 8500, 1000
 ABOVE = "check", "respath", "origins", "program.sh", "release"
 COMMENT = re.compile(r"\s*//(?![/!]?\s*\|)")  # a table is as wide as its rows
 
@@ -31,6 +31,10 @@ def faults() -> Iterator[str]:
     lines = sum(it.read_text().count("\n") for it in (*counted, *(TOP / name for name in ABOVE)))
     if lines > SCRIPTS:
         yield f"scripts have {lines} lines, at most {SCRIPTS}"
+    page = [it for it in (TOP / "web").iterdir() if it.suffix in (".html", ".css", ".js") and it.name != "module.js"]
+    texts = [line for it in page for line in it.read_text().splitlines()]
+    if len(texts) > PAGE or max(map(len, texts)) > WIDTH:
+        yield f"web: {len(texts)} lines of up to {max(map(len, texts))} columns, at most {PAGE} of {WIDTH}"
 
 
 if __name__ == "__main__":

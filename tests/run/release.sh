@@ -77,7 +77,7 @@ make_copy() {
     rm -rf "$copy" "$out/made" "$kit/meanwhile" "$kit/tools"
     mkdir -p "$copy" "$kit/tools"
     tar -cf - --exclude=out --exclude=__pycache__ .gitignore HANDLES release program.sh respath origins \
-        README.md CHANGELOG.md LICENSE VERSION foreign packaging tests/run tests/lib docs vectors crates/origins/src \
+        README.md CHANGELOG.md LICENSE VERSION foreign packaging tests/run tests/lib docs vectors web crates/origins/src \
         crates/respath_program crates/pigyelund_c/{src,specs} crates/pigyelund_routes/{src,specs} | tar -xf - -C "$copy"
     (
         cd "$copy" || exit

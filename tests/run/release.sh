@@ -207,7 +207,9 @@ makes_the_same() {
         fail "owners are 0, and times that of the commit"
     tar -tzf "$out/made/$archive" | LC_ALL=C sort -c || fail "files in the archive are in order"
     modes "$out/made/pigyelund-$version" bin || fail "modes of the release"
-    ! grep -rlF -e "$copy" -e "$top" -e "$(uname -n)" "$out/made/pigyelund-$version" ||
+    # The page has a module in base64, in which a short name may occur.
+    ! grep -rlF -e "$copy" -e "$top" "$out/made/pigyelund-$version" &&
+        ! grep -rlF --exclude=pigyelund.html -e "$(uname -n)" "$out/made/pigyelund-$version" ||
         fail "a release names its builder"
 }
 
@@ -358,7 +360,7 @@ try_arm64() {
     for name in libpigyelund1 libpigyelund-dev; do dpkg-deb -x "$made/$name"_*.deb "$out/arm64"; done
     said="$(field libpigyelund1 Architecture) $(field libpigyelund-dev Architecture) $(field libpigyelund1 Depends)"
     case $said in "arm64 arm64 libc6 (>= 2."*) ;; *) fail "the fields of the packages for ARM64: $said" ;; esac
-    [ "$(readelf -h "$out/arm64/usr/lib/aarch64-linux-gnu/libpigyelund".{so,a} | grep -c 'Machine: *AArch64')" -eq 2 ] ||
+    [ "$(readelf -h "$out/arm64/usr/lib/aarch64-linux-gnu/"lib*.{so,a} | grep -c 'Machine: *AArch64')" -eq 2 ] ||
         fail "the libraries for ARM64"
     [ -f "$made/pigyelund-$version-py3-none-manylinux_2_34_aarch64.whl" ] || fail "the wheel for ARM64"
 }

@@ -299,8 +299,8 @@ PIGY_ENUM {
 /* ---- Numbers of arguments and results ----
  *
  * No two of the numbers of `present`, encodings, modes, families and kinds are equal, except that a family is a kind
- * too. None of them is 0, except `present` for neither extension. So a call refuses exchanged arguments, and a struct
- * whose members are 0. */
+ * too. None of them is 0, except `present` for neither extension. So a call refuses two of them that are exchanged, and
+ * a struct whose members are 0. */
 
 /** The extensions that a certificate has, as a bit mask: one of these numbers, or 0 if it has neither. */
 PIGY_ENUM { PIGY_HAS_AS = 1, PIGY_HAS_IP = 2, PIGY_HAS_BOTH = 3 };

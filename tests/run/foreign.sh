@@ -445,7 +445,9 @@ of_rust() {
     of_rust_docs
     of_rust_style
     of_rust_dependent
-    rust run --example path | diff foreign/rust/examples/path.txt - || fail "the example path in Rust"
+    for name in path daemon; do
+        rust run --example "$name" | diff "foreign/rust/examples/$name.txt" - || fail "the example $name in Rust"
+    done
     on_page RUST.md "First program"
     tests/misuse/run.py "$prefix/lib" rust || fail "wrong callers in Rust are refused"
     of_rust_package

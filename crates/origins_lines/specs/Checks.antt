@@ -1,6 +1,6 @@
 -- The lines that a check looks for: at a place they have 'i' or 'e', as the answers to invalid routes and errors do.
-use Rattle.std.specs.Prelude.{◌≡◌, ◌==◌, ◌&&◌, ◌||◌, ℕ, ◌+◌, ◌⊎◌, Bool, false, IsTrue, List, [], ◌∷◌}
-use Rattle.std.specs.Prelude.{min, nat_le, not, if◌then◌else◌}
+use Rattle.std.specs.Prelude.{◌≡◌, ◌==◌, ◌&&◌, ◌||◌, ℕ, ◌+◌, ◌<◌, ◌⊎◌, Bool, false, List, [], ◌∷◌}
+use Rattle.std.specs.Prelude.{length, min, nat_le, not, slice_index_or, take, if◌then◌else◌}
 use Rattle.roa_origin.specs.Validities.{IsValidity}
 use Rattle.roa_origin.specs.Vrps.{Vrp}
 use Rattle.roa_origin.specs.declared.validation.Validity.TheVariants.{Invalid}
@@ -23,6 +23,21 @@ abbrev pub column_after : ℕ → List ℕ → ℕ
 column_after column [] = column
 column_after column (octet ∷ octets) = column_after (next_column column octet) octets
 
+-- the number of octets of its line that are before the octet at an index
+abbrev pub column_of : List ℕ → ℕ → ℕ
+column_of octets at = column_after 0 (take at octets)
+
+-- a line of the octets has 'i' or 'e' after `place` other octets
+abbrev pub HasFound : ℕ → List ℕ → Type 0
+HasFound place octets =
+    (at : ℕ) × (at < length octets) × (column_of octets at ≡ place) × IsFaultInitial (slice_index_or octets at 0)
+
+-- the line gives a route that is invalid by the VRPs (RFC 6811, 2), or it has a fault
+abbrev pub IsFaultyLine : List Vrp → List ℕ → Type 0
+IsFaultyLine vrps line =
+    ((route : Route) × IsRouteLine line route × IsValidity route.prefix (asked_asn route.origin) vrps Invalid)
+    ⊎ ((fault : RouteFault) × HasRouteFault line fault)
+
 -- whether the octet is 'i' or 'e' at the place, if `column` octets of its line are before it
 abbrev pub is_found_at : ℕ → ℕ → ℕ → Bool
 is_found_at place column octet = column == place && (octet == 105 || octet == 101)
@@ -32,16 +47,6 @@ abbrev pub is_found_in : ℕ → ℕ → List ℕ → Bool
 is_found_in place column [] = false
 is_found_in place column (octet ∷ octets) =
     is_found_at place column octet || is_found_in place (next_column column octet) octets
-
--- a line of the octets has 'i' or 'e' after `place` other octets
-abbrev pub HasFound : ℕ → List ℕ → Type 0
-HasFound place octets = IsTrue (is_found_in place 0 octets)
-
--- the line gives a route that is invalid by the VRPs (RFC 6811, 2), or it has a fault
-abbrev pub IsFaultyLine : List Vrp → List ℕ → Type 0
-IsFaultyLine vrps line =
-    ((route : Route) × IsRouteLine line route × IsValidity route.prefix (asked_asn route.origin) vrps Invalid)
-    ⊎ ((fault : RouteFault) × HasRouteFault line fault)
 
 -- the column after one more octet
 abbrev pub column_with : Seen → ℕ → ℕ

@@ -13,6 +13,7 @@ import subprocess
 import sys
 import tempfile
 import tracemalloc
+import warnings
 from collections.abc import Callable, Iterator
 from contextlib import redirect_stdout
 from ipaddress import IPv4Network
@@ -407,6 +408,79 @@ def arrays_of_numpy(_: Path) -> Iterator[str]:
         yield "shapes of arrays"
 
 
+def cells_of_asns(_: Path) -> Iterator[str]:
+    """Each cell of a column of AS numbers counts on its own. An invalid one makes one row malformed, and no other."""
+    if not has_numpy():
+        print("left out: columns of AS numbers need numpy")
+        return
+    import numpy
+    from pigyelund import arrays
+
+    last = 2**32 - 1
+    valid: list[Any] = [64496, "64496", "AS64496", "as64496", " AS64496 ", Asn(64496), 64496.0, numpy.str_("AS64496")]
+    valid += [numpy.float64(64496), numpy.int64(64496), numpy.uint32(64496), numpy.uint8(0), 0, "AS0", Asn(0), 0.0]
+    valid += [last, str(last), f"AS{last}", float(last), Asn(last)]
+    invalid: list[Any] = ["AS64496x", "", "AS", "AS 1", "1.10", "1.0", "1,2", "1-1", "{1}", "{1,2}", "inherit", "٣"]
+    invalid += ["AS4294967296", "-1", "nan", "\ud800", "1\0", b"64496", -1, 2**32, -1.0, 2.0**32, 1.5, numpy.float32(1)]
+    invalid += [float("nan"), float("inf"), None, True, False, [1], (), object(), 1 + 0j]
+    numbers = [64496] * 11 + [0] * 5 + [last] * 5
+    for at, wrong in enumerate(invalid):
+        column = [*valid[: at % 8], wrong, *valid[at % 8 :]]
+        found = arrays.routes(["10.0.0.0/8"] * len(column), column)
+        wanted = [*zip(numbers, [4] * len(numbers), strict=True)]
+        wanted.insert(at % 8, (0, 0))
+        if [*zip(found["asn"].tolist(), found["family"].tolist(), strict=True)] != wanted:
+            yield f"{found} of a column with {wrong!r}"
+        if any(found[at % 8].tobytes()):
+            yield f"{found[at % 8]} of {wrong!r}"
+    asked: list[str] = []
+
+    def around(name: str, call: Callable[..., Any], words: tuple[Any, ...]) -> Any:
+        asked.append(name)
+        return _bindings.Status.MEMORY if words[0] == b"9" else call(*words)
+
+    with spied(around):
+        arrays.routes(["10.0.0.0/8"] * 1000, ["AS64496", "AS64496x"] * 500)
+        if asked.count("pigy_resources_from_text") != 2:
+            yield f"the library reads two texts {asked.count('pigy_resources_from_text')} times"
+        try:
+            yield f"{arrays.routes(['10.0.0.0/8'], ['9'])} without memory"
+        except pigyelund.OutOfMemoryError:
+            pass
+
+
+def columns_of_pandas(_: Path) -> Iterator[str]:
+    """A column that pandas reads as texts, as floats or in chunks of both loses its invalid rows alone."""
+    try:
+        import pandas
+    except ImportError:
+        print("left out: columns of pandas need pandas")
+        return
+    from pigyelund import arrays
+
+    cases = [(["1", wrong, "2"], [1, 0, 2]) for wrong in ("AS1x", "", "1.10", "AS", "{1,2}", "-1", "4294967296")]
+    cases += [(["AS1", "1", "AS2", "", "x"], [1, 1, 2, 0, 0]), (["1", "2"], [1, 2])]
+    for cells, wanted in cases:
+        file = "prefix;asn\n" + "".join(f"10.0.0.0/8;{it}\n" for it in cells)
+        words: dict[str, Any]
+        for words in ({}, {"dtype": str}, {"low_memory": False}, {"keep_default_na": False}):
+            with warnings.catch_warnings(record=True):  # pandas warns of a column with several types
+                read = pandas.read_csv(io.StringIO(file), sep=";", **words)
+            for frame in (read, read.convert_dtypes()):
+                found = arrays.routes(frame["prefix"], frame["asn"])["asn"].tolist()
+                if found != wanted:
+                    differ = [it for it in zip(cells, found, wanted, strict=True) if it[1] != it[2]]
+                    yield f"{len(differ)} cells by {words}, {frame['asn'].dtype}: {differ[:3]}"
+    many = 200000  # pandas reads rows of eight columns in chunks of 131072, each with its own type
+    with warnings.catch_warnings(record=True):
+        file = "a,b,c,d,e,f,g,asn\n" + ",,,,,,,1\n" * many + ",,,,,,,AS2\n,,,,,,,x\n"
+        column = pandas.read_csv(io.StringIO(file))["asn"]
+    if {type(it) for it in column} != {int, str}:
+        yield "pandas reads a long column as one type"
+    if arrays.routes(["10.0.0.0/8"] * len(column), column)["asn"].tolist() != [1] * many + [2, 0]:
+        yield "a column of two chunks"
+
+
 OF_MISUSE = (interrupted, grown, subclasses, invalid_files, lasting_views, formats, sockets, incomplete)
 OF_MISUSE += (other_libraries, lengths, single_calls, closed, numbers_of_ranges, examples, without_numpy)
-OF_MISUSE += (arrays_of_numpy,)
+OF_MISUSE += (arrays_of_numpy, cells_of_asns, columns_of_pandas)

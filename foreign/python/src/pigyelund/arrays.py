@@ -16,13 +16,14 @@
 """
 
 import socket
-from collections.abc import Iterable
+from collections.abc import Callable, Iterable
+from functools import lru_cache
 from importlib import import_module
-from typing import Any, TypeAlias
+from typing import Any, SupportsIndex, TypeAlias
 
 from . import _bindings
 from .table import Table, read_octets
-from .values import LAST_AS, integer_of
+from .values import LAST_AS, Asn, integer_of, number_of_text
 from .values import ROUTE as PACKED
 
 # mypy reads the package also where numpy is not installed.
@@ -43,18 +44,34 @@ def vrps(source: bytes | Table) -> Array:
     return numpy.frombuffer(octets, VRP).copy()
 
 
-def routes(prefixes: Iterable[str], asns: Iterable[int]) -> Array:
+def routes(prefixes: Iterable[str], asns: Iterable[Asn | str | SupportsIndex | float | None]) -> Array:
     """Returns routes as an array of `ROUTE`. The library has no call that reads the text of a prefix alone.
 
+        >>> routes(["10.0.0.0/16"] * 5, [64496, "64496", "AS64496", 64496.0, "AS64496x"])["asn"].tolist()
+        [64496, 64496, 64496, 64496, 0]
+
+    Each cell counts on its own: a cell that is invalid makes this row malformed, and no other one. The octets of a
+    malformed row are 0, so its family is 0.
+
     Args:
-        prefixes: The prefixes, such as `10.0.0.0/8`. A text that is no address and length makes a malformed row, whose
-            family is 0.
-        asns: The AS numbers. A number that is no AS number makes a malformed row too.
+        prefixes: The prefixes, such as `10.0.0.0/8`. Any other text is invalid, and so is one with a space.
+        asns: The AS numbers, from 0 to 4294967295. The types of the cells may differ. These are valid:
+
+            - an integer of Python or numpy, and no `bool`
+            - an `Asn`
+            - a text that `Asn` reads, such as `64496` or `AS64496`
+            - a `float` or a `numpy.float64` without a fraction, as pandas makes them of a column with an empty cell. A
+              shorter float is invalid, since it does not have each AS number.
+
+            Any other cell is invalid, such as an empty one (None, NaN, `pandas.NA`). The notation with a dot, such as
+            `1.10`, is invalid as a text. In pandas pass `dtype=str` to `read_csv`, since `1.0` is AS 1 as a float.
 
     Raises:
         ValueError: `prefixes` and `asns` have different lengths.
+        OutOfMemoryError: The library is out of memory when it reads a text.
     """
-    rows = [row(*it) for it in zip(prefixes, asns, strict=True)]
+    of_text = lru_cache(maxsize=None)(number_in_text)  # an AS originates many routes
+    rows = [row(prefix, asn, of_text) for prefix, asn in zip(prefixes, asns, strict=True)]
     return numpy.array(rows, "V24").view(ROUTE) if rows else numpy.empty(0, ROUTE)
 
 
@@ -82,12 +99,14 @@ def validate(table: Table, asked: Array, *, reasons: bool = False) -> Array:
     return tuple(numpy.frombuffer(it, "u1") for it in found)
 
 
-def row(prefix: object, asn: object) -> bytes:
-    """Returns the struct of a route, or 24 octets of 0 if the text or the number is invalid."""
+def row(prefix: object, asn: object, of_text: Callable[[str], int | None]) -> bytes:
+    """Returns the struct of a route, or 24 octets of 0 if the prefix or the AS number is invalid."""
     address, _, length = str(prefix).partition("/")
     family = socket.AF_INET6 if ":" in address else socket.AF_INET
     is_length = len(length) < 4 and length.isascii() and length.isdigit() and int(length) < 256
     originator = integer_of(asn)
+    if originator is None:
+        originator = number_in(asn, of_text)
     if originator is None or not 0 <= originator <= LAST_AS or not is_length:
         return bytes(PACKED.size)
     try:
@@ -96,3 +115,20 @@ def row(prefix: object, asn: object) -> bytes:
         return bytes(PACKED.size)
     number = _bindings.IPV6 if len(octets) == 16 else _bindings.IPV4
     return PACKED.pack(octets, originator, number, int(length))
+
+
+def number_in(asn: object, of_text: Callable[[str], int | None]) -> int | None:
+    """Returns the number of an AS cell that is no integer, or None if the cell is invalid."""
+    if isinstance(asn, str):
+        return of_text(asn)
+    if isinstance(asn, Asn):
+        return int(asn)
+    return int(asn) if isinstance(asn, float) and asn.is_integer() else None
+
+
+def number_in_text(text: str) -> int | None:
+    """Returns the number of a text, or None if the text is no AS number."""
+    try:
+        return number_of_text(text)
+    except ValueError:
+        return None

@@ -8,7 +8,7 @@ from enum import Enum, Flag
 from functools import total_ordering
 from ipaddress import IPv4Address, IPv4Interface, IPv4Network, IPv6Address, IPv6Interface, IPv6Network, ip_network
 from operator import index
-from typing import NoReturn, SupportsIndex, TypeAlias, TypeVar, cast, overload
+from typing import Any, NoReturn, SupportsIndex, TypeAlias, TypeVar, overload
 
 from . import _bindings
 from ._bindings import Status
@@ -136,10 +136,10 @@ def number_of(asn: object) -> int:
     return number
 
 
-def integer_of(value: object) -> int | None:
+def integer_of(value: Any) -> int | None:
     """Returns an integer, also one of numpy, as an `int`. Returns None for any other value, and for a truth value."""
     try:
-        return None if isinstance(value, bool) else index(cast(SupportsIndex, value))
+        return None if isinstance(value, bool) else index(value)
     except TypeError:
         return None
 

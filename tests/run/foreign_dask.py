@@ -45,8 +45,8 @@ def write_files(folder: Path) -> str:
     commands = "".join(it.text for it in blocks_of(PAGE, FILES_TITLE) if it.kind == "sh")
     files = dict(re.findall(r"^cat >(\S+) <<END\n(.*?)^END$", commands, re.MULTILINE | re.DOTALL))
     (folder / "csv").write_text(files["vrps.csv"])
-    routes = (line.split(",") for line in files["routes.csv"].splitlines()[1:-1])  # without the malformed one
-    (folder / "routes").write_text("".join(f"{prefix} AS{asn}\n" for prefix, asn in routes))
+    routes = (line.split(",") for line in files["routes.csv"].splitlines()[1:-2])  # without the malformed ones
+    (folder / "routes").write_text("".join(f"{prefix} AS{asn.removeprefix('AS')}\n" for prefix, asn in routes))
     return next(it.shown for it in blocks if "python3 validate_routes.py " in it.text)
 
 

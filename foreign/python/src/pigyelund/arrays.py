@@ -50,11 +50,11 @@ def routes(prefixes: Iterable[str], asns: Iterable[Asn | str | SupportsIndex | f
         >>> routes(["10.0.0.0/16"] * 5, [64496, "64496", "AS64496", 64496.0, "AS64496x"])["asn"].tolist()
         [64496, 64496, 64496, 64496, 0]
 
-    Each cell counts on its own: a cell that is invalid makes this row malformed, and no other one. The octets of a
-    malformed row are 0, so its family is 0.
+    Each cell counts on its own: an invalid cell makes its row malformed, and no other row. If a cell is no address and
+    length, or no AS number, the octets of its row are 0.
 
     Args:
-        prefixes: The prefixes, such as `10.0.0.0/8`. Any other text is invalid, and so is one with a space.
+        prefixes: The prefixes, such as `10.0.0.0/8`. Any other text is invalid, and so is a text with a space.
         asns: The AS numbers, from 0 to 4294967295. The types of the cells may differ. These are valid:
 
             - an integer of Python or numpy, and no `bool`
@@ -63,8 +63,8 @@ def routes(prefixes: Iterable[str], asns: Iterable[Asn | str | SupportsIndex | f
             - a `float` or a `numpy.float64` without a fraction, as pandas makes them of a column with an empty cell. A
               shorter float is invalid, since it does not have each AS number.
 
-            Any other cell is invalid, such as an empty one (None, NaN, `pandas.NA`). The notation with a dot, such as
-            `1.10`, is invalid as a text. In pandas pass `dtype=str` to `read_csv`, since `1.0` is AS 1 as a float.
+            Any other cell is invalid, such as an empty one (None, NaN, `pandas.NA`). A text in asdot notation, such as
+            `1.0`, is invalid too. Pass `dtype=str` to pandas' `read_csv`, which otherwise makes the float 1.0 of it.
 
     Raises:
         ValueError: `prefixes` and `asns` have different lengths.

@@ -123,6 +123,7 @@ with Table(vrps) as table:
     is_in: bool = vrp in table and len(table) == 1
     table.with_changes(announced=changes.announced, withdrawn=changes.withdrawn).close()
     arrays.validate(table, arrays.routes(["10.0.0.0/8"], [1]))
+    arrays.routes(iter(["10.0.0.0/8"] * 5), [Asn(1), "AS1", 1.0, None, Index()])
     validities, reasons = arrays.validate(table, arrays.routes(["10.0.0.0/8"], [1]), reasons=True)
 
 issuer: Resources = Resources([network, ip_address("10.0.0.1"), number])

@@ -65,7 +65,7 @@ SOFTWARE, EVEN IF ADVISED OF THE POSSIBILITY OF SUCH DAMAGE.
 */
 globalThis.PigyelundModule = {
   "version": "0.2.0",
-  "commit": "3f31179b",
+  "commit": "f3d096f4",
   "proved": true,
   "verdict": "logic=proved functions=144 axioms=3 target=x86_64-unknown-linux-gnu cpu=x86-64-v2 sum=dac8208d650f15bf native=nat,char,string logic-built=trusted libraries-built=trusted statements=trusted incremental=trusted",
   "sources": "f1eafb39349f38b51cf1b59a4e02f4903a3d2b29799cf4a3a61985666702c650",

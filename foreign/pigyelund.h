@@ -9,7 +9,8 @@
  *   DER: pigy_union, pigy_contains, pigy_prefixes and more.
  * - Route origins. The calls pigy_table_... use a handle of a table of VRPs (validated ROA payloads). pigy_vrps_read
  *   reads the VRPs of a validator's file, and pigy_vrps_read_unexpired leaves out those that have expired.
- *   pigy_routes_read reads the routes of lines. pigy_validate validates routes by VRPs without a handle.
+ *   pigy_slurm_apply applies a SLURM file (RFC 8416) to VRPs. pigy_routes_read reads the routes of lines. pigy_validate
+ *   validates routes by VRPs without a handle.
  *
  * Example: does a certificate claim more than its issuer has?
  *
@@ -115,10 +116,11 @@
  *   meet the rule too.
  * - A processor for x86-64 has the instructions of x86-64-v2: SSE3, SSSE3, SSE4.1, SSE4.2, POPCNT, CMPXCHG16B, LAHF and
  *   SAHF. A processor for ARM64 has those of ARMv8-A.
- * - The stack has 128 KiB left for each call that reads JSON, and 16 KiB for each other call. pigy_vrps_read and
- *   pigy_vrps_read_unexpired read JSON. In the tests a call that reads JSON uses less than 64 KiB for the deepest JSON
- *   that it reads, and each other call less than 8 KiB. This is measured on x86-64, and for ARM64 on an emulator, and
- *   is not proved. With musl a thread has 128 KiB in all, unless you ask for more by pthread_attr_setstacksize.
+ * - The stack has 128 KiB left for each call that reads JSON, and 16 KiB for each other call. pigy_vrps_read,
+ *   pigy_vrps_read_unexpired and pigy_slurm_apply read JSON. In the tests a call that reads JSON uses less than 64 KiB
+ *   for the deepest JSON that it reads, and each other call less than 8 KiB. This is measured on x86-64, and for ARM64
+ *   on an emulator, and is not proved. With musl a thread has 128 KiB in all, unless you ask for more by
+ *   pthread_attr_setstacksize.
  * - No call is made in a signal handler, or in the forked child of a process with threads.
  *
  * THREADS. The calls share no state. Any number of them may run at the same time if each meets the obligations. Several
@@ -215,6 +217,7 @@ PIGY_ENUM {
   PIGY_BAD_FILE = 0x80000,   /**< A file as a whole is invalid. The number of the error is added. */
   PIGY_BAD_TEXT = 0x100000,  /**< The text of a set is invalid. The number of the first error is added. */
   PIGY_BAD_QUERY = 0x200000, /**< The line that is passed to pigy_answer is invalid. */
+  PIGY_BAD_SLURM = 0x400000, /**< A SLURM file is invalid, except for its items. The number of the error is added. */
   PIGY_BAD_ROUTE = 0x800000, /**< A line with a route, or the text of a route, is invalid. The number of its first error
                               * is added. */
   /** PIGY_SECOND is added to PIGY_BAD_AS + n, PIGY_BAD_IP + n, PIGY_INHERITED, PIGY_BAD_FAMILY, PIGY_BAD_PREFIX and
@@ -226,7 +229,9 @@ PIGY_ENUM {
    *   pigy_validate                         a route                 a VRP
    *   pigy_table_with_changes               a withdrawn VRP         an announced VRP
    *   the other calls of tables and routes  a route */
-  PIGY_SECOND = 0x1000000
+  PIGY_SECOND = 0x1000000,
+  PIGY_BAD_SLURM_ITEM = 0x2000000 /**< An item of a SLURM file is invalid. 64 times the number of its list is added, and
+                                   * the number of its first error. */
 };
 
 /** PIGY_KIND(status) is a kind, without n and without PIGY_SECOND. */
@@ -293,7 +298,39 @@ PIGY_ENUM {
  * - 3: The line has no space, and would have a route if its first comma were a space.
  * - 4: The first word is no prefix. It has a tab, or it is an AS number.
  * - 5: The prefix is invalid.
- * - 6: The AS number is invalid. */
+ * - 6: The AS number is invalid.
+ *
+ * PIGY_BAD_SLURM + n. A member is unknown if RFC 8416 does not define it for its object:
+ *
+ * - 1: The file is not a JSON object in UTF-8, or nests deeper than 128 levels.
+ * - 2: A member of the file's object is unknown.
+ * - 3: The member slurmVersion is not 1.
+ * - 4, 5: A member of the object validationOutputFilters (4) or locallyAddedAssertions (5) is unknown.
+ * - 6, 7, 8: The member slurmVersion is missing, is repeated, or is not a number.
+ * - 9, 10, 11: The member validationOutputFilters is missing, is repeated, or is not an object.
+ * - 12, 13, 14: The member locallyAddedAssertions is missing, is repeated, or is not an object.
+ * - 15, 16, 17: The member prefixFilters is missing, is repeated, or is not an array.
+ * - 18, 19, 20: The member bgpsecFilters is missing, is repeated, or is not an array.
+ * - 21, 22, 23: The member prefixAssertions is missing, is repeated, or is not an array.
+ * - 24, 25, 26: The member bgpsecAssertions is missing, is repeated, or is not an array.
+ *
+ * PIGY_BAD_SLURM_ITEM + 64 * list + n. PIGY_FAULT(status) / 64 is the list: 0 for prefixFilters, 1 for bgpsecFilters, 2
+ * for prefixAssertions, 3 for bgpsecAssertions. PIGY_FAULT(status) % 64 is n:
+ *
+ * - 1: The item is not an object.
+ * - 2: A member of the item is unknown.
+ * - 3: The prefix is invalid.
+ * - 4: The AS number is invalid.
+ * - 5: The maximum length is not a number from 0 to 255.
+ * - 6: The maximum length is below the prefix length, or is above 32 (IPv4) or 128 (IPv6).
+ * - 7: The item has neither of the two members of which a filter needs one: prefix and asn in prefixFilters, asn and
+ *   SKI in bgpsecFilters.
+ * - 8, 9, 10: The member prefix is missing, is repeated, or is not a string.
+ * - 11, 12, 13: The member asn is missing, is repeated, or is not a number.
+ * - 15, 16: The member maxPrefixLength is repeated, or is not a number.
+ * - 17, 18, 19: The member SKI is missing, is repeated, or is not a string.
+ * - 20, 21, 22: The member routerPublicKey is missing, is repeated, or is not a string.
+ * - 24, 25: The member comment is repeated, or is not a string. */
 #define PIGY_FAULT(s) ((uint32_t)(s) & 0xffu)
 
 /* ---- Numbers of arguments and results ----
@@ -1157,6 +1194,42 @@ pigy_status pigy_vrps_read(const uint8_t *file, size_t file_len, pigy_vrp *out, 
 pigy_status pigy_vrps_read_unexpired(const uint8_t *file, size_t file_len, uint64_t time, pigy_vrp *out,
                                      size_t capacity, size_t *len, size_t *expired, size_t *line)
     PIGY_NODISCARD PIGY_NONNULL(6, 7, 8);
+
+/**
+ * Applies a SLURM file to VRPs (RFC 8416). The result is the VRPs that no filter matches, in their order, and then the
+ * VRPs of the member prefixAssertions, in the order of the file.
+ *
+ * A filter of prefixFilters has a prefix, an AS number, or both. It matches a VRP if the VRP has this AS number, and if
+ * the prefix of the VRP is this prefix or is inside it (RFC 8416, 3.3.1). No filter removes an assertion. An assertion
+ * without maxPrefixLength has the prefix length as its maximum length. The call drops no duplicates. It compares each
+ * VRP with each filter.
+ *
+ * The file is a JSON object (RFC 8259) of slurmVersion 1. Each of its objects has the members that RFC 8416 defines for
+ * it, and no others. No member is repeated. The call also checks bgpsecFilters and bgpsecAssertions, which change no
+ * VRP. Their members SKI and routerPublicKey may be any strings. A byte order mark at the beginning is ignored.
+ *
+ * @param file      The octets of the whole SLURM file. May be NULL if the length is 0.
+ * @param file_len  Length in octets; may be 0.
+ * @param vrps      VRPs, in any order. May be NULL if the count is 0.
+ * @param count     Number of VRPs.
+ * @param out       Buffer for the VRPs of the result. Owned by the caller. May be NULL if the capacity is 0.
+ * @param capacity  Capacity of `out` in VRPs, not in octets; may be 0. count + file_len / 16 always suffices.
+ * @param len       Receives the number of VRPs of the result, written or required. Not NULL.
+ * @param index     Receives the index of the first invalid VRP, from 0; else 0. Not NULL.
+ * @param item      Receives the number of the invalid item in its list, or of the unknown member in its object, from 1;
+ *                  else 0. Not NULL.
+ *
+ * @return the first of these that applies:
+ *   1. PIGY_BAD_FAMILY, PIGY_BAD_PREFIX, PIGY_BAD_MAX_LEN: the first invalid VRP. *item is 0.
+ *   2. PIGY_BAD_SLURM + n: the file. *item is the number of the unknown member if n is 2, 4 or 5, and 0 otherwise.
+ *      PIGY_BAD_SLURM_ITEM + 64 * list + n: the first invalid item of this list. *item is its number. The call returns
+ *      the first error in the order of RFC 8416: slurmVersion, prefixFilters, bgpsecFilters, prefixAssertions,
+ *      bgpsecAssertions.
+ *   3. PIGY_TOO_SMALL, then PIGY_OK.
+ */
+pigy_status pigy_slurm_apply(const uint8_t *file, size_t file_len, const pigy_vrp *vrps, size_t count, pigy_vrp *out,
+                             size_t capacity, size_t *len, size_t *index, size_t *item)
+    PIGY_NODISCARD PIGY_NONNULL(7, 8, 9);
 
 /**
  * Reads the routes of lines, as the program origins reads them. They are in the order of the lines.

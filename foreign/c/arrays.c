@@ -66,6 +66,7 @@ PROVED(ip_ranges);
 PROVED(validate);
 PROVED(vrps_read);
 PROVED(vrps_read_unexpired);
+PROVED(slurm_apply);
 PROVED(routes_read);
 PROVED(vrp_from_text);
 PROVED(vrp_text);
@@ -207,6 +208,11 @@ pigy_status pigy_vrps_read(const uint8_t *file, size_t file_len, pigy_vrp *out, 
 pigy_status pigy_vrps_read_unexpired(const uint8_t *file, size_t file_len, uint64_t time, pigy_vrp *out,
                                      size_t capacity, size_t *len, size_t *expired, size_t *line) {
   return proved_vrps_read_unexpired(ARRAY(file, file_len), time, ARRAY(out, capacity), len, expired, line);
+}
+
+pigy_status pigy_slurm_apply(const uint8_t *file, size_t file_len, const pigy_vrp *vrps, size_t count, pigy_vrp *out,
+                             size_t capacity, size_t *len, size_t *index, size_t *item) {
+  return proved_slurm_apply(ARRAY(file, file_len), ARRAY(vrps, count), ARRAY(out, capacity), len, index, item);
 }
 
 pigy_status pigy_routes_read(const char *text, size_t text_len, pigy_route *out, size_t capacity, size_t *len,

@@ -59,9 +59,12 @@ class Status(IntEnum):
         BAD_FILE: A file as a whole is invalid. The number of the error is added.
         BAD_TEXT: The text of a set is invalid. The number of the first error is added.
         BAD_QUERY: The line that is passed to pigy_answer is invalid.
+        BAD_SLURM: A SLURM file is invalid, except for its items. The number of the error is added.
         BAD_ROUTE: A line with a route, or the text of a route, is invalid. The number of its first error is added.
         SECOND: SECOND is added to BAD_AS + n, BAD_IP + n, INHERITED, BAD_FAMILY, BAD_PREFIX and BAD_MAX_LEN, and to no
             other status. For these six it says which argument has the error.
+        BAD_SLURM_ITEM: An item of a SLURM file is invalid. 64 times the number of its list is added, and the number of
+            its first error.
     """
 
     OK = 0x0
@@ -93,8 +96,10 @@ class Status(IntEnum):
     BAD_FILE = 0x80000
     BAD_TEXT = 0x100000
     BAD_QUERY = 0x200000
+    BAD_SLURM = 0x400000
     BAD_ROUTE = 0x800000
     SECOND = 0x1000000
+    BAD_SLURM_ITEM = 0x2000000
 
 
 class Set(Structure):
@@ -270,6 +275,8 @@ CALLS: dict[str, tuple[type | None, list[type]]] = {
     "pigy_vrps_read": (c_uint32, [c_char_p, c_size_t, POINTER(Vrp), c_size_t, POINTER(c_size_t), POINTER(c_size_t)]),
     "pigy_vrps_read_unexpired": (c_uint32, [c_char_p, c_size_t, c_uint64, POINTER(Vrp), c_size_t, POINTER(c_size_t),
         POINTER(c_size_t), POINTER(c_size_t)]),
+    "pigy_slurm_apply": (c_uint32, [c_char_p, c_size_t, POINTER(Vrp), c_size_t, POINTER(Vrp), c_size_t,
+        POINTER(c_size_t), POINTER(c_size_t), POINTER(c_size_t)]),
     "pigy_routes_read": (c_uint32, [c_char_p, c_size_t, POINTER(Route), c_size_t, POINTER(c_size_t),
         POINTER(c_size_t)]),
     "pigy_vrp_from_text": (c_uint32, [c_char_p, c_size_t, POINTER(Vrp)]),

@@ -46,8 +46,10 @@ pub const PIGY_BAD_ITEM: _bindgen_ty_1 = 262144;
 pub const PIGY_BAD_FILE: _bindgen_ty_1 = 524288;
 pub const PIGY_BAD_TEXT: _bindgen_ty_1 = 1048576;
 pub const PIGY_BAD_QUERY: _bindgen_ty_1 = 2097152;
+pub const PIGY_BAD_SLURM: _bindgen_ty_1 = 4194304;
 pub const PIGY_BAD_ROUTE: _bindgen_ty_1 = 8388608;
 pub const PIGY_SECOND: _bindgen_ty_1 = 16777216;
+pub const PIGY_BAD_SLURM_ITEM: _bindgen_ty_1 = 33554432;
 pub type _bindgen_ty_1 = ::core::ffi::c_uint;
 pub const PIGY_HAS_AS: _bindgen_ty_2 = 1;
 pub const PIGY_HAS_IP: _bindgen_ty_2 = 2;
@@ -1149,6 +1151,19 @@ extern "C" {
         len: *mut usize,
         expired: *mut usize,
         line: *mut usize,
+    ) -> pigy_status;
+}
+extern "C" {
+    pub fn pigy_slurm_apply(
+        file: *const u8,
+        file_len: usize,
+        vrps: *const pigy_vrp,
+        count: usize,
+        out: *mut pigy_vrp,
+        capacity: usize,
+        len: *mut usize,
+        index: *mut usize,
+        item: *mut usize,
     ) -> pigy_status;
 }
 extern "C" {

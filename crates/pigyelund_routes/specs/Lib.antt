@@ -1,3 +1,4 @@
+pub mod AppliedSlurm
 pub mod Families
 pub mod Handles
 pub mod Lookups

@@ -22,6 +22,7 @@ pub mod origin;
 pub mod route;
 pub mod route_changes;
 pub mod several_tables;
+pub mod slurm;
 pub mod status;
 pub mod table;
 pub mod table_changes;

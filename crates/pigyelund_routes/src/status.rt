@@ -57,7 +57,11 @@ pub const BAD_FILE: u32 = 524288;
 pub const BAD_TEXT: u32 = 1048576;
 /// A line for `respath` is invalid.
 pub const BAD_QUERY: u32 = 2097152;
+/// A SLURM file is invalid, except for its items. The number of the first fault is added.
+pub const BAD_SLURM: u32 = 4194304;
 /// A line with a route, or the text of a route, is invalid. The number of its first fault is added.
 pub const BAD_ROUTE: u32 = 8388608;
 /// Added to a status if the error is in the second set, a certificate, a route or a withdrawn VRP.
 pub const SECOND: u32 = 16777216;
+/// An item of a SLURM file is invalid. The number of its first fault is added, and 64 times the number of its list.
+pub const BAD_SLURM_ITEM: u32 = 33554432;

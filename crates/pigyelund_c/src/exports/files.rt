@@ -1,4 +1,5 @@
-//! The exports of the VRPs of a validator's file, and of the routes of lines.
+//! The exports of the VRPs of a validator's file, of SLURM files, and of the routes of lines.
+ghost use Rattle.pigyelund_routes.specs.AppliedSlurm.{AreAppliedReturned};
 ghost use Rattle.pigyelund_routes.specs.RouteTexts.{AreLineRoutesReturned};
 ghost use Rattle.pigyelund_routes.specs.UnexpiredFiles.{AreUnexpiredReturned};
 ghost use Rattle.pigyelund_routes.specs.VrpFiles.{AreFileVrpsReturned};
@@ -7,6 +8,7 @@ use pigyelund_routes::file::file_vrps;
 use pigyelund_routes::file_fault::{file_fault_line, file_fault_status};
 use pigyelund_routes::lines::line_routes;
 use pigyelund_routes::route::{RawVrp, Route};
+use pigyelund_routes::slurm::applied_vrps;
 use pigyelund_routes::status;
 use pigyelund_routes::unexpired::{expiry_fault_line, expiry_fault_status, unexpired_vrps};
 use pigyelund_routes::write::write_items;
@@ -129,6 +131,48 @@ pub extern "C" fn pigy_vrps_read_unexpired(
         Err(OrMemory::Refused(fault)) => {
             *line = expiry_fault_line(fault);
             expiry_fault_status(fault)
+        }
+        Err(OrMemory::Memory(_)) => status::MEMORY,
+    }
+}
+
+/// Lists VRPs after the filters and the assertions of a SLURM file: those that no filter matches, in their order, and
+/// then the assertions, in the file's order (RFC 8416, 3.2 to 3.4).
+///
+/// `file` has the octets of the whole file, which `roa_slurm::read_slurm` reads. No filter removes an assertion.
+/// Filters and assertions of router keys are checked, and have no effect. `len` receives the length, written or
+/// required, in VRPs. `index` receives the index of the first invalid VRP, counted from 0. `item` receives the number
+/// of the invalid item in its list, or of the unknown member in its object, counted from 1. Both are 0 otherwise.
+///
+/// Returns the first status that applies:
+///
+/// - `PIGY_BAD_FAMILY`, `PIGY_BAD_PREFIX`, `PIGY_BAD_MAX_LEN`: the first invalid VRP. `item` is 0.
+/// - `PIGY_BAD_SLURM` + n or `PIGY_BAD_SLURM_ITEM` + 64 * list + n: the first fault of the file. `index` is 0.
+/// - `PIGY_TOO_SMALL`, then `PIGY_OK`. `index` and `item` are 0.
+///
+/// The call can return `PIGY_MEMORY` instead of any other status. `index` and `item` are 0 then. `len` is 0 for an
+/// error other than `PIGY_TOO_SMALL`. For any error `out` is unchanged.
+#[unsafe(no_mangle)]
+pub extern "C" fn pigy_slurm_apply(
+    alloc: Global,
+    file: &[u8],
+    vrps: &[RawVrp],
+    out: &mut [RawVrp],
+    len: &mut usize,
+    index: &mut usize,
+    item: &mut usize,
+) -> u32
+    ensures { AreAppliedReturned file.now vrps.now out.old out.new len.new index.new item.new result }
+{
+    *len = 0;
+    *index = 0;
+    *item = 0;
+    match applied_vrps(alloc, file, vrps) {
+        Ok(list) => write_items(list.as_slice(), out, len),
+        Err(OrMemory::Refused(error)) => {
+            *index = error.index();
+            *item = error.item();
+            error.status()
         }
         Err(OrMemory::Memory(_)) => status::MEMORY,
     }

@@ -131,10 +131,10 @@ pub extern "C" fn pigy_table_validate_routes(
 
 /// Validates routes by several tables at once, as `pigy_table_validate_routes` does by one.
 ///
-/// The validity of a route is that by the VRPs of all tables together (RFC 6811, 2). So a route is valid if it is valid
-/// by one of them, and not found if it is not found by each. Without a table no route is found. `index` receives the
-/// index of the first null handle, or else of the first invalid route, counted from 0, and 0 otherwise. The call
-/// allocates nothing.
+/// The validity of a route is that by the VRPs of all tables together (RFC 6811, 2). A route is valid if it is valid by
+/// one of them, and not found if it is not found by each. Without a table no route is found. `index` receives the index
+/// of the first null handle, or else of the first invalid route, counted from 0, and 0 otherwise. The call allocates
+/// nothing.
 ///
 /// Returns the first status that applies:
 ///

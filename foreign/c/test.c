@@ -56,6 +56,8 @@ IS_STATUS(PIGY_BAD_FILE + 3u, PIGY_BAD_FILE, 3u);
 IS_STATUS(PIGY_BAD_TEXT + 5u, PIGY_BAD_TEXT, 5u);
 IS_STATUS(PIGY_BAD_QUERY, PIGY_BAD_QUERY, 0u);
 IS_STATUS(PIGY_BAD_ROUTE + 6u, PIGY_BAD_ROUTE, 6u);
+IS_STATUS(PIGY_BAD_SLURM + 26u, PIGY_BAD_SLURM, 26u);
+IS_STATUS(PIGY_BAD_SLURM_ITEM + 64u * 3u + 25u, PIGY_BAD_SLURM_ITEM, 217u);
 
 /* The layouts on x86-64 and ARM64. A change of one needs another number of the ABI. */
 #define IS_SIZE(type, size) _Static_assert(sizeof(type) == size, #type)
@@ -114,7 +116,7 @@ typedef struct {
 
 typedef enum {
   VERIFY, PATH, MAKE, TEST, TEXT, COVER, AS_RANGES, IP_RANGES, HAS_ASN, HAS_PREFIX, PRINT, ANSWER, READ, UNEXPIRED,
-  ROUTES, READ_VRP, READ_ROUTE, PRINT_VRP, PRINT_ROUTE, ORIGINS, COVERING, VRPS, CHANGED, DIFFER, CHANGES
+  SLURM, ROUTES, READ_VRP, READ_ROUTE, PRINT_VRP, PRINT_ROUTE, ORIGINS, COVERING, VRPS, CHANGED, DIFFER, CHANGES
 } kind;
 
 /* The calls of an operation on two sets, or of a test of two sets: by DER, if there is such a call, and by handles. */
@@ -127,7 +129,7 @@ typedef struct {
 
 /* One row: the call, its numbers (encoding, extensions or family or kind, mode), its inputs, and the expected outputs.
  * The member last is the expected number of verified certificates, the expected index of an error, the expected number
- * of a line, or the expected answer. For DIFFER and CHANGES `announced` has the VRPs of the second table. If has_null
+ * of a line or an item, or the expected answer. For DIFFER and CHANGES `announced` has the VRPs of the second table. If has_null
  * is 1, arrays of length 0 and buffers of capacity 0 are NULL. The member reason is that of a route. */
 typedef struct {
   unsigned row;
@@ -250,7 +252,7 @@ static void name_call(question *q, const char *call) {
   } names[] = {{"verify", VERIFY, {0}}, {"path", PATH, {0}}, {"cover", COVER, {0}}, {"answer", ANSWER, {0}},
                {"origins", ORIGINS, {0}}, {"covering", COVERING, {0}}, {"vrps", VRPS, {0}}, {"changed", CHANGED, {0}},
                {"differ", DIFFER, {0}}, {"changes", CHANGES, {0}}, {"read", READ, {0}}, {"text", TEXT, {0}},
-               {"unexpired", UNEXPIRED, {0}},
+               {"unexpired", UNEXPIRED, {0}}, {"slurm", SLURM, {0}},
                {"as_ranges", AS_RANGES, {0}}, {"ip_ranges", IP_RANGES, {0}}, {"contains_asn", HAS_ASN, {0}},
                {"contains_prefix", HAS_PREFIX, {0}}, {"print", PRINT, {0}},
                {"routes", ROUTES, {0}}, {"vrp_from_text", READ_VRP, {0}}, {"route_from_text", READ_ROUTE, {0}},
@@ -278,7 +280,7 @@ typedef struct {
   const pigy_resources *a, *b;
   const pigy_table *table, *next, *const *tables;
   void *list, *second;
-  size_t table_count, capacity, second_capacity, len, second_len, index, expired;
+  size_t table_count, capacity, second_capacity, len, second_len, index, expired, item;
   uint8_t answer, reason;
   pigy_buffers out, excess;
   pigy_resources *set, *over;
@@ -287,11 +289,11 @@ typedef struct {
 
 /* What a call stores: a list and its length, a text and its length, an index, an answer, a reason, a set in buffers,
  * overclaimed resources in buffers, and handles. WITHDRAWN is a second list and its length. REASONS is a second list
- * of the same length, which the call does not store if its capacity is 0. EXPIRED is the number of expired VRPs. Or the
- * call takes no memory. */
+ * of the same length, which the call does not store if its capacity is 0. EXPIRED is the number of expired VRPs, and
+ * ITEM the number of an item or a member of a SLURM file. Or the call takes no memory. */
 enum { LEN = 1, IS_TEXT = 2, INDEX = 4, ANSWERS = 8, REASON = 16, OUT = 32, EXCESS = 64, SET = 128, OVER = 256,
        TABLE = 512, NO_MEMORY = 1024, WITHDRAWN = 2048, REASONS = 4096, SECOND = WITHDRAWN | REASONS,
-       EXPIRED = 8192 };
+       EXPIRED = 8192, ITEM = 16384 };
 
 typedef struct {
   pigy_status (*make)(attempt *);
@@ -380,6 +382,12 @@ static pigy_status make_unexpired(attempt *a) {
   uint64_t time = (uint64_t)q->numbers[0] << 32 | q->numbers[1];
   return pigy_vrps_read_unexpired(q->in[0].octets, q->in[0].length, time, (pigy_vrp *)a->list, a->capacity, &a->len,
                                   &a->expired, &a->index);
+}
+
+static pigy_status apply_slurm(attempt *a) {
+  const question *q = a->q;
+  return pigy_slurm_apply(q->in[0].octets, q->in[0].length, q->vrps, q->count, (pigy_vrp *)a->list, a->capacity,
+                          &a->len, &a->index, &a->item);
 }
 
 static pigy_status make_routes_of_lines(attempt *a) {
@@ -488,6 +496,7 @@ static const form of_verify = {make_verify, OUT | EXCESS}, of_path = {make_path,
                   of_list = {make_list, LEN}, of_answer = {make_answer, LEN | IS_TEXT},
                   of_file = {make_vrps_of_file, LEN | INDEX}, of_origins = {make_origins, LEN | INDEX},
                   of_unexpired = {make_unexpired, LEN | EXPIRED | INDEX},
+                  of_slurm = {apply_slurm, LEN | INDEX | ITEM},
                   of_lines = {make_routes_of_lines, LEN | INDEX}, of_value = {print_value, LEN | IS_TEXT | NO_MEMORY},
                   of_first = {read_first, SET}, of_second = {read_second, SET}, of_der = {write_der, OUT},
                   of_combine = {combine, SET}, of_compare = {compare, ANSWERS | NO_MEMORY},
@@ -509,7 +518,7 @@ static size_t size_of(const question *q) {
     case COVER: return sizeof(pigy_prefix);
     case AS_RANGES: return sizeof(pigy_as_range);
     case IP_RANGES: return sizeof(pigy_ip_range);
-    case READ: case UNEXPIRED: case VRPS: case CHANGES: return sizeof(pigy_vrp);
+    case READ: case UNEXPIRED: case SLURM: case VRPS: case CHANGES: return sizeof(pigy_vrp);
     case ROUTES: return sizeof(pigy_route);
     case COVERING: return sizeof(pigy_covering);
     default: return 1;
@@ -520,7 +529,7 @@ static size_t size_of(const question *q) {
 static size_t size_in_row(const question *q) {
   switch (q->call) {
     case COVER: return q->numbers[1] == PIGY_IPV4 ? 5 : 17;
-    case READ: case UNEXPIRED: case VRPS: case CHANGES: return 23;
+    case READ: case UNEXPIRED: case SLURM: case VRPS: case CHANGES: return 23;
     case ROUTES: return 22;
     case COVERING: return 24;
     default: return size_of(q);
@@ -563,7 +572,7 @@ static void put(const question *q, const void *list, size_t at, uint8_t *to) {
       put_asn(to, range->min);
       put_asn(to + 4, range->max);
       return;
-    case READ: case UNEXPIRED: case VRPS: case CHANGES: put_vrp(to, (const pigy_vrp *)list + at); return;
+    case READ: case UNEXPIRED: case SLURM: case VRPS: case CHANGES: put_vrp(to, (const pigy_vrp *)list + at); return;
     case ROUTES: put_route(to, (const pigy_route *)list + at); return;
     case COVERING:
       put_vrp(to, &((const pigy_covering *)list)[at].vrp);
@@ -623,7 +632,7 @@ static void prepare(const form *f, attempt *a, size_t first, size_t second) {
   a->second = f->stores & SECOND ? buffer(a->q, second * size_of(a->q)) : 0;
   a->capacity = first;
   a->second_capacity = second;
-  a->len = a->second_len = a->index = a->expired = ANY;
+  a->len = a->second_len = a->index = a->expired = a->item = ANY;
   a->answer = a->reason = MARK;
   if (f->stores & OUT) a->out = buffers_of(a->q, first, second);
   if (f->stores & EXCESS) a->excess = buffers_of(a->q, first, second);
@@ -636,10 +645,12 @@ static void expect_stored(const form *f, const attempt *a, size_t last, uint8_t 
   const question *q = a->q;
   const void *other = &calls;
   unsigned stores = f->stores;
-  size_t index = stores & EXPIRED && q->status == PIGY_OK ? 0 : last;
-  size_t expired = q->status == PIGY_OK ? last : 0;
+  int is_of_item = stores & ITEM && PIGY_KIND(q->status) != PIGY_BAD_ARGUMENT;
+  size_t index = is_of_item || (stores & EXPIRED && q->status == PIGY_OK) ? 0 : last;
+  size_t expired = q->status == PIGY_OK ? last : 0, item = is_of_item ? last : 0;
   expect(a->index == (stores & INDEX ? index : ANY), q->row, "another index");
   expect(a->expired == (stores & EXPIRED ? expired : ANY), q->row, "another number of expired VRPs");
+  expect(a->item == (stores & ITEM ? item : ANY), q->row, "another number of an item");
   expect(a->answer == (stores & ANSWERS ? last : MARK), q->row, "another answer");
   expect(a->reason == (stores & REASON ? reason : MARK), q->row, "another reason");
   expect(stores & SET ? a->set != other && (a->set != 0) == has_result : a->set == other, q->row, "another set");
@@ -843,6 +854,8 @@ static void expect_capacities(const question *q) {
     expect(expected[0].length + expected[1].length <= 8 * q->in[0].length + 64, q->row, "a longer set of a text");
   if (q->call == READ || q->call == UNEXPIRED)
     expect(expected[0].length / 23 <= q->in[0].length / 8 + 1, q->row, "more VRPs of a file");
+  if (q->call == SLURM)
+    expect(expected[0].length / 23 <= q->count + q->in[0].length / 16, q->row, "more VRPs after a SLURM file");
   if (q->call == ROUTES)
     expect(expected[0].length / 22 <= q->in[0].length / 7 + 1, q->row, "more routes of lines");
   if (q->call == PRINT_VRP) expect(expected[0].length < PIGY_VRP_TEXT_MAX, q->row, "a longer text of a VRP");
@@ -864,6 +877,7 @@ static void ask_by_der(const question *q, extent how) {
     case ANSWER: ask_list(&of_answer, &a, how); return;
     case READ: ask_list(&of_file, &a, how); return;
     case UNEXPIRED: ask_list(&of_unexpired, &a, how); return;
+    case SLURM: ask_list(&of_slurm, &a, how); return;
     case ROUTES: ask_list(&of_lines, &a, how); return;
     case READ_VRP: case READ_ROUTE: ask_value(q); return;
     case PRINT_VRP: case PRINT_ROUTE: ask_list(&of_value, &a, how); return;
@@ -1309,6 +1323,9 @@ static void ask_empty(void) {
   len = expired = index = ANY;
   EXPECT_NONE(pigy_vrps_read_unexpired(0, 0, 0, 0, 0, &len, &expired, &index), PIGY_BAD_FILE + 6u, len || expired,
               index, "an empty file with expiries");
+  len = index = expired = ANY;
+  EXPECT_NONE(pigy_slurm_apply(0, 0, 0, 0, 0, 0, &len, &index, &expired), PIGY_BAD_SLURM + 1u, len || expired, index,
+              "an empty SLURM file");
   len = index = ANY;
   EXPECT_NONE(pigy_routes_read(0, 0, 0, 0, &len, &index), PIGY_OK, len, index, "no lines");
   EXPECT_NONE(pigy_vrp_from_text(0, 0, &vrp), PIGY_BAD_LINE + 4u, vrp.family, vrp.asn, "an empty VRP");
@@ -1438,6 +1455,7 @@ static question question_of(unsigned row, char **words) {
   for (int i = 0; i < 4; i++) q.in[i] = read_run(q.call == PATH && i == 3 ? "-" : words[2 + i]);
   read_certificates(&q, q.call == PATH ? words[5] : "-");
   if (q.call == PRINT_VRP) q.vrps = read_vrps(q.in, &q.count);
+  if (q.call == SLURM) q.vrps = read_vrps(q.in + 1, &q.count);
   if (q.call == PRINT_ROUTE) q.routes = read_routes(q.in, &q.route_count);
   if (q.call >= ORIGINS) {
     q.vrps = read_vrps(q.in, &q.count);
@@ -1567,6 +1585,8 @@ typedef struct {
   uintptr_t frame;
 } on_stack;
 
+static int reads_json(kind call) { return call == READ || call == UNEXPIRED || call == SLURM; }
+
 static void *ask_on_stack(void *of) {
   on_stack *one = (on_stack *)of;
   uint8_t here = 0;
@@ -1577,8 +1597,7 @@ static void *ask_on_stack(void *of) {
     ask_many();
   }
   for (unsigned i = 0; i < one->rows.count; i++)
-    if ((one->rows.all[i].call == READ || one->rows.all[i].call == UNEXPIRED) == one->reads)
-      ask_row(one->rows.all + i, ONCE);
+    if (reads_json(one->rows.all[i].call) == one->reads) ask_row(one->rows.all + i, ONCE);
   return 0;
 }
 

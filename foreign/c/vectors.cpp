@@ -22,6 +22,8 @@ static bool tables() {
   is_so = is_so && pigy_table_changes(table, table, vrps.data(), vrps.size(), &len, vrps.data(), vrps.size(),
                                       &other) == PIGY_OK && len == 0 && other == 0;
   is_so = is_so && pigy_table_vrps(table, vrps.data(), vrps.size(), &len) == PIGY_OK && len == 0;
+  is_so = is_so && pigy_slurm_apply(octets.data(), octets.size(), vrps.data(), vrps.size(), vrps.data(), vrps.size(),
+                                    &len, &index, &other) == PIGY_BAD_SLURM + 1 && len == 0 && other == 0;
   pigy_table_free(table);
   return is_so;
 }

@@ -7,7 +7,7 @@ from operator import eq
 from re import fullmatch
 from typing import NamedTuple
 
-from . import asn, expiry, ip, lines, paths, prefixes, resources, route_lines, texts, vrp_files
+from . import asn, expiry, ip, lines, paths, prefixes, resources, route_lines, slurm, texts, vrp_files
 from .addresses import Family
 from .faults import BAD_AS_NUMBER, BAD_AS_RANGE, BAD_RANGE, FAMILY_MISMATCH, DerFault, Fault
 from .paths import Refused, Step
@@ -22,7 +22,7 @@ BAD_ENCODING, BAD_MODE, BAD_PRESENT, BAD_FAMILY, BAD_KIND, BAD_PREFIX, BAD_MAX_L
 BAD_AS, BAD_IP, INHERITED, ABSENT, OVERCLAIM = 0x800, 0x1000, 0x2000, 0x4000, 0x8000
 UNKNOWN_WITHDRAWAL, DUPLICATE_ANNOUNCEMENT = 0x10006, 0x10007
 BAD_LINE, BAD_ITEM, BAD_FILE, BAD_TEXT, BAD_QUERY = 0x20000, 0x40000, 0x80000, 0x100000, 0x200000
-BAD_ROUTE = 0x800000
+BAD_SLURM, BAD_ROUTE, BAD_SLURM_ITEM = 0x400000, 0x800000, 0x2000000
 SECOND = 0x1000000
 INVALID_AS, INVALID_LENGTH = 1, 2
 OTHER_AS, TOO_LONG = 1, 2
@@ -385,6 +385,49 @@ def file_answer(question: Question) -> Answer:
     return Answer(OK, (b"".join(map(vrp_octets, vrps)), b""), last)
 
 
+# The members of the objects of a SLURM file, in the order of the numbers of their faults.
+SLURM_PARTS = ["slurmVersion", "validationOutputFilters", "locallyAddedAssertions"]
+SLURM_LISTS = ["prefixFilters", "bgpsecFilters", "prefixAssertions", "bgpsecAssertions"]
+ITEM_MEMBERS = ["prefix", "asn", "maxPrefixLength", "SKI", "routerPublicKey", "comment"]
+# How the text of the fault of an item begins, and its number. Any other text is that of a wrong AS number.
+ITEM_FAULTS = {"not an object": 1, "member ": 2, "invalid prefix: ": 3, "invalid max length: ": 5, "max-length ": 6}
+ITEM_FAULTS |= {"no criterion": 7}
+
+
+def member_fault_number(names: list[str], text: str) -> int | None:
+    """Returns the number of the fault of a member, from 0, or None if the text says no such fault."""
+    name, _, rest = text.partition(": ")
+    return 3 * names.index(name) + MEMBER_FAULTS.index(rest) if name in names and rest in MEMBER_FAULTS else None
+
+
+def slurm_fault(text: str) -> tuple[int, int]:
+    """Returns the status of the first fault of a SLURM file, and the number of the item or member that it names."""
+    if found := fullmatch(r"(\w+): item (\d+): (.*)", text):
+        number = member_fault_number(ITEM_MEMBERS, found[3])
+        if number is None:
+            number = next((it for begin, it in ITEM_FAULTS.items() if found[3].startswith(begin)), 4)
+        else:
+            number += 8
+        return BAD_SLURM_ITEM + 64 * SLURM_LISTS.index(found[1]) + number, int(found[2])
+    if found := fullmatch(r"(?:(\w+): )?member (\d+): unknown name", text):
+        return BAD_SLURM + (3 + SLURM_PARTS.index(found[1]) if found[1] else 2), int(found[2])
+    number = member_fault_number(SLURM_PARTS + SLURM_LISTS, text)
+    if number is None:
+        return BAD_SLURM + {"not a JSON object": 1, "slurmVersion: not 1": 3}[text], 0
+    return BAD_SLURM + 6 + number, 0
+
+
+def slurm_answer(question: Question) -> Answer:
+    """Returns the VRPs after the filters and assertions of a SLURM file, or the first fault of the file."""
+    vrps = vrps_in(question.first[1])
+    try:
+        found = slurm.read(question.first[0]).applied(vrps)
+    except Fault as fault:
+        status, item = slurm_fault(str(fault))
+        return Answer(status, (b"", b""), item)
+    return Answer(OK, (b"".join(map(vrp_octets, found)), b""), 0)
+
+
 def vrp_of_text(octets: bytes) -> prefixes.Vrp:
     """Reads the text of a VRP."""
     number = 1
@@ -531,7 +574,7 @@ def written_by(question: Question) -> Octets:
 
 # The calls whose answer has a last word.
 ANSWERS = {"path": path_answer, "origins": origins_answer, "differ": differ_answer, "read": file_answer}
-ANSWERS |= {"unexpired": file_answer}
+ANSWERS |= {"unexpired": file_answer, "slurm": slurm_answer}
 ANSWERS |= {"routes": lines_answer}
 ANSWERS |= dict.fromkeys(("covering", "vrps", "changed", "changes"), table_answer)
 ANSWERS |= dict.fromkeys((*TESTS, "contains_asn", "contains_prefix"), answer_of_test)

@@ -4,13 +4,14 @@ tests/run/foreign_rows.py writes them with their answers.
 """
 
 from collections.abc import Iterator
+from pathlib import Path
 from random import Random
 
 from . import asn, ip, prefixes, random_vrps
 from .addresses import Family
 from .calls_from_c import (
     ADDRESSES, ASN, BOTH, KINDS, LENIENT, NUMBERS, ON_SETS, REFUSE, STRICT, TRIM, V4, V6, Octets, Place, Question,
-    answer, vrp_of, written,
+    answer, vrp_octets, vrp_of, written,
 )
 from .lines import COMMANDS
 from .random_lines import Maker
@@ -478,6 +479,103 @@ def of_expiries() -> Iterator[Question]:
         yield asked(maker.dated(vrps), source.randrange(996, 1005))
 
 
+# The SLURM file of RFC 8416, 3.5, with its identifiers and keys shortened.
+SLURM_FILE = b"""{
+  "slurmVersion": 1,
+  "validationOutputFilters": {
+    "prefixFilters": [
+      { "prefix": "192.0.2.0/24", "comment": "All VRPs encompassed by prefix" },
+      { "asn": 64496, "comment": "All VRPs matching ASN" },
+      { "prefix": "198.51.100.0/24", "asn": 64497, "comment": "All VRPs encompassed by prefix, matching ASN" }
+    ],
+    "bgpsecFilters": [
+      { "asn": 64496, "comment": "All keys for ASN" },
+      { "SKI": "Zm9v", "comment": "Key matching Router SKI" },
+      { "asn": 64497, "SKI": "YmFy", "comment": "Key for ASN 64497 matching Router SKI" }
+    ]
+  },
+  "locallyAddedAssertions": {
+    "prefixAssertions": [
+      { "asn": 64496, "prefix": "198.51.100.0/24", "comment": "My other important route" },
+      { "asn": 64496, "prefix": "2001:DB8::/32", "maxPrefixLength": 48, "comment": "My other important routes" }
+    ],
+    "bgpsecAssertions": [
+      { "asn": 64496, "comment": "My known key for my important ASN", "SKI": "Zm9v", "routerPublicKey": "YmFy" }
+    ]
+  }
+}
+"""
+# The golden tests of the programs, which have SLURM files.
+CLAIMS = Path(__file__).resolve().parents[2] / "crates" / "rows_claims" / "stdin"
+# An item of each list of a SLURM file: the names and the values of its members.
+SLURM_ITEMS = {
+    "prefixFilters": {"prefix": '"10.0.0.0/8"', "asn": "1", "comment": '"x"'},
+    "bgpsecFilters": {"asn": "1", "SKI": '"x"', "comment": '"x"'},
+    "prefixAssertions": {"prefix": '"10.0.0.0/8"', "asn": "1", "maxPrefixLength": "9", "comment": '"x"'},
+    "bgpsecAssertions": {"asn": "1", "SKI": '"x"', "routerPublicKey": '"x"', "comment": '"x"'},
+}
+
+
+def slurm_item(members: list[tuple[str, str]]) -> str:
+    """Returns an item of a list of a SLURM file."""
+    return "{" + ", ".join(f'"{name}": {value}' for name, value in members) + "}"
+
+
+def altered_items(members: dict[str, str]) -> Iterator[str]:
+    """Yields items without one of the members, with it twice, and with other values of it."""
+    for name in members:
+        others = [it for it in members.items() if it[0] != name]
+        for values in ((), (members[name],) * 2, ("null",), ("-1",), ('"x"',), ("256",), ("7",)):
+            yield slurm_item([(name, value) for value in values] + others)
+    yield from ("[]", "{}", slurm_item([*members.items(), ("x", "1")]))
+
+
+def slurm_file(of: str, items: list[str]) -> bytes:
+    """Returns a SLURM file that has these items in one of its lists, and no others."""
+    filters, bgpsec_filters, assertions, keys = (f'"{it}": [{", ".join(items * (it == of))}]' for it in SLURM_ITEMS)
+    parts = f'"validationOutputFilters": {{{filters}, {bgpsec_filters}}}', f"{{{assertions}, {keys}}}"
+    return f'{{"slurmVersion": 1, {parts[0]}, "locallyAddedAssertions": {parts[1]}}}'.encode()
+
+
+def of_slurm() -> Iterator[Question]:
+    """Yields SLURM files with VRPs: valid, with each fault, damaged, deeply nested, and with invalid VRPs."""
+    source, maker = Random(8416), random_vrps.Maker(8416)
+
+    def asked(file: bytes, vrps: list[bytes]) -> Question:
+        return Question("slurm", (), (file, b"".join(vrps)))
+
+    ten, doc, last = 10 << 24, 192 << 24 | 2 << 8, 198 << 24 | 51 << 16 | 100 << 8
+    vrps = [routed(V4, doc, 24, 64500, 24), routed(V4, doc | 128, 25, 64501, 32), routed(V4, 192 << 24, 16, 64502, 24)]
+    vrps += [routed(V4, last, 24, number, 25) for number in (64497, 64498, 64496)]
+    vrps += [routed(V4, last | 128, 25, 64497, 25), routed(V4, last >> 16 << 16, 16, 64497, 24)]
+    vrps += [routed(V6, 0x2001_0DB8 << 96, 32, 64499, 48), routed(V4, ten, 8, 0, 32), routed(V4, ten, 8, 0, 32)]
+    for file in (SLURM_FILE, b"\xef\xbb\xbf" + SLURM_FILE, b" \n" + SLURM_FILE, SLURM_FILE + b"{", b"\xff", b""):
+        yield asked(file, vrps)
+        yield asked(file, [])
+    yield asked(SLURM_FILE.replace(b"All", b"\xff", 1), vrps)
+    for row in CLAIMS.read_text().splitlines():
+        if row.startswith("slurm "):
+            file = row.partition(";")[2].replace("|", "\n").encode()
+            yield asked(file, source.sample(vrps, source.randrange(4)))
+    for name, members in SLURM_ITEMS.items():
+        for item in altered_items(members):
+            good = [slurm_item([*members.items()])] * source.randrange(3)
+            yield asked(slurm_file(name, [*good, item, "7"]), vrps[-3:])
+            yield asked(slurm_file(name, [*good, item]), vrps[-3:])
+    for bad in (routed(0, 0, 0, 1, 0), routed(V4, 1, 31, 1, 31), routed(V4, ten, 8, 1, 33), routed(V4, ten, 8, 1, 7)):
+        for place in (0, 1, len(vrps)):
+            for file in (SLURM_FILE, b"{}", SLURM_FILE.replace(b"64496", b"-1", 1)):
+                yield asked(file, [*vrps[:place], bad, *vrps[place:], bad])
+    # The deepest texts that are read, and some that are deeper.
+    for depth in (126, 127, 128, 129):
+        for opens, closes in ((b"[", b"]"), (b'{"a":', b"}")):
+            nested = opens * depth + b"0" + closes * depth
+            yield asked(SLURM_FILE.replace(b"{", b'{"x": ' + nested + b",", 1), vrps)
+            yield asked(SLURM_FILE.replace(b'"Zm9v"', nested, 1), vrps)
+    for count in (0, 1, 2, 9, 40) * 24:
+        yield asked(maker.slurm(), [vrp_octets(maker.vrp()) for _ in range(count)])
+
+
 # Lines with routes, and lines of bgpdump -m. The last three have no route.
 ROUTE_LINES = [
     *(b"10.0.0.0/8 AS64496\n", b" 2001:db8::/32  64497\t\r\n", b"0.0.0.0/0 as0\n", b"::/0 0\n"),
@@ -635,6 +733,6 @@ def of_sets() -> Iterator[Question]:
 def questions() -> Iterator[Question]:
     """Yields all questions."""
     parts = of_certificates, of_absence, of_paths, of_sets, of_covers, of_origins, of_tables, of_differences, of_changes
-    parts += of_lines, of_files, of_expiries, of_texts, of_ranges, of_contents, of_route_texts
+    parts += of_lines, of_files, of_expiries, of_slurm, of_texts, of_ranges, of_contents, of_route_texts
     for part in parts:
         yield from part()

@@ -38,6 +38,8 @@ The input and the output depend on the call:
 * `read`: a file of VRPs. The output is its VRPs. The last word is the number of the first line or item that is invalid.
 * `unexpired`: a file of VRPs. The two numbers are the upper and the lower half of the time. The output is the VRPs that
   have not expired. The last word is the number of expired VRPs, or of the first line or item that is invalid.
+* `slurm`: a SLURM file, and VRPs. The output is the VRPs after its filters and assertions. The last word is the index
+  of the first invalid VRP, or the number of the invalid item or unknown member of the file.
 * `text`: a list of resources as text. The output is a set.
 * `routes`: lines with routes. The output is the routes. The last word is the number of the first line that is invalid.
 * `vrp_from_text` and `route_from_text`: a text. The output is the VRP or the route.

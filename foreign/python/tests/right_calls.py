@@ -33,6 +33,7 @@ from pigyelund import (
     Reason,
     Resources,
     Route,
+    SlurmFileError,
     Status,
     Table,
     UnexpiredVrps,
@@ -40,6 +41,8 @@ from pigyelund import (
     Vrp,
     VrpFileError,
     answer,
+    apply_slurm,
+    apply_slurm_octets,
     arrays,
     library_version,
     load,
@@ -99,6 +102,9 @@ Table(octets), Table(bytearray(octets)), Table(memoryview(octets)), Table(vrps=[
 Table(array("B", octets)), Table(()), Table(), Table.read(b""), Table(read_octets(b""))
 unexpired: UnexpiredVrps = read_unexpired_vrps(b"", time=Index())
 Table(unexpired.vrps), Table.read_unexpired(b"", 2**64 - unexpired.expired)
+left: list[Vrp] = apply_slurm(b"", vrps) + apply_slurm(file=b"", vrps=each()) + apply_slurm(b"", octets)
+Table(apply_slurm(b"", arrays.vrps(b""))), Table(apply_slurm_octets(b"", read_octets(b"")))
+Table(arrays.apply_slurm(b"", arrays.vrps(b"")))
 read: list[Route] = [*read_routes(b""), Route("10.0.0.0/8 AS1")]
 packed: bytes = read_route_octets(b"")
 with Table(vrps) as table:
@@ -144,12 +150,14 @@ line: str = answer("norm as 1") + library_version() + status_text(Status.OK) + s
 try:
     Table(vrps)
 except ChangeError as change:
-    refused: Vrp | bytes | str | None = change.item
+    refused: Vrp | bytes | str | int | None = change.item
 except OriginError as origin:
     index: int | None = origin.index
 except OverclaimedError as overclaimed:
     excess: Resources = overclaimed.excess
 except VrpFileError as file:
     at: int = file.line
+except SlurmFileError as slurm:
+    in_list: tuple[str | None, int] = slurm.list, slurm.item
 except PigyelundError as other:
     status: int = other.status

@@ -18,16 +18,20 @@ from pigyelund import (
     Extensions,
     Family,
     Mode,
+    OriginError,
     OverclaimedError,
     PigyelundError,
     Resources,
     Route,
     RouteTextError,
+    SlurmFileError,
     Status,
     Table,
     Vrp,
     VrpFileError,
     answer,
+    apply_slurm,
+    apply_slurm_octets,
     read_route_octets,
     read_routes,
     read_unexpired_vrps,
@@ -642,6 +646,44 @@ def is_unexpired(row: Row) -> bool:
         return (reason.status, reason.line, reason.index) == (row.status, row.number, None)
 
 
+def is_applied(row: Row) -> bool:
+    """Returns whether the row of a SLURM file has its expected result, with VRPs in each form."""
+    (file, vrps), expected = row.first, structs(row.expected[0], 23)
+    given, count, number = structs(vrps, 23), len(expected) // 24, row.number or 0
+    is_vrp = row.status & ~0xFF == Status.BAD_ARGUMENT
+    places = (number, 0) if is_vrp else (0, number)
+    array = (c.Vrp * (len(given) // 24)).from_buffer_copy(given)
+    for capacity in (count + 3, count, 0):
+        out, length, index, item = (c.Vrp * capacity)(), c_size_t(7), c_size_t(7), c_size_t(7)
+        status = library().pigy_slurm_apply(
+            file, len(file), array, len(array), out, capacity, byref(length), byref(index), byref(item)
+        )
+        fits = count <= capacity
+        found = status, length.value, index.value, item.value
+        if found != (row.status if fits else Status.TOO_SMALL, count, *places):
+            return False
+        found = [bytes(it)[:23] for it in out]
+        if found != [it[:23] for it in cut(expected, 24) if fits] + [bytes(23)] * (capacity - count * fits):
+            return False
+    for form in givens(Vrp, vrps):
+        again = [*form] if isinstance(form, list) else form
+        try:
+            if vrp_octets(apply_slurm(file, form)) != row.expected[0] or row.status != Status.OK:
+                return False
+            if not hasattr(form, "__next__"):
+                octets = cut(apply_slurm_octets(file, again), 24)
+                if [it[:23] for it in octets] != [it[:23] for it in cut(expected, 24)]:
+                    return False
+        except SlurmFileError as reason:
+            in_list = row.status & ~0xFF == Status.BAD_SLURM_ITEM
+            if (reason.status, reason.item, reason.list is not None) != (row.status, number, in_list):
+                return False
+        except OriginError as reason:
+            if (reason.status, reason.index, is_vrp) != (row.status, number, True):
+                return False
+    return True
+
+
 def route_octets(routes: list[Route]) -> bytes:
     """Returns routes as a row has them."""
     return b"".join(bytes(it)[:16] + bytes(it)[16:20][::-1] + bytes(it)[20:22] for it in routes)
@@ -722,7 +764,7 @@ ASKED |= {"contains_asn": has_asn, "contains_prefix": has_prefix}
 ASKED |= {"routes": are_routes}
 ASKED |= dict.fromkeys(("vrp_from_text", "vrp_text", "route_from_text", "route_text"), is_value)
 ASKED |= {"differ": are_differences, "changes": are_changes, "read": is_read, "text": is_text, "print": is_printed}
-ASKED |= {"unexpired": is_unexpired}
+ASKED |= {"unexpired": is_unexpired, "slurm": is_applied}
 
 
 def faults(lines: list[str]) -> Iterator[str]:

@@ -7,7 +7,7 @@ import socket
 from ipaddress import ip_network
 
 from pigyelund import Asn, Certificate, Encoding, Extensions, Family, Mode, Resources, Route, Table, Validity, Vrp
-from pigyelund import answer, load, read_routes, read_unexpired_vrps, read_vrps, validate_routes
+from pigyelund import answer, apply_slurm, load, read_routes, read_unexpired_vrps, read_vrps, validate_routes
 
 network = ip_network("10.0.0.0/8")
 issuer, extensions = Resources(), Extensions(ip=b"")
@@ -86,6 +86,11 @@ read_vrps("vrps.csv")  # refused
 read_unexpired_vrps(b"")  # refused
 read_unexpired_vrps(b"", 1732600000.5)  # refused
 read_routes("10.0.0.0/8 AS1")  # refused
+apply_slurm("slurm.json", [vrp])  # refused
+apply_slurm([vrp], b"")  # refused
+apply_slurm(b"", [route])  # refused
+apply_slurm(b"", table.changes(table))  # refused
+apply_slurm(b"")  # refused
 
 Table([route])  # refused
 Table(None)  # refused

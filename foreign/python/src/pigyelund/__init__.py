@@ -6,7 +6,7 @@ proved. `docs/PYTHON.md` in the repository is the guide: installation, pandas, D
 
 Route origins: a `Table` of VRPs (validated ROA payloads) validates routes. `Table.read` makes one of a validator's
 file, and `read_vrps` lists the VRPs of such a file. `read_unexpired_vrps` leaves out those that have expired.
-`read_routes` lists the routes of lines.
+`apply_slurm` applies the local exceptions of a SLURM file (RFC 8416). `read_routes` lists the routes of lines.
 
     >>> from pigyelund import Route, Table, Vrp
     >>> table = Table([Vrp("10.0.0.0/8-16 AS64496")])
@@ -49,6 +49,7 @@ from .errors import (
     QueryError,
     RouteTextError,
     SetTextError,
+    SlurmFileError,
     VrpFileError,
 )
 from .resources import Certificate, Encoding, Extensions, Mode, Resources
@@ -59,6 +60,8 @@ from .table import (
     UnexpiredVrps,
     Validity,
     answer,
+    apply_slurm,
+    apply_slurm_octets,
     read_octets,
     read_route_octets,
     read_routes,
@@ -93,6 +96,7 @@ __all__ = [
     "Route",
     "RouteTextError",
     "SetTextError",
+    "SlurmFileError",
     "Status",
     "Table",
     "UnexpiredVrps",
@@ -100,6 +104,8 @@ __all__ = [
     "Vrp",
     "VrpFileError",
     "answer",
+    "apply_slurm",
+    "apply_slurm_octets",
     "library_version",
     "load",
     "read_octets",

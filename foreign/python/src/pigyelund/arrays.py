@@ -22,7 +22,7 @@ from importlib import import_module
 from typing import Any, SupportsIndex, TypeAlias
 
 from . import _bindings
-from .table import Table, read_octets
+from .table import Table, apply_slurm_octets, read_octets
 from .values import LAST_AS, Asn, integer_of, number_of_text
 from .values import ROUTE as PACKED
 
@@ -42,6 +42,23 @@ def vrps(source: bytes | Table) -> Array:
     """
     octets = source.octets() if isinstance(source, Table) else read_octets(source)
     return numpy.frombuffer(octets, VRP).copy()
+
+
+def apply_slurm(file: bytes, given: Array) -> Array:
+    """Applies a SLURM file to an array of `VRP`, as the call of the package with the same name. Returns another array.
+
+        >>> file = b'''{"slurmVersion": 1,
+        ...   "validationOutputFilters": {"prefixFilters": [{"asn": 64496}], "bgpsecFilters": []},
+        ...   "locallyAddedAssertions": {"prefixAssertions": [], "bgpsecAssertions": []}}'''
+        >>> apply_slurm(file, vrps(b"AS64496,10.0.0.0/8,8\\nAS64497,10.0.0.0/8,8\\n"))["asn"].tolist()
+        [64497]
+
+    Raises:
+        OriginError: A row is malformed. The attribute `index` is the index, from 0, of the first one.
+        SlurmFileError: The file is invalid. The attributes `list` and `item` say which item is.
+        TypeError: `file` is no `bytes`, or the array has another dtype.
+    """
+    return numpy.frombuffer(apply_slurm_octets(file, given), VRP).copy()
 
 
 def routes(prefixes: Iterable[str], asns: Iterable[Asn | str | SupportsIndex | float | None]) -> Array:

@@ -10,6 +10,7 @@ if TYPE_CHECKING:
     from .values import Vrp
 
 KIND = ~0xFF & ~Status.SECOND
+SLURM_LISTS = "prefixFilters", "bgpsecFilters", "prefixAssertions", "bgpsecAssertions"
 
 
 class PigyelundError(Exception):
@@ -26,7 +27,7 @@ class PigyelundError(Exception):
         line: In a `VrpFileError` the number, from 1, of the first invalid line or item, or 0 if the file is invalid as
             a whole. For `read_routes` the number, from 1, of the first invalid line.
         item: In a `ChangeError` the refused `Vrp`. In any other `OriginError` the octets of the malformed struct. In a
-            `RouteTextError` the text.
+            `RouteTextError` the text. In a `SlurmFileError` the number, from 1, of the item at fault.
     """
 
     def __init__(
@@ -35,7 +36,7 @@ class PigyelundError(Exception):
         excess: "Resources | None" = None,
         verified: int | None = None,
         index: int | None = None,
-        item: "Vrp | bytes | str | None" = None,
+        item: "Vrp | bytes | str | int | None" = None,
         line: int | None = None,
     ) -> None:
         super().__init__(status, excess, verified, index, item, line)
@@ -129,6 +130,27 @@ class VrpFileError(PigyelundError, ValueError):
     line: int
 
 
+class SlurmFileError(PigyelundError, ValueError):
+    """A SLURM file (RFC 8416) is invalid.
+
+    Attributes:
+        item: The number, from 1, of the first invalid item in its list, or of a member that RFC 8416 does not define in
+            its object. It is 0 for any other fault of the file.
+    """
+
+    item: int
+
+    @property
+    def list(self) -> str | None:
+        """The list that has the invalid item, such as `prefixFilters`. None if the fault is not in an item."""
+        is_item = self.status & KIND == Status.BAD_SLURM_ITEM
+        return SLURM_LISTS[self.status >> 6 & 3] if is_item else None
+
+    def __str__(self) -> str:
+        place = "" if not self.item else f"at {'item' if self.list else 'member'} {self.item}: "
+        return place + status_text(self.status)
+
+
 class RouteTextError(PigyelundError, ValueError):
     """A text is not that of a `Vrp` or of a `Route`, or a line with a route is invalid.
 
@@ -165,13 +187,13 @@ def error_for_status(
     excess: "Resources | None" = None,
     verified: int | None = None,
     index: int | None = None,
-    item: "Vrp | bytes | None" = None,
+    item: "Vrp | bytes | int | None" = None,
     line: int | None = None,
 ) -> PigyelundError:
     """Returns the exception for the status of a call that failed.
 
-    An `OutOfMemoryError` has neither `verified` nor `index`: it says nothing about the input. Only an `OriginError` has
-    the `item`, and only a `VrpFileError` and a `RouteTextError` the `line`.
+    An `OutOfMemoryError` has neither `verified` nor `index`: it says nothing about the input. Only an `OriginError` and
+    a `SlurmFileError` have the `item`, and only a `VrpFileError` and a `RouteTextError` the `line`.
     """
     kind = status & KIND
     if kind == Status.MEMORY:
@@ -180,5 +202,7 @@ def error_for_status(
         return VrpFileError(status, line=line or 0)
     if kind == Status.BAD_ROUTE:
         return RouteTextError(status, line=line)
+    if kind in (Status.BAD_SLURM, Status.BAD_SLURM_ITEM):
+        return SlurmFileError(status, item=item or 0)
     found = ERROR_CLASSES.get(kind, PigyelundError if index is None else OriginError)
     return found(status, excess, verified, index, item if issubclass(found, OriginError) else None)

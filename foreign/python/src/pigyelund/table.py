@@ -264,6 +264,63 @@ def read_unexpired_vrps(file: bytes, time: SupportsIndex) -> UnexpiredVrps:
     return UnexpiredVrps(vrps_of(octets), expired)
 
 
+def apply_slurm_octets(file: bytes, vrps: Vrps) -> bytes:
+    """Applies a SLURM file to VRPs, as `apply_slurm` does, and makes no object for each VRP.
+
+    Returns:
+        The structs `pigy_vrp` of `pigyelund.h`, 24 octets each. `Table` takes them.
+
+    Raises:
+        SlurmFileError, OriginError, TypeError, ValueError: As in `apply_slurm`.
+    """
+    refuse_no_file(file)
+    given, index, number, length = array_of(_bindings.Vrp, Vrp, vrps), c_size_t(), c_size_t(), bytes.__len__(file)
+    status, octets = listed(
+        _bindings.Vrp,
+        lambda out, capacity, count: int(
+            library().pigy_slurm_apply(
+                file, length, given, len(given), out, capacity, count, byref(index), byref(number)
+            )
+        ),
+        len(given) + length // SIZE,  # an assertion has at least 25 octets
+    )
+    if status & KIND in (Status.BAD_SLURM, Status.BAD_SLURM_ITEM):
+        raise error_for_status(status, item=number.value)
+    refuse_failed(status, index.value, given)
+    return octets
+
+
+def apply_slurm(file: bytes, vrps: Vrps) -> list[Vrp]:
+    """Applies a SLURM file (RFC 8416), the local exceptions of a network, to VRPs.
+
+        >>> file = b'''{ "slurmVersion": 1,
+        ...   "validationOutputFilters": { "prefixFilters": [{"asn": 64496}], "bgpsecFilters": [] },
+        ...   "locallyAddedAssertions": {
+        ...     "prefixAssertions": [{"asn": 64497, "prefix": "10.0.0.0/8"}], "bgpsecAssertions": [] } }'''
+        >>> apply_slurm(file, [Vrp("192.0.2.0/24 AS64496"), Vrp("192.0.2.0/24 AS64511")])
+        [Vrp('192.0.2.0/24-24 AS64511'), Vrp('10.0.0.0/8-8 AS64497')]
+
+    Apply one file to the VRPs of all caches together. If you have several files, join them into one only if they do not
+    overlap (RFC 8416, 4.2). Router keys have no effect on VRPs.
+
+    Args:
+        file: The octets of the whole file, which is JSON. Each member is checked, also those of router keys.
+        vrps: The VRPs: an iterable of `Vrp`, or a buffer of C structs, such as an array of `pigyelund.arrays`.
+
+    Returns:
+        The VRPs that no filter matches, in their order, and then those of `prefixAssertions`, in the order of the file.
+        The list may be empty. A VRP that is repeated is repeated in the list.
+
+    Raises:
+        OriginError: A struct of a buffer is malformed. The attribute `index` is the index, from 0, of the first one.
+            This is checked before the file.
+        SlurmFileError: The file is invalid. The attributes `list` and `item` say which item is.
+        TypeError: `file` is no `bytes`, `vrps` is neither an iterable nor a buffer, or an item of it is no `Vrp`.
+        ValueError: The length of the buffer is no multiple of 24 octets.
+    """
+    return vrps_of(apply_slurm_octets(file, vrps))
+
+
 def read_route_octets(lines: bytes) -> bytes:
     """Reads the routes of lines into structs, as `read_routes` does into objects.
 
